@@ -1,0 +1,17 @@
+-- Takings from a reader, one after another.
+use Rattle.std.proofs.Common.{ℕ, List, Option, Some, None, ◌∙◌}
+use Rattle.std.proofs.KnownBytes.{Consumes-nil, Consumes-trans}
+use Rattle.lsp_server.specs.Gathering.{TakesSome, KeepsLine}
+
+pub TakesSome-none : (a : Option (List ℕ)) → TakesSome a a
+TakesSome-none a = (_, Consumes-nil a)
+
+pub TakesSome-trans : (a b c : Option (List ℕ)) → TakesSome a b → TakesSome b c → TakesSome a c
+TakesSome-trans a b c first second = (_, Consumes-trans a b c _ _ first.1 second.1)
+
+pub KeepsLine-trans : (x : List ℕ) (a : Option (List ℕ)) (y : List ℕ) (b : Option (List ℕ)) (z : List ℕ) (c : Option (List ℕ))
+    → KeepsLine x a y b → KeepsLine y b z c → KeepsLine x a z c
+KeepsLine-trans x None y b z c first second = tt
+KeepsLine-trans x (Some xs) y None z c first second = absurd first
+KeepsLine-trans x (Some xs) y (Some ys) z None first second = absurd second
+KeepsLine-trans x (Some xs) y (Some ys) z (Some zs) first second = (second.0 ∙ first.0, second.1 ∙ first.1)

@@ -1,0 +1,16 @@
+//! The scaffold under language servers (LSP 3.17, JSON-RPC 2.0): it carries messages between an editor and a server.
+#![tactic(auto)]
+
+mod error;
+mod frame;
+mod lifecycle;
+mod loops;
+mod msg;
+mod relay;
+
+pub use error::ExtractError;
+pub use frame::{ReadFault, WriteFault};
+pub use lifecycle::{ListOutbox, Outbox, SendFault};
+pub use loops::{FrameOutbox, ReadEnd, read_loop};
+pub use msg::{ErrorCode, Message, Notification, Request, RequestId, Response, ResponseError};
+pub use relay::{PumpFault, StartFault, pump};
