@@ -1,5 +1,5 @@
 -- A message's content part is read back as that message.
-use Rattle.std.proofs.Common.{◌≡◌, ℕ, zero, suc, ◌+◌, ◌<◌, ◌≤◌, max, List, [], ◌∷◌, ◌++◌, Bool, true, false, cond, Option, Some, None, Ok, Err, option_map, option_and_then, unwrap_or, codes, refl, sym, ap, ap₂, ◌∙◌, arith, lit≤, append_assoc, append-nil, rules}
+use Rattle.std.proofs.Common.{◌≡◌, ℕ, zero, suc, ◌+◌, ◌<◌, ◌≤◌, max, List, [], ◌∷◌, ◌++◌, Bool, true, false, cond, Option, Some, None, Result, Ok, Err, IfOk, OnOk, option_map, option_and_then, unwrap_or, codes, refl, sym, ap, ap₂, ◌∙◌, arith, lit≤, append_assoc, append-nil, rules}
 use Rattle.std.specs.Prelude.{fold, ◌&&◌}
 use Rattle.std.proofs.lemmas.List.Sums.{fold-append}
 use Rattle.json.specs.Token as token
@@ -24,11 +24,17 @@ use borrow.Author.Tests.{ltb-true}
 use Rattle.lsp_server.specs.Id as id
 use Rattle.lsp_server.specs.Id.{Id}
 use Rattle.serde_json.specs.Find.{of_integer}
-use Rattle.lsp_server.specs.Tree.{id_tree, error_tree}
+use Rattle.std.specs.Option.{ok_or}
+use Rattle.std.specs.Str.{IsUtf8}
+use Rattle.lsp_server.specs.Body.{body_means, tree_means}
+use Rattle.lsp_server.specs.declared.frame.ReadFault.TheVariants.{NoMessage}
+use Rattle.lsp_server.proofs.Contents.{body_means-text}
+use Rattle.lsp_server.specs.Tree.{id_tree, error_tree, without_null_details}
 use Rattle.lsp_server.proofs.TreeLaws.{as_error-error_tree}
 use Rattle.std.proofs.Common.{ℤ}
-use Rattle.lsp_server.specs.Meaning.{is_i32, as_id, code_of, meaning, unless_null}
-use Rattle.lsp_server.specs.Message.{Message, request, notification, response}
+use Rattle.lsp_server.specs.Meaning.{is_i32, as_i32, as_id, code_of, meaning, unless_null}
+use Rattle.lsp_server.specs.Message.{ErrorObject, Message, request, notification, response}
+use Rattle.lsp_server.specs.Ranges.{IsIdInRange, IsInRange, nesting}
 use Rattle.lsp_server.specs.Text.{IsValueText, IsLaterMember, IsErrorText, IsBodyOf, named}
 
 mutual
@@ -204,11 +210,6 @@ notification_reads_back method (object ms) body shallow h = (_, full_notificatio
 
 -- ---- a request
 
--- an id in the range of 32 signed bits
-abbrev pub IsInRange : Id → Type 0
-IsInRange (id.number z) = is_i32 z ≡ true
-IsInRange (id.text s) = Unit {0}
-
 print-number : (s : List ℕ) → print (json_tokens (json.number s)) ≡ s
 unfolding print_from
 print-number s = append-nil s
@@ -218,7 +219,7 @@ print-id (id.number (pos n)) = print-number (decimal n)
 print-id (id.number (negsuc n)) = print-number (signed_decimal (negsuc n))
 print-id (id.text s) = print-string s
 
-id_json : (i : Id) → IsInRange i → IsJsonOf (id_tree i) (outline (id_tree i))
+id_json : (i : Id) → IsIdInRange i → IsJsonOf (id_tree i) (outline (id_tree i))
 id_json (id.number (pos n)) good = let below : n < 2 ^ 31 = ltb-true n (2 ^ 31) good in record { numbers = IsNumber-decimal n (omega arith); reads = ap (option_map number) (number_of-decimal n (omega arith)); nests = refl }
 id_json (id.number (negsuc n)) good = let below : n < 2 ^ 31 = ltb-true n (2 ^ 31) good in record { numbers = IsNumber-signed_decimal (negsuc n) (omega arith); reads = ap (option_map number) (number_of-negative n (omega arith)); nests = refl }
 id_json (id.text s) good = record { numbers = tt; reads = refl; nests = refl }
@@ -244,7 +245,7 @@ id_text i more = versioned_text (json.member (codes "id") (outline (id_tree i)) 
 abbrev result_tree : Id → Data → Data
 result_tree i result = object (member (codes "id") (id_tree i) (member (codes "jsonrpc") (string (codes "2.0")) (member (codes "result") result no_members)))
 
-result_json : (i : Id) (result : Data) (j : json.Json) → IsInRange i → IsJsonOf result j → IsJsonOf (result_tree i result) (with_id i (json.member (codes "result") j json.no_members))
+result_json : (i : Id) (result : Data) (j : json.Json) → IsIdInRange i → IsJsonOf result j → IsJsonOf (result_tree i result) (with_id i (json.member (codes "result") j json.no_members))
 result_json i result j good h = let known = id_json i good in record { numbers = (tt, (known.numbers, (h.numbers, tt))); reads = rw (known.reads, h.reads) refl; nests = rw (known.nests, h.nests) (omega arith) }
 
 result_text : (j : json.Json) (value : List ℕ) → value ≡ print (json_tokens j) → text_of_members (json.member (codes "result") j json.no_members) ≡ named (codes ",") (codes "result") value ++ codes "}"
@@ -256,7 +257,7 @@ id_flat (id.number (pos n)) = refl
 id_flat (id.number (negsuc n)) = refl
 id_flat (id.text s) = refl
 
-pub result_reads_back : (i : Id) (result : Data) (body : List ℕ) → IsInRange i → as_id (id_tree i) ≡ Some i → suc (depth result) ≤ max_depth → IsBodyOf (response i (Ok result)) body → IsReadAs body (response i (Ok result))
+pub result_reads_back : (i : Id) (result : Data) (body : List ℕ) → IsIdInRange i → as_id (id_tree i) ≡ Some i → suc (depth result) ≤ max_depth → IsBodyOf (response i (Ok result)) body → IsReadAs body (response i (Ok result))
 result_reads_back i result body good same shallow h =
     let flat = id_flat i in
     let value = value_json result h.0 h.1 (omega arith) in
@@ -286,7 +287,7 @@ asked_text i method more =
     id_text i (json.member (codes "method") (json.string method) more) ∙ ap (λ s. front ++ s) (method_text method more)
     ∙ sym (append_assoc front (named (codes ",") (codes "method") (quoted method)) (text_of_members more))
 
-bare_request : (i : Id) (method body : List ℕ) → IsInRange i → IsBodyOf (request i method null) body → read body ≡ Some (request_tree i method no_members)
+bare_request : (i : Id) (method body : List ℕ) → IsIdInRange i → IsBodyOf (request i method null) body → read body ≡ Some (request_tree i method no_members)
 bare_request i method body good h =
     let flat = id_flat i in
     let known = id_json i good in
@@ -295,7 +296,7 @@ bare_request i method body good h =
     let is : IsJsonOf (request_tree i method no_members) (asked i method json.no_members) = record { numbers = (tt, (known.numbers, (tt, tt))); reads = rw known.reads refl; nests = rw known.nests (omega arith) } in
     ap read text ∙ read-print _ _ is (omega (arith, flat))
 
-full_request : (i : Id) (method : List ℕ) (params : Data) (more body : List ℕ) → IsInRange i → suc (depth params) ≤ max_depth → IsLaterMember (codes "params") (Some params) more
+full_request : (i : Id) (method : List ℕ) (params : Data) (more body : List ℕ) → IsIdInRange i → suc (depth params) ≤ max_depth → IsLaterMember (codes "params") (Some params) more
     → body ≡ named (codes "{\"jsonrpc\":\"2.0\",") (codes "id") (compact_text (id_tree i)) ++ named (codes ",") (codes "method") (compact_text (string method)) ++ more ++ codes "}"
     → read body ≡ Some (request_tree i method (member (codes "params") params no_members))
 full_request i method params more body good shallow later is =
@@ -312,7 +313,7 @@ full_request i method params more body good shallow later is =
     record { numbers = (tt, (known.numbers, (tt, (h.numbers, tt)))); reads = rw (known.reads, h.reads) refl; nests = rw (known.nests, h.nests) (omega arith) } in
     ap read text ∙ read-print _ _ whole_json (omega (arith, flat))
 
-pub request_reads_back : (i : Id) (method : List ℕ) (params : Data) (body : List ℕ) → IsInRange i → as_id (id_tree i) ≡ Some i → suc (depth params) ≤ max_depth → IsBodyOf (request i method params) body → IsReadAs body (request i method params)
+pub request_reads_back : (i : Id) (method : List ℕ) (params : Data) (body : List ℕ) → IsIdInRange i → as_id (id_tree i) ≡ Some i → suc (depth params) ≤ max_depth → IsBodyOf (request i method params) body → IsReadAs body (request i method params)
 request_reads_back i method null body good same shallow h = (_, bare_request i method body good h, rw same refl)
 request_reads_back i method (boolean b) body good same shallow h = (_, full_request i method (boolean b) h.0 body good shallow h.1 h.2, rw same refl)
 request_reads_back i method (number n) body good same shallow h = (_, full_request i method (number n) h.0 body good shallow h.1 h.2, rw same refl)
@@ -382,7 +383,7 @@ error_json code message (Some d) value good shallow h =
 abbrev failure_tree : Id → Data → Data
 failure_tree i e = object (member (codes "error") e (member (codes "id") (id_tree i) (member (codes "jsonrpc") (string (codes "2.0")) no_members)))
 
-failure_json : (i : Id) (e : Data) (j : json.Json) → IsInRange i → IsJsonOf e j → IsJsonOf (failure_tree i e) (with_id i (json.member (codes "error") j json.no_members))
+failure_json : (i : Id) (e : Data) (j : json.Json) → IsIdInRange i → IsJsonOf e j → IsJsonOf (failure_tree i e) (with_id i (json.member (codes "error") j json.no_members))
 failure_json i e j good h = let known = id_json i good in record { numbers = (tt, (known.numbers, (h.numbers, tt))); reads = rw (known.reads, h.reads) refl; nests = rw (known.nests, h.nests) (omega arith) }
 
 error_text : (j : json.Json) (value : List ℕ) → value ≡ print (json_tokens j) → text_of_members (json.member (codes "error") j json.no_members) ≡ named (codes ",") (codes "error") value ++ codes "}"
@@ -395,7 +396,7 @@ error_shallow (negsuc n) message None h = lit≤ tt
 error_shallow (pos n) message (Some d) h = omega arith
 error_shallow (negsuc n) message (Some d) h = omega arith
 
-pub error_reads_back : (i : Id) (code : ℤ) (message : List ℕ) (details : Option Data) (body : List ℕ) → IsInRange i → as_id (id_tree i) ≡ Some i
+pub error_reads_back : (i : Id) (code : ℤ) (message : List ℕ) (details : Option Data) (body : List ℕ) → IsIdInRange i → as_id (id_tree i) ≡ Some i
     → is_i32 code ≡ true → code_of (number (of_integer code)) ≡ Some code → suc (suc (details_depth details)) ≤ max_depth
     → IsBodyOf (response i (Err (record { code = code; message = message; details = details }))) body
     → IsReadAs body (response i (Err (record { code = code; message = message; details = unless_null details })))
@@ -410,3 +411,57 @@ error_reads_back i code message details body good same fits is_code shallow h =
     ∙ sym (id_text i (json.member (codes "error") j json.no_members) ∙ ap (λ s. front ++ s) (error_text j h.0 value.2)) in
     let fine = error_shallow code message details shallow in
     (failure_tree i e, ap read text ∙ read-print _ _ (failure_json i e j good value.1) (omega (arith, flat, fine)), rw (same, as_error-error_tree code message details is_code) refl)
+
+-- ---- any message
+
+as_i32-of_integer : (z : ℤ) → is_i32 z ≡ true → as_i32 (of_integer z) ≡ Some z
+as_i32-of_integer (pos n) fits = rw fits refl
+as_i32-of_integer (negsuc n) fits = rw fits refl
+
+as_id-id_tree : (i : Id) → IsIdInRange i → as_id (id_tree i) ≡ Some i
+as_id-id_tree (id.number z) fits = ap (option_map id.number) (as_i32-of_integer z fits)
+as_id-id_tree (id.text s) fits = refl
+
+shallow_params : (i : Id) (method : List ℕ) (params : Data) → nesting (request i method params) ≤ max_depth → suc (depth params) ≤ max_depth
+shallow_params i method null h = lit≤ tt
+shallow_params i method (boolean b) h = lit≤ tt
+shallow_params i method (number n) h = lit≤ tt
+shallow_params i method (string s) h = lit≤ tt
+shallow_params i method (array ds) h = omega arith
+shallow_params i method (object ms) h = omega arith
+
+shallow_notification : (method : List ℕ) (params : Data) → nesting (notification method params) ≤ max_depth → suc (depth params) ≤ max_depth
+shallow_notification method null h = lit≤ tt
+shallow_notification method (boolean b) h = lit≤ tt
+shallow_notification method (number n) h = lit≤ tt
+shallow_notification method (string s) h = lit≤ tt
+shallow_notification method (array ds) h = omega arith
+shallow_notification method (object ms) h = omega arith
+
+shallow_details : (i : Id) (e : ErrorObject) → nesting (response i (Err e)) ≤ max_depth → suc (suc (details_depth e.details)) ≤ max_depth
+shallow_details i e h = at e.details h
+  where
+    at : (details : Option Data) → nesting (response i (Err (record { code = e.code; message = e.message; details = details }))) ≤ max_depth → suc (suc (details_depth details)) ≤ max_depth
+    at None h = lit≤ tt
+    at (Some d) h = omega arith
+
+-- what is written is read back
+pub message_reads_back : (m : Message) (body : List ℕ) → IsInRange m → nesting m ≤ max_depth → IsBodyOf m body → IsReadAs body (without_null_details m)
+message_reads_back (request i method params) body range shallow is =
+    request_reads_back i method params body range (as_id-id_tree i range) (shallow_params i method params shallow) is
+message_reads_back (notification method params) body range shallow is =
+    notification_reads_back method params body (shallow_notification method params shallow) is
+message_reads_back (response i (Ok result)) body range shallow is =
+    result_reads_back i result body range (as_id-id_tree i range) (omega arith) is
+message_reads_back (response i (Err e)) body range shallow is =
+    error_reads_back i e.code e.message e.details body range.0 (as_id-id_tree i range.0) range.1 (as_i32-of_integer e.code range.1) (shallow_details i e shallow) is
+
+pub body_reads_back : (m : Message) (body : List ℕ) → IsUtf8 body → IsInRange m → nesting m ≤ max_depth → IsBodyOf m body → body_means body ≡ Ok (without_null_details m)
+body_reads_back m body text range shallow is =
+    let back = message_reads_back m body range shallow is in
+    body_means-text body text ∙ ap tree_means back.1 ∙ ap (λ o. ok_or o NoMessage) back.2
+
+pub result_reads : {X E : Type 0} (bytes : X → List ℕ) → ((x : X) → IsUtf8 (bytes x)) → (m : Message) (r : Result X E) → IfOk r (λ x. IsBodyOf m (bytes x)) → OnOk r (IsInRange m)
+    → IfOk r (λ x. nesting m ≤ max_depth → body_means (bytes x) ≡ Ok (without_null_details m))
+result_reads bytes text m (Ok x) is range = λ shallow. body_reads_back m (bytes x) (text x) range shallow is
+result_reads bytes text m (Err e) is range = tt

@@ -14,7 +14,7 @@ Extracts whole method asked (Err (JsonError name error)) Q = (method ≡ asked) 
 abbrev pub mismatch_text : List ℕ → List ℕ → List ℕ
 mismatch_text kind method = codes "Method mismatch for " ++ kind ++ codes " '" ++ method ++ codes "'"
 
--- the text of `error` is open
+-- The text of a failed conversion is shown by tests, since `serde_json` states none of its error.
 abbrev pub request_error_text : ExtractError Request → Option (List ℕ)
 request_error_text (MethodMismatch r) = Some (mismatch_text (codes "request") (string_bytes r.method))
 request_error_text (JsonError method error) = None

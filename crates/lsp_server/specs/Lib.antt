@@ -16,6 +16,7 @@ pub mod Lists
 pub mod Meaning
 pub mod Message
 pub mod Pump
+pub mod Ranges
 pub mod ReadLoop
 pub mod RequestId
 pub mod Text

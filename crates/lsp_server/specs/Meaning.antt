@@ -70,7 +70,7 @@ abbrev pub failure_of : Option Data → Data → Option (Result Data ErrorObject
 failure_of None e = option_map Err (as_error e)
 failure_of (Some r) e = None
 
--- what came of a request, by the members `result` and `error`: a null one counts as absent beside the other
+-- what came of a request, by the member `result` and by the member `error` that is not null; a null result counts as absent beside an error
 abbrev pub outcome_of : Option Data → Option Data → Option (Result Data ErrorObject)
 outcome_of result None = option_map Ok result
 outcome_of result (Some e) = failure_of (unless_null result) e
@@ -90,7 +90,7 @@ listed_request i method params = option_and_then (λ known. option_map (λ name.
 abbrev pub listed_notification : Data → Data → Option Message
 listed_notification method params = option_map (λ name. notification name params) (as_str method)
 
--- a list is a request where it begins with a good id and a text, and else a notification where it begins with a text and has one or two members
+-- a list of two or three members is a request where it begins with a good id and a text; any other of one or two is a notification where it begins with a text
 abbrev pub listed_message : Items → Option Message
 listed_message no_items = None
 listed_message (item a no_items) = listed_notification a null

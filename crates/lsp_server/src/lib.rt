@@ -3,6 +3,7 @@
 
 mod error;
 mod frame;
+pub mod laws;
 mod lifecycle;
 mod loops;
 mod msg;

@@ -1,5 +1,4 @@
-ghost use Rattle.std.specs.Prelude.{◌≡◌, ◌≢◌, IfOk, string_bytes};
-ghost use Rattle.lsp_server.specs.Id.{printed, number as number_id, text as text_id};
+ghost use Rattle.std.specs.Prelude.{◌≡◌, Some, IfOk, string_bytes};
 
 use serde_json::Value;
 use std::alloc::{AllocError, Global};
@@ -15,7 +14,10 @@ enum IdRepr {
     Text(String),
 }
 
-/// The id of a request: a number or a text (JSON-RPC 2.0, section 4).
+/// The id of a request (JSON-RPC 2.0, section 4): a whole number of 32 signed bits, or a text.
+///
+/// Numbers come before texts, numbers by value and texts by their bytes. A number prints in decimal, a text in the debug
+/// form of Rust, in quotes.
 #[derive(Debug, Drop)]
 pub struct RequestId(IdRepr);
 
@@ -49,6 +51,7 @@ impl From<String> for RequestId {
 }
 
 impl RequestId {
+    /// The same id. It takes memory for a text, and is an `Err` where that is refused.
     pub fn clone(&self) -> Result<RequestId, AllocError>
         ensures { IfOk result (λ id. id ≡ self.now) }
     {
@@ -163,24 +166,18 @@ impl Clone for RequestId {
 impl RequestId {
     ghost use Rattle.serde_json.specs.View.{view};
     ghost use Rattle.lsp_server.specs.Meaning.{as_id};
+    ghost use Rattle.lsp_server.specs.Ranges.{IsIdInRange};
     ghost use Rattle.lsp_server.specs.Tree.{id_tree};
 
     // The member `id` of a message.
     pub(crate) fn to_value(&self, alloc: Global) -> Result<Value, AllocError>
         ensures tree { IfOk result (λ v. view v ≡ id_tree self.now) }
         ensures good { as_id (id_tree self.now) ≡ Some self.now }
+        ensures range { IsIdInRange self.now }
     {
         match &self.0 {
             IdRepr::Number(number) => Ok(Value::from(*number)),
             IdRepr::Text(text) => Value::try_from_str(alloc, text.as_str()),
         }
     }
-}
-
-// A number and a text never print the same, as far as the text's print is known.
-fn kinds_print_apart(number: i32, text: &str)
-    ensures { printed (number_id number) ≢ printed (text_id text.now) }
-{
-    let _number = number;
-    let _text = text;
 }

@@ -7,8 +7,8 @@ use Rattle.lsp_server.specs.Text.{named, Adds, IsErrorText, IsLaterMember}
 use Rattle.lsp_server.proofs.Joined.{joined_four}
 use Rattle.lsp_server.proofs.msg.text.push_error.Goals as goal
 
-pub returns : goal.returns
-returns c =
+pub returns-clause-text : goal.returns-clause-text
+returns-clause-text c =
     let old = string_bytes c.args.out.now in
     let error = c.args.error.now in
     let details : Adds (IsLaterMember (codes "data") (option_map view error.«data»)) (string_bytes c.push_text.new.out) (string_bytes c.push_later_member.new.out) = search rules in

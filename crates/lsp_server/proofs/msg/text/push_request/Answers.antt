@@ -8,8 +8,8 @@ use Rattle.lsp_server.specs.Text.{named, Adds, IsLaterMember}
 use Rattle.lsp_server.proofs.Joined.{joined_four}
 use Rattle.lsp_server.proofs.msg.text.push_request.Goals as goal
 
-pub returns : goal.returns
-returns c =
+pub returns-clause-text : goal.returns-clause-text
+returns-clause-text c =
     let old = string_bytes c.args.out.now in
     let request = c.args.request.now in
     let more : Adds (IsLaterMember (codes "params") (unless_null (Some (view request.params)))) (string_bytes c.push_text.new.out) (string_bytes c.push_params.new.out) = search rules in
