@@ -2,11 +2,13 @@ pub mod Contents
 pub mod Handing
 pub mod HeaderSteps
 pub mod Joined
+pub mod Keys
 pub mod Members
 pub mod Numerals
 pub mod Places
 pub mod Printed
 pub mod Pumping
+pub mod QueueRuns
 pub mod ReadBack
 pub mod ReadsBack
 pub mod Rows

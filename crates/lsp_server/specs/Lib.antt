@@ -8,6 +8,7 @@ pub mod FrameBoxes
 pub mod Gathering
 pub mod HeaderPart
 pub mod Id
+pub mod IdKeys
 pub mod IdLaws
 pub mod Letters
 pub mod Lines
@@ -16,8 +17,11 @@ pub mod Lists
 pub mod Meaning
 pub mod Message
 pub mod Pump
+pub mod QueueRun
 pub mod Ranges
 pub mod ReadLoop
+pub mod Queue
+pub mod Registering
 pub mod RequestId
 pub mod Text
 pub mod Tree

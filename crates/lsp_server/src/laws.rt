@@ -1,6 +1,8 @@
-//! Laws of the messages, each as the contract of a function: the proofs of callers may rest on them.
-ghost use Rattle.std.specs.Prelude.{◌≡◌, ◌≢◌, IfOk};
-ghost use Rattle.lsp_server.specs.Id.{printed, number as number_id, text as text_id};
+//! Laws of messages, ids and queues, each as the contract of a function: the proofs of callers may rest on them.
+ghost use Rattle.std.specs.Prelude.{◌≡◌, ◌≢◌, List, IfOk};
+ghost use Rattle.std.specs.FinMap as map;
+ghost use Rattle.lsp_server.specs.Id.{Id, printed, number as number_id, text as text_id};
+ghost use Rattle.lsp_server.specs.QueueRun.{Call, after_all, last_registered};
 ghost use Rattle.lsp_server.specs.View.{error_view, request_view, notification_view, response_view, message_view};
 
 use crate::msg::{Message, Notification, Request, Response, ResponseError};
@@ -48,3 +50,9 @@ pub fn kinds_print_apart(number: i32, text: &str)
     let _number = number;
     let _text = text;
 }
+
+/// Over any list of calls on a queue, what is pending under an id is the data last registered under it, unless that was
+/// completed or cancelled since. So `complete` gives it once.
+pub fn pending_is_last_registered<D>()
+    ensures { (calls : List (Call D)) (id : Id) → map.get (after_all calls) id ≡ last_registered id calls }
+{}

@@ -8,10 +8,12 @@ mod lifecycle;
 mod loops;
 mod msg;
 mod relay;
+mod req_queue;
 
-pub use error::ExtractError;
+pub use error::{ExtractError, RegisterFault};
 pub use frame::{ReadFault, WriteFault};
 pub use lifecycle::{ListOutbox, Outbox, SendFault};
 pub use loops::{FrameOutbox, ReadEnd, read_loop};
 pub use msg::{ErrorCode, Message, Notification, Request, RequestId, Response, ResponseError};
 pub use relay::{PumpFault, StartFault, pump};
+pub use req_queue::{Incoming, Outgoing, ReqQueue};

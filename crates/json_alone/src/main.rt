@@ -1,0 +1,55 @@
+// Reads each message of standard input and writes it again with `serde_json` alone, as a measure of the least cost.
+// It trusts its input: a line with the length, an empty line and the body, over and over.
+#![tactic(auto)]
+
+use anyhow::{Context, Result};
+use serde_json::Value;
+use std::alloc::Global;
+use std::fmt::Write as _;
+use std::io::{self, BufRead, BufReader, Read, Write};
+
+const BUFFER_LENGTH: usize = 65536;
+
+// The number in a header, and 0 at the end of the input.
+fn read_header<R: BufRead>(reader: &mut R, line: &mut Vec<u8>) -> Result<usize> {
+    line.clear();
+    reader.read_until(b'\n', line)?;
+    let mut length = 0usize;
+    for byte in line.iter() {
+        if byte.is_ascii_digit() {
+            let digit = usize::from(*byte - b'0');
+            length = length.saturating_mul(10).saturating_add(digit);
+        }
+    }
+    reader.skip_until(b'\n')?;
+    Ok(length)
+}
+
+fn echo_all<R: BufRead, W: Write>(alloc: Global, reader: &mut R, writer: &mut W) -> Result<()> {
+    let mut line = Vec::new(alloc);
+    let mut body = Vec::new(alloc);
+    let mut frame = String::new(alloc);
+    for _ in 0..u64::MAX {
+        let length = read_header(reader, &mut line)?;
+        if length == 0 {
+            break;
+        }
+        body.resize(length, 0)?;
+        reader.read_exact(body.as_mut_slice())?;
+        let value = Value::from_slice(alloc, body.as_slice()).context("reading a body")?;
+        let text = value.to_string(alloc)?;
+        frame.clear();
+        let text_length = text.len();
+        write!(frame, "Content-Length: {text_length}\r\n\r\n")?;
+        frame.push_str(text.as_str())?;
+        writer.write_all(frame.as_bytes())?;
+        writer.flush()?;
+    }
+    Ok(())
+}
+
+fn main(rt: HostRuntime) -> Result<()> {
+    let alloc = rt.alloc();
+    let mut reader = BufReader::with_capacity(alloc, BUFFER_LENGTH, rt.reader())?;
+    echo_all(alloc, &mut reader, &mut io::writer(&rt))
+}

@@ -1,0 +1,15 @@
+-- What a refused registration hands back.
+use Rattle.std.specs.Prelude.{◌≡◌, ℕ}
+use Rattle.lsp_server.specs.declared.error.RegisterFault.{RegisterFault}
+use Rattle.lsp_server.specs.declared.error.RegisterFault.TheVariants.{Memory, Unwritable, Spent}
+
+-- whatever the fault, it holds the data
+abbrev pub IsFaultOf : {D : Type 0} → D → RegisterFault D → Type 0
+IsFaultOf given (Memory back) = back ≡ given
+IsFaultOf given (Unwritable back) = back ≡ given
+IsFaultOf given (Spent back) = back ≡ given
+
+abbrev pub register_fault_number : {D : Type 0} → RegisterFault D → ℕ
+register_fault_number (Memory back) = 1
+register_fault_number (Unwritable back) = 2
+register_fault_number (Spent back) = 3

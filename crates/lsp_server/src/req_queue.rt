@@ -1,0 +1,275 @@
+//! The requests that have no reply yet, of both sides (JSON-RPC 2.0, section 5).
+ghost use Rattle.std.specs.Prelude.{◌≡◌, ◌==◌, ◌+◌, ◌^◌, ◌<◌, ◌||◌, not, pos, Ok, Err, None, option_map, IfOk, IfErr, OnOk, OnErr, if◌then◌else◌};
+ghost use Rattle.std.specs.FinMap as map;
+ghost use Rattle.lsp_server.specs.Id.{number, id_cmp};
+ghost use Rattle.lsp_server.specs.Queue.{pending_of, count_of, all_ids, cancelled};
+ghost use Rattle.lsp_server.specs.Registering.{IsFaultOf};
+ghost use Rattle.lsp_server.specs.View.{response_view};
+
+use crate::error::RegisterFault;
+use crate::msg::{ErrorCode, Request, RequestId, Response};
+use serde::Serialize;
+use serde_json::Value;
+use std::alloc::{AllocError, Global};
+use std::collections::BTreeMap;
+use std::marker::Model;
+
+/// The requests that have no reply yet: those of the other side and those of this one.
+#[derive(Drop)]
+pub struct ReqQueue<I, O> {
+    /// The other side's requests, which this side has to answer.
+    pub incoming: Incoming<I>,
+    /// This side's requests, which the other side has to answer.
+    pub outgoing: Outgoing<O>,
+}
+
+impl<I, O> ReqQueue<I, O> {
+    /// Nothing is pending. It takes no memory.
+    pub fn default(alloc: Global) -> ReqQueue<I, O>
+        ensures incoming { result.incoming ≡ map.empty }
+        ensures outgoing { result.outgoing ≡ (map.empty, 0) }
+    {
+        ReqQueue {
+            incoming: Incoming::default(alloc),
+            outgoing: Outgoing::default(alloc),
+        }
+    }
+
+    /// Whether a request of either side is pending. It takes no memory.
+    pub fn has_pending(&self) -> bool
+        ensures { result ≡ (not (map.len self.now.incoming == 0) || not (map.len (pending_of self.now.outgoing) == 0)) }
+    {
+        self.incoming.has_pending() || self.outgoing.has_pending()
+    }
+}
+
+/// The other side's requests that have no reply yet, each under its id with some data.
+#[derive(Drop)]
+pub struct Incoming<I> {
+    alloc: Global,
+    pending: BTreeMap<RequestId, I>,
+}
+
+impl<I> Model for Incoming<I> {
+    ghost use Rattle.std.specs.FinMap as map;
+    ghost use Rattle.lsp_server.specs.Id.{id_cmp};
+    ghost use Rattle.lsp_server.specs.IdKeys.{coded_id};
+
+    ghost Value = { map.FinMap id_cmp I };
+
+    ghost coded = { map.code coded_id I.code };
+
+    ghost view = { λ queue. map.from_entries queue.pending.entries };
+}
+
+impl<I> Incoming<I> {
+    fn default(alloc: Global) -> Incoming<I>
+        ensures { result ≡ map.empty }
+    {
+        Incoming {
+            alloc,
+            pending: BTreeMap::new(alloc),
+        }
+    }
+
+    /// Whether the request isn't pending, also for one that never was. It takes no memory.
+    pub fn is_completed(&self, id: &RequestId) -> bool
+        ensures { result ≡ not (map.contains_key self.now id.now) }
+    {
+        !self.pending.contains_key(id)
+    }
+
+    /// Whether some request is pending. It takes no memory.
+    pub fn has_pending(&self) -> bool
+        ensures { result ≡ not (map.len self.now == 0) }
+    {
+        self.pending.len() != 0
+    }
+
+    /// Takes a request out, and gives its data where it was pending. It takes no memory.
+    pub fn complete(&mut self, id: &RequestId) -> Option<I>
+        ensures value { result ≡ map.get self.old id.now }
+        ensures removed { self.new ≡ map.remove self.old id.now }
+    {
+        self.pending.remove(id)
+    }
+}
+
+impl<I: Drop> Incoming<I> {
+    /// Makes a request pending with this data. The data of a pending one under the same id is replaced and dropped.
+    ///
+    /// `RegisterFault::Memory` alone hands the data back, and the queue is unchanged.
+    pub fn register(&mut self, id: RequestId, data: I) -> Result<(), RegisterFault<I>>
+        ensures ok { OnOk result (self.new ≡ map.insert self.old id «data») }
+        ensures err { OnErr result (self.new ≡ self.old) }
+        ensures handed_back { IfErr result (λ fault. fault ≡ RegisterFault.Memory «data») }
+    {
+        match keep(&mut self.pending, id, data) {
+            Ok(()) => Ok(()),
+            Err(back) => Err(RegisterFault::Memory(back)),
+        }
+    }
+
+    /// Takes a request out and gives the reply to it, where it was pending (LSP 3.17, "Cancellation Support"). Its data is
+    /// dropped.
+    ///
+    /// Otherwise it gives `None` and takes no memory. A refused growth leaves the queue unchanged.
+    pub fn cancel(&mut self, id: RequestId) -> Result<Option<Response>, AllocError>
+        ensures reply { IfOk result (λ reply. option_map response_view reply ≡ option_map (λ _. cancelled id) (map.get self.old id)) }
+        ensures absent { map.get self.old id ≡ None → result ≡ Ok None }
+        ensures removed { OnOk result (self.new ≡ map.remove self.old id) }
+        ensures err { OnErr result (self.new ≡ self.old) }
+    {
+        if self.is_completed(&id) {
+            return Ok(None);
+        }
+        let message = String::from_str(self.alloc, "canceled by client")?;
+        self.complete(&id);
+        let code = ErrorCode::RequestCanceled.number();
+        Ok(Some(Response::new_err(id, code, message)))
+    }
+}
+
+/// How many ids there are: 0 to 2147483647.
+const ALL_IDS: u32 = 2147483648;
+
+/// This side's requests that have no reply yet, each under its id with some data, and the next id.
+#[derive(Drop)]
+pub struct Outgoing<O> {
+    alloc: Global,
+    next: u32,
+    pending: BTreeMap<RequestId, O>,
+}
+
+impl<O> Model for Outgoing<O> {
+    ghost use Rattle.std.specs.Prelude.{ℕ, ◌≤◌, ◌^◌};
+    ghost use Rattle.std.specs.FinMap as map;
+    ghost use Rattle.std.specs.Coded.{coded×, coded_ℕ};
+    ghost use Rattle.lsp_server.specs.Id.{id_cmp};
+    ghost use Rattle.lsp_server.specs.IdKeys.{coded_id};
+
+    ghost Value = { map.FinMap id_cmp O × ℕ };
+
+    ghost coded = { coded× (map.code coded_id O.code) coded_ℕ };
+
+    ghost view = { λ queue. (map.from_entries queue.pending.entries, queue.next) };
+
+    ghost invariant = { λ queue. queue.next ≤ 2 ^ 31 };
+}
+
+impl<O> Outgoing<O> {
+    fn default(alloc: Global) -> Outgoing<O>
+        ensures { result ≡ (map.empty, 0) }
+    {
+        Outgoing {
+            alloc,
+            next: 0,
+            pending: BTreeMap::new(alloc),
+        }
+    }
+
+    /// Whether some request is pending. It takes no memory.
+    pub fn has_pending(&self) -> bool
+        ensures { result ≡ not (map.len (pending_of self.now) == 0) }
+    {
+        self.pending.len() != 0
+    }
+
+    /// Takes a request out, and gives its data where it was pending. It takes no memory.
+    pub fn complete(&mut self, id: RequestId) -> Option<O>
+        ensures value { result ≡ map.get (pending_of self.old) id }
+        ensures removed { self.new ≡ (map.remove (pending_of self.old) id, count_of self.old) }
+    {
+        self.pending.remove(&id)
+    }
+}
+
+impl<O: Drop> Outgoing<O> {
+    /// Makes a request pending with this data, and gives the request to send. Its id is the next of 0, 1, 2, .. 2147483647.
+    ///
+    /// `RegisterFault::Spent` comes exactly where all ids were given out, else `RegisterFault::Memory` where a growth was
+    /// refused. Each hands the data back, and the queue is unchanged.
+    pub fn register_value(
+        &mut self,
+        method: String,
+        params: Value,
+        data: O,
+    ) -> Result<Request, RegisterFault<O>>
+        ensures id { IfOk result (λ request. request.id ≡ number (pos (count_of self.old))) }
+        ensures method { IfOk result (λ request. request.method ≡ method) }
+        ensures params { IfOk result (λ request. request.params ≡ params) }
+        ensures ok { OnOk result (self.new ≡ (map.insert (pending_of self.old) (number (pos (count_of self.old))) «data», count_of self.old + 1)) }
+        ensures err { OnErr result (self.new ≡ self.old) }
+        ensures refused { IfErr result (λ fault. fault ≡ (if count_of self.old == all_ids then RegisterFault.Spent «data» else RegisterFault.Memory «data»)) }
+        ensures spent { count_of self.old ≡ all_ids → result ≡ Err (RegisterFault.Spent «data») }
+    {
+        if self.is_spent() {
+            return Err(RegisterFault::Spent(data));
+        }
+        let number = self.next;
+        match keep(&mut self.pending, id_of(number), data) {
+            Ok(()) => {
+                self.next = number + 1;
+                let id = id_of(number);
+                Ok(Request { id, method, params })
+            }
+            Err(back) => Err(RegisterFault::Memory(back)),
+        }
+    }
+
+    /// The same for params of a type of their own, which go through their compact text.
+    ///
+    /// Where ids are left and `serde_json` refuses the params, or memory for them, it is `RegisterFault::Unwritable`.
+    pub fn register<P: Serialize + Drop>(
+        &mut self,
+        method: String,
+        params: P,
+        data: O,
+    ) -> Result<Request, RegisterFault<O>>
+        ensures id { IfOk result (λ request. request.id ≡ number (pos (count_of self.old))) }
+        ensures method { IfOk result (λ request. request.method ≡ method) }
+        ensures ok { OnOk result (self.new ≡ (map.insert (pending_of self.old) (number (pos (count_of self.old))) «data», count_of self.old + 1)) }
+        ensures err { OnErr result (self.new ≡ self.old) }
+        ensures handed_back { IfErr result (IsFaultOf «data») }
+        ensures spent { count_of self.old ≡ all_ids → result ≡ Err (RegisterFault.Spent «data») }
+        ensures unspent { IfErr result (λ fault. fault ≡ RegisterFault.Spent «data» → count_of self.old ≡ all_ids) }
+    {
+        if self.is_spent() {
+            return Err(RegisterFault::Spent(data));
+        }
+        match serde_json::to_value(self.alloc, &params) {
+            Ok(params) => self.register_value(method, params, data),
+            Err(_) => Err(RegisterFault::Unwritable(data)),
+        }
+    }
+
+    /// Whether all ids were given out.
+    fn is_spent(&self) -> bool
+        ensures { result ≡ (count_of self.now == all_ids) }
+    {
+        self.next == ALL_IDS
+    }
+}
+
+/// Keeps the data under the id, in the place of what was there. Where a growth is refused it comes back.
+fn keep<D: Drop>(pending: &mut BTreeMap<RequestId, D>, id: RequestId, data: D) -> Result<(), D>
+    ensures ok { OnOk result (map.from_entries pending.new.entries ≡ map.insert (map.from_entries {R = id_cmp} pending.old.entries) id «data») }
+    ensures err { OnErr result (pending.new.entries ≡ pending.old.entries) }
+    ensures back { IfErr result (λ back. back ≡ «data») }
+{
+    match pending.insert(id, data) {
+        Ok(_) => Ok(()),
+        Err(refused) => Err(refused.value.1),
+    }
+}
+
+/// The id that is this number.
+fn id_of(next: u32) -> RequestId
+    requires { next < 2 ^ 31 }
+    ensures { result ≡ number (pos next) }
+{
+    RequestId::from(next as i32)
+}
+
+#[cfg(test)]
+mod tests;
