@@ -1,13 +1,13 @@
 -- Messages handed on, one after another.
-use Rattle.std.proofs.Common.{◌≡◌, ℕ, true, false, List, [], ◌∷◌, ◌++◌, Option, Some, None, IfSome, IsSomeAnd, Result, Ok, Err, refl, ap, subst}
+use Rattle.std.proofs.Common.{◌≡◌, ℕ, true, false, List, [], ◌∷◌, ◌++◌, Option, Some, None, IfSome, IsSomeAnd, Result, Ok, Err, refl, ap}
 use Rattle.std.proofs.lemmas.Fn.{FoldsTo-push}
 use Rattle.std.specs.List.{FoldsTo}
 use Rattle.lsp_server.specs.Body.{body_means, reading_of}
 use Rattle.lsp_server.specs.Boxes.{Takes}
 use Rattle.lsp_server.specs.Frame.{Answers, StopsWithin}
-use Rattle.lsp_server.specs.Letters.{Begins, Passes, PassesAll, Ending, exited, ended, failed, Letters, is_exit}
+use Rattle.lsp_server.specs.Letters.{Begins, Passes, PassesAll, is_exit}
 use Rattle.lsp_server.specs.Message.{Message}
-use Rattle.lsp_server.specs.ReadLoop.{HandsAll, HandsBefore, Refuses, Hands, refused_end}
+use Rattle.lsp_server.specs.ReadLoop.{HandsBefore, Refuses, Hands, refused_end}
 use Rattle.lsp_server.specs.declared.frame.ReadFault.{ReadFault}
 use Rattle.lsp_server.specs.declared.frame.ReadFault.TheVariants.{Input, Memory as NoMemory}
 use Rattle.lsp_server.specs.declared.lifecycle.SendFault.{SendFault}

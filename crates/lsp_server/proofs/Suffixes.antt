@@ -28,8 +28,8 @@ EndsIn-append front text rest ends = (front ++ ends.0, ap (λ l. front ++ l) end
 pub EndsIn-trans : (a b c : List ℕ) → EndsIn a b → EndsIn b c → EndsIn a c
 EndsIn-trans a b c first second = let more = EndsIn-append first.0 b c second in (more.0, first.1 ∙ more.1)
 
--- what follows the first line, and the line
-pub through : (text : List ℕ) → text ≡ take_through 10 text ++ drop_through 10 text
+-- the first line, and what follows it
+through : (text : List ℕ) → text ≡ take_through 10 text ++ drop_through 10 text
 through [] = refl
 through (b ∷ bs) = at (eqb b 10) (through bs)
   where
@@ -41,7 +41,7 @@ pub first_line-rest : (text : List ℕ) → (first_line text).rest ≡ drop_thro
 first_line-rest [] = refl
 first_line-rest (b ∷ bs) = refl
 
--- what is left of a reading that stops is more of what a shorter one leaves
+-- what stops within a reading stops within one that takes more
 pub StopsWithin-less : {A B : Type 0} (left : Option (List ℕ)) (short : Reading A) (long : Reading B) → StopsWithin left short → EndsIn short.rest long.rest → StopsWithin left long
 StopsWithin-less left short long stops ends = let more = EndsIn-append stops.0 short.rest long.rest ends in (more.0, stops.1 ∙ ap Some more.1)
 

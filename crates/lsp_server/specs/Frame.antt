@@ -2,7 +2,6 @@
 use Rattle.std.specs.Prelude.{◌≡◌, ℕ, List, [], ◌++◌, length, take, drop, Option, Some, None, option_map, Result, Ok, Err, nat_lt, if◌then◌else◌}
 use Rattle.std.specs.Result.{result_map_both}
 use Rattle.lsp_server.specs.HeaderPart.{Reading, header_of, first_line}
-use Rattle.lsp_server.specs.declared.frame.header.HeaderLine.{HeaderLine}
 use Rattle.lsp_server.specs.declared.frame.place.InPlace.{InPlace}
 use Rattle.lsp_server.specs.declared.frame.place.InPlace.TheVariants.{Whole, Cut, AtEnd}
 use Rattle.lsp_server.specs.declared.frame.ReadFault.{ReadFault}

@@ -1,4 +1,4 @@
-use Rattle.std.proofs.Common.{◌≡◌, Ok, Err, IfSome, Some, None, false, true, sym, ap, subst, ◌∙◌}
+use Rattle.std.proofs.Common.{◌≡◌, Ok, IfSome, false, true, sym, ap, subst, ◌∙◌}
 use Rattle.lsp_server.specs.Body.{reading_of}
 use Rattle.lsp_server.specs.Frame.{Answers}
 use Rattle.lsp_server.specs.Letters.{is_exit}

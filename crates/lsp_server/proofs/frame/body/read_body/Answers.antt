@@ -1,8 +1,7 @@
-use Rattle.std.proofs.Common.{◌≡◌, ◌+◌, ◌≤◌, length, length-append, ℕ, Vec, Global, [], ◌++◌, arith}
+use Rattle.std.proofs.Common.{◌≡◌, ◌≤◌, length, ℕ, Vec, Global, [], ◌++◌, Ok, arith}
 use Rattle.std.proofs.KnownBytes.{Consumes-nil, Consumes-trans}
 use Rattle.std.proofs.lemmas.Result.{err_from_is_err_and}
 use Rattle.lsp_server.proofs.Suffixes.{body_stops, body_whole, body_fails}
-use Rattle.std.specs.Prelude.{Ok}
 use Rattle.lsp_server.proofs.frame.body.read_body.Goals as goal
 
 pub returns-in_err-body-clause-exact : goal.returns-in_err-body-clause-exact
