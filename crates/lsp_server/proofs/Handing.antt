@@ -1,21 +1,20 @@
 -- Messages handed on, one after another.
-use Rattle.std.proofs.Common.{◌≡◌, ℕ, true, false, List, [], ◌∷◌, ◌++◌, Option, Some, None, IfSome, IsSomeAnd, Result, Ok, Err, refl, ap, subst}
+use Rattle.std.proofs.Common.{◌≡◌, ℕ, true, false, List, [], ◌∷◌, ◌++◌, Option, Some, None, IfSome, IsSomeAnd, Result, Ok, Err, refl, ap}
 use Rattle.std.proofs.lemmas.Fn.{FoldsTo-push}
 use Rattle.std.specs.List.{FoldsTo}
-use Rattle.lsp_server.specs.Body.{reading_of}
+use Rattle.lsp_server.specs.Body.{body_means, reading_of}
 use Rattle.lsp_server.specs.Boxes.{Takes}
-use Rattle.lsp_server.specs.Frame.{Answers}
-use Rattle.lsp_server.specs.Gathering.{TakesSome}
-use Rattle.lsp_server.specs.Letters.{Begins, Passes, PassesAll, Ending, exited, ended, failed, Letters, is_exit}
+use Rattle.lsp_server.specs.Frame.{Answers, StopsWithin}
+use Rattle.lsp_server.specs.Letters.{Begins, Passes, PassesAll, is_exit}
 use Rattle.lsp_server.specs.Message.{Message}
-use Rattle.lsp_server.specs.ReadLoop.{HandsAll, HandsBefore, Refuses, Hands, refused_end}
+use Rattle.lsp_server.specs.ReadLoop.{HandsBefore, Refuses, Hands, refused_end}
 use Rattle.lsp_server.specs.declared.frame.ReadFault.{ReadFault}
 use Rattle.lsp_server.specs.declared.frame.ReadFault.TheVariants.{Input, Memory as NoMemory}
 use Rattle.lsp_server.specs.declared.lifecycle.SendFault.{SendFault}
 use Rattle.lsp_server.specs.declared.lifecycle.SendFault.TheVariants.{Closed as IsClosed, Memory as IsFull}
 use Rattle.lsp_server.specs.declared.loops.ReadEnd.TheVariants.{Exit, End, Fault}
 use Rattle.lsp_server.specs.declared.msg.Message as msg
-use Rattle.lsp_server.proofs.Takings.{TakesSome-none}
+use Rattle.lsp_server.proofs.Contents.{frame_unread}
 
 -- what a read answered, as the reading of the whole text
 begins : (at : List ℕ) (m : Message) → (reading_of at).outcome ≡ Ok (Some m) → Begins at m (reading_of at).rest
@@ -75,15 +74,21 @@ module _ {S : Type 0} (sends : S → Message → Result (Unit {0}) SendFault →
         let end = ap (λ o. record { outcome = o; rest = (reading_of left).rest }) read.0 in
         (so_far.0, (reading_of left).rest, (left, so_far.1, end), so_far.2, read.1)
 
-    hands_before : (text left : List ℕ) → Handed (Some text) (Some left) old new → TakesSome (Some left) c → HandsBefore sends text old new c
-    hands_before text left so_far begun = (so_far.0, left, so_far.1, so_far.2, begun)
+    hands_before : (text left : List ℕ) → Handed (Some text) (Some left) old new → StopsWithin c (reading_of left) → HandsBefore sends text old new c
+    hands_before text left so_far stops = (so_far.0, left, so_far.1, so_far.2, stops)
 
-    pub hands_fault : (fault : ReadFault) (a b : Option (List ℕ)) → Handed a b old new → IfSome b (λ at. Answers view (Err fault) c (reading_of at)) → TakesSome b c
+    pub hands_fault : (fault : ReadFault) (a b : Option (List ℕ)) → Handed a b old new → IfSome b (λ at. Answers view (Err fault) c (reading_of at))
         → IfSome a (λ text. Hands sends text old new c (Fault fault))
-    hands_fault fault None b so_far read begun = tt
-    hands_fault fault (Some text) None so_far read begun = absurd so_far
-    hands_fault (Input kind) (Some text) (Some left) so_far read begun = hands_before text left so_far begun
-    hands_fault NoMemory (Some text) (Some left) so_far read begun = hands_before text left so_far begun
-    hands_fault fault (Some text) (Some left) so_far read begun =
+    hands_fault fault None b so_far read = tt
+    hands_fault fault (Some text) None so_far read = absurd so_far
+    hands_fault (Input kind) (Some text) (Some left) so_far read = hands_before text left so_far read
+    hands_fault NoMemory (Some text) (Some left) so_far read = hands_before text left so_far read
+    hands_fault fault (Some text) (Some left) so_far read =
         let end = ap (λ o. record { outcome = o; rest = (reading_of left).rest }) read.0 in
         (so_far.0, (reading_of left).rest, (left, so_far.1, end), so_far.2, read.1)
+
+  -- and where no more messages are read
+  pub hands_on : (old new : S) (a b : Option (List ℕ)) → Handed a b old new → IfSome a (λ text. HandsBefore sends text old new b)
+  hands_on old new None b so_far = tt
+  hands_on old new (Some text) None so_far = absurd so_far
+  hands_on old new (Some text) (Some left) so_far = (so_far.0, left, so_far.1, so_far.2, frame_unread body_means left)

@@ -1,9 +1,9 @@
 -- The header part, line by line.
-use Rattle.std.proofs.Common.{◌≡◌, ℕ, Bool, true, false, cond, eqb, List, [], ◌∷◌, length, Option, Some, None, IfSome, IsSomeAnd, Result, Ok, Err, refl, sym, ap, ◌∙◌}
+use Rattle.std.proofs.Common.{◌≡◌, ℕ, Bool, true, false, cond, eqb, List, [], ◌∷◌, length, Option, Some, None, IfSome, IsSomeAnd, Result, Ok, Err, refl, sym, ap, subst, ◌∙◌}
 use Rattle.std.specs.Io.BufRead.{take_through, drop_through}
 use Rattle.std.specs.List.{concat}
 use Rattle.std.specs.Result.{result_map_both}
-use Rattle.lsp_server.specs.Frame.{Answers}
+use Rattle.lsp_server.specs.Frame.{Answers, StopsWithin}
 use Rattle.lsp_server.specs.Gathering.{EndsLine}
 use Rattle.lsp_server.specs.HeaderPart.{Reading, header_line, is_field, fields, after_fields, length_in, or_else, content_length, at_last_line, header_end, header_of, first_line}
 use Rattle.lsp_server.specs.Lines.{lines, onto_first}
@@ -11,6 +11,7 @@ use Rattle.lsp_server.specs.declared.frame.ReadFault.{ReadFault}
 use Rattle.lsp_server.specs.declared.frame.ReadFault.TheVariants.{Input, Memory}
 use Rattle.lsp_server.specs.declared.frame.header.HeaderLine.{HeaderLine}
 use Rattle.lsp_server.specs.declared.frame.header.HeaderLine.TheVariants.{Blank, Length, Other}
+use Rattle.lsp_server.proofs.Suffixes.{EndsIn, EndsIn-refl, EndsIn-append, StopsWithin-less, StopsWithin-start}
 
 -- the first line is what stands up to the first line feed
 pub lines-split : (b : ℕ) (bs : List ℕ) → lines (b ∷ bs) ≡ take_through 10 (b ∷ bs) ∷ lines (drop_through 10 (b ∷ bs))
@@ -77,6 +78,29 @@ at_line length b bs line is stops =
     ap (λ ls. header_end (or_else (content_length (fields ls)) length) (after_fields ls)) (lines-split b bs)
     ∙ (rw (holds, is, concat-lines rest) refl)
 
+-- lines, and what is left of the header part that they begin
+header_end-rest : (n : Option ℕ) (ls : List (List ℕ)) → EndsIn (concat ls) (header_end n (after_fields ls)).rest
+header_end-rest n [] = EndsIn-refl []
+header_end-rest n (line ∷ more) = EndsIn-append line (concat more) _ (at (is_field (header_line line)) (header_end-rest n more))
+  where
+    at : (t : Bool) → EndsIn (concat more) (header_end n (after_fields more)).rest
+        → EndsIn (concat more) (header_end n (cond t (after_fields more) (line ∷ more))).rest
+    at true later = later
+    at false later = EndsIn-refl (concat more)
+
+pub header_after-rest : (length : Option ℕ) (text : List ℕ) → EndsIn text (header_after length text).rest
+header_after-rest length text =
+    subst (λ l. EndsIn l (header_after length text).rest) (concat-lines text) (header_end-rest (or_else (content_length (fields (lines text))) length) (lines text))
+
+-- what the header part leaves follows its first line
+pub header_after-line : (length : Option ℕ) (text : List ℕ) → EndsIn (first_line text).rest (header_after length text).rest
+header_after-line length [] = EndsIn-refl []
+header_after-line length (b ∷ bs) = at (is_field (header_line (take_through 10 (b ∷ bs)))) refl
+  where
+    at : (t : Bool) → is_field (header_line (take_through 10 (b ∷ bs))) ≡ t → EndsIn (drop_through 10 (b ∷ bs)) (header_after length (b ∷ bs)).rest
+    at true is = rw (after_field length b bs _ refl is) (header_after-rest _ (drop_through 10 (b ∷ bs)))
+    at false is = rw (at_line length b bs _ refl is) (EndsIn-refl _)
+
 -- of the header part that the first bytes begin, the second are left after fields with this length
 abbrev pub Continues : Option (List ℕ) → Option (List ℕ) → Option ℕ → Type 0
 Continues a b length = IfSome a (λ text. IsSomeAnd b (λ left. header_of text ≡ header_after length left))
@@ -88,8 +112,8 @@ Continues-start (Some text) = header_after-none text
 -- a fault that is the reading's, or comes from outside
 pub Answers-fault : {X A : Type 0} (view : X → A) (fault : ReadFault) (left : Option (List ℕ)) (reading : Reading A) → reading.outcome ≡ Err fault → left ≡ Some reading.rest
     → Answers view (Err fault) left reading
-Answers-fault view (Input kind) left reading outcome rest = tt
-Answers-fault view Memory left reading outcome rest = tt
+Answers-fault view (Input kind) left reading outcome rest = ([], rest)
+Answers-fault view Memory left reading outcome rest = ([], rest)
 Answers-fault view fault left reading outcome rest = (outcome, rest)
 
 module _ (given : Option ℕ) where
@@ -151,13 +175,24 @@ line_read (Some (x ∷ xs)) c gathered (Ok line) ends some is = (ap (result_map_
 line_read (Some (x ∷ xs)) c gathered (Err fault) ends some is =
     Answers-fault (λ line. line) fault c (first_line (x ∷ xs)) (ap (result_map_both Some (λ fault. fault)) (sym (is ∙ ap header_line ends.0))) ends.1
 
+-- nothing after the line was taken
+at_stop : (given : Option ℕ) (a b c : Option (List ℕ)) → Continues a b given → IfSome b (λ left. StopsWithin c (first_line left)) → IfSome a (λ text. StopsWithin c (header_of text))
+at_stop given None b c same read = tt
+at_stop given (Some text) None c same read = absurd same
+at_stop given (Some text) (Some left) c same read =
+    rw (same) (StopsWithin-less c (first_line left) (header_after given left) read (header_after-line given left))
+
+-- the header part was not read to its end
+pub Continues-stops : (a b : Option (List ℕ)) (given : Option ℕ) → Continues a b given → IfSome a (λ text. StopsWithin b (header_of text))
+Continues-stops None b given same = tt
+Continues-stops (Some text) None given same = absurd same
+Continues-stops (Some text) (Some left) given same = rw (same) (StopsWithin-start left (header_after given left) (header_after-rest given left))
+
 -- the line was refused
 pub at_fault : (given : Option ℕ) (fault : ReadFault) (a b c : Option (List ℕ)) → Continues a b given → IfSome b (λ left. Answers (λ line. line) (Err fault) c (first_line left))
     → IfSome a (λ text. Answers (λ n. n) (Err fault) c (header_of text))
-at_fault given (Input kind) None b c same read = tt
-at_fault given (Input kind) (Some text) b c same read = tt
-at_fault given Memory None b c same read = tt
-at_fault given Memory (Some text) b c same read = tt
+at_fault given (Input kind) a b c same read = at_stop given a b c same read
+at_fault given Memory a b c same read = at_stop given a b c same read
 at_fault given fault a b c same read = at_last given (Err fault) a b c refl same read
 
 -- the blank line

@@ -14,6 +14,7 @@ pub mod ReadsBack
 pub mod Rows
 pub mod Separators
 pub mod Shown
+pub mod Suffixes
 pub mod Takings
 pub mod Texts
 pub mod TreeLaws

@@ -7,7 +7,7 @@ use Rattle.std.specs.Io.KnownBytes.{Keeps}
 use Rattle.std.specs.Result.{result_map_both}
 use Rattle.memchr.specs.Find.{IsFirstByte, is_byte}
 use Rattle.lsp_server.specs.Frame.{Answers}
-use Rattle.lsp_server.specs.Gathering.{TakesSome, EndsLine}
+use Rattle.lsp_server.specs.Gathering.{TakesFront, EndsLine}
 use Rattle.lsp_server.specs.HeaderPart.{header_line, first_line}
 use Rattle.lsp_server.specs.declared.frame.ReadFault.{ReadFault}
 use Rattle.lsp_server.specs.declared.frame.header.HeaderLine.{HeaderLine}
@@ -25,5 +25,5 @@ module _ (a b c : Option (List ℕ)) (limit : Option ℕ) (shown : List ℕ) (k 
       let ends : EndsLine [] a (take (k + 1) shown) c = line_ends a c [] (take (k + 1) shown) shown (k + 1) true part refl front end left refl in
       line_read a c (take (k + 1) shown) found ends (λ none. let within = part.within in omega (arith, length-take-le (k + 1) shown within)) is
 
-  pub placed_begun : TakesSome a c
+  pub placed_begun : TakesFront a c
   placed_begun = (_, (Consumes_shown a b c limit shown (k + 1) (part_to_feed shown k first).within front end kept.0 kept.1 drops).0)

@@ -1,13 +1,13 @@
 -- Takings from a reader, one after another.
 use Rattle.std.proofs.Common.{ℕ, List, Option, Some, None, ◌∙◌}
 use Rattle.std.proofs.KnownBytes.{Consumes-nil, Consumes-trans}
-use Rattle.lsp_server.specs.Gathering.{TakesSome, KeepsLine}
+use Rattle.lsp_server.specs.Gathering.{TakesFront, KeepsLine}
 
-pub TakesSome-none : (a : Option (List ℕ)) → TakesSome a a
-TakesSome-none a = (_, Consumes-nil a)
+pub TakesFront-none : (a : Option (List ℕ)) → TakesFront a a
+TakesFront-none a = (_, Consumes-nil a)
 
-pub TakesSome-trans : (a b c : Option (List ℕ)) → TakesSome a b → TakesSome b c → TakesSome a c
-TakesSome-trans a b c first second = (_, Consumes-trans a b c _ _ first.1 second.1)
+pub TakesFront-trans : (a b c : Option (List ℕ)) → TakesFront a b → TakesFront b c → TakesFront a c
+TakesFront-trans a b c first second = (_, Consumes-trans a b c _ _ first.1 second.1)
 
 pub KeepsLine-trans : (x : List ℕ) (a : Option (List ℕ)) (y : List ℕ) (b : Option (List ℕ)) (z : List ℕ) (c : Option (List ℕ))
     → KeepsLine x a y b → KeepsLine y b z c → KeepsLine x a z c

@@ -1,8 +1,7 @@
 -- A message on the wire (LSP 3.17, "Base Protocol"), and what a reader of bytes answers to it.
-use Rattle.std.specs.Prelude.{◌≡◌, ℕ, List, [], length, take, drop, Option, Some, None, option_map, Result, Ok, Err, nat_lt, if◌then◌else◌}
+use Rattle.std.specs.Prelude.{◌≡◌, ℕ, List, [], ◌++◌, length, take, drop, Option, Some, None, option_map, Result, Ok, Err, nat_lt, if◌then◌else◌}
 use Rattle.std.specs.Result.{result_map_both}
 use Rattle.lsp_server.specs.HeaderPart.{Reading, header_of, first_line}
-use Rattle.lsp_server.specs.declared.frame.header.HeaderLine.{HeaderLine}
 use Rattle.lsp_server.specs.declared.frame.place.InPlace.{InPlace}
 use Rattle.lsp_server.specs.declared.frame.place.InPlace.TheVariants.{Whole, Cut, AtEnd}
 use Rattle.lsp_server.specs.declared.frame.ReadFault.{ReadFault}
@@ -23,11 +22,15 @@ module _ {M : Type 0} (means : List ℕ → Result M ReadFault) where
   abbrev pub frame_of : List ℕ → Reading M
   frame_of text = content_of (header_of text).outcome (header_of text).rest
 
--- what was answered and what is left unread, unless the reader failed or memory ran out
+-- no byte after those of the reading was taken
+abbrev pub StopsWithin : {A : Type 0} → Option (List ℕ) → Reading A → Type 0
+StopsWithin left reading = (unread : List ℕ) × (left ≡ Some (unread ++ reading.rest))
+
+-- What was answered and what is left unread. Where the reader failed or memory ran out, nothing after the reading was taken.
 abbrev pub Answers : {X A : Type 0} → (X → A) → Result (Option X) ReadFault → Option (List ℕ) → Reading A → Type 0
 Answers view (Ok answer) left reading = (reading.outcome ≡ Ok (option_map view answer)) × (left ≡ Some reading.rest)
-Answers view (Err (Input kind)) left reading = Unit {0}
-Answers view (Err Memory) left reading = Unit {0}
+Answers view (Err (Input kind)) left reading = StopsWithin left reading
+Answers view (Err Memory) left reading = StopsWithin left reading
 Answers view (Err fault) left reading = (reading.outcome ≡ Err fault) × (left ≡ Some reading.rest)
 
 -- what was made of a body is what it means, unless memory ran out

@@ -5,9 +5,13 @@ use Rattle.std.specs.Io.KnownBytes.{Consumes}
 use Rattle.lsp_server.specs.declared.frame.ReadFault.{ReadFault}
 use Rattle.lsp_server.specs.declared.frame.ReadFault.TheVariants.{Input, Memory}
 
--- some bytes were taken from the front
-abbrev pub TakesSome : Option (List ℕ) → Option (List ℕ) → Type 0
-TakesSome old new = (taken : List ℕ) × Consumes old new taken
+-- some bytes, perhaps none, were taken from the front
+abbrev pub TakesFront : Option (List ℕ) → Option (List ℕ) → Type 0
+TakesFront old new = (taken : List ℕ) × Consumes old new taken
+
+-- no byte after the first line was taken
+abbrev pub StaysInLine : Option (List ℕ) → Option (List ℕ) → Type 0
+StaysInLine old new = IfSome old (λ xs. IsSomeAnd new (λ ys. drop_through 10 ys ≡ drop_through 10 xs))
 
 -- the reader failed
 abbrev pub IsFromReader : ReadFault → Type 0

@@ -1,8 +1,9 @@
 -- What a loop over a reader's messages hands on.
 use Rattle.std.specs.List.{FoldsTo}
-use Rattle.std.specs.Prelude.{◌≡◌, ℕ, List, Option, Some, Result, Ok, Err}
+use Rattle.std.specs.Prelude.{◌≡◌, ℕ, List, Option, Some, Result, Err}
 use Rattle.lsp_server.specs.Boxes.{Takes}
-use Rattle.lsp_server.specs.Gathering.{TakesSome}
+use Rattle.lsp_server.specs.Body.{reading_of}
+use Rattle.lsp_server.specs.Frame.{StopsWithin}
 use Rattle.lsp_server.specs.Letters.{Begins, PassesAll, Ending, exited, ended, failed, Letters}
 use Rattle.lsp_server.specs.Message.{Message}
 use Rattle.lsp_server.specs.declared.frame.ReadFault.TheVariants.{Input, Memory as NoMemory}
@@ -23,16 +24,16 @@ module _ {O : Type 0} (sends : O → Message → Result (Unit {0}) SendFault →
   abbrev pub HandsAll : Ending → Type 0
   HandsAll ending = (ms : List Message) × (rest : List ℕ) × Letters text ms ending rest × FoldsTo (Takes sends) old ms new × (left ≡ Some rest)
 
-  -- the outbox took the messages before some bytes, of which some were taken, and the rest is left
+  -- the outbox took the messages before the one that was being read, and no byte after that one was taken
   abbrev pub HandsBefore : Type 0
-  HandsBefore = (ms : List Message) × (at : List ℕ) × PassesAll text ms at × FoldsTo (Takes sends) old ms new × TakesSome (Some at) left
+  HandsBefore = (ms : List Message) × (at : List ℕ) × PassesAll text ms at × FoldsTo (Takes sends) old ms new × StopsWithin left (reading_of at)
 
   -- the outbox took the messages before one, refused that one, and what follows it is left
   abbrev pub Refuses : (msg.Message → SendFault) → Type 0
   Refuses refusal = (ms : List Message) × (at : List ℕ) × (m : Message) × (rest : List ℕ) × (mid : O) × (back : msg.Message)
       × PassesAll text ms at × Begins at m rest × FoldsTo (Takes sends) old ms mid × sends mid m (Err (refusal back)) new × (left ≡ Some rest)
 
-  -- what was handed on where reading ended so; a reader that fails and a growth that is refused end it at any place
+  -- what was handed on where reading ended so; a reader that fails and a growth that is refused end it within a message
   abbrev pub Hands : ReadEnd → Type 0
   Hands Exit = HandsAll exited
   Hands End = HandsAll ended

@@ -3,7 +3,7 @@ ghost use Rattle.std.specs.Prelude.{◌≡◌, ◌+◌, ◌<◌, ◌≤◌, leng
 ghost use Rattle.std.specs.Result.{result_map_both};
 ghost use Rattle.std.specs.Io.KnownBytes.{IsAtEnd};
 ghost use Rattle.lsp_server.specs.Frame.{Answers, body_of};
-ghost use Rattle.lsp_server.specs.Gathering.{TakesSome, TakesInto, IsFromReader};
+ghost use Rattle.lsp_server.specs.Gathering.{TakesFront, TakesInto, IsFromReader};
 
 use crate::frame::ReadFault;
 use std::alloc::Global;
@@ -17,7 +17,7 @@ pub(crate) fn read_body<R: BufRead>(
 ) -> Result<Vec<u8>, ReadFault>
     ensures exact { IfSome (R.remaining reader.old) (λ text.
         Answers (λ body. body.items) (result_map_both Some (λ fault. fault) result) (R.remaining reader.new) (body_of Ok count text)) }
-    ensures begun { TakesSome (R.remaining reader.old) (R.remaining reader.new) }
+    ensures begun { TakesFront (R.remaining reader.old) (R.remaining reader.new) }
     ensures unread { result ≡ Err ReadFault.Memory → reader.new ≡ reader.old }
 {
     let size = count as usize;

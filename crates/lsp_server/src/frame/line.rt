@@ -1,6 +1,6 @@
 // The lines of the header part, gathered from a reader.
-ghost use Rattle.std.specs.Prelude.{◌≡◌, true, false, Ok, OnOk, IfErr};
-ghost use Rattle.lsp_server.specs.Gathering.{TakesSome, IsFromOutside, KeepsLine, EndsLine};
+ghost use Rattle.std.specs.Prelude.{◌≡◌, true, false, Ok, OnOk, OnErr, IfErr};
+ghost use Rattle.lsp_server.specs.Gathering.{TakesFront, IsFromOutside, KeepsLine, EndsLine, StaysInLine};
 
 use crate::frame::ReadFault;
 use memchr::memchr;
@@ -9,7 +9,8 @@ use std::io::{BufRead, ErrorKind};
 /// Gathers what the input has of its first line, up to and with the line feed, or to the end of the input.
 pub(crate) fn gather_line<R: BufRead>(reader: &mut R, line: &mut Vec<u8>) -> Result<(), ReadFault>
     ensures line { OnOk result (EndsLine line.old.items (R.remaining reader.old) line.new.items (R.remaining reader.new)) }
-    ensures begun { TakesSome (R.remaining reader.old) (R.remaining reader.new) }
+    ensures stays { OnErr result (StaysInLine (R.remaining reader.old) (R.remaining reader.new)) }
+    ensures begun { TakesFront (R.remaining reader.old) (R.remaining reader.new) }
     ensures fault { IfErr result IsFromOutside }
 {
     for _ in 0..u64::MAX {
@@ -24,7 +25,8 @@ pub(crate) fn gather_line<R: BufRead>(reader: &mut R, line: &mut Vec<u8>) -> Res
 fn gather_some<R: BufRead>(reader: &mut R, line: &mut Vec<u8>) -> Result<bool, ReadFault>
     ensures more { result ≡ Ok false → KeepsLine line.old.items (R.remaining reader.old) line.new.items (R.remaining reader.new) }
     ensures end { result ≡ Ok true → EndsLine line.old.items (R.remaining reader.old) line.new.items (R.remaining reader.new) }
-    ensures begun { TakesSome (R.remaining reader.old) (R.remaining reader.new) }
+    ensures stays { OnErr result (StaysInLine (R.remaining reader.old) (R.remaining reader.new)) }
+    ensures begun { TakesFront (R.remaining reader.old) (R.remaining reader.new) }
     ensures fault { IfErr result IsFromOutside }
 {
     let shown = match reader.fill_buf() {

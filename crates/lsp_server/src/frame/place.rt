@@ -1,7 +1,7 @@
 // A line of the header part that is tested where the reader shows it.
 ghost use Rattle.std.specs.Prelude.{IfSome};
 ghost use Rattle.lsp_server.specs.Frame.{AnswersInPlace};
-ghost use Rattle.lsp_server.specs.Gathering.{TakesSome};
+ghost use Rattle.lsp_server.specs.Gathering.{TakesFront};
 
 use crate::frame::ReadFault;
 use crate::frame::header::{HeaderLine, header_line};
@@ -22,7 +22,7 @@ pub(crate) enum InPlace {
 /// The next line, where the reader shows it whole. Otherwise nothing is taken.
 pub(crate) fn line_in_place<R: BufRead>(reader: &mut R) -> Result<InPlace, ReadFault>
     ensures exact { IfSome (R.remaining reader.old) (AnswersInPlace result (R.remaining reader.new)) }
-    ensures begun { TakesSome (R.remaining reader.old) (R.remaining reader.new) }
+    ensures begun { TakesFront (R.remaining reader.old) (R.remaining reader.new) }
 {
     let shown = match reader.fill_buf() {
         Ok(shown) => shown,

@@ -1,7 +1,7 @@
 // The header part, taken from a reader line by line.
 ghost use Rattle.std.specs.Prelude.{◌≡◌, Ok, IfSome};
 ghost use Rattle.lsp_server.specs.Frame.{Answers};
-ghost use Rattle.lsp_server.specs.Gathering.{TakesSome};
+ghost use Rattle.lsp_server.specs.Gathering.{TakesFront};
 ghost use Rattle.lsp_server.specs.HeaderPart.{at_last_line, first_line, header_of};
 
 use crate::frame::ReadFault;
@@ -17,7 +17,7 @@ pub(crate) fn read_header<R: BufRead>(
     reader: &mut R,
 ) -> Result<Option<u64>, ReadFault>
     ensures exact { IfSome (R.remaining reader.old) (λ text. Answers (λ n. n) result (R.remaining reader.new) (header_of text)) }
-    ensures begun { TakesSome (R.remaining reader.old) (R.remaining reader.new) }
+    ensures begun { TakesFront (R.remaining reader.old) (R.remaining reader.new) }
 {
     let mut gathered = Vec::new(alloc);
     let mut length = None;
@@ -51,7 +51,7 @@ fn read_line<R: BufRead>(
     gathered: &mut Vec<u8>,
 ) -> Result<Option<HeaderLine>, ReadFault>
     ensures exact { IfSome (R.remaining reader.old) (λ text. Answers (λ line. line) result (R.remaining reader.new) (first_line text)) }
-    ensures begun { TakesSome (R.remaining reader.old) (R.remaining reader.new) }
+    ensures begun { TakesFront (R.remaining reader.old) (R.remaining reader.new) }
 {
     match line_in_place(reader)? {
         InPlace::Whole(line) => Ok(Some(line)),
@@ -66,7 +66,7 @@ fn gathered_line<R: BufRead>(
     gathered: &mut Vec<u8>,
 ) -> Result<Option<HeaderLine>, ReadFault>
     ensures exact { IfSome (R.remaining reader.old) (λ text. Answers (λ line. line) result (R.remaining reader.new) (first_line text)) }
-    ensures begun { TakesSome (R.remaining reader.old) (R.remaining reader.new) }
+    ensures begun { TakesFront (R.remaining reader.old) (R.remaining reader.new) }
 {
     gathered.clear();
     gather_line(reader, gathered)?;

@@ -1,9 +1,9 @@
 // Messages, read from a reader and written to a writer.
 ghost use Rattle.std.specs.Prelude.{◌≡◌, ◌<◌, length, Err, IfSome};
 ghost use Rattle.serde_json.specs.Read.{read as read_json};
-ghost use Rattle.lsp_server.specs.Body.{body_means, tree_means, reading_of};
+ghost use Rattle.lsp_server.specs.Body.{ContentUnreadOrTaken, body_means, tree_means, reading_of};
 ghost use Rattle.lsp_server.specs.Frame.{Answers, Decodes};
-ghost use Rattle.lsp_server.specs.Gathering.{TakesSome};
+ghost use Rattle.lsp_server.specs.Gathering.{TakesFront};
 ghost use Rattle.lsp_server.specs.View.{message_view};
 ghost use Rattle.lsp_server.specs.Written.{Writes};
 
@@ -20,11 +20,14 @@ impl Message {
     /// Reads one message (LSP 3.17, "Base Protocol"). `Ok(None)` is the end of the input at the start of a header line.
     ///
     /// Each fault of `ReadFault` comes as its documentation says; what follows the message, or the bytes at fault, is
-    /// left unread. The room of the content part is reserved before its first byte is read.
+    /// left unread. The room of the content part is reserved before its first byte is read. After `Input` and `Memory`
+    /// nothing after the message was taken, and after `Memory` nothing of the content part, or all of it.
     pub fn read<R: BufRead>(alloc: Global, reader: &mut R) -> Result<Option<Message>, ReadFault>
         ensures exact { IfSome (R.remaining reader.old) (λ text.
             Answers message_view result (R.remaining reader.new) (reading_of text)) }
-        ensures begun { TakesSome (R.remaining reader.old) (R.remaining reader.new) }
+        ensures begun { TakesFront (R.remaining reader.old) (R.remaining reader.new) }
+        ensures memory { result ≡ Err ReadFault.Memory → IfSome (R.remaining reader.old) (λ text.
+            ContentUnreadOrTaken text (R.remaining reader.new)) }
     {
         let count = match read_header(alloc, reader)? {
             Some(count) => count,

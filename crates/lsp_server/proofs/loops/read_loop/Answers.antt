@@ -1,10 +1,10 @@
-use Rattle.std.proofs.Common.{◌≡◌, Ok, Err, IfSome, Some, None, false, true, sym, ap, subst, ◌∙◌}
+use Rattle.std.proofs.Common.{◌≡◌, Ok, IfSome, false, true, sym, ap, subst, ◌∙◌}
 use Rattle.lsp_server.specs.Body.{reading_of}
 use Rattle.lsp_server.specs.Frame.{Answers}
 use Rattle.lsp_server.specs.Letters.{is_exit}
 use Rattle.lsp_server.specs.ReadLoop.{Hands}
 use Rattle.lsp_server.specs.View.{message_view}
-use Rattle.lsp_server.proofs.Handing.{Handed-more, hands_exit, hands_refused, hands_end, hands_fault}
+use Rattle.lsp_server.proofs.Handing.{Handed-more, hands_exit, hands_refused, hands_end, hands_fault, hands_on}
 use Rattle.lsp_server.proofs.loops.read_loop.Goals as goal
 
 pub returns-in-Ok-None : goal.returns-in-Ok-None
@@ -17,7 +17,7 @@ pub returns-in-Err : goal.returns-in-Err
 returns-in-Err g c =
     let read = subst (λ r. IfSome (g.R.Read.remaining c.loop.reader) (λ at. Answers message_view r (g.R.Read.remaining c.read.new.reader) (reading_of at)))
     c.in-Err.is c.read.ensures.exact in
-    hands_fault g.O.Outbox.sends message_view _ _ _ c.in-Err.fault _ _ c.loop.invariant read c.read.ensures.begun
+    hands_fault g.O.Outbox.sends message_view _ _ _ c.in-Err.fault _ _ c.loop.invariant read
 
 pub returns-in-Err-send : goal.returns-in-Err-send
 returns-in-Err-send g c =
@@ -39,3 +39,6 @@ loop-preserved g c =
     (c.in-Ok-Some.is ∙ ap Ok c.in-Ok-Some.field-0-is) c.read.ensures.exact in
     let goes : is_exit (message_view c.in-Ok-Some.message) ≡ false = sym c.is_exit-is_last.ensures ∙ c.if-is_last.false in
     Handed-more g.O.Outbox.sends message_view _ _ _ _ _ _ c.in-Ok-Some.message c.loop.invariant read c.in-Ok.ensures.sends goes
+
+pub returns : goal.returns
+returns g c = hands_on g.O.Outbox.sends _ _ _ _ c.loop.invariant

@@ -1,7 +1,11 @@
 use Rattle.std.proofs.Common.{Ok, Err, sym, ◌∙◌}
 use Rattle.lsp_server.proofs.Places.{placed_line, placed_begun}
 use Rattle.lsp_server.proofs.Shown.{kept_shown}
+use Rattle.lsp_server.proofs.Suffixes.{line_unread}
 use Rattle.lsp_server.proofs.frame.place.line_in_place.Goals as goal
+
+pub returns-in_default-clause-exact : goal.returns-in_default-clause-exact
+returns-in_default-clause-exact g c = line_unread _ _ c.fill_buf.follows.holds-at-none.0
 
 pub returns-in-Ok-line-clause-exact : goal.returns-in-Ok-line-clause-exact
 returns-in-Ok-line-clause-exact g c =

@@ -3,6 +3,7 @@ use Rattle.std.proofs.lemmas.Result.{err_from_is_err_and}
 use Rattle.lsp_server.specs.Gathering.{EndsLine}
 use Rattle.lsp_server.specs.HeaderPart.{header_line}
 use Rattle.lsp_server.proofs.HeaderSteps.{line_read}
+use Rattle.lsp_server.proofs.Suffixes.{line_stops}
 use Rattle.lsp_server.proofs.frame.read.gathered_line.Goals as goal
 
 pub returns-in_err-header_line-clause-exact : goal.returns-in_err-header_line-clause-exact
@@ -11,6 +12,11 @@ returns-in_err-header_line-clause-exact g c =
     let some : length c.gather_line.new.line.items ≡ 0 → ⊥ = λ none. true≢false (sym (eq-eqb _ _ (c.gather_line.new.line.ok.0 ∙ none)) ∙ sym c.is_empty.ensures ∙ c.if-is_empty.false) in
     let p = err_from_is_err_and c.from_residual-in_err-header_line.result c.from_residual-in_err-header_line.ensures.1 in
     rw (p.1, p.2) (line_read _ _ _ _ gathered some (c.in_err-header_line.ensures ∙ ap header_line c.deref.ensures.value))
+
+pub returns-in_err-gather_line-clause-exact : goal.returns-in_err-gather_line-clause-exact
+returns-in_err-gather_line-clause-exact g c =
+    let p = err_from_is_err_and c.from_residual.result c.from_residual.ensures.1 in
+    rw (p.1, p.2) (line_stops _ _ _ c.in_err-gather_line.ensures.fault c.in_err-gather_line.ensures.stays)
 
 pub returns-clause-exact : goal.returns-clause-exact
 returns-clause-exact g c =

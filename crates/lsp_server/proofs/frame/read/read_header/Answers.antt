@@ -1,10 +1,10 @@
-use Rattle.std.proofs.Common.{◌≡◌, Ok, Some, None, IfSome, sym, ap, subst, ◌∙◌}
+use Rattle.std.proofs.Common.{◌≡◌, Ok, Some, IfSome, sym, ap, subst, ◌∙◌}
 use Rattle.std.proofs.lemmas.Result.{err_from_is_err_and}
 use Rattle.lsp_server.specs.Frame.{Answers}
 use Rattle.lsp_server.specs.HeaderPart.{header_of}
 use Rattle.lsp_server.specs.declared.frame.header.HeaderLine.{HeaderLine}
-use Rattle.lsp_server.proofs.HeaderSteps.{Next, next, Continues}
-use Rattle.lsp_server.proofs.Takings.{TakesSome-trans}
+use Rattle.lsp_server.proofs.HeaderSteps.{Next, next, Continues, Continues-stops}
+use Rattle.lsp_server.proofs.Takings.{TakesFront-trans}
 use Rattle.lsp_server.proofs.frame.read.read_header.Goals.{in-Length, in-Other}
 use Rattle.lsp_server.proofs.frame.read.read_header.Goals as goal
 
@@ -14,14 +14,14 @@ returns-in_err-line-clause-exact g c =
     rw (p.1, p.2) (subst (Next _ _ _) c.in_err-line.was (next _ _ _ _ _ c.loop.invariant.header c.read_line.ensures.exact))
 
 pub returns-in_err-line-clause-begun : goal.returns-in_err-line-clause-begun
-returns-in_err-line-clause-begun g c = TakesSome-trans _ _ _ c.loop.invariant.begun c.read_line.ensures.begun
+returns-in_err-line-clause-begun g c = TakesFront-trans _ _ _ c.loop.invariant.begun c.read_line.ensures.begun
 
 pub returns-in-None-clause-exact : goal.returns-in-None-clause-exact
 returns-in-None-clause-exact g c =
     subst (Next _ _ _) (c.in_ok-line.was ∙ ap Ok c.in-None.is) (next _ _ _ _ _ c.loop.invariant.header c.read_line.ensures.exact)
 
 pub returns-in-None-clause-begun : goal.returns-in-None-clause-begun
-returns-in-None-clause-begun g c = TakesSome-trans _ _ _ c.loop.invariant.begun c.read_line.ensures.begun
+returns-in-None-clause-begun g c = TakesFront-trans _ _ _ c.loop.invariant.begun c.read_line.ensures.begun
 
 pub returns-in-Blank-clause-exact : goal.returns-in-Blank-clause-exact
 returns-in-Blank-clause-exact g c =
@@ -29,7 +29,7 @@ returns-in-Blank-clause-exact g c =
     subst (λ r. IfSome (g.R.Read.remaining c.args.reader.now) (λ text. Answers (λ n. n) r (g.R.Read.remaining c.read_line.new.reader) (header_of text))) (sym c.at_blank_line.ensures) blank
 
 pub returns-in-Blank-clause-begun : goal.returns-in-Blank-clause-begun
-returns-in-Blank-clause-begun g c = TakesSome-trans _ _ _ c.loop.invariant.begun c.read_line.ensures.begun
+returns-in-Blank-clause-begun g c = TakesFront-trans _ _ _ c.loop.invariant.begun c.read_line.ensures.begun
 
 pub loop-preserved : goal.loop-preserved
 loop-preserved g c =
@@ -40,5 +40,8 @@ loop-preserved g c =
         | in-Length w ↦ subst (Continues _ _) (sym w.length-is) (after _ w.in-Length.is)
         | in-Other w ↦ subst (Continues _ _) (sym w.length-is) (after _ w.in-Other.is)
       ];
-      begun = TakesSome-trans _ _ _ c.loop.invariant.begun c.read_line.ensures.begun;
+      begun = TakesFront-trans _ _ _ c.loop.invariant.begun c.read_line.ensures.begun;
     }
+
+pub returns-clause-exact : goal.returns-clause-exact
+returns-clause-exact g c = Continues-stops _ _ _ c.loop.invariant.header
