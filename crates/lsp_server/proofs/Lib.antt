@@ -1,4 +1,6 @@
 pub mod Contents
+pub mod FrontOfFrame
+pub mod FrontSteps
 pub mod Handing
 pub mod HeaderSteps
 pub mod Joined

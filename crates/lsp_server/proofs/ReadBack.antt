@@ -29,13 +29,13 @@ number-decimal n small =
     let fits = lt-ltb n (2 ^ 64) small in
     rw (plain, lt-ltb 0 (length (decimal n)) some, digits_decimal own n small, value, fits) refl
 
-no_feed : (n : ℕ) → n < 2 ^ 64 → All (λ x. x ≢ 10) (decimal n)
+pub no_feed : (n : ℕ) → n < 2 ^ 64 → All (λ x. x ≢ 10) (decimal n)
 no_feed n small = λ k d below feed. let low = (in_digits n small k below).0 in absurd (omega (arith, get_or_default (decimal n) k 0 d below))
 
-abbrev name : List ℕ
+abbrev pub name : List ℕ
 name = codes "Content-Length: "
 
-abbrev crlf : List ℕ
+abbrev pub crlf : List ℕ
 crlf = 13 ∷ 10 ∷ []
 
 name_is_text : IsUtf8 name
@@ -52,14 +52,14 @@ ended text =
     let long : length (text ++ crlf) - 2 ≡ length text = omega (arith, length-append text crlf) in
     (rw (long, drop-append_seam text crlf) refl, ap (λ n. take n (text ++ crlf)) long ∙ take-append_seam text crlf)
 
-length_line : (n : ℕ) → n < 2 ^ 64 → header_line ((name ++ decimal n) ++ crlf) ≡ Ok (Length n)
+pub length_line : (n : ℕ) → n < 2 ^ 64 → header_line ((name ++ decimal n) ++ crlf) ≡ Ok (Length n)
 length_line n small =
     let digits = IsUtf8-from_ascii (decimal n) (IsAscii-decimal n small) in
     let text = is_utf8-from_IsUtf8 _ (IsUtf8-append (name ++ decimal n) crlf (IsUtf8-append name (decimal n) name_is_text digits) crlf_is_text) in
     let end = ended (name ++ decimal n) in
     rw (text, end.0, end.1, number-decimal n small) refl
 
-blank_line : header_line crlf ≡ Ok Blank
+pub blank_line : header_line crlf ≡ Ok Blank
 blank_line = let text = is_utf8-from_IsUtf8 crlf crlf_is_text in rw text refl
 
 -- the header part of a frame is its body's length, and the body is left, whatever follows

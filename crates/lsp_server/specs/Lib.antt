@@ -5,6 +5,7 @@ pub mod Extract
 pub mod Faults
 pub mod Frame
 pub mod FrameBoxes
+pub mod Front
 pub mod Gathering
 pub mod HeaderPart
 pub mod Id

@@ -7,10 +7,12 @@ use std::fmt;
 use std::io::ErrorKind;
 
 pub(crate) mod body;
+pub(crate) mod extent;
 pub(crate) mod header;
 pub(crate) mod line;
 pub(crate) mod place;
 pub(crate) mod read;
+pub(crate) mod scan;
 pub(crate) mod write;
 
 /// Why a message could not be read (LSP 3.17, "Base Protocol").

@@ -1,10 +1,13 @@
 //! Laws of messages, ids and queues, each as the contract of a function: the proofs of callers may rest on them.
-ghost use Rattle.std.specs.Prelude.{◌≡◌, ◌≢◌, List, IfOk};
+ghost use Rattle.std.specs.Prelude.{◌≡◌, ◌≢◌, ◌++◌, ◌<◌, ◌^◌, ℕ, List, length, take, IfOk};
 ghost use Rattle.std.specs.FinMap as map;
+ghost use Rattle.lsp_server.specs.Front.{front_of};
 ghost use Rattle.lsp_server.specs.Id.{Id, printed, number as number_id, text as text_id};
 ghost use Rattle.lsp_server.specs.QueueRun.{Call, after_all, last_registered};
+ghost use Rattle.lsp_server.specs.Written.{frame_text};
 ghost use Rattle.lsp_server.specs.View.{error_view, request_view, notification_view, response_view, message_view};
 
+use crate::frame::extent::Front;
 use crate::msg::{Message, Notification, Request, Response, ResponseError};
 use std::alloc::AllocError;
 
@@ -55,4 +58,10 @@ pub fn kinds_print_apart(number: i32, text: &str)
 /// completed or cancelled since. So `complete` gives it once.
 pub fn pending_is_last_registered<D>()
     ensures { (calls : List (Call D)) (id : Id) → map.get (after_all calls) id ≡ last_registered id calls }
+{}
+
+/// The front of a frame, whatever follows it, is that frame, and that of a part of a frame is `More`.
+pub fn front_of_frame()
+    ensures whole { (body rest : List ℕ) → length body < 2 ^ 64 → front_of (frame_text body ++ rest) ≡ Front.Whole (length (frame_text body)) }
+    ensures part { (body : List ℕ) (count : ℕ) → length body < 2 ^ 64 → count < length (frame_text body) → front_of (take count (frame_text body)) ≡ Front.More }
 {}

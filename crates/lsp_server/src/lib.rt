@@ -11,6 +11,8 @@ mod relay;
 mod req_queue;
 
 pub use error::{ExtractError, RegisterFault};
+pub use frame::extent::Front;
+pub use frame::scan::front;
 pub use frame::{ReadFault, WriteFault};
 pub use lifecycle::{ListOutbox, Outbox, SendFault};
 pub use loops::{FrameOutbox, ReadEnd, read_loop};
