@@ -12,8 +12,10 @@ pub mod Printed
 pub mod Pumping
 pub mod QueueRuns
 pub mod ReadBack
+pub mod Readings
 pub mod ReadsBack
 pub mod Rows
+pub mod Sending
 pub mod Separators
 pub mod Shown
 pub mod Suffixes

@@ -1,8 +1,8 @@
 -- A frame that was written reads back.
-use Rattle.std.proofs.Common.{◌≡◌, ◌≢◌, ℕ, ◌-◌, ◌^◌, ◌<◌, ◌≤◌, All, true, nat_eq, List, [], ◌∷◌, ◌++◌, length, take, get_or, codes, Some, None, Ok, refl, sym, ap, ◌∙◌, arith, append_assoc, length-append}
+use Rattle.std.proofs.Common.{◌≡◌, ◌≢◌, ℕ, nat_lt, false, ◌-◌, ◌^◌, ◌<◌, ◌≤◌, All, true, nat_eq, List, [], ◌∷◌, ◌++◌, length, take, get_or, codes, Some, None, Ok, refl, sym, ap, ◌∙◌, arith, append_assoc, length-append}
 use lib.Utf8.{encode}
 use lib.Seq.{take-append_seam, drop-append_seam}
-use Rattle.std.proofs.lemmas.Bool.{lt-ltb}
+use Rattle.std.proofs.lemmas.Bool.{lt-ltb, le-ltb}
 use Rattle.std.proofs.lemmas.Fmt.{digits_decimal, decimal_is_IsNumeral, decimal_nonempty, IsAscii-decimal}
 use Rattle.std.proofs.lemmas.List.{get_or_default}
 use Rattle.std.proofs.lemmas.Str.{IsUtf8-append, IsUtf8-from_ascii, IsUtf8-from_is_utf8, is_utf8-from_IsUtf8}
@@ -12,7 +12,11 @@ use Rattle.std.specs.Fmt.{decimal}
 use Rattle.std.specs.Io.BufRead.{take_through, drop_through}
 use Rattle.std.specs.List.{ends_with}
 use Rattle.std.specs.Str.{IsUtf8, is_utf8, chars}
-use Rattle.lsp_server.specs.HeaderPart.{number, header_line, header_of}
+use Rattle.lsp_server.specs.Body.{body_means}
+use Rattle.lsp_server.specs.Frame.{content_of}
+use Rattle.lsp_server.specs.HeaderPart.{Reading, number, header_line, header_of}
+use Rattle.lsp_server.specs.Letters.{Begins}
+use Rattle.lsp_server.specs.Message.{Message}
 use Rattle.lsp_server.specs.Written.{frame_text}
 use Rattle.lsp_server.specs.declared.frame.header.HeaderLine.TheVariants.{Length, Blank}
 use Rattle.lsp_server.proofs.HeaderSteps.{header_after, header_after-none, after_field, at_line}
@@ -74,3 +78,10 @@ header_of-frame body rest small =
     let left : drop_through 10 text ≡ 13 ∷ 10 ∷ (body ++ rest) = ap (drop_through 10) joined ∙ drop_through-append 10 (decimal n) (tail ++ rest) (no_feed n small) in
     header_after-none text ∙ after_field None 67 (codes "ontent-Length: " ++ ((decimal n ++ tail) ++ rest)) (Ok (Length n)) (ap header_line first ∙ length_line n small) refl
     ∙ ap (header_after (Some n)) left ∙ at_line (Some n) 13 (10 ∷ (body ++ rest)) (Ok Blank) blank_line refl
+
+-- and so is what its body means
+pub reading_of-frame : (body rest : List ℕ) (m : Message) → length body < 2 ^ 64 → body_means body ≡ Ok m → Begins (frame_text body ++ rest) m rest
+reading_of-frame body rest m small means =
+    let header = header_of-frame body rest small in
+    let long : nat_lt (length (body ++ rest)) (length body) ≡ false = le-ltb _ _ (omega (arith, length-append body rest)) in
+    ap (λ (r : Reading ℕ). content_of body_means r.outcome r.rest) header ∙ rw (long, take-append_seam body rest, drop-append_seam body rest, means) refl

@@ -22,6 +22,7 @@ pub mod QueueRun
 pub mod Ranges
 pub mod ReadLoop
 pub mod Queue
+pub mod Readable
 pub mod Registering
 pub mod RequestId
 pub mod Text

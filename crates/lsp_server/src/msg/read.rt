@@ -1,9 +1,11 @@
 // Messages, read from a reader and written to a writer.
-ghost use Rattle.std.specs.Prelude.{◌≡◌, ◌<◌, length, Err, IfSome};
-ghost use Rattle.serde_json.specs.Read.{read as read_json};
+ghost use Rattle.std.specs.Prelude.{◌≡◌, ◌<◌, ◌≤◌, length, Err, IfSome, OnOk};
+ghost use Rattle.serde_json.specs.Read.{read as read_json, max_depth};
 ghost use Rattle.lsp_server.specs.Body.{ContentUnreadOrTaken, body_means, tree_means, reading_of};
 ghost use Rattle.lsp_server.specs.Frame.{Answers, Decodes};
 ghost use Rattle.lsp_server.specs.Gathering.{TakesFront};
+ghost use Rattle.lsp_server.specs.Ranges.{nesting};
+ghost use Rattle.lsp_server.specs.Readable.{WritesReadably};
 ghost use Rattle.lsp_server.specs.View.{message_view};
 ghost use Rattle.lsp_server.specs.Written.{Writes};
 
@@ -40,10 +42,13 @@ impl Message {
     /// Writes one message as a frame (LSP 3.17, "Base Protocol"). The frame is composed first, then written, then
     /// flushed once.
     ///
-    /// After `WriteFault::Output` the writer got a beginning of the frame, after `WriteFault::Memory` nothing.
+    /// After `WriteFault::Output` the writer got a beginning of the frame, after `WriteFault::Memory` nothing. A message
+    /// that nests at most 127 levels is read back from its frame, whatever follows that.
     pub fn write<W: Write>(&self, alloc: Global, writer: &mut W) -> Result<(), WriteFault>
         ensures frame { Writes (message_view self.now) (W.contents writer.old) result (W.contents writer.new) }
         ensures memory { result ≡ Err WriteFault.Memory → writer.new ≡ writer.old }
+        ensures reads_back { OnOk result (nesting (message_view self.now) ≤ max_depth
+            → WritesReadably (message_view self.now) (W.contents writer.old) (W.contents writer.new)) }
     {
         let body = self.body_text(alloc)?;
         write_body(alloc, writer, body.as_str())
