@@ -1,5 +1,6 @@
 pub mod Body
 pub mod Boxes
+pub mod Converted
 pub mod ErrorCode
 pub mod Extract
 pub mod Faults

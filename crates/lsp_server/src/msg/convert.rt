@@ -9,6 +9,7 @@ impl Request {
     ghost use Rattle.serde_json.specs.Data.{depth};
     ghost use Rattle.serde_json.specs.Read.{max_depth};
     ghost use Rattle.serde_json.specs.View.{view};
+    ghost use Rattle.lsp_server.specs.Converted.{IsTreeOf};
     ghost use Rattle.lsp_server.specs.Extract.{Extracts};
 
     pub fn new<P: Serialize + Drop>(
@@ -19,6 +20,7 @@ impl Request {
     ) -> Result<Request, serde_json::Error>
         ensures id { IfOk result (λ r. r.id ≡ id) }
         ensures method { IfOk result (λ r. r.method ≡ method) }
+        ensures params { IfOk result (λ r. IsTreeOf (P.writes params) (view r.params)) }
         ensures nests { IfOk result (λ r. depth (view r.params) ≤ max_depth) }
     {
         let params = serde_json::to_value(alloc, &params)?;
@@ -48,6 +50,7 @@ impl Notification {
     ghost use Rattle.serde_json.specs.Data.{depth};
     ghost use Rattle.serde_json.specs.Read.{max_depth};
     ghost use Rattle.serde_json.specs.View.{view};
+    ghost use Rattle.lsp_server.specs.Converted.{IsTreeOf};
     ghost use Rattle.lsp_server.specs.Extract.{Extracts};
 
     pub fn new<P: Serialize + Drop>(
@@ -56,6 +59,7 @@ impl Notification {
         params: P,
     ) -> Result<Notification, serde_json::Error>
         ensures method { IfOk result (λ n. n.method ≡ method) }
+        ensures params { IfOk result (λ n. IsTreeOf (P.writes params) (view n.params)) }
         ensures nests { IfOk result (λ n. depth (view n.params) ≤ max_depth) }
     {
         let params = serde_json::to_value(alloc, &params)?;
@@ -85,6 +89,7 @@ impl Response {
     ghost use Rattle.serde_json.specs.Data.{depth};
     ghost use Rattle.serde_json.specs.Read.{max_depth};
     ghost use Rattle.serde_json.specs.View.{view};
+    ghost use Rattle.lsp_server.specs.Converted.{IsTreeOf};
 
     pub fn new_ok<R: Serialize + Drop>(
         alloc: Global,
@@ -93,6 +98,7 @@ impl Response {
     ) -> Result<Response, serde_json::Error>
         ensures id { IfOk result (λ r. r.id ≡ id) }
         ensures ok { IfOk result (λ r. IsOkAnd r.response_result (λ v. depth (view v) ≤ max_depth)) }
+        ensures value { IfOk result (λ r. IsOkAnd r.response_result (λ v. IsTreeOf (R.writes value) (view v))) }
     {
         let value = serde_json::to_value(alloc, &value)?;
         Ok(Response {
