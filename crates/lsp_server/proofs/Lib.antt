@@ -1,7 +1,9 @@
 pub mod Contents
+pub mod Finishing
 pub mod Handing
 pub mod HeaderSteps
 pub mod Joined
+pub mod ListSteps
 pub mod Members
 pub mod Numerals
 pub mod Places
@@ -10,10 +12,13 @@ pub mod Pumping
 pub mod ReadBack
 pub mod ReadsBack
 pub mod Rows
+pub mod SameTexts
 pub mod Separators
 pub mod Shown
+pub mod Starting
 pub mod Takings
 pub mod Texts
 pub mod TreeLaws
 pub mod Unique
+pub mod Waiting
 pub mod Writings

@@ -9,9 +9,12 @@ mod loops;
 mod msg;
 mod relay;
 
-pub use error::ExtractError;
+pub use error::{ExtractError, ProtocolError};
 pub use frame::{ReadFault, WriteFault};
-pub use lifecycle::{ListOutbox, Outbox, SendFault};
+pub use lifecycle::{
+    CallGate, Event, Gate, Inbox, ListGate, ListInbox, ListOutbox, OpenGate, Outbox, SendFault,
+    finish, finish_within, shutdown, start_within, wait_within,
+};
 pub use loops::{FrameOutbox, ReadEnd, read_loop};
 pub use msg::{ErrorCode, Message, Notification, Request, RequestId, Response, ResponseError};
 pub use relay::{PumpFault, StartFault, pump};
