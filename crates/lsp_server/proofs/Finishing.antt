@@ -1,5 +1,5 @@
 -- Laws of the wait for `initialized`.
-use Rattle.std.proofs.Common.{◌≡◌, refl, ℕ, ◌+◌, ◌≤◌, ◌<◌, Bool, true, List, [], ◌∷◌, ◌++◌, length, length-append, arith, Some, None}
+use Rattle.std.proofs.Common.{◌≡◌, refl, ℕ, ◌+◌, ◌<◌, Bool, true, List, [], ◌∷◌, ◌++◌, length, length-append, arith, Some, None}
 use Rattle.std.specs.List.{FoldsTo, list_all}
 use Rattle.std.proofs.lemmas.Fn.{FoldsTo-push}
 use Rattle.lsp_server.proofs.Waiting.{list_all-push}

@@ -1,4 +1,5 @@
 pub mod Contents
+pub mod Deciding
 pub mod Finishing
 pub mod Handing
 pub mod HeaderSteps

@@ -1,6 +1,6 @@
 -- What a list of events gives next.
-use Rattle.std.proofs.Common.{◌≡◌, refl, ap, List, [], ◌∷◌, map, length, ◌+◌, arith, ℕ}
-use Rattle.lsp_server.specs.Event.{Event, closed, event_view}
+use Rattle.std.proofs.Common.{◌≡◌, refl, List, [], ◌∷◌, map, length, arith}
+use Rattle.lsp_server.specs.Event.{closed, event_view}
 use Rattle.lsp_server.specs.Lists.{GivesNext}
 use Rattle.lsp_server.specs.declared.lifecycle.Event as event
 

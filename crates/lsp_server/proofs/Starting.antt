@@ -1,7 +1,7 @@
 -- Laws of the wait for `initialize`.
-use Rattle.std.proofs.Common.{◌≡◌, refl, inl, inr, ℕ, ◌+◌, ◌≤◌, ◌<◌, Bool, true, false, List, [], ◌∷◌, ◌++◌, length, length-append, arith, Some, None, codes}
+use Rattle.std.proofs.Common.{◌≡◌, refl, inl, inr, ℕ, ◌+◌, ◌<◌, Bool, false, List, [], ◌∷◌, ◌++◌, length, length-append, arith, Some, None, codes}
 use Rattle.std.specs.Prelude.{Result, Ok, Err}
-use Rattle.std.specs.List.{FoldsTo, AllZip, list_all, filter_map}
+use Rattle.std.specs.List.{FoldsTo, AllZip}
 use Rattle.std.specs.Str.{bytes_eq}
 use Rattle.std.proofs.lemmas.Fn.{FoldsTo-push}
 use Rattle.std.proofs.lemmas.List.Folds.{list_all-append}
@@ -11,7 +11,7 @@ use Rattle.lsp_server.proofs.Waiting.{FoldsTo-append}
 use Rattle.lsp_server.specs.Event.{Event, message}
 use Rattle.lsp_server.specs.Id.{Id}
 use Rattle.lsp_server.specs.Message.{Message, request}
-use Rattle.lsp_server.specs.Start.{StartAnswer, is_undecided, request_of, IsEarlyReply, fault_of_refusal, PassesOver, RefusesReply, Ends, StartsWithin}
+use Rattle.lsp_server.specs.Start.{StartAnswer, is_undecided, request_of, IsEarlyReply, fault_of_refusal, PassesOver, Ends, StartsWithin}
 use Rattle.lsp_server.specs.Turns.{Turn, got, TakesTurn}
 use Rattle.lsp_server.specs.declared.lifecycle.SendFault.{SendFault}
 

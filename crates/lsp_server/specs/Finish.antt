@@ -2,7 +2,7 @@
 -- notification `initialized`.
 use Rattle.std.specs.Bool.{MatchBool}
 use Rattle.std.specs.List.{FoldsTo, list_all}
-use Rattle.std.specs.Prelude.{◌≡◌, ◌≤◌, ◌⊎◌, ℕ, Bool, true, false, List, [], ◌∷◌, ◌++◌, length, Option, Some, None, IsNone, MatchOption, Result, Ok, Err, IsErrAnd, codes}
+use Rattle.std.specs.Prelude.{◌≡◌, ◌≤◌, ◌⊎◌, ℕ, Bool, true, false, List, [], ◌∷◌, ◌++◌, length, Option, Some, IsNone, MatchOption, Result, Ok, Err, IsErrAnd, codes}
 use Rattle.std.specs.Str.{bytes_eq}
 use Rattle.lsp_server.specs.Boxes.{Takes, WaitsFor}
 use Rattle.lsp_server.specs.Event.{Event, message, timeout, closed}

@@ -26,6 +26,8 @@ pub mod Replies
 pub mod RequestId
 pub mod Shutdown
 pub mod Start
+pub mod StreamBoxes
+pub mod Streams
 pub mod Text
 pub mod Tree
 pub mod Turns

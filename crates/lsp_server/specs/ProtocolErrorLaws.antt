@@ -3,7 +3,7 @@ use Rattle.std.specs.Bool.{beq}
 use Rattle.std.specs.Cmp.{IsEquivalence, bool_eq_equiv, booleans_Decides}
 use Rattle.std.specs.Prelude.{◌≡◌, Bool, true, false, ◌&&◌}
 use Rattle.std.specs.Str.{bytes_eq}
-use Rattle.std.proofs.Common.{refl, ap, sym, ◌∙◌}
+use Rattle.std.proofs.Common.{refl, ap, ◌∙◌}
 use Rattle.std.proofs.lemmas.Cmp.{nat_list_eq_equiv}
 use Rattle.std.proofs.lemmas.Slice.Eq.{bytes_eq-Decides}
 use Rattle.lsp_server.specs.ProtocolError.{ProtocolFault, fault_eq, fault_text, is_disconnected}

@@ -6,6 +6,8 @@ ghost use Rattle.lsp_server.specs.View.{error_view, request_view, notification_v
 use crate::msg::{Message, Notification, Request, Response, ResponseError};
 use std::alloc::AllocError;
 
+pub mod turns;
+
 /// A clone of a request is equal to it.
 pub fn clone_of_request(request: &Request) -> Result<Request, AllocError>
     ensures { IfOk result (λ copy. request_view copy ≡ request_view request.now) }

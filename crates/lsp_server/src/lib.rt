@@ -15,6 +15,6 @@ pub use lifecycle::{
     CallGate, Event, Gate, Inbox, ListGate, ListInbox, ListOutbox, OpenGate, Outbox, SendFault,
     finish, finish_within, shutdown, start_within, wait_within,
 };
-pub use loops::{FrameOutbox, ReadEnd, read_loop};
+pub use loops::{FrameOutbox, ReadEnd, StreamInbox, read_loop};
 pub use msg::{ErrorCode, Message, Notification, Request, RequestId, Response, ResponseError};
 pub use relay::{PumpFault, StartFault, pump};

@@ -9,8 +9,10 @@ use std::alloc::Global;
 use std::io::{BufRead, ErrorKind};
 
 mod frame_outbox;
+mod stream_inbox;
 
 pub use frame_outbox::FrameOutbox;
+pub use stream_inbox::StreamInbox;
 
 /// How a loop over a reader's messages ended.
 #[derive(Clone, Copy, Debug, PartialEq, Eq)]

@@ -1,5 +1,5 @@
-use Rattle.std.proofs.Common.{refl, inl, ap}
-use Rattle.lsp_server.proofs.Starting.{undecided_none, undecided_more, starts_answered, starts_undecided}
+use Rattle.std.proofs.Common.{refl, inl}
+use Rattle.lsp_server.proofs.Starting.{undecided_none, undecided_more, starts_answered}
 use Rattle.lsp_server.specs.Event.{event_view}
 use Rattle.lsp_server.specs.Turns.{stopped, got}
 use Rattle.lsp_server.proofs.lifecycle.initialize.start_within.Goals as goal

@@ -1,6 +1,6 @@
-use Rattle.std.proofs.Common.{arith, refl}
+use Rattle.std.proofs.Common.{arith}
 use Rattle.lsp_server.proofs.ListSteps.{gives_next, gives_closed}
-use Rattle.lsp_server.proofs.Waiting.{waits_after, passes_more}
+use Rattle.lsp_server.proofs.Waiting.{waits_after}
 use Rattle.lsp_server.proofs.lifecycle.lists.ListInboxInbox.receive.Goals as goal
 
 pub returns-in-Message-clause-receives : goal.returns-in-Message-clause-receives
