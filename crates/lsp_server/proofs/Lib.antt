@@ -17,6 +17,7 @@ pub mod SameTexts
 pub mod Separators
 pub mod Shown
 pub mod Starting
+pub mod Streaming
 pub mod Takings
 pub mod Texts
 pub mod TreeLaws

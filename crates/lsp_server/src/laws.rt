@@ -6,6 +6,7 @@ ghost use Rattle.lsp_server.specs.View.{error_view, request_view, notification_v
 use crate::msg::{Message, Notification, Request, Response, ResponseError};
 use std::alloc::AllocError;
 
+pub mod streams;
 pub mod turns;
 
 /// A clone of a request is equal to it.
