@@ -2,6 +2,10 @@
 use crate::msg::{Notification, Request};
 use std::fmt;
 
+mod protocol;
+
+pub use protocol::ProtocolError;
+
 /// Why a message was not extracted.
 #[derive(Debug, Drop)]
 pub enum ExtractError<T> {

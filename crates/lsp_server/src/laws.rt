@@ -11,6 +11,9 @@ use crate::frame::extent::Front;
 use crate::msg::{Message, Notification, Request, Response, ResponseError};
 use std::alloc::AllocError;
 
+pub mod streams;
+pub mod turns;
+
 /// A clone of a request is equal to it.
 pub fn clone_of_request(request: &Request) -> Result<Request, AllocError>
     ensures { IfOk result (λ copy. request_view copy ≡ request_view request.now) }

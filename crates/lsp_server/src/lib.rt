@@ -10,12 +10,15 @@ mod msg;
 mod relay;
 mod req_queue;
 
-pub use error::{ExtractError, RegisterFault};
+pub use error::{ExtractError, ProtocolError, RegisterFault};
 pub use frame::extent::Front;
 pub use frame::scan::front;
 pub use frame::{ReadFault, WriteFault};
-pub use lifecycle::{ListOutbox, Outbox, SendFault};
-pub use loops::{FrameOutbox, ReadEnd, read_loop};
+pub use lifecycle::{
+    CallGate, Event, Gate, Inbox, ListGate, ListInbox, ListOutbox, OpenGate, Outbox, SendFault,
+    finish, finish_within, shutdown, start_within, wait_within,
+};
+pub use loops::{FrameOutbox, ReadEnd, StreamInbox, read_loop};
 pub use msg::{ErrorCode, Message, Notification, Request, RequestId, Response, ResponseError};
 pub use relay::{PumpFault, StartFault, pump};
 pub use req_queue::{Incoming, Outgoing, ReqQueue};

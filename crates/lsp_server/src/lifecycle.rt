@@ -1,13 +1,70 @@
-//! Where messages go: the boxes of a session (LSP 3.17, "Server lifecycle").
-ghost use Rattle.std.specs.Prelude.{◌≡◌, IfErr};
-ghost use Rattle.lsp_server.specs.Boxes.{handed_back};
+//! The lifecycle of a session (LSP 3.17, "Server lifecycle"), over any source of messages and any taker of them.
+//!
+//! A server answers what comes like this, `start_within` in the first column, `wait_within` and `finish_within` in the
+//! second, `shutdown` in the third. Each `Err` is a `ProtocolError`, told here by its text.
+//!
+//! | What comes | before `initialize` | after its result was sent | after the null of `shutdown` |
+//! |---|---|---|---|
+//! | the request `initialize` | its id and params | `expected initialized notification, got: ..` | `unexpected message during shutdown: ..` |
+//! | another request | it is answered with code -32002, and the wait goes on | the same | the same |
+//! | the notification `initialized` | it is dropped | `Ok` | the same |
+//! | the notification `exit` | `expected initialize request, got ..` | the first text | `Ok(true)` |
+//! | another notification | it is dropped | the first text | the second text |
+//! | a response | `expected initialize request, got ..` | the first text | the second text |
+//! | nothing in time | the wait goes on | the wait goes on | `timed out waiting for exit notification` |
+//! | the end | `disconnected channel` | `disconnected channel` | `channel disconnected waiting for exit notification` |
+//! | the gate says no | `Initialization has been aborted during initialization` | the same | no gate is asked |
+//!
+//! A reply that finds the outbox closed ends the handshake with `disconnected channel`, and a growth that is refused with
+//! `out of memory`. `shutdown` takes no notice of either, and waits for `exit`.
+ghost use Rattle.std.specs.Prelude.{◌≡◌, ◌≢◌, IfErr};
+ghost use Rattle.lsp_server.specs.Boxes.{handed_back, WaitsFor};
+ghost use Rattle.lsp_server.specs.Event.{event_view, timeout};
 ghost use Rattle.lsp_server.specs.View.{message_view};
 
 use crate::msg::Message;
 
+mod exit;
+mod gates;
+mod initialize;
+mod initialized;
+mod kinds;
 mod lists;
 
-pub use lists::ListOutbox;
+pub use exit::shutdown;
+pub use gates::{CallGate, OpenGate};
+pub use initialize::start_within;
+pub use initialized::{finish, finish_within, wait_within};
+pub(crate) use kinds::is_exit;
+pub use lists::{ListGate, ListInbox, ListOutbox};
+
+/// What a receive gives.
+#[derive(Debug, Drop)]
+pub enum Event {
+    /// A message came.
+    Message(Message),
+    /// Nothing came in time.
+    Timeout,
+    /// Nothing will come any more.
+    Closed,
+}
+
+/// What gives messages one after another.
+pub trait Inbox {
+    ghost use Rattle.lsp_server.specs.Event.{Event};
+
+    /// One receive may give this event, and change the contents so.
+    ghost receives: { Self → Event → Self → Type 0 };
+
+    /// Waits for a message, and no longer than so many seconds.
+    fn receive_for(&mut self, seconds: u64) -> Event
+        ensures { receives self.old (event_view result) self.new };
+
+    /// Waits for a message without limit: it passes over the timeouts.
+    fn receive(&mut self) -> Event
+        ensures receives { WaitsFor receives self.old (event_view result) self.new }
+        ensures never_timeout { event_view result ≢ timeout };
+}
 
 /// Why a message was not taken. It comes back.
 #[derive(Debug, Drop)]
@@ -31,4 +88,21 @@ pub trait Outbox {
     fn send(&mut self, message: Message) -> Result<(), SendFault>
         ensures sends { sends self.old (message_view message) result self.new }
         ensures handed_back { IfErr result (λ fault. handed_back fault ≡ message) };
+}
+
+/// Says whether a handshake is to go on.
+pub trait Gate {
+    ghost use Rattle.std.specs.Prelude.{Bool, ⊤};
+
+    /// The gate may be asked. One that calls a closure needs that it may be called.
+    ghost can_ask: { Self → Type 0 } = { λ _. ⊤ };
+
+    /// One question may have this answer, and change the contents so.
+    ghost asks: { Self → Bool → Self → Type 0 };
+
+    /// Whether to go on.
+    fn ask(&mut self) -> bool
+        requires { can_ask self.old }
+        ensures asks { asks self.old result self.new }
+        ensures again { can_ask self.new };
 }

@@ -1,18 +1,18 @@
 //! Loops over messages: from a reader to an outbox (LSP 3.17, "Base Protocol").
 ghost use Rattle.std.specs.Prelude.{◌≡◌, IfSome};
-ghost use Rattle.lsp_server.specs.Letters.{is_exit as exit_spec};
 ghost use Rattle.lsp_server.specs.ReadLoop.{Hands, refused_end};
-ghost use Rattle.lsp_server.specs.View.{message_view};
 
 use crate::frame::ReadFault;
-use crate::lifecycle::{Outbox, SendFault};
+use crate::lifecycle::{Outbox, SendFault, is_exit};
 use crate::msg::Message;
 use std::alloc::Global;
 use std::io::{BufRead, ErrorKind};
 
 mod frame_outbox;
+mod stream_inbox;
 
 pub use frame_outbox::FrameOutbox;
+pub use stream_inbox::StreamInbox;
 
 /// How a loop over a reader's messages ended.
 #[derive(Clone, Copy, Debug, PartialEq, Eq)]
@@ -59,15 +59,5 @@ fn end_at(fault: SendFault) -> ReadEnd
     match fault {
         SendFault::Closed(_) => ReadEnd::Closed,
         SendFault::Memory(_) => ReadEnd::Memory,
-    }
-}
-
-/// Whether the message is the notification `exit`.
-fn is_exit(message: &Message) -> bool
-    ensures { result ≡ exit_spec (message_view message.now) }
-{
-    match message {
-        Message::Notification(notification) => notification.method.as_str() == "exit",
-        Message::Request(_) | Message::Response(_) => false,
     }
 }
