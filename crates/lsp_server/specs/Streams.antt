@@ -4,7 +4,7 @@ use Rattle.std.specs.Prelude.{◌≡◌, ℕ, List, Option, Some, None, IfSome, 
 use Rattle.lsp_server.specs.Body.{reading_of}
 use Rattle.lsp_server.specs.Event.{Event, message, closed}
 use Rattle.lsp_server.specs.Frame.{Answers}
-use Rattle.lsp_server.specs.Gathering.{TakesSome}
+use Rattle.lsp_server.specs.Gathering.{TakesFront}
 use Rattle.lsp_server.specs.Letters.{is_exit}
 use Rattle.lsp_server.specs.Message.{Message}
 use Rattle.lsp_server.specs.declared.frame.ReadFault.{ReadFault}
@@ -17,9 +17,9 @@ pub record Stream : Type 0 where
   pub end : Option ReadEnd
 
 -- One read of a message: what the bytes begin with, and what follows it is left. A reader that fails and a growth that is
--- refused leave an end of them.
+-- refused stop within the message.
 abbrev pub Reads : Option (List ℕ) → Result (Option Message) ReadFault → Option (List ℕ) → Type 0
-Reads known outcome rest = IfSome known (λ text. Answers (λ m. m) outcome rest (reading_of text)) × TakesSome known rest
+Reads known outcome rest = IfSome known (λ text. Answers (λ m. m) outcome rest (reading_of text)) × TakesFront known rest
 
 -- what one receive reads
 abbrev pub StreamReads : Option (List ℕ) → Event → Option ReadEnd → Option (List ℕ) → Type 0
