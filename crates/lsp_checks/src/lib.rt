@@ -1,0 +1,10 @@
+//! Tests of the public surface of `lsp_server` that the program `lsp_demo` has no part in: how much of a message has come,
+//! the queues, and the handshake and end of a session. They stand in a crate of their own, beside the other tests.
+#![tactic(auto)]
+
+#[cfg(test)]
+mod fronts;
+#[cfg(test)]
+mod lifecycle;
+#[cfg(test)]
+mod queues;

@@ -1,0 +1,107 @@
+// The queues of pending requests, through their public calls.
+use lsp_server::{Incoming, Message, Outgoing, RegisterFault, ReqQueue, RequestId};
+use serde_json::Value;
+use std::alloc::{AllocError, Global};
+use std::test::Fail;
+
+fn text_id(alloc: Global, text: &str) -> Result<RequestId, AllocError> {
+    Ok(RequestId::from(String::from_str(alloc, text)?))
+}
+
+// So many lists, each in the next.
+fn nested(alloc: Global, levels: u8) -> Result<Value, AllocError> {
+    let mut value = Value::Array(Vec::new(alloc));
+    for _ in 1..levels {
+        value = Value::Array(vec![in alloc; value]?);
+    }
+    Ok(value)
+}
+
+#[test]
+fn a_reply_gives_the_data_back_once(rt: HostRuntime) -> Result<(), Fail> {
+    let alloc = rt.alloc();
+    let mut queue: ReqQueue<char, char> = ReqQueue::default(alloc);
+    let outgoing = &mut queue.outgoing;
+    let first = outgoing.register(String::from_str(alloc, "m")?, 5, 'a')?;
+    let second = outgoing.register_value(String::new(alloc), Value::Null, 'b')?;
+    assert!(rt; first.id == RequestId::from(0));
+    assert!(rt; second.id == RequestId::from(1));
+    let text = Message::from(first).member_text(alloc)?;
+    assert_eq!(rt; text.as_str(), "{\"id\":0,\"method\":\"m\",\"params\":5}");
+    assert_eq!(rt; outgoing.complete(text_id(alloc, "0")?), None);
+    assert_eq!(rt; outgoing.complete(RequestId::from(5)), None);
+    assert_eq!(rt; outgoing.complete(RequestId::from(0)), Some('a'));
+    assert_eq!(rt; outgoing.complete(RequestId::from(0)), None);
+    assert!(rt; outgoing.has_pending());
+    assert_eq!(rt; outgoing.complete(RequestId::from(1)), Some('b'));
+    assert!(rt; !queue.has_pending());
+    Ok(())
+}
+
+#[test]
+fn a_cancelled_request_is_answered_once(rt: HostRuntime) -> Result<(), Fail> {
+    let alloc = rt.alloc();
+    let mut queue: ReqQueue<char, char> = ReqQueue::default(alloc);
+    let incoming = &mut queue.incoming;
+    incoming.register(RequestId::from(7), 'a')?;
+    let reply = incoming.cancel(RequestId::from(7))?.ok_or("no reply")?;
+    let text = Message::from(reply).member_text(alloc)?;
+    assert_eq!(rt;
+        text.as_str(),
+        "{\"id\":7,\"error\":{\"code\":-32800,\"message\":\"canceled by client\"}}"
+    );
+    assert!(rt; incoming.cancel(RequestId::from(7))?.is_none());
+    assert!(rt; incoming.is_completed(&RequestId::from(7)));
+    assert!(rt; incoming.is_completed(&RequestId::from(99)));
+    assert!(rt; !incoming.has_pending());
+    Ok(())
+}
+
+#[test]
+fn the_last_registration_counts(rt: HostRuntime) -> Result<(), Fail> {
+    let mut queue: ReqQueue<char, char> = ReqQueue::default(rt.alloc());
+    queue.incoming.register(RequestId::from(7), 'a')?;
+    queue.incoming.register(RequestId::from(7), 'b')?;
+    assert!(rt; !queue.incoming.is_completed(&RequestId::from(7)));
+    assert_eq!(rt; queue.incoming.complete(&RequestId::from(7)), Some('b'));
+    assert_eq!(rt; queue.incoming.complete(&RequestId::from(7)), None);
+    Ok(())
+}
+
+#[test]
+fn the_two_sides_share_no_table(rt: HostRuntime) -> Result<(), Fail> {
+    let alloc = rt.alloc();
+    let mut queue: ReqQueue<char, char> = ReqQueue::default(alloc);
+    queue.incoming.register(RequestId::from(0), 'i')?;
+    let outgoing = &mut queue.outgoing;
+    outgoing.register_value(String::new(alloc), Value::Null, 'o')?;
+    assert_eq!(rt; queue.incoming.complete(&RequestId::from(0)), Some('i'));
+    assert!(rt; queue.has_pending());
+    assert_eq!(rt; queue.outgoing.complete(RequestId::from(0)), Some('o'));
+    assert!(rt; !queue.has_pending());
+    Ok(())
+}
+
+#[test]
+fn a_refused_registration_spends_no_id(rt: HostRuntime) -> Result<(), Fail> {
+    let alloc = rt.alloc();
+    let mut queue: ReqQueue<char, char> = ReqQueue::default(alloc);
+    let outgoing = &mut queue.outgoing;
+    let refused = outgoing.register(String::new(alloc), nested(alloc, 128)?, 'a');
+    let Err(fault) = refused else {
+        panic!(rt; "params that nest too deep were registered");
+    };
+    assert_eq!(rt; fault.number(), 2);
+    assert_eq!(rt; fault.to_string(alloc)?.as_str(), "register fault 2");
+    assert!(rt; matches!(fault, RegisterFault::Unwritable('a')));
+    assert!(rt; !outgoing.has_pending());
+    let next = outgoing.register(String::new(alloc), nested(alloc, 127)?, 'b')?;
+    assert!(rt; next.id == RequestId::from(0));
+    for (fault, text) in [
+        (RegisterFault::Memory('x'), "register fault 1"),
+        (RegisterFault::Spent('x'), "register fault 3"),
+    ] {
+        assert_eq!(rt; fault.to_string(alloc)?.as_str(), text);
+    }
+    Ok(())
+}
