@@ -2,6 +2,7 @@
 //! the queues, and the handshake and end of a session. They stand in a crate of their own, beside the other tests.
 #![tactic(auto)]
 
+pub mod example;
 #[cfg(test)]
 mod fronts;
 #[cfg(test)]

@@ -3,6 +3,7 @@ ghost use Rattle.std.specs.Prelude.{◌≡◌};
 ghost use Rattle.lsp_server.specs.Faults.{read_fault_number, read_fault_kind, write_fault_number};
 
 use std::alloc::AllocError;
+use std::error::Error;
 use std::fmt;
 use std::io::ErrorKind;
 
@@ -90,6 +91,8 @@ impl fmt::Display for ReadFault {
     }
 }
 
+impl Error for ReadFault {}
+
 impl From<AllocError> for ReadFault {
     ghost use Rattle.lsp_server.specs.declared.frame.ReadFault.TheVariants.{Memory};
 
@@ -127,6 +130,8 @@ impl fmt::Display for WriteFault {
         write!(f, "write fault {}", self.number())
     }
 }
+
+impl Error for WriteFault {}
 
 impl From<AllocError> for WriteFault {
     ghost use Rattle.lsp_server.specs.declared.frame.WriteFault.TheVariants.{Memory};

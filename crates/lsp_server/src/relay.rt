@@ -5,6 +5,7 @@ ghost use Rattle.lsp_server.specs.Pump.{Pumps, pump_answer};
 use crate::frame::{ReadFault, WriteFault};
 use crate::loops::{FrameOutbox, ReadEnd, read_loop};
 use std::alloc::Global;
+use std::error::Error;
 use std::fmt;
 use std::io::{BufRead, Write};
 
@@ -26,6 +27,8 @@ impl fmt::Display for StartFault {
     }
 }
 
+impl Error for StartFault {}
+
 /// Why not all messages were passed on. Of several that fit it is the one with the greatest number.
 #[derive(Clone, Copy, Debug, PartialEq, Eq)]
 pub enum PumpFault {
@@ -46,6 +49,8 @@ impl fmt::Display for PumpFault {
         }
     }
 }
+
+impl Error for PumpFault {}
 
 /// Writes each message of a reader again, as a frame, up to and with the first `exit`.
 ///

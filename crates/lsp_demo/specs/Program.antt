@@ -1,0 +1,21 @@
+-- What the program does, apart from what it says on standard error.
+use Rattle.std.specs.Prelude.{◌≡◌, ℕ, List, [], ◌∷◌, Bool, true, false, Option, Result, Ok, Err, codes, string_bytes, String}
+use Rattle.std.specs.Str.{bytes_eq}
+use Rattle.std.specs.declared.alloc.Global.{Global}
+use Rattle.lsp_server.specs.Pump.{Pumps}
+use Rattle.lsp_server.specs.declared.relay.PumpFault.{PumpFault}
+
+-- no word, or the one word `pump`
+abbrev pub asks_pump : List (String Global) → Bool
+asks_pump [] = true
+asks_pump (word ∷ []) = bytes_eq (string_bytes word) (codes "pump")
+asks_pump (word ∷ next ∷ more) = false
+
+-- 0 exactly where all messages were passed on
+abbrev pub status_of : Result (Unit {0}) PumpFault → ℕ
+status_of (Ok done) = 0
+status_of (Err fault) = 1
+
+-- the messages of the text were passed on as far as the status says
+abbrev pub PumpsTo : List ℕ → Option (List ℕ) → Option (List ℕ) → ℕ → Type 0
+PumpsTo text old new status = (answer : Result (Unit {0}) PumpFault) × Pumps text old new answer × (status ≡ status_of answer)

@@ -1,0 +1,56 @@
+//! Passes the messages of standard input on to standard output.
+#![tactic(auto)]
+
+ghost use Rattle.std.specs.Prelude.{◌≡◌};
+
+#[cfg(test)]
+mod devices;
+mod pump;
+mod report;
+#[cfg(test)]
+mod tests;
+
+use pump::pump_words;
+use report::{report, report_usage};
+use std::io::{BufReader, ErrorKind, Write};
+use std::process::ExitCode;
+use std::rt::Env;
+use std::{env, io};
+
+/// How many bytes of standard input are asked for at once.
+const READ_AHEAD: usize = 65536;
+
+fn main(rt: HostRuntime) -> ExitCode {
+    let mut errors = rt.stderr();
+    ExitCode::from(match status(&rt, &mut errors) {
+        Ok(status) => status,
+        Err(error) => refused(error.kind(), &mut errors),
+    })
+}
+
+/// The exit status of the program, or why it was not begun.
+fn status<R: Env + Input + Print + AllocGlobal, E: Write>(
+    rt: &R,
+    errors: &mut E,
+) -> io::Result<u8> {
+    let words: Vec<String> = env::args(rt)?.skip(1).collect(rt.alloc())?;
+    let reader = BufReader::with_capacity(rt.alloc(), READ_AHEAD, rt.reader())?;
+    Ok(pump_words(
+        rt,
+        rt.alloc(),
+        words.as_slice(),
+        reader,
+        &mut io::writer(rt),
+        errors,
+    ))
+}
+
+/// Says why the program was not begun: a word that is no text is a wrong one, and all else is want of memory.
+fn refused<E: Write>(kind: ErrorKind, errors: &mut E) -> u8
+    ensures { result ≡ 1 }
+{
+    match kind {
+        ErrorKind::InvalidData => report_usage(errors),
+        _ => report(errors, "out of memory"),
+    }
+}

@@ -1,0 +1,47 @@
+// The program without its standard streams.
+ghost use Rattle.std.specs.Prelude.{◌≡◌, ◌≤◌, true, false, IfSome};
+ghost use Rattle.lsp_demo.specs.Program.{asks_pump, PumpsTo};
+
+use crate::report::{report, report_usage};
+use lsp_server::pump;
+use std::alloc::Global;
+use std::io::{BufRead, Write};
+
+/// Runs the program on its words, and gives the exit status.
+///
+/// No word at all, or `pump` alone, writes each message of the reader again, as a frame. The status is 0 where all
+/// were passed on, and 1 after a fault, whose text goes to `errors`. Other words are answered by how the program is
+/// called, and status 1. A fault of `errors` is ignored.
+pub fn pump_words<T, R: BufRead + Drop, W: Write, E: Write>(
+    rt: &T,
+    alloc: Global,
+    words: &[String],
+    reader: R,
+    writer: &mut W,
+    errors: &mut E,
+) -> u8
+    ensures pumped { asks_pump words.now ≡ true → IfSome (R.remaining reader)
+        (λ text. PumpsTo text (W.contents writer.old) (W.contents writer.new) result) }
+    ensures status { result ≤ 1 }
+    ensures refused { asks_pump words.now ≡ false → result ≡ 1 }
+    ensures untouched { asks_pump words.now ≡ false → writer.new ≡ writer.old }
+{
+    if !is_pump(words) {
+        return report_usage(errors);
+    }
+    match pump(rt, alloc, reader, writer) {
+        Ok(()) => 0,
+        Err(fault) => report(errors, fault),
+    }
+}
+
+/// Whether the words ask for messages to be passed on.
+fn is_pump(words: &[String]) -> bool
+    ensures { result ≡ asks_pump words.now }
+{
+    match words {
+        [] => true,
+        [word] => word.as_str() == "pump",
+        _ => false,
+    }
+}

@@ -1,0 +1,248 @@
+// The program, run on its words.
+use super::{EXIT, TWO_EXITS, prints};
+use crate::devices::{AtLimit, LimitedWriter, StepReader};
+use crate::pump::pump_words;
+use lsp_server::{PumpFault, ReadFault, StartFault, WriteFault, pump};
+use std::alloc::{AllocError, Global};
+use std::io::ErrorKind;
+use std::process::Abort;
+use std::test::Fail;
+
+const USAGE: &str = "usage: lsp_demo pump | serve | tcp ADDR\n";
+
+const NOTE: &[u8] = b"Content-Length: 34\r\n\r\n{\"method\":\"a\",\"x\":1,\"params\":null}";
+
+const NOTE_FRAME: &[u8] = b"Content-Length: 30\r\n\r\n{\"jsonrpc\":\"2.0\",\"method\":\"a\"}";
+
+// A request, a reply, an error and a notification, in other forms than they are written in.
+const EACH_KIND: &[u8] =
+    b"Content-Length: 50\r\n\r\n{\"method\":\"m\",\"params\":[1],\"id\":1,\"jsonrpc\":\"2.0\"}Content-Length: 24\r\n\r\n{\"result\":null,\"id\":\"a\"}Content-Length: 25\r\n\r\n{\"error\":[-1,\"x\"],\"id\":2}Content-Length: 5\r\n\r\n[\"n\"]";
+
+const EACH_KIND_FRAMES: &[u8] =
+    b"Content-Length: 50\r\n\r\n{\"jsonrpc\":\"2.0\",\"id\":1,\"method\":\"m\",\"params\":[1]}Content-Length: 40\r\n\r\n{\"jsonrpc\":\"2.0\",\"id\":\"a\",\"result\":null}Content-Length: 58\r\n\r\n{\"jsonrpc\":\"2.0\",\"id\":2,\"error\":{\"code\":-1,\"message\":\"x\"}}Content-Length: 30\r\n\r\n{\"jsonrpc\":\"2.0\",\"method\":\"n\"}";
+
+// The words, from one text without spaces within a word.
+fn words_of(alloc: Global, text: &str) -> Result<Vec<String>, AllocError> {
+    let mut words = Vec::new(alloc);
+    for word in text.split_whitespace() {
+        words.push(String::from_str(alloc, word)?)?;
+    }
+    Ok(words)
+}
+
+// Runs `pump`, and compares the output, what is said of it, and the status.
+fn pumps(
+    rt: &impl Abort,
+    alloc: Global,
+    input: &[u8],
+    output: &[u8],
+    said: &str,
+    status: u8,
+) -> Result<(), Fail> {
+    for words in ["", "pump"] {
+        for step in [1, 1000] {
+            let words = words_of(alloc, words)?;
+            let reader = StepReader::new(input, step);
+            let mut writer = Vec::new(alloc);
+            let mut errors = Vec::new(alloc);
+            let found = pump_words(
+                rt,
+                alloc,
+                words.as_slice(),
+                reader,
+                &mut writer,
+                &mut errors,
+            );
+            assert_eq!(rt; writer.as_slice(), output, "{said}");
+            assert_eq!(rt; errors.as_slice(), said.as_bytes());
+            assert_eq!(rt; found, status, "{said}");
+        }
+    }
+    Ok(())
+}
+
+#[test]
+fn messages_are_passed_on(rt: HostRuntime) -> Result<(), Fail> {
+    let alloc = rt.alloc();
+    pumps(&rt, alloc, b"", b"", "", 0)?;
+    pumps(&rt, alloc, NOTE, NOTE_FRAME, "", 0)?;
+    pumps(&rt, alloc, TWO_EXITS, EXIT, "", 0)?;
+    pumps(&rt, alloc, EACH_KIND, EACH_KIND_FRAMES, "", 0)
+}
+
+// Each fault of reading that bytes alone can make.
+static FAULTS: [(&[u8], &str); 10] = [
+    (b"\xff\r\n", "lsp_demo: read fault 2\n"),
+    (b"Content-Length: 9\n\r\n", "lsp_demo: read fault 3\n"),
+    (b"Content-Length:2\r\n\r\n{}", "lsp_demo: read fault 4\n"),
+    (b"Content-Length: -1\r\n", "lsp_demo: read fault 5\n"),
+    (b"\r\n", "lsp_demo: read fault 6\n"),
+    (b"Content-Length: 5\r\n\r\n{}", "lsp_demo: read fault 7\n"),
+    (b"Content-Length: 1\r\n\r\n\xff", "lsp_demo: read fault 8\n"),
+    (b"Content-Length: 0\r\n\r\n", "lsp_demo: read fault 9\n"),
+    (b"Content-Length: 2\r\n\r\n{}", "lsp_demo: read fault 10\n"),
+    (
+        b"Content-Length: 18446744073709551615\r\n\r\n{}",
+        "lsp_demo: read fault 11\n",
+    ),
+];
+
+#[test]
+fn faults_are_told(rt: HostRuntime) -> Result<(), Fail> {
+    let alloc = rt.alloc();
+    for (text, said) in &FAULTS {
+        pumps(&rt, alloc, text, b"", said, 1)?;
+        let mut input = Vec::from_slice(alloc, NOTE)?;
+        input.extend_from_slice(text)?;
+        pumps(&rt, alloc, input.as_slice(), NOTE_FRAME, said, 1)?;
+    }
+    Ok(())
+}
+
+// Two messages and a fault of reading.
+const NOTES_AND_FAULT: &[u8] =
+    b"Content-Length: 14\r\n\r\n{\"method\":\"a\"}Content-Length: 14\r\n\r\n{\"method\":\"b\"}Content-Length:2\r\n\r\n{}";
+
+// The writer would take the second message, and the failure is told before the fault of reading.
+#[test]
+fn a_failing_writer(rt: HostRuntime) -> Result<(), Fail> {
+    let alloc = rt.alloc();
+    for room in 0..NOTE_FRAME.len() {
+        let mut writer = LimitedWriter::new(alloc, room, AtLimit::FailsOnce(ErrorKind::BrokenPipe));
+        let mut errors = Vec::new(alloc);
+        let status = pump_words(&rt, alloc, &[], NOTES_AND_FAULT, &mut writer, &mut errors);
+        assert_eq!(rt; status, 1, "{room}");
+        assert_eq!(rt;
+            errors.as_slice(),
+            b"lsp_demo: write fault 1\n".as_slice(),
+            "{room}"
+        );
+        assert_eq!(rt;
+            writer.taken.as_slice(),
+            NOTE_FRAME.get(..room).ok_or("short")?
+        );
+    }
+    let mut writer = LimitedWriter::unlimited(alloc);
+    writer.bad_flush = 1;
+    let mut errors = Vec::new(alloc);
+    let status = pump_words(&rt, alloc, &[], NOTE, &mut writer, &mut errors);
+    assert_eq!(rt; status, 1);
+    assert_eq!(rt; errors.as_slice(), b"lsp_demo: write fault 1\n".as_slice());
+    assert_eq!(rt; writer.taken.as_slice(), NOTE_FRAME);
+    Ok(())
+}
+
+#[test]
+fn a_failing_reader(rt: HostRuntime) -> Result<(), Fail> {
+    let alloc = rt.alloc();
+    for before in 0..=NOTE.len() {
+        let reader = StepReader::failing(NOTE, 1000, before, ErrorKind::BrokenPipe);
+        let mut writer = Vec::new(alloc);
+        let mut errors = Vec::new(alloc);
+        let status = pump_words(&rt, alloc, &[], reader, &mut writer, &mut errors);
+        assert_eq!(rt; status, 1, "{before}");
+        assert_eq!(rt;
+            errors.as_slice(),
+            b"lsp_demo: read fault 1\n".as_slice(),
+            "{before}"
+        );
+        let output = if before < NOTE.len() {
+            b"".as_slice()
+        } else {
+            NOTE_FRAME
+        };
+        assert_eq!(rt; writer.as_slice(), output, "{before}");
+    }
+    Ok(())
+}
+
+#[test]
+fn one_write_and_one_flush_a_message(rt: HostRuntime) -> Result<(), Fail> {
+    let alloc = rt.alloc();
+    let mut reader = EACH_KIND;
+    let mut writer = LimitedWriter::unlimited(alloc);
+    assert_eq!(rt; pump(&rt, alloc, &mut reader, &mut writer), Ok(()));
+    assert_eq!(rt; writer.taken.as_slice(), EACH_KIND_FRAMES);
+    assert_eq!(rt; writer.writes, 4);
+    assert_eq!(rt; writer.flushes, 4);
+    assert!(rt; reader.is_empty());
+    Ok(())
+}
+
+#[test]
+fn the_bytes_after_an_exit_are_left(rt: HostRuntime) -> Result<(), Fail> {
+    let alloc = rt.alloc();
+    let mut reader = TWO_EXITS;
+    let mut writer = Vec::new(alloc);
+    assert_eq!(rt; pump(&rt, alloc, &mut reader, &mut writer), Ok(()));
+    assert_eq!(rt; writer.as_slice(), EXIT);
+    assert_eq!(rt; reader, EXIT);
+    Ok(())
+}
+
+// Nothing is read or written.
+fn refuses(rt: &impl Abort, alloc: Global, words: &[String]) {
+    let mut reader = NOTE;
+    let mut writer = Vec::new(alloc);
+    let mut errors = Vec::new(alloc);
+    let status = pump_words(rt, alloc, words, &mut reader, &mut writer, &mut errors);
+    assert_eq!(rt; status, 1);
+    assert_eq!(rt; errors.as_slice(), USAGE.as_bytes());
+    assert_eq!(rt; reader, NOTE);
+    assert!(rt; writer.is_empty());
+}
+
+#[test]
+fn wrong_words(rt: HostRuntime) -> Result<(), Fail> {
+    let alloc = rt.alloc();
+    for words in [
+        "PUMP",
+        "pum",
+        "pumps",
+        "--help",
+        "pump pump",
+        "pump serve",
+        "tcp",
+        "serve now",
+    ] {
+        let words = words_of(alloc, words)?;
+        refuses(&rt, alloc, words.as_slice());
+    }
+    let empty_word = vec![in alloc; String::new(alloc)]?;
+    refuses(&rt, alloc, empty_word.as_slice());
+    Ok(())
+}
+
+#[test]
+fn a_fault_of_errors_is_ignored(rt: HostRuntime) -> Result<(), Fail> {
+    let alloc = rt.alloc();
+    for words in ["pump", "other"] {
+        let words = words_of(alloc, words)?;
+        let mut writer = Vec::new(alloc);
+        let mut errors = LimitedWriter::new(alloc, 10, AtLimit::Fails(ErrorKind::BrokenPipe));
+        let reader = b"\r\n".as_slice();
+        let status = pump_words(
+            &rt,
+            alloc,
+            words.as_slice(),
+            reader,
+            &mut writer,
+            &mut errors,
+        );
+        assert_eq!(rt; status, 1);
+    }
+    Ok(())
+}
+
+#[test]
+fn fault_texts(rt: HostRuntime) -> Result<(), Fail> {
+    for (fault, text) in [
+        (PumpFault::Read(ReadFault::ShortBody), "read fault 7"),
+        (PumpFault::Write(WriteFault::Memory), "write fault 2"),
+        (PumpFault::Start(StartFault::Memory), "out of memory"),
+        (PumpFault::Start(StartFault::Thread), "thread not started"),
+    ] {
+        prints(&rt, rt.alloc(), &fault, text)?;
+    }
+    Ok(())
+}

@@ -1,0 +1,161 @@
+// Messages written as frames (LSP 3.17, "Base Protocol").
+use super::{EXIT, EXIT_LENGTH, TWO_EXITS, note, prints};
+use crate::devices::{AtLimit, LimitedWriter};
+use lsp_server::{ErrorCode, Message, Request, RequestId, Response, WriteFault};
+use serde_json::Value;
+use std::alloc::Global;
+use std::io::ErrorKind;
+use std::process::Abort;
+use std::test::Fail;
+
+// The frame is written by one write and one flush, and its content part is the body text.
+fn writes(rt: &impl Abort, alloc: Global, message: &Message, frame: &str) -> Result<(), Fail> {
+    let mut plain = Vec::new(alloc);
+    message.write(alloc, &mut plain)?;
+    assert_eq!(rt; plain.as_slice(), frame.as_bytes());
+    let mut counting = LimitedWriter::unlimited(alloc);
+    message.write(alloc, &mut counting)?;
+    assert_eq!(rt; counting.taken.as_slice(), frame.as_bytes());
+    assert_eq!(rt; counting.writes, 1, "{frame}");
+    assert_eq!(rt; counting.flushes, 1, "{frame}");
+    let (_, body) = frame.split_once("\r\n\r\n").ok_or("no blank line")?;
+    assert_eq!(rt; message.body_text(alloc)?.as_str(), body);
+    Ok(())
+}
+
+#[test]
+fn notifications_and_requests(rt: HostRuntime) -> Result<(), Fail> {
+    let alloc = rt.alloc();
+    writes(
+        &rt,
+        alloc,
+        &note(alloc, "exit")?,
+        "Content-Length: 33\r\n\r\n{\"jsonrpc\":\"2.0\",\"method\":\"exit\"}",
+    )?;
+    writes(
+        &rt,
+        alloc,
+        &note(alloc, "\u{e9}")?,
+        "Content-Length: 31\r\n\r\n{\"jsonrpc\":\"2.0\",\"method\":\"\u{e9}\"}",
+    )?;
+    let request = Request {
+        id: RequestId::from(1),
+        method: String::from_str(alloc, "initialize")?,
+        params: Value::Null,
+    };
+    writes(
+        &rt,
+        alloc,
+        &Message::from(request),
+        "Content-Length: 46\r\n\r\n{\"jsonrpc\":\"2.0\",\"id\":1,\"method\":\"initialize\"}",
+    )
+}
+
+#[test]
+fn replies(rt: HostRuntime) -> Result<(), Fail> {
+    let alloc = rt.alloc();
+    writes(
+        &rt,
+        alloc,
+        &Message::from(Response::new_ok(alloc, RequestId::from(3), "success")?),
+        "Content-Length: 43\r\n\r\n{\"jsonrpc\":\"2.0\",\"id\":3,\"result\":\"success\"}",
+    )?;
+    writes(
+        &rt,
+        alloc,
+        &Message::from(Response::new_ok(alloc, RequestId::from(2), Value::Null)?),
+        "Content-Length: 38\r\n\r\n{\"jsonrpc\":\"2.0\",\"id\":2,\"result\":null}",
+    )?;
+    let refusal = Response::new_err(
+        RequestId::from(String::from_str(alloc, "x")?),
+        ErrorCode::MethodNotFound.number(),
+        String::from_str(alloc, "method not found")?,
+    );
+    writes(
+        &rt,
+        alloc,
+        &Message::from(refusal),
+        "Content-Length: 79\r\n\r\n{\"jsonrpc\":\"2.0\",\"id\":\"x\",\"error\":{\"code\":-32601,\"message\":\"method not found\"}}",
+    )
+}
+
+// After a failure the writer holds a beginning of the frame.
+fn fails_after(
+    rt: &impl Abort,
+    alloc: Global,
+    room: usize,
+    step: usize,
+    at_limit: AtLimit,
+    kind: ErrorKind,
+) -> Result<(), Fail> {
+    let message = note(alloc, "exit")?;
+    let mut writer = LimitedWriter::new(alloc, room, at_limit);
+    writer.step = step;
+    let answer = message.write(alloc, &mut writer);
+    assert_eq!(rt; answer, Err(WriteFault::Output(kind)), "{room}");
+    assert_eq!(rt; writer.taken.as_slice(), EXIT.get(..room).ok_or("short")?);
+    assert_eq!(rt; writer.flushes, 0, "{room}");
+    Ok(())
+}
+
+#[test]
+fn a_failing_writer(rt: HostRuntime) -> Result<(), Fail> {
+    for room in 0..EXIT_LENGTH {
+        for step in [3, 1000] {
+            for kind in [
+                ErrorKind::BrokenPipe,
+                ErrorKind::OutOfMemory,
+                ErrorKind::Interrupted,
+            ] {
+                fails_after(&rt, rt.alloc(), room, step, AtLimit::Fails(kind), kind)?;
+                fails_after(&rt, rt.alloc(), room, step, AtLimit::FailsOnce(kind), kind)?;
+            }
+            fails_after(
+                &rt,
+                rt.alloc(),
+                room,
+                step,
+                AtLimit::TakesNothing,
+                ErrorKind::WriteZero,
+            )?;
+        }
+    }
+    Ok(())
+}
+
+#[test]
+fn ten_bytes_and_then_a_failure(rt: HostRuntime) -> Result<(), Fail> {
+    let mut writer = LimitedWriter::new(rt.alloc(), 10, AtLimit::Fails(ErrorKind::BrokenPipe));
+    let answer = note(rt.alloc(), "exit")?.write(rt.alloc(), &mut writer);
+    assert_eq!(rt; answer, Err(WriteFault::Output(ErrorKind::BrokenPipe)));
+    assert_eq!(rt; writer.taken.as_slice(), b"Content-Le".as_slice());
+    Ok(())
+}
+
+#[test]
+fn a_failing_flush(rt: HostRuntime) -> Result<(), Fail> {
+    let alloc = rt.alloc();
+    let message = note(alloc, "exit")?;
+    let mut writer = LimitedWriter::unlimited(alloc);
+    writer.step = 3;
+    writer.bad_flush = 2;
+    message.write(alloc, &mut writer)?;
+    assert_eq!(rt; writer.flushes, 1);
+    let answer = message.write(alloc, &mut writer);
+    assert_eq!(rt; answer, Err(WriteFault::Output(ErrorKind::BrokenPipe)));
+    assert_eq!(rt; writer.flushes, 2);
+    assert_eq!(rt; writer.taken.as_slice(), TWO_EXITS);
+    Ok(())
+}
+
+#[test]
+fn faults_have_numbers_and_texts(rt: HostRuntime) -> Result<(), Fail> {
+    for (fault, number, text) in [
+        (WriteFault::Output(ErrorKind::WriteZero), 1, "write fault 1"),
+        (WriteFault::Memory, 2, "write fault 2"),
+    ] {
+        assert_eq!(rt; fault.number(), number);
+        prints(&rt, rt.alloc(), &fault, text)?;
+    }
+    Ok(())
+}
