@@ -1,5 +1,6 @@
 -- The numbers and kinds of the faults of reading and writing.
-use Rattle.std.specs.Prelude.{ℕ}
+use Rattle.std.specs.Fmt.{decimal}
+use Rattle.std.specs.Prelude.{ℕ, List, ◌++◌, Option, Some, codes}
 use Rattle.std.specs.declared.io.ErrorKind.{ErrorKind}
 use Rattle.std.specs.declared.io.ErrorKind.TheVariants.{InvalidData, UnexpectedEof, OutOfMemory}
 use Rattle.lsp_server.specs.declared.frame.ReadFault.{ReadFault}
@@ -37,3 +38,10 @@ read_fault_kind Memory = OutOfMemory
 abbrev pub write_fault_number : WriteFault → ℕ
 write_fault_number (Output kind) = 1
 write_fault_number NoMemory = 2
+
+-- what a fault prints
+abbrev pub read_fault_text : ReadFault → Option (List ℕ)
+read_fault_text fault = Some (codes "read fault " ++ decimal (read_fault_number fault))
+
+abbrev pub write_fault_text : WriteFault → Option (List ℕ)
+write_fault_text fault = Some (codes "write fault " ++ decimal (write_fault_number fault))

@@ -1,6 +1,7 @@
 -- What is written of the messages of a text.
 use Rattle.std.specs.Io.KnownBytes.{Keeps, Appends}
-use Rattle.std.specs.Prelude.{◌≡◌, ◌⊎◌, ℕ, List, ◌++◌, Option, Some, None, Result, Ok, Err}
+use Rattle.std.specs.Prelude.{◌≡◌, ◌⊎◌, ℕ, List, ◌++◌, Option, Some, None, Result, Ok, Err, codes}
+use Rattle.lsp_server.specs.Faults.{read_fault_text, write_fault_text}
 use Rattle.lsp_server.specs.Letters.{Begins, PassesAll, Ending, exited, ended, failed, Letters}
 use Rattle.lsp_server.specs.Message.{Message}
 use Rattle.lsp_server.specs.Written.{IsFrameOf, AreFramesOf, AppendsBeginning, GetsFrames}
@@ -11,6 +12,8 @@ use Rattle.lsp_server.specs.declared.loops.ReadEnd.{ReadEnd}
 use Rattle.lsp_server.specs.declared.loops.ReadEnd.TheVariants.{Exit, End, Fault, Closed, Memory as Full}
 use Rattle.lsp_server.specs.declared.relay.PumpFault.{PumpFault}
 use Rattle.lsp_server.specs.declared.relay.PumpFault.TheVariants.{Read, Write, Start}
+use Rattle.lsp_server.specs.declared.relay.StartFault.{StartFault}
+use Rattle.lsp_server.specs.declared.relay.StartFault.TheVariants.{Memory as StartMemory, Thread}
 
 module _ (text : List ℕ) (old new : Option (List ℕ)) where
   -- the writer got frames of all messages of the text, in order, which ended so
@@ -44,3 +47,13 @@ pump_answer End None = Ok tt
 pump_answer (Fault fault) None = Err (Read fault)
 pump_answer Closed None = Ok tt
 pump_answer Full None = Ok tt
+
+-- what a fault prints
+abbrev pub start_fault_text : StartFault → Option (List ℕ)
+start_fault_text StartMemory = Some (codes "out of memory")
+start_fault_text Thread = Some (codes "thread not started")
+
+abbrev pub pump_fault_text : PumpFault → Option (List ℕ)
+pump_fault_text (Read fault) = read_fault_text fault
+pump_fault_text (Write fault) = write_fault_text fault
+pump_fault_text (Start fault) = start_fault_text fault

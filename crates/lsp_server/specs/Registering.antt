@@ -1,5 +1,6 @@
 -- What a refused registration hands back.
-use Rattle.std.specs.Prelude.{◌≡◌, ℕ}
+use Rattle.std.specs.Fmt.{decimal}
+use Rattle.std.specs.Prelude.{◌≡◌, ◌++◌, ℕ, List, Option, Some, codes}
 use Rattle.lsp_server.specs.declared.error.RegisterFault.{RegisterFault}
 use Rattle.lsp_server.specs.declared.error.RegisterFault.TheVariants.{Memory, Unwritable, Spent}
 
@@ -13,3 +14,7 @@ abbrev pub register_fault_number : {D : Type 0} → RegisterFault D → ℕ
 register_fault_number (Memory back) = 1
 register_fault_number (Unwritable back) = 2
 register_fault_number (Spent back) = 3
+
+-- what a fault prints
+abbrev pub register_fault_text : {D : Type 0} → RegisterFault D → Option (List ℕ)
+register_fault_text fault = Some (codes "register fault " ++ decimal (register_fault_number fault))

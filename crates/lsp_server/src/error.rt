@@ -82,6 +82,10 @@ impl<T> RegisterFault<T> {
 }
 
 impl<T> fmt::Display for RegisterFault<T> {
+    ghost use Rattle.lsp_server.specs.Registering.{register_fault_text};
+
+    ghost output = { register_fault_text };
+
     fn fmt<W: fmt::Write>(&self, f: &mut fmt::Formatter<W>) -> fmt::Result {
         write!(f, "register fault {}", self.number())
     }

@@ -86,6 +86,10 @@ impl ReadFault {
 }
 
 impl fmt::Display for ReadFault {
+    ghost use Rattle.lsp_server.specs.Faults.{read_fault_text};
+
+    ghost output = { read_fault_text };
+
     fn fmt<W: fmt::Write>(&self, f: &mut fmt::Formatter<W>) -> fmt::Result {
         write!(f, "read fault {}", self.number())
     }
@@ -126,6 +130,10 @@ impl WriteFault {
 }
 
 impl fmt::Display for WriteFault {
+    ghost use Rattle.lsp_server.specs.Faults.{write_fault_text};
+
+    ghost output = { write_fault_text };
+
     fn fmt<W: fmt::Write>(&self, f: &mut fmt::Formatter<W>) -> fmt::Result {
         write!(f, "write fault {}", self.number())
     }

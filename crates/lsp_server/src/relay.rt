@@ -19,6 +19,10 @@ pub enum StartFault {
 }
 
 impl fmt::Display for StartFault {
+    ghost use Rattle.lsp_server.specs.Pump.{start_fault_text};
+
+    ghost output = { start_fault_text };
+
     fn fmt<W: fmt::Write>(&self, f: &mut fmt::Formatter<W>) -> fmt::Result {
         match self {
             StartFault::Memory => write!(f, "out of memory"),
@@ -41,6 +45,10 @@ pub enum PumpFault {
 }
 
 impl fmt::Display for PumpFault {
+    ghost use Rattle.lsp_server.specs.Pump.{pump_fault_text};
+
+    ghost output = { pump_fault_text };
+
     fn fmt<W: fmt::Write>(&self, f: &mut fmt::Formatter<W>) -> fmt::Result {
         match self {
             PumpFault::Read(fault) => write!(f, "{fault}"),
