@@ -13,7 +13,9 @@ pub enum ExtractError<T> {
     MethodMismatch(T),
     /// The params did not convert.
     JsonError {
+        /// The method of the message.
         method: String,
+        /// Why they did not.
         error: serde_json::Error,
     },
 }

@@ -1,4 +1,4 @@
-/// The error codes of JSON-RPC 2.0, section 5.1, and of LSP 3.17, base protocol.
+/// The error codes that are defined (JSON-RPC 2.0, section 5.1; LSP 3.17, "Response Message").
 #[derive(Clone, Copy, Debug, PartialEq, Eq)]
 pub enum ErrorCode {
     ParseError,
@@ -20,6 +20,7 @@ impl ErrorCode {
     ghost use Rattle.std.specs.Prelude.{◌≡◌};
     ghost use Rattle.lsp_server.specs.ErrorCode.{number_of};
 
+    /// The number that stands in a reply.
     pub fn number(self) -> i32
         ensures { result ≡ number_of self }
     {

@@ -12,6 +12,9 @@ impl Request {
     ghost use Rattle.lsp_server.specs.Converted.{IsTreeOf};
     ghost use Rattle.lsp_server.specs.Extract.{Extracts};
 
+    /// A request with params of a type of its own (JSON-RPC 2.0, section 4), which go through their compact text.
+    ///
+    /// It is an `Err` where `serde_json` does not convert the params, as past 127 levels, or memory is refused.
     pub fn new<P: Serialize + Drop>(
         alloc: Global,
         id: RequestId,
@@ -27,6 +30,10 @@ impl Request {
         Ok(Request { id, method, params })
     }
 
+    /// The id and the params as a type of its own, where the request has this method.
+    ///
+    /// Another method is `ExtractError::MethodMismatch`, which hands the request back. Params that do not convert, or memory
+    /// that is refused, are `ExtractError::JsonError`.
     pub fn extract<P: DeserializeOwned>(
         self,
         alloc: Global,
@@ -53,6 +60,9 @@ impl Notification {
     ghost use Rattle.lsp_server.specs.Converted.{IsTreeOf};
     ghost use Rattle.lsp_server.specs.Extract.{Extracts};
 
+    /// A notification with params of a type of its own (JSON-RPC 2.0, section 4.1), which go through their compact text.
+    ///
+    /// It is an `Err` where `serde_json` does not convert the params, as past 127 levels, or memory is refused.
     pub fn new<P: Serialize + Drop>(
         alloc: Global,
         method: String,
@@ -66,6 +76,7 @@ impl Notification {
         Ok(Notification { method, params })
     }
 
+    /// The params as a type of their own, where the notification has this method. The errors are those of a request.
     pub fn extract<P: DeserializeOwned>(
         self,
         alloc: Global,
@@ -91,6 +102,9 @@ impl Response {
     ghost use Rattle.serde_json.specs.View.{view};
     ghost use Rattle.lsp_server.specs.Converted.{IsTreeOf};
 
+    /// A reply with a result of a type of its own (JSON-RPC 2.0, section 5), which goes through its compact text.
+    ///
+    /// It is an `Err` where `serde_json` does not convert the result, as past 127 levels, or memory is refused.
     pub fn new_ok<R: Serialize + Drop>(
         alloc: Global,
         id: RequestId,
@@ -107,6 +121,7 @@ impl Response {
         })
     }
 
+    /// A reply with an error and no data (JSON-RPC 2.0, section 5.1). It takes no memory.
     pub fn new_err(id: RequestId, code: i32, message: String) -> Response
         ensures { result ≡ record { id = id; response_result = Err (record { code = code; message = message; «data» = None }) } }
     {

@@ -212,7 +212,23 @@ fn is_id(value: &Value) -> bool
 }
 
 impl Message {
-    /// The message that a tree is, if it is one. Its parts are moved, so no memory is needed.
+    /// The message that a tree is, if it is one (JSON-RPC 2.0, sections 4 and 5). Its parts are moved, so no memory is needed.
+    ///
+    /// A good id is a text, or a whole number of 32 signed bits. A readable error is an object with `code`, a whole number of
+    /// 32 signed bits, `message`, a text, and perhaps `data`, or a list of these two or three; `data` that is null reads as
+    /// `None`. Other members are ignored, `jsonrpc` among them.
+    ///
+    /// | Tree | Message |
+    /// |---|---|
+    /// | object with a textual `method` and a good `id` | request |
+    /// | object with a textual `method` and no good `id` | notification |
+    /// | object with no textual `method`, a good `id`, a `result`, and `error` absent or null | response with a result |
+    /// | object with no textual `method`, a good `id`, a readable `error`, and `result` absent or null | response with an error |
+    /// | list of two or three items, a good id and a text first | request |
+    /// | any other list of one or two items, a text first | notification |
+    /// | all else | none |
+    ///
+    /// In a list the params follow the method. Absent params read as null.
     pub fn from_tree(tree: Value) -> Option<Message>
         ensures { option_map message_view result ≡ meaning (view tree) }
     {
@@ -223,7 +239,7 @@ impl Message {
         }
     }
 
-    /// The message that a tree is, if it is one.
+    /// The message that a tree is, if it is one: `from_tree` of a clone. It is an `Err` where memory is refused.
     pub fn from_value(alloc: Global, value: &Value) -> Result<Option<Message>, AllocError>
         ensures { IfOk result (λ m. option_map message_view m ≡ meaning (view value.now)) }
     {
