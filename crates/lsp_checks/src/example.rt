@@ -10,12 +10,10 @@ pub fn answer_all<R: BufRead, W: Write>(
     reader: &mut R,
     writer: &mut W,
 ) -> anyhow::Result<u64> {
-    let mut count = 0;
-    for _ in 0..u64::MAX {
+    for count in 0..u64::MAX {
         let Some(message) = Message::read(alloc, reader)? else {
-            break;
+            return Ok(count);
         };
-        count += 1;
         if let Message::Request(request) = message {
             let reply = Response {
                 id: request.id,
@@ -24,7 +22,7 @@ pub fn answer_all<R: BufRead, W: Write>(
             Message::from(reply).write(alloc, writer)?;
         }
     }
-    Ok(count)
+    Ok(u64::MAX)
 }
 
 #[cfg(test)]

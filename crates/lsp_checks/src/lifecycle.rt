@@ -1,4 +1,7 @@
 // The handshake and the end of a session (LSP 3.17, "Server lifecycle"), over lists and a reader.
+ghost use Rattle.std.specs.Prelude.{◌≢◌};
+ghost use Rattle.lsp_server.specs.Event.{event_view, timeout};
+
 use lsp_server::{
     CallGate, Event, Inbox, ListGate, ListInbox, ListOutbox, Message, Notification, OpenGate,
     Outbox, ProtocolError, ReadEnd, ReadFault, Request, RequestId, Response, SendFault,
@@ -492,7 +495,9 @@ struct LaterInbox<'a> {
 }
 
 impl LaterInbox<'_> {
-    fn next(&self) -> Event {
+    fn next(&self) -> Event
+        ensures { event_view result ≢ timeout }
+    {
         if self.sent.get() == 0 {
             return Event::Closed;
         }

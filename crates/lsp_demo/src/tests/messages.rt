@@ -106,68 +106,57 @@ fn params_are_extracted(rt: HostRuntime) -> Result<(), Fail> {
     Ok(())
 }
 
-// The fault of taking the request for one of this method, with params that are a number.
-fn refused_request(alloc: Global, method: &str) -> Result<ExtractError<Request>, Fail> {
-    match request(alloc)?.extract::<i32>(alloc, method) {
-        Ok(_) => Err(Fail::from("taken")),
-        Err(error) => Ok(error),
-    }
-}
-
-fn refused_notification(alloc: Global, method: &str) -> Result<ExtractError<Notification>, Fail> {
-    match notification(alloc)?.extract::<i32>(alloc, method) {
-        Ok(_) => Err(Fail::from("taken")),
-        Err(error) => Ok(error),
-    }
-}
-
 // The message that was handed back.
-fn handed_back<T: Drop>(error: ExtractError<T>) -> Option<T> {
+fn handed_back<T>(error: ExtractError<T>) -> Option<T> {
     match error {
         ExtractError::MethodMismatch(message) => Some(message),
         ExtractError::JsonError { .. } => None,
     }
 }
 
+// The method whose params did not convert.
+fn unconverted<T: Drop>(error: ExtractError<T>) -> Option<String> {
+    match error {
+        ExtractError::MethodMismatch(_) => None,
+        ExtractError::JsonError { method, .. } => Some(method),
+    }
+}
+
 #[test]
-fn another_method_hands_the_message_back(rt: HostRuntime) -> Result<(), Fail> {
+fn another_method_hands_the_request_back(rt: HostRuntime) -> Result<(), Fail> {
     let alloc = rt.alloc();
-    let error = refused_request(alloc, "b")?;
+    let answer = request(alloc)?.extract::<i32>(alloc, "b");
+    let error = answer.err().ok_or("another method was taken")?;
     prints(&rt, alloc, &error, "Method mismatch for request 'a'")?;
-    let back = Message::from(handed_back(error).ok_or("no mismatch")?);
-    has_text(&rt, alloc, &back, r#"{"id":7,"method":"a","params":5}"#)?;
-    let error = refused_notification(alloc, "b")?;
-    prints(&rt, alloc, &error, "Method mismatch for notification 'a'")?;
-    let back = Message::from(handed_back(error).ok_or("no mismatch")?);
-    has_text(&rt, alloc, &back, r#"{"method":"a","params":5}"#)?;
+    let message = Message::from(handed_back(error).ok_or("no request")?);
+    has_text(&rt, alloc, &message, r#"{"id":7,"method":"a","params":5}"#)?;
     Ok(())
 }
 
-// The text of a conversion that fails: a number is no text.
-fn text_of_failure(alloc: Global) -> Result<String, Fail> {
-    match request(alloc)?.extract::<String>(alloc, "a") {
-        Ok(_) => Err(Fail::from("taken")),
-        Err(error) => Ok(error.to_string(alloc)?),
-    }
-}
-
-fn text_of_failed_notification(alloc: Global) -> Result<String, Fail> {
-    match notification(alloc)?.extract::<String>(alloc, "a") {
-        Ok(_) => Err(Fail::from("taken")),
-        Err(error) => Ok(error.to_string(alloc)?),
-    }
+#[test]
+fn another_method_hands_the_notification_back(rt: HostRuntime) -> Result<(), Fail> {
+    let alloc = rt.alloc();
+    let answer = notification(alloc)?.extract::<i32>(alloc, "b");
+    let error = answer.err().ok_or("another method was taken")?;
+    prints(&rt, alloc, &error, "Method mismatch for notification 'a'")?;
+    let message = Message::from(handed_back(error).ok_or("no notification")?);
+    has_text(&rt, alloc, &message, r#"{"method":"a","params":5}"#)?;
+    Ok(())
 }
 
 #[test]
 fn params_of_another_type_are_refused(rt: HostRuntime) -> Result<(), Fail> {
     let alloc = rt.alloc();
-    let text = text_of_failure(alloc)?;
-    assert!(rt;
-        text.as_str()
-            .starts_with("Invalid request\nMethod: a\n error: "),
-        "{text}"
-    );
-    let text = text_of_failed_notification(alloc)?;
+    let answer = request(alloc)?.extract::<String>(alloc, "a");
+    let error = answer.err().ok_or("a number was taken for a text")?;
+    let text = error.to_string(alloc)?;
+    let beginning = "Invalid request\nMethod: a\n error: ";
+    assert!(rt; text.as_str().starts_with(beginning), "{text}");
+    let method = unconverted(error).ok_or("no failed conversion")?;
+    assert_eq!(rt; method.as_str(), "a");
+    let answer = notification(alloc)?.extract::<String>(alloc, "a");
+    let error = answer.err().ok_or("a number was taken for a text")?;
+    let text = error.to_string(alloc)?;
     let beginning = "Invalid notification\nMethod: a\n error: ";
     assert!(rt; text.as_str().starts_with(beginning), "{text}");
     Ok(())
