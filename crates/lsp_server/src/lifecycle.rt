@@ -1,22 +1,21 @@
 //! The lifecycle of a session (LSP 3.17, "Server lifecycle"), over any source of messages and any taker of them.
 //!
-//! A server answers what comes like this, `start_within` in the first column, `wait_within` and `finish_within` in the
-//! second, `shutdown` in the third. Each `Err` is a `ProtocolError`, told here by its text.
+//! What each call answers to what comes. An error is told by its text, which is in `ProtocolError`'s table.
 //!
-//! | What comes | before `initialize` | after its result was sent | after the null of `shutdown` |
+//! | What comes | `start_within` | `wait_within`, `finish_within`, `finish` | `shutdown` |
 //! |---|---|---|---|
-//! | the request `initialize` | its id and params | `expected initialized notification, got: ..` | `unexpected message during shutdown: ..` |
-//! | another request | it is answered with code -32002, and the wait goes on | the same | the same |
-//! | the notification `initialized` | it is dropped | `Ok` | the same |
-//! | the notification `exit` | `expected initialize request, got ..` | the first text | `Ok(true)` |
-//! | another notification | it is dropped | the first text | the second text |
-//! | a response | `expected initialize request, got ..` | the first text | the second text |
+//! | the request `initialize` | its id and its params | `expected initialized notification, got: ..` | `unexpected message during shutdown: ..` |
+//! | another request | it is answered with code -32002, and the wait goes on | `expected initialized notification, got: ..` | `unexpected message during shutdown: ..` |
+//! | the notification `initialized` | it is dropped, and the wait goes on | `Ok(())` | `unexpected message during shutdown: ..` |
+//! | the notification `exit` | `expected initialize request, got ..` | `expected initialized notification, got: ..` | `Ok(true)` |
+//! | another notification | it is dropped, and the wait goes on | `expected initialized notification, got: ..` | `unexpected message during shutdown: ..` |
+//! | a response | `expected initialize request, got ..` | `expected initialized notification, got: ..` | `unexpected message during shutdown: ..` |
 //! | nothing in time | the wait goes on | the wait goes on | `timed out waiting for exit notification` |
-//! | the end | `disconnected channel` | `disconnected channel` | `channel disconnected waiting for exit notification` |
-//! | the gate says no | `Initialization has been aborted during initialization` | the same | no gate is asked |
+//! | the end of the messages | `disconnected channel` | `disconnected channel` | `channel disconnected waiting for exit notification` |
+//! | a gate that says no | `Initialization has been aborted during initialization` | the same | no gate is asked |
 //!
-//! A reply that finds the outbox closed ends the handshake with `disconnected channel`, and a growth that is refused with
-//! `out of memory`. `shutdown` takes no notice of either, and waits for `exit`.
+//! A closed outbox ends the handshake with `disconnected channel`, and a growth that is refused with `out of memory`.
+//! `shutdown` takes no notice of a null that was not sent, and waits for `exit`.
 ghost use Rattle.std.specs.Prelude.{◌≡◌, ◌≢◌, IfErr};
 ghost use Rattle.lsp_server.specs.Boxes.{handed_back, WaitsFor};
 ghost use Rattle.lsp_server.specs.Event.{event_view, timeout};
