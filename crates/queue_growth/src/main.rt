@@ -26,7 +26,7 @@ fn complete_all(queue: &mut Outgoing<u64>, count: u32) -> u32 {
     let mut found = 0u32;
     let mut number = 0u64;
     for _ in 0..count {
-        number = (number + 7919) % u64::from(count.max(1));
+        number = number.wrapping_add(7919) % u64::from(count.max(1));
         let id = RequestId::from(i32::try_from(number).unwrap_or(0));
         if queue.complete(id) == Some(number) {
             found = found.saturating_add(1);
