@@ -21,6 +21,8 @@ pub mod Rows
 pub mod SameTexts
 pub mod Sending
 pub mod Separators
+pub mod SessionRuns
+pub mod SessionStarts
 pub mod Shown
 pub mod Starting
 pub mod Streaming

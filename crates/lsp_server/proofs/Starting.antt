@@ -16,7 +16,7 @@ use Rattle.lsp_server.specs.Turns.{Turn, got, TakesTurn}
 use Rattle.lsp_server.specs.declared.lifecycle.SendFault.{SendFault}
 
 -- a relation place by place, of two lists each
-AllZip-append : {A B : Type 0} (R : A → B → Type 0) (xs xs' : List A) (ys ys' : List B) → AllZip R xs ys → AllZip R xs' ys' → AllZip R (xs ++ xs') (ys ++ ys')
+pub AllZip-append : {A B : Type 0} (R : A → B → Type 0) (xs xs' : List A) (ys ys' : List B) → AllZip R xs ys → AllZip R xs' ys' → AllZip R (xs ++ xs') (ys ++ ys')
 AllZip-append R [] xs' [] ys' first second = second
 AllZip-append R [] xs' (y ∷ ys) ys' first second = absurd first
 AllZip-append R (x ∷ xs) xs' [] ys' first second = absurd first

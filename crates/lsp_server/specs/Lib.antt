@@ -31,6 +31,9 @@ pub mod Readable
 pub mod Registering
 pub mod Replies
 pub mod RequestId
+pub mod Session
+pub mod SessionRun
+pub mod SessionSteps
 pub mod Shutdown
 pub mod Start
 pub mod StreamBoxes

@@ -32,6 +32,7 @@ mod lists;
 
 pub use exit::shutdown;
 pub use gates::{CallGate, OpenGate};
+pub(crate) use initialize::refused;
 pub use initialize::start_within;
 pub use initialized::{finish, finish_within, wait_within};
 pub(crate) use kinds::is_exit;

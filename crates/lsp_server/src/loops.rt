@@ -9,9 +9,11 @@ use std::alloc::Global;
 use std::io::{BufRead, ErrorKind};
 
 mod frame_outbox;
+mod serving;
 mod stream_inbox;
 
 pub use frame_outbox::FrameOutbox;
+pub use serving::{Handler, SessionEnd, serve};
 pub use stream_inbox::StreamInbox;
 
 /// How a loop over a reader's messages ended.
