@@ -54,7 +54,7 @@ brings_after events0 events letters0 letters decided e o h = (rw (filter_map-app
 brings_after events0 events letters0 letters no_more e o h = (
   rw (filter_map-append message_in events0 events, e, h.0) refl,
   elim h.1 [
-      inl last ↦ inl (events0 ++ last.0, rw (last.1, append_assoc) refl, open_both events0 last.0 o last.2)
+    | inl last ↦ inl (events0 ++ last.0, rw (last.1, append_assoc) refl, open_both events0 last.0 o last.2)
     | inr many ↦ inr (rw (length-append events0 events) (omega (arith, many.0)), open_both events0 events o many.1)
   ],
 )
@@ -178,28 +178,28 @@ module _ {I O : Type 0} (receives : I → Event → I → Type 0) (sends : O →
   }
   exit_message m received (Ok b) false e decides = absurd decides
   exit_message m received (Err fault) false e decides = elim decides [
-      inl shows ↦ record {
-        events = message m ∷ [];
-        received = (i', received, refl);
-        letters = m ∷ [];
-        stop = decided;
-        brought = (refl, refl);
-        output = [];
-        null = Some (null_reply id);
-        got = (o, refl, offers);
-        part = (refl, refl, ((refl, refl), rw e shows));
-      }
+    | inl shows ↦ record {
+      events = message m ∷ [];
+      received = (i', received, refl);
+      letters = m ∷ [];
+      stop = decided;
+      brought = (refl, refl);
+      output = [];
+      null = Some (null_reply id);
+      got = (o, refl, offers);
+      part = (refl, refl, ((refl, refl), rw e shows));
+    }
     | inr memory ↦ record {
-        events = message m ∷ [];
-        received = (i', received, refl);
-        letters = [];
-        stop = exhausted;
-        brought = (m, refl, refl);
-        output = [];
-        null = Some (null_reply id);
-        got = (o, refl, offers);
-        part = (refl, refl, ap (λ (x : ProtocolFault). Err x) memory);
-      }
+      events = message m ∷ [];
+      received = (i', received, refl);
+      letters = [];
+      stop = exhausted;
+      brought = (m, refl, refl);
+      output = [];
+      null = Some (null_reply id);
+      got = (o, refl, offers);
+      part = (refl, refl, ap (λ (x : ProtocolFault). Err x) memory);
+    }
   ]
 
   -- an event came in the place of `exit`
@@ -297,17 +297,17 @@ module _ {H I O : Type 0} (answers : H → Id → List ℕ → Data → Result D
         (runs_after receives sends (λ letters. Serves answers notes h h (request id method params ∷ letters)) (ExitTail id) (i, o) (i, o) (i', o') (shut_answer answer)
         [] [] [] refl refl refl refl
         (λ letters stop output sent part.
-          rw part.0 (serves_end answers notes h (request id method params ∷ letters) stop sent (shut_answer answer) (e, part.1, part.2)))
+        rw part.0 (serves_end answers notes h (request id method params ∷ letters) stop sent (shut_answer answer) (e, part.1, part.2)))
         (exit_run receives sends id i i' o o' null.offered null.event null.received answer null.decides))
 
     -- the same, of what `shutdown` ensures
     ends_shut : (answer : ShutdownAnswer) (b : Bool) → bytes_eq method (codes "shutdown") ≡ b
         → (answer ≡ Ok false → ⊥)
         → MatchBool b (OffersNull receives sends id (i, o) answer (i', o') ⊎ ((answer ≡ Err out_of_memory) × ◌≡◌ {A = I × O} (i', o') (i, o)))
-          ((answer ≡ Ok false) × ◌≡◌ {A = I × O} (i', o') (i, o))
+        ((answer ≡ Ok false) × ◌≡◌ {A = I × O} (i', o') (i, o))
         → EndsAt answers notes receives sends (request id method params) (h, i, o) (shut_answer answer) (h, i', o')
     ends_shut answer true e other shuts = elim shuts [
-        inl null ↦ ends_at_shutdown answer e null
+      | inl null ↦ ends_at_shutdown answer e null
       | inr memory ↦ inr (ap shut_answer memory.0, ap (λ (p : I × O). p.0) memory.1, ap (λ (p : I × O). p.1) memory.1)
     ]
     ends_shut answer false e other shuts = absurd (other shuts.0)
@@ -323,10 +323,10 @@ module _ {H I O : Type 0} (answers : H → Id → List ℕ → Data → Result D
     -- another request touches neither the inbox nor the outbox
     passes_other : (b : Bool) → bytes_eq method (codes "shutdown") ≡ b
         → MatchBool b (OffersNull receives sends id (i, o) (Ok false) (i', o') ⊎ (◌≡◌ {A = ShutdownAnswer} (Ok false) (Err out_of_memory) × ◌≡◌ {A = I × O} (i', o') (i, o)))
-          (◌≡◌ {A = ShutdownAnswer} (Ok false) (Ok false) × ◌≡◌ {A = I × O} (i', o') (i, o))
+        (◌≡◌ {A = ShutdownAnswer} (Ok false) (Ok false) × ◌≡◌ {A = I × O} (i', o') (i, o))
         → (bytes_eq method (codes "shutdown") ≡ false) × (i' ≡ i) × (o' ≡ o)
     passes_other true e shuts = elim shuts [
-        inl null ↦ absurd (never_false null.event null.decides)
+      | inl null ↦ absurd (never_false null.event null.decides)
       | inr memory ↦ absurd (cc (memory.0))
     ]
       where
@@ -361,26 +361,26 @@ module _ {H I O : Type 0} (answers : H → Id → List ℕ → Data → Result D
       fails_request fault shuts replied =
           let passed = passes_other (bytes_eq method (codes "shutdown")) refl shuts in
           elim replied [
-              inl unsent ↦ inl (record {
-                events = [];
-                received = sym passed.1;
-                letters = [];
-                stop = refused unsent.1;
-                brought = (refl, refl);
-                output = unsent.0 ∷ [];
-                null = None;
-                got = (([], unsent.0, o, refl, refl, rw passed.2 at unsent.3), refl);
-                part = record {
-                  middle = request id method params ∷ [];
-                  rest = [];
-                  cut = refl;
-                  served = rw passed.0 refl;
-                  after = h';
-                  handled = (h', unsent.0 ∷ [], [], unsent.2, (refl, refl), refl);
-                  left = refl;
-                  end = (ap (λ (x : ProtocolFault). Err x) unsent.4, refl);
-                };
-              })
+            | inl unsent ↦ inl (record {
+              events = [];
+              received = sym passed.1;
+              letters = [];
+              stop = refused unsent.1;
+              brought = (refl, refl);
+              output = unsent.0 ∷ [];
+              null = None;
+              got = (([], unsent.0, o, refl, refl, rw passed.2 at unsent.3), refl);
+              part = record {
+                middle = request id method params ∷ [];
+                rest = [];
+                cut = refl;
+                served = rw passed.0 refl;
+                after = h';
+                handled = (h', unsent.0 ∷ [], [], unsent.2, (refl, refl), refl);
+                left = refl;
+                end = (ap (λ (x : ProtocolFault). Err x) unsent.4, refl);
+              };
+            })
             | inr memory ↦ inr (ap (λ (x : ProtocolFault). Err x) memory.0, passed.1, memory.1 ∙ passed.2)
           ]
 
@@ -389,19 +389,19 @@ module _ {H I O : Type 0} (answers : H → Id → List ℕ → Data → Result D
       → WaitsFor receives i (message m) i' → EndsAt answers notes receives sends m (h, i', o) answer (h', i'', o')
       → Runs receives sends (Serves answers notes h h') (i, o) answer (i'', o')
   ends_waited h h' i i' i'' o o' m answer waits ends = elim ends [
-      inl run ↦ runs_after receives sends (Serves answers notes h h') (λ letters. Serves answers notes h h' (m ∷ letters)) (i, o) (i', o) (i'', o') answer
+    | inl run ↦ runs_after receives sends (Serves answers notes h h') (λ letters. Serves answers notes h h' (m ∷ letters)) (i, o) (i', o) (i'', o') answer
         (waits.passed ++ message m ∷ []) (m ∷ []) [] waits.received (letters_waited waits.passed (message m) waits.only_timeouts)
         (open_waited waits.passed m waits.only_timeouts) refl (λ letters stop output null part. part) run
     | inr memory ↦ rw (memory.1, memory.2) (waited_exhausted receives sends (Serves answers notes h h') i i' o m answer waits (record {
-        middle = [];
-        rest = [];
-        cut = refl;
-        served = refl;
-        after = h;
-        handled = (refl, refl);
-        left = tt;
-        end = (memory.0, refl);
-      }))
+      middle = [];
+      rest = [];
+      cut = refl;
+      served = refl;
+      after = h;
+      handled = (refl, refl);
+      left = tt;
+      end = (memory.0, refl);
+    }))
   ]
 
   -- The handler served what came so far: at least so many letters or timeouts.
@@ -441,7 +441,7 @@ module _ {H I O : Type 0} (answers : H → Id → List ℕ → Data → Result D
       runs_after receives sends (Serves answers notes h h'') (Serves answers notes h' h'') old mid new answer
       so_far.events (filter_map message_in so_far.events) so_far.output so_far.received refl so_far.still_open so_far.taken
       (λ letters stop output null part.
-        serves_after answers notes h h' h'' (filter_map message_in so_far.events) letters so_far.output output stop null answer so_far.served so_far.handled part) tail
+      serves_after answers notes h h' h'' (filter_map message_in so_far.events) letters so_far.output output stop null answer so_far.served so_far.handled part) tail
 
   -- no more messages come
   pub serves_closed : (h : H) (i i' : I) (o : O) → WaitsFor receives i closed i' → Runs receives sends (Serves answers notes h h) (i, o) (Ok Closed) (i', o)

@@ -53,7 +53,7 @@ module _ {H I O : Type 0} (answers : H → Id → List ℕ → Data → Result D
         → Runs receives sends (AfterInitialize answers notes h h) (i, o) (Err fault) (i', o)
     not_initialized i i' o m fault true e waits decides = cc
     not_initialized i i' o m fault false e waits decides = elim decides [
-        inl shows ↦ waited_decided receives sends (AfterInitialize answers notes h h) i i' o m (Err fault) waits (rw e ((refl, refl), shows, (refl, refl, refl)))
+      | inl shows ↦ waited_decided receives sends (AfterInitialize answers notes h h) i i' o m (Err fault) waits (rw e ((refl, refl), shows, (refl, refl, refl)))
       | inr memory ↦ waited_exhausted receives sends (AfterInitialize answers notes h h) i i' o m (Err fault) waits
           (ap (λ (x : ProtocolFault). Err x) memory, (refl, refl, refl))
     ]
@@ -78,18 +78,18 @@ module _ {H I O : Type 0} (answers : H → Id → List ℕ → Data → Result D
   pub started_fault : (h : H) (reply : Message) (i i' : I) (o o' : O) (fault : ProtocolFault) → FinishesAt receives sends reply (i, o) (Err fault) (i', o')
       → RunsFrom receives sends (AfterInitialize answers notes h h) reply (i, o) (Err fault) (i', o')
   started_fault h reply i i' o o' fault finishes = elim finishes [
-      inl f ↦ goes_on h h reply i i' i' o o' o' (Err fault) f.0 (finish_fault h i i' o' f.1 fault f.2 f.3)
+    | inl f ↦ goes_on h h reply i i' i' o o' o' (Err fault) f.0 (finish_fault h i i' o' f.1 fault f.2 f.3)
     | inr f ↦ inl (record {
-        events = [];
-        received = sym f.3;
-        letters = [];
-        stop = refused f.0;
-        brought = (refl, refl);
-        output = reply ∷ [];
-        null = None;
-        got = (([], reply, o, refl, refl, f.1), refl);
-        part = ([], refl, (ap (λ (a : FinishAnswer). as_answer a) f.2, (refl, refl, refl)));
-      })
+      events = [];
+      received = sym f.3;
+      letters = [];
+      stop = refused f.0;
+      brought = (refl, refl);
+      output = reply ∷ [];
+      null = None;
+      got = (([], reply, o, refl, refl, f.1), refl);
+      part = ([], refl, (ap (λ (a : FinishAnswer). as_answer a) f.2, (refl, refl, refl)));
+    })
   ]
 
   module _ (h h' : H) (i i' i'' : I) (o o' : O) (answer : SessionAnswer) where
@@ -114,7 +114,7 @@ module _ {H I O : Type 0} (answers : H → Id → List ℕ → Data → Result D
       → Runs receives sends (Serves answers notes h h') (i', o') answer (i'', o'')
       → RunsFrom receives sends (AfterInitialize answers notes h h') reply (i, o) answer (i'', o'')
   started_ok h h' reply i i' i'' o o' o'' answer finishes run = elim finishes [
-      inl f ↦ goes_on h h' reply i i' i'' o o' o'' answer f.0 (finished h h' i i' i'' o' o'' answer f.1 f.2 f.3 run)
+    | inl f ↦ goes_on h h' reply i i' i'' o o' o'' answer f.0 (finished h h' i i' i'' o' o'' answer f.1 f.2 f.3 run)
     | inr f ↦ let e : ◌≡◌ {A = FinishAnswer} (Ok tt) (Err (fault_of_refusal f.0)) = f.2 in cc
   ]
 
@@ -197,7 +197,7 @@ module _ {H I O : Type 0} (answers : H → Id → List ℕ → Data → Result D
       → RunsFrom receives sends (AfterInitialize answers notes h h') (ok_reply id (initialize_result capabilities)) (i', o) answer (i'', o'')
       → Runs receives sends (AfterEarly answers notes capabilities h h') (i, o) answer (i'', o'')
   answered h h' i i' i'' o o'' id method params answer received e run = elim run [
-      inl s ↦ runs_after receives sends (AfterEarly answers notes capabilities h h')
+    | inl s ↦ runs_after receives sends (AfterEarly answers notes capabilities h h')
         (λ letters stop output null answer. (later : List Message) × (output ≡ ok_reply id (initialize_result capabilities) ∷ later) × AfterInitialize answers notes h h' letters stop later null answer)
         (i, o) (i', o) (i'', o'') answer
         (message (request id method params) ∷ []) (request id method params ∷ []) [] (i', received, refl) refl refl refl
@@ -278,8 +278,8 @@ module _ {H I O : Type 0} (answers : H → Id → List ℕ → Data → Result D
         let undecided : list_all is_undecided all ≡ true = list_all-push is_undecided before last passed.undecided refuses.undecided in
         let brings : filter_map request_of (last ∷ []) ≡ refuses.id ∷ [] = rw refuses.brings refl in
         let replied : AllZip IsEarlyReply (filter_map request_of all) (replies ++ refuses.reply ∷ []) =
-            rw (filter_map-append request_of before (last ∷ []), brings)
-            (AllZip-append IsEarlyReply (filter_map request_of before) (refuses.id ∷ []) replies (refuses.reply ∷ []) passed.each_replied (refuses.replies, tt)) in
+        rw (filter_map-append request_of before (last ∷ []), brings)
+        (AllZip-append IsEarlyReply (filter_map request_of before) (refuses.id ∷ []) replies (refuses.reply ∷ []) passed.each_replied (refuses.replies, tt)) in
         let run = rw cut at taken in
         record {
           events = filter_map event_of all;
@@ -329,10 +329,10 @@ module _ {H I O : Type 0} (answers : H → Id → List ℕ → Data → Result D
         let mid = starts.starts.mid in
         let before = starts.starts.before in
         elim end.2 [
-            inl d ↦ rw d.1 (last_then h h g g' i i' i' o mid mid starts.turns before end.0 starts.replies (Err fault) starts.taken end.1 starts.starts.passed
+          | inl d ↦ rw d.1 (last_then h h g g' i i' i' o mid mid starts.turns before end.0 starts.replies (Err fault) starts.taken end.1 starts.starts.passed
               (λ g1 i1 step. ends_run h g1 g' i1 i' mid end.0 fault step d.0))
           | inr f ↦ elim f [
-              inl r ↦ rw (fault_same fault (fault_of_refusal r.0) r.2)
+            | inl r ↦ rw (fault_same fault (fault_of_refusal r.0) r.2)
                 (early_refused h g g' i i' o mid o' starts.turns before end.0 starts.replies r.0 starts.taken end.1 starts.starts.passed r.1)
             | inr r ↦ rw (fault_same fault out_of_memory r.3, r.4)
                 (last_then h h g g' i i' i' o mid mid starts.turns before end.0 starts.replies (Err out_of_memory) starts.taken end.1 starts.starts.passed
@@ -370,9 +370,9 @@ module _ {H I O : Type 0} (answers : H → Id → List ℕ → Data → Result D
         let end = starts.starts.end in
         last_then h h' g g' i i' i'' o starts.starts.mid o'' starts.turns starts.starts.before end.0 starts.replies answer starts.taken end.1 starts.starts.passed
         (λ g1 i1 step. elim end.2 [
-            inl d ↦ decided_by h h' g1 g' i1 i' i'' starts.starts.mid o'' end.0 id params answer step d.0 (rw d.1 at run)
+          | inl d ↦ decided_by h h' g1 g' i1 i' i'' starts.starts.mid o'' end.0 id params answer step d.0 (rw d.1 at run)
           | inr f ↦ elim f [
-              inl r ↦ let e : ◌≡◌ {A = StartAnswer} (Ok (id, params)) (Err (fault_of_refusal r.0)) = r.2 in cc
+            | inl r ↦ let e : ◌≡◌ {A = StartAnswer} (Ok (id, params)) (Err (fault_of_refusal r.0)) = r.2 in cc
             | inr r ↦ let e : ◌≡◌ {A = StartAnswer} (Ok (id, params)) (Err out_of_memory) = r.3 in cc
           ]
         ])

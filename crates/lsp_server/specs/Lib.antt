@@ -32,6 +32,8 @@ pub mod Registering
 pub mod Replies
 pub mod RequestId
 pub mod Session
+pub mod SessionBytes
+pub mod SessionFault
 pub mod SessionRun
 pub mod SessionSteps
 pub mod Shutdown

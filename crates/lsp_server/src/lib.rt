@@ -18,7 +18,9 @@ pub use lifecycle::{
     CallGate, Event, Gate, Inbox, ListGate, ListInbox, ListOutbox, OpenGate, Outbox, SendFault,
     finish, finish_within, shutdown, start_within, wait_within,
 };
-pub use loops::{FrameOutbox, Handler, ReadEnd, SessionEnd, StreamInbox, read_loop, serve};
+pub use loops::{
+    FrameOutbox, Handler, ReadEnd, SessionEnd, SessionFault, StreamInbox, read_loop, serve, session,
+};
 pub use msg::{ErrorCode, Message, Notification, Request, RequestId, Response, ResponseError};
 pub use relay::{PumpFault, StartFault, pump};
 pub use req_queue::{Incoming, Outgoing, ReqQueue};

@@ -11,10 +11,12 @@ use std::io::{BufRead, ErrorKind};
 mod frame_outbox;
 mod serving;
 mod stream_inbox;
+mod stream_session;
 
 pub use frame_outbox::FrameOutbox;
 pub use serving::{Handler, SessionEnd, serve};
 pub use stream_inbox::StreamInbox;
+pub use stream_session::{SessionFault, session};
 
 /// How a loop over a reader's messages ended.
 #[derive(Clone, Copy, Debug, PartialEq, Eq)]
