@@ -17,7 +17,7 @@ use Rattle.lsp_server.specs.declared.msg.Message as msg
 use Rattle.lsp_server.proofs.Contents.{frame_unread}
 
 -- what a read answered, as the reading of the whole text
-begins : (at : List ℕ) (m : Message) → (reading_of at).outcome ≡ Ok (Some m) → Begins at m (reading_of at).rest
+pub begins : (at : List ℕ) (m : Message) → (reading_of at).outcome ≡ Ok (Some m) → Begins at m (reading_of at).rest
 begins at m outcome = ap (λ o. record { outcome = o; rest = (reading_of at).rest }) outcome
 
 module _ {S : Type 0} (sends : S → Message → Result (Unit {0}) SendFault → S → Type 0) where

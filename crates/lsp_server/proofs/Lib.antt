@@ -21,8 +21,11 @@ pub mod Rows
 pub mod SameTexts
 pub mod Sending
 pub mod Separators
+pub mod SessionFacts
+pub mod SessionGives
 pub mod SessionRuns
 pub mod SessionStarts
+pub mod SessionStreams
 pub mod Shown
 pub mod Starting
 pub mod Streaming

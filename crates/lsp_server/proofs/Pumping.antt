@@ -45,7 +45,7 @@ refused_memory m back None (Some (Output kind)) a b open_still sent = absurd (se
 refused_memory m back None (Some NoMemory) a b open_still sent = (refl, sent.0)
 refused_memory m back (Some fault) new a b open_still sent = absurd (cc)
 
-Appends-Keeps : (a b c : Option (List ℕ)) (text : List ℕ) → Appends a b text → Keeps b c → Appends a c text
+pub Appends-Keeps : (a b c : Option (List ℕ)) (text : List ℕ) → Appends a b text → Keeps b c → Appends a c text
 Appends-Keeps None b c text first second = tt
 Appends-Keeps (Some xs) None c text first second = absurd first
 Appends-Keeps (Some xs) (Some ys) None text first second = absurd second
@@ -56,7 +56,7 @@ module _ {W : Type 0} (contents : W → Option (List ℕ)) where
   at outbox = contents outbox.writer.now
 
   -- what an outbox took, its writer got
-  taken_frames : (old : FrameOutbox W) (ms : List Message) (new : FrameOutbox W) → old.fault ≡ None → FoldsTo (Takes (FrameOutboxSends contents)) old ms new
+  pub taken_frames : (old : FrameOutbox W) (ms : List Message) (new : FrameOutbox W) → old.fault ≡ None → FoldsTo (Takes (FrameOutboxSends contents)) old ms new
       → (new.fault ≡ None) × GetsFrames ms (at old) (at new)
   taken_frames old [] new unfailed taken =
       (ap (λ o. o.fault) (sym taken) ∙ unfailed, ([], refl, subst (λ o. Appends (at old) (at o) []) taken (Appends-nil (at old))))
@@ -124,7 +124,7 @@ module _ {W : Type 0} (contents : W → Option (List ℕ)) where
     pumped Memory handed = let some = ran_out handed in rw some.0 some.1
 
   -- an outbox keeps the writer that it was lent
-  taken_keeps : (old : FrameOutbox W) (ms : List Message) (new : FrameOutbox W) → FoldsTo (Takes (FrameOutboxSends contents)) old ms new
+  pub taken_keeps : (old : FrameOutbox W) (ms : List Message) (new : FrameOutbox W) → FoldsTo (Takes (FrameOutboxSends contents)) old ms new
       → new.writer.ghost_name ≡ old.writer.ghost_name
   taken_keeps old [] new taken = ap (λ o. o.writer.ghost_name) (sym taken)
   taken_keeps old (m ∷ ms) new taken = taken_keeps taken.0 ms new taken.2 ∙ taken.1.1

@@ -40,7 +40,7 @@ found_by (Ok found) = Some found
 found_by (Err e) = None
 
 -- a run in two parts
-FoldsTo-split : {S A : Type 0} (R : S → A → S → Type 0) (xs ys : List A) (s u : S) → FoldsTo R s (xs ++ ys) u → (t : S) × FoldsTo R s xs t × FoldsTo R t ys u
+pub FoldsTo-split : {S A : Type 0} (R : S → A → S → Type 0) (xs ys : List A) (s u : S) → FoldsTo R s (xs ++ ys) u → (t : S) × FoldsTo R s xs t × FoldsTo R t ys u
 FoldsTo-split R [] ys s u run = (s, refl, run)
 FoldsTo-split R (x ∷ xs) ys s u run = let rest = FoldsTo-split R xs ys run.0 u run.2 in (rest.0, (run.0, run.1, rest.1), rest.2)
 
@@ -132,7 +132,7 @@ abbrev AlwaysYes : {G : Type 0} → G → Bool → G → Type 0
 AlwaysYes old answer new = answer ≡ true
 
 -- both tests hold
-and-true : (a b : Bool) → (a && b) ≡ true → (a ≡ true) × (b ≡ true)
+pub and-true : (a b : Bool) → (a && b) ≡ true → (a ≡ true) × (b ≡ true)
 and-true true b e = (refl, e)
 and-true false b e = absurd (cc (e))
 

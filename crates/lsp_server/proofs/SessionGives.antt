@@ -1,0 +1,181 @@
+-- A session over a reader and a writer, as its contract says it.
+use Rattle.std.proofs.Common.{◌≡◌, refl, sym, ◌∙◌, ap, inl, inr, ◌⊎◌, ℕ, Bool, true, false, true≢false, List, [], ◌∷◌, ◌++◌, append-nil, Some, None, Option, IfSome}
+use Rattle.std.proofs.lemmas.List.Elements.{filter_map-append}
+use Rattle.std.specs.Io.KnownBytes.{Keeps}
+use Rattle.std.specs.List.{FoldsTo, list_all, filter_map}
+use Rattle.std.specs.Prelude.{Result, Ok, Err, MatchOption, if◌then◌else◌}
+use Rattle.std.specs.declared.io.ErrorKind.TheVariants.{Other}
+use Rattle.serde_json.specs.Data.{Data}
+use Rattle.lsp_server.proofs.Contents.{frame_unread}
+use Rattle.lsp_server.proofs.SessionFacts.{is_no_exit, Facts, session_facts}
+use Rattle.lsp_server.proofs.SessionStarts.{FoldsTo-split}
+use Rattle.lsp_server.proofs.SessionStreams.{brought_begins, Brought, brought_open, no_timeout, whole_begins, NotRefused, IsWritten, gets_written, gets_keeps}
+use Rattle.lsp_server.proofs.Streaming.{streams_of}
+use Rattle.lsp_server.specs.Body.{body_means, reading_of}
+use Rattle.lsp_server.specs.Frame.{Answers}
+use Rattle.lsp_server.specs.Event.{Event, message, timeout, closed}
+use Rattle.lsp_server.specs.FrameBoxes.{FrameOutboxSends}
+use Rattle.lsp_server.specs.Letters.{Begins}
+use Rattle.lsp_server.specs.Message.{Message}
+use Rattle.lsp_server.specs.ProtocolError.{ProtocolFault, out_of_memory, is_disconnected, is_memory}
+use Rattle.lsp_server.specs.Session.{SessionAnswer, Stop, decided, no_more, timed_out, refused, exhausted}
+use Rattle.lsp_server.specs.SessionBytes.{BeginsWith, all_of, GetsBeginning, FailedAfter, Comes, Fails, BreaksOff, Gives}
+use Rattle.lsp_server.specs.SessionFault.{ran_out, came_to_no_more, plain_answer, read_fault, read_answer, session_answer}
+use Rattle.lsp_server.specs.SessionRun.{message_in, is_open, Brings, Runs}
+use Rattle.lsp_server.specs.StreamBoxes.{stream_of, StreamInboxGives}
+use Rattle.lsp_server.specs.Streams.{Stream, StreamGives, StreamReads}
+use Rattle.lsp_server.specs.Written.{GetsFrames}
+use Rattle.lsp_server.specs.declared.frame.ReadFault.{ReadFault}
+use Rattle.lsp_server.specs.declared.frame.ReadFault.TheVariants.{Input, LineNotText, LineEnd, NoSeparator, BadLength, NoLength, ShortBody, BodyNotText, NoJson, NoMessage, Memory as NoMemoryToRead}
+use Rattle.lsp_server.specs.declared.frame.WriteFault.{WriteFault}
+use Rattle.lsp_server.specs.declared.frame.WriteFault.TheVariants.{Output, Memory as NoMemory}
+use Rattle.lsp_server.specs.declared.loops.ReadEnd.{ReadEnd}
+use Rattle.lsp_server.specs.declared.loops.ReadEnd.TheVariants.{Exit, End, Fault, Closed as Shut, Memory as Full}
+use Rattle.lsp_server.specs.declared.loops.serving.SessionEnd.TheVariants.{ShutDown, Closed}
+use Rattle.lsp_server.specs.declared.loops.frame_outbox.FrameOutbox.{FrameOutbox}
+use Rattle.lsp_server.specs.declared.loops.stream_inbox.StreamInbox.{StreamInbox}
+use Rattle.lsp_server.specs.declared.loops.stream_session.SessionFault.{SessionFault}
+use Rattle.lsp_server.specs.declared.loops.stream_session.SessionFault.TheVariants.{Memory}
+
+-- the messages that came are the first of the text, and the letters the first of these
+letters_begin : (events : List Event) (letters : List Message) (stop : Stop) (text : List ℕ) → Brings events letters stop
+    → (at : List ℕ) × BeginsWith text (filter_map message_in events) at → (at : List ℕ) × BeginsWith text letters at
+letters_begin events letters decided text brought read = (read.0, rw brought.0 at read.1)
+letters_begin events letters no_more text brought read = (read.0, rw brought.0 at read.1)
+letters_begin events letters timed_out text brought read = (read.0, rw brought.0 at read.1)
+letters_begin events letters (refused fault) text brought read = (read.0, rw brought.0 at read.1)
+letters_begin events letters exhausted text brought read =
+    let parts = FoldsTo-split Begins letters (brought.0 ∷ []) text read.0 (rw brought.1 at read.1) in (parts.0, parts.1)
+
+-- a reading that failed
+unread_at : (fault : ReadFault) (at : List ℕ) → (reading_of at).outcome ≡ Err fault → reading_of at ≡ record { outcome = Err fault; rest = (reading_of at).rest }
+unread_at fault at is = ap (λ o. record { outcome = o; rest = (reading_of at).rest }) is
+
+-- the answer of a session that was refused a growth
+ran_out_answer : (answer : SessionAnswer) → ran_out answer ≡ true → answer ≡ Err out_of_memory
+ran_out_answer (Ok end) is = absurd (cc (is))
+ran_out_answer (Err out_of_memory) is = refl
+ran_out_answer (Err fault) is = absurd (cc (is))
+
+ran_out_gives : (end : Option ReadEnd) → read_answer (Err out_of_memory) end ≡ Err Memory
+ran_out_gives None = refl
+ran_out_gives (Some (Fault fault)) = refl
+ran_out_gives (Some end) = refl
+
+module _ (P : List Message → Stop → List Message → Option Message → SessionAnswer → Type 0) (text : List ℕ) (a b : Option (List ℕ))
+    (letters : List Message) (output : List Message) (null : Option Message) where
+  -- a session that was broken off
+  broken : (left : Option (List ℕ)) (stop : Stop) (answer : SessionAnswer) → P letters stop output null answer → (at : List ℕ) × BeginsWith text letters at
+      → GetsBeginning (all_of output null) a b → BreaksOff P text left a b
+  broken left stop answer part read written =
+      record { letters = letters; at = read.0; read = read.1; stop = stop; output = output; null = null; answer = answer; part = part; written = written }
+
+  module _ (written : GetsFrames (all_of output null) a b) (new : Stream) (answer : SessionAnswer) where
+    -- a session that came to its end
+    plain_gives : (answer : SessionAnswer) → ran_out answer ≡ false → Comes P text new.remaining a b answer → Gives P text new.remaining a b (plain_answer answer)
+    plain_gives (Ok end) enough comes = comes
+    plain_gives (Err fault) enough comes = rw enough comes
+
+    module _ (part : P letters decided output null answer) (facts : Facts decided letters answer) (brought : Brought text letters new) where
+      decided_plain : Gives P text new.remaining a b (plain_answer answer)
+      decided_plain = plain_gives answer facts.0 (record {
+        letters = letters;
+        at = brought.at;
+        read = brought.read;
+        stop = decided;
+        rest = brought.left;
+        output = output;
+        null = null;
+        part = part;
+        written = written;
+      })
+
+      -- a letter decided
+      decided_gives : (goes : Bool) → list_all is_no_exit letters ≡ goes → Gives P text new.remaining a b (read_answer answer new.end)
+      decided_gives false exits = rw (brought.end, exits) decided_plain
+      decided_gives true none = at (came_to_no_more answer) refl
+        where
+          at : (c : Bool) → came_to_no_more answer ≡ c → Gives P text new.remaining a b (read_answer answer new.end)
+          at false is = rw (brought.end, none, is) decided_plain
+          at true is = absurd (true≢false (sym none ∙ facts.1 is))
+
+    module _ (part : P letters no_more output null answer) (facts : Facts no_more letters answer) where
+      -- as many were taken as can be counted
+      many_gives : Brought text letters new → Gives P text new.remaining a b (read_answer answer new.end)
+      many_gives brought = rw (brought.end, facts.2, facts.1) (record {
+        letters = letters;
+        at = brought.at;
+        read = brought.read;
+        rest = rw brought.left (frame_unread body_means brought.at);
+        output = output;
+        null = null;
+        answer = answer;
+        part = part;
+        written = written;
+      })
+
+      module _ (at : List ℕ) (read : BeginsWith text letters at) where
+        fails : (fault : ReadFault) → FailedAfter fault at new.remaining → Fails P text new.remaining a b fault
+        fails fault rest =
+            record { letters = letters; at = at; read = read; rest = rest; output = output; null = null; answer = answer; part = part; written = written }
+
+        fault_gives : (fault : ReadFault) → Answers (λ (m : Message). m) (Err fault) new.remaining (reading_of at) → Gives P text new.remaining a b (Err (read_fault fault))
+        fault_gives (Input kind) answers = fails (Input kind) answers
+        fault_gives NoMemoryToRead answers = broken new.remaining no_more answer part (at, read) (whole_begins (all_of output null) a b written)
+        fault_gives fault answers = fails fault ((reading_of at).rest, unread_at fault at answers.0, answers.1)
+
+        -- no more came
+        end_gives : (end : Option ReadEnd) → StreamReads (Some at) closed end new.remaining → Gives P text new.remaining a b (read_answer answer end)
+        end_gives None reads = absurd reads
+        end_gives (Some End) reads = plain_gives answer facts.0 (record {
+          letters = letters;
+          at = at;
+          read = read;
+          stop = no_more;
+          rest = ((reading_of at).rest, ap (λ o. record { outcome = o; rest = (reading_of at).rest }) reads.0.0, reads.0.1);
+          output = output;
+          null = null;
+          part = part;
+          written = written;
+        })
+        end_gives (Some (Fault fault)) reads = rw facts.0 (fault_gives fault reads.0)
+        end_gives (Some end) reads = absurd reads
+
+-- the last of several events
+last_event : (earlier : List Event) (event : Event) (old new : Stream) → FoldsTo StreamGives old (earlier ++ event ∷ []) new
+    → (mid : Stream) × FoldsTo StreamGives old earlier mid × StreamGives mid event new
+last_event earlier event old new run = let parts = FoldsTo-split StreamGives earlier (event ∷ []) old new run in (parts.0, parts.1, rw parts.2.2 at parts.2.1)
+
+module _ (P : List Message → Stop → List Message → Option Message → SessionAnswer → Type 0)
+    (knows : (letters : List Message) (stop : Stop) (output : List Message) (null : Option Message) (answer : SessionAnswer) → P letters stop output null answer → Facts stop letters answer)
+    (text : List ℕ) (old new : Stream) (unended : old.end ≡ None) (known : old.remaining ≡ Some text)
+    (events : List Event) (run : FoldsTo StreamGives old events new) (letters : List Message)
+    (output : List Message) (null : Option Message) (answer : SessionAnswer) (a b : Option (List ℕ)) (written : GetsFrames (all_of output null) a b) where
+  closed_gives : (earlier : List Event) → events ≡ earlier ++ closed ∷ [] → list_all is_open earlier ≡ true → filter_map message_in events ≡ letters → P letters no_more output null answer
+      → Gives P text new.remaining a b (read_answer answer new.end)
+  closed_gives earlier cut still_open brings part =
+      let facts = knows letters no_more output null answer part in
+      let last = last_event earlier closed old new (rw cut at run) in
+      let same : filter_map message_in earlier ≡ letters = rw (sym brings, cut, filter_map-append message_in earlier (closed ∷ []), append-nil) refl in
+      let brought = rw same at (brought_open earlier text old last.0 unended known last.1 still_open) in
+      let unended' : last.0.end ≡ None = rw (brought.end, facts.2) refl in
+      end_gives P text a b letters output null written new answer part facts brought.at brought.read new.end (rw (unended', brought.left) at last.2)
+
+  open_brought : filter_map message_in events ≡ letters → list_all is_open events ≡ true → Brought text letters new
+  open_brought brings still_open = rw brings at (brought_open events text old new unended known run still_open)
+
+  -- no write failed
+  pub stop_gives : (stop : Stop) → Brings events letters stop → NotRefused stop → P letters stop output null answer → Gives P text new.remaining a b (read_answer answer new.end)
+  stop_gives decided brought taken part =
+      decided_gives P text a b letters output null written new answer part (knows letters decided output null answer part) (open_brought brought.0 brought.1) (list_all is_no_exit letters) refl
+  stop_gives no_more brought taken part = elim brought.1 [
+      inl last ↦ closed_gives last.0 last.1 last.2 brought.0 part
+    | inr many ↦ many_gives P text a b letters output null written new answer part (knows letters no_more output null answer part) (open_brought brought.0 many.1)
+  ]
+  stop_gives timed_out brought taken part = absurd (no_timeout brought.1.0 old new (rw brought.1.1 at run))
+  stop_gives (refused fault) brought taken part = absurd taken
+  stop_gives exhausted brought taken part =
+      rw (ran_out_answer answer (knows letters exhausted output null answer part), ran_out_gives new.end)
+      (broken P text a b letters output null new.remaining exhausted answer part
+        (letters_begin events letters exhausted text brought (brought_begins events text old new unended known run))
+        (whole_begins (all_of output null) a b written))
