@@ -179,3 +179,47 @@ module _ (P : List Message → Stop → List Message → Option Message → Sess
       (broken P text a b letters output null new.remaining exhausted answer part
         (letters_begin events letters exhausted text brought (brought_begins events text old new unended known run))
         (whole_begins (all_of output null) a b written))
+
+module _ {R W : Type 0} (remaining : R → Option (List ℕ)) (contents : W → Option (List ℕ))
+    (P : List Message → Stop → List Message → Option Message → SessionAnswer → Type 0)
+    (knows : (letters : List Message) (stop : Stop) (output : List Message) (null : Option Message) (answer : SessionAnswer) → P letters stop output null answer → Facts stop letters answer)
+    (inbox inbox' : StreamInbox R) (outbox outbox' : FrameOutbox W) (unended : inbox.end ≡ None) (unfailed : outbox.fault ≡ None)
+    (answer : SessionAnswer) (runs : Runs (StreamInboxGives remaining) (FrameOutboxSends contents) P (inbox, outbox) answer (inbox', outbox')) where
+  -- what a session over boxes comes to in bytes
+  runs_give : (text : List ℕ) → remaining inbox.reader.now ≡ Some text
+      → Gives P text (remaining inbox'.reader.now) (contents outbox.writer.now) (contents outbox'.writer.now) (session_answer answer inbox'.end outbox'.fault)
+  runs_give text known =
+      at outbox'.fault (gets_written contents outbox outbox' runs.output runs.null unfailed runs.stop runs.got)
+    where
+      run : FoldsTo StreamGives (stream_of remaining inbox) runs.events (stream_of remaining inbox')
+      run = (streams_of remaining runs.events inbox inbox' runs.received).0
+
+      broken_off : GetsBeginning (all_of runs.output runs.null) (contents outbox.writer.now) (contents outbox'.writer.now)
+          → BreaksOff P text (remaining inbox'.reader.now) (contents outbox.writer.now) (contents outbox'.writer.now)
+      broken_off begun =
+          broken P text (contents outbox.writer.now) (contents outbox'.writer.now) runs.letters runs.output runs.null (remaining inbox'.reader.now) runs.stop answer runs.part
+          (letters_begin runs.events runs.letters runs.stop text runs.brought (brought_begins runs.events text (stream_of remaining inbox) (stream_of remaining inbox') unended known run)) begun
+
+      at : (fault : Option WriteFault)
+          → MatchOption fault (NotRefused runs.stop × GetsFrames (all_of runs.output runs.null) (contents outbox.writer.now) (contents outbox'.writer.now))
+            (λ f. GetsBeginning (all_of runs.output runs.null) (contents outbox.writer.now) (contents outbox'.writer.now))
+          → Gives P text (remaining inbox'.reader.now) (contents outbox.writer.now) (contents outbox'.writer.now) (session_answer answer inbox'.end fault)
+      at None written =
+          stop_gives P knows text (stream_of remaining inbox) (stream_of remaining inbox') unended known runs.events run runs.letters runs.output runs.null answer
+          (contents outbox.writer.now) (contents outbox'.writer.now) written.1 runs.stop runs.brought written.0 runs.part
+      at (Some (Output kind)) begun = (tt, broken_off begun)
+      at (Some NoMemory) begun = broken_off begun
+
+  -- the same of the reader and the writer that were lent
+  pub session_gives : (first last : R) (first' last' : W) → inbox.reader.now ≡ first → outbox.writer.now ≡ first'
+      → (inbox'.reader.ghost_name ≡ inbox.reader.ghost_name → last ≡ inbox'.reader.now)
+      → (outbox'.writer.ghost_name ≡ outbox.writer.ghost_name → last' ≡ outbox'.writer.now)
+      → IfSome (remaining first) (λ text. Gives P text (remaining last) (contents first') (contents last') (session_answer answer inbox'.end outbox'.fault))
+  session_gives first last first' last' same same' named named' =
+      rw (named (streams_of remaining runs.events inbox inbox' runs.received).1, named' (gets_keeps contents outbox outbox' runs.output runs.null runs.stop runs.got), sym same, sym same')
+      (at (remaining inbox.reader.now) refl)
+    where
+      at : (known : Option (List ℕ)) → remaining inbox.reader.now ≡ known
+          → IfSome known (λ text. Gives P text (remaining inbox'.reader.now) (contents outbox.writer.now) (contents outbox'.writer.now) (session_answer answer inbox'.end outbox'.fault))
+      at None is = tt
+      at (Some text) is = runs_give text is
