@@ -18,7 +18,7 @@ pub use lifecycle::{
     CallGate, Event, Gate, Inbox, ListGate, ListInbox, ListOutbox, OpenGate, Outbox, SendFault,
     finish, finish_within, shutdown, start_within, wait_within,
 };
-pub use loops::{FrameOutbox, ReadEnd, StreamInbox, read_loop};
+pub use loops::{FrameOutbox, ReadEnd, StreamInbox, WriteEnd, read_loop, write_loop};
 pub use msg::{ErrorCode, Message, Notification, Request, RequestId, Response, ResponseError};
 pub use relay::{PumpFault, StartFault, pump};
 pub use req_queue::{Incoming, Outgoing, ReqQueue};
