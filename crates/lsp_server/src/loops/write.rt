@@ -15,14 +15,14 @@ use std::io::Write;
 pub enum WriteEnd {
     /// The inbox is closed, or gave 2^64 - 1 messages. All were written.
     Closed,
-    /// The last message was not written, and all before it were.
+    /// The write of the last message failed. All before it were written.
     Fault(WriteFault),
 }
 
 /// Writes an inbox's messages as frames (LSP 3.17, "Base Protocol"), in order, until the inbox is closed or a write fails.
 ///
-/// Each message is offered to `spent` once its write has ended, in whatever way: a caller may drop it there. What `spent`
-/// answers is ignored. After a fault nothing more is received, written or offered.
+/// Each message is offered to `spent` when its write has ended, in whatever way, and what `spent` answers is ignored. After
+/// a fault nothing more is received or written. Timeouts of the inbox are passed over.
 pub fn write_loop<I: Inbox, W: Write, O: Outbox>(
     alloc: Global,
     inbox: &mut I,
