@@ -1,5 +1,6 @@
 //! Tests of the public surface of `lsp_server` that the program `lsp_demo` has no part in: how much of a message has come,
-//! the queues, and the handshake and end of a session. They stand in a crate of their own, beside the other tests.
+//! the queues, the handshake and end of a session, and the loop that writes. They stand in a crate of their own, beside
+//! the other tests.
 #![tactic(auto)]
 
 pub mod example;
@@ -9,3 +10,5 @@ mod fronts;
 mod lifecycle;
 #[cfg(test)]
 mod queues;
+#[cfg(test)]
+mod write_loop;

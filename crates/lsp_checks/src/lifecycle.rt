@@ -29,7 +29,7 @@ fn shutdown_request(alloc: Global, id: i32, method: &str, params: &str) -> Resul
     })
 }
 
-fn note(alloc: Global, method: &str) -> Result<Message, AllocError> {
+pub(crate) fn note(alloc: Global, method: &str) -> Result<Message, AllocError> {
     Ok(Message::Notification(Notification {
         method: String::from_str(alloc, method)?,
         params: Value::Null,
@@ -43,7 +43,7 @@ fn reply(id: i32) -> Message {
     })
 }
 
-fn list(alloc: Global, events: Vec<Event>) -> Result<ListInbox, AllocError> {
+pub(crate) fn list(alloc: Global, events: Vec<Event>) -> Result<ListInbox, AllocError> {
     let mut inbox = ListInbox::new(alloc);
     for event in events {
         inbox.events.push_back(event)?;
@@ -60,7 +60,7 @@ fn answers(alloc: Global, said: &[bool]) -> Result<ListGate, AllocError> {
 }
 
 // The member texts of what was sent, one after another.
-fn sent_text(alloc: Global, outbox: &ListOutbox) -> Result<String, AllocError> {
+pub(crate) fn sent_text(alloc: Global, outbox: &ListOutbox) -> Result<String, AllocError> {
     let mut all = String::new(alloc);
     for message in &outbox.sent {
         all.push_str(message.member_text(alloc)?.as_str())?;

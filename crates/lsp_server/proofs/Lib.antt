@@ -1,3 +1,4 @@
+pub mod Carrying
 pub mod Contents
 pub mod Deciding
 pub mod Finishing

@@ -101,7 +101,7 @@ module _ {H : Type 0} (answers : H → Id → List ℕ → Data → Result Data 
   after_initialize : (b : Bool) (m : Message) (rest : List Message) (stop : Stop) (output : List Message) (null : Option Message) (answer : SessionAnswer)
       → is_initialized m ≡ b
       → MatchBool b (Serves answers notes h h' rest stop output null answer)
-        (IsLast rest stop × IsErrAnd answer (Shows expected_initialized) × IsSilent answers notes h h' output null)
+      (IsLast rest stop × IsErrAnd answer (Shows expected_initialized) × IsSilent answers notes h h' output null)
       → Facts stop (m ∷ rest) answer
   after_initialize true m rest stop output null answer is serves =
       facts_after stop (m ∷ []) rest answer (rw (initialized_is_no_exit m is) refl) (serves_facts rest stop output null answer serves)

@@ -169,7 +169,7 @@ module _ (P : List Message → Stop → List Message → Option Message → Sess
   stop_gives decided brought taken part =
       decided_gives P text a b letters output null written new answer part (knows letters decided output null answer part) (open_brought brought.0 brought.1) (list_all is_no_exit letters) refl
   stop_gives no_more brought taken part = elim brought.1 [
-      inl last ↦ closed_gives last.0 last.1 last.2 brought.0 part
+    | inl last ↦ closed_gives last.0 last.1 last.2 brought.0 part
     | inr many ↦ many_gives P text a b letters output null written new answer part (knows letters no_more output null answer part) (open_brought brought.0 many.1)
   ]
   stop_gives timed_out brought taken part = absurd (no_timeout brought.1.0 old new (rw brought.1.1 at run))
@@ -177,8 +177,8 @@ module _ (P : List Message → Stop → List Message → Option Message → Sess
   stop_gives exhausted brought taken part =
       rw (ran_out_answer answer (knows letters exhausted output null answer part), ran_out_gives new.end)
       (broken P text a b letters output null new.remaining exhausted answer part
-        (letters_begin events letters exhausted text brought (brought_begins events text old new unended known run))
-        (whole_begins (all_of output null) a b written))
+      (letters_begin events letters exhausted text brought (brought_begins events text old new unended known run))
+      (whole_begins (all_of output null) a b written))
 
 module _ {R W : Type 0} (remaining : R → Option (List ℕ)) (contents : W → Option (List ℕ))
     (P : List Message → Stop → List Message → Option Message → SessionAnswer → Type 0)
@@ -202,7 +202,7 @@ module _ {R W : Type 0} (remaining : R → Option (List ℕ)) (contents : W → 
 
       at : (fault : Option WriteFault)
           → MatchOption fault (NotRefused runs.stop × GetsFrames (all_of runs.output runs.null) (contents outbox.writer.now) (contents outbox'.writer.now))
-            (λ f. GetsBeginning (all_of runs.output runs.null) (contents outbox.writer.now) (contents outbox'.writer.now))
+          (λ f. GetsBeginning (all_of runs.output runs.null) (contents outbox.writer.now) (contents outbox'.writer.now))
           → Gives P text (remaining inbox'.reader.now) (contents outbox.writer.now) (contents outbox'.writer.now) (session_answer answer inbox'.end fault)
       at None written =
           stop_gives P knows text (stream_of remaining inbox) (stream_of remaining inbox') unended known runs.events run runs.letters runs.output runs.null answer

@@ -16,6 +16,11 @@ handed_back (Memory m) = m
 abbrev pub Takes : {O : Type 0} → (O → Message → Result (Unit {0}) SendFault → O → Type 0) → O → Message → O → Type 0
 Takes sends old m new = sends old m (Ok tt) new
 
+-- the message is offered, whatever the outbox answers
+pub record Offers {O : Type 0} (sends : O → Message → Result (Unit {0}) SendFault → O → Type 0) (m : Message) (old new : O) : Type 0 where
+  pub outcome : Result (Unit {0}) SendFault
+  pub sent : sends old m outcome new
+
 abbrev pub is_timeout : Event → Bool
 is_timeout (message m) = false
 is_timeout timeout = true

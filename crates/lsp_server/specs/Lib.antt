@@ -44,4 +44,5 @@ pub mod Text
 pub mod Tree
 pub mod Turns
 pub mod View
+pub mod WriteLoop
 pub mod Written

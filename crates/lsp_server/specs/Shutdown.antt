@@ -2,6 +2,7 @@
 use Rattle.std.specs.Bool.{MatchBool}
 use Rattle.std.specs.Prelude.{◌≡◌, ◌⊎◌, ℕ, List, Bool, true, false, Result, Ok, Err, IsErrAnd, codes}
 use Rattle.std.specs.Str.{bytes_eq}
+use Rattle.lsp_server.specs.Boxes.{Offers}
 use Rattle.lsp_server.specs.Event.{Event, message, timeout, closed}
 use Rattle.lsp_server.specs.Id.{Id}
 use Rattle.lsp_server.specs.Letters.{is_exit}
@@ -22,11 +23,6 @@ abbrev pub EventShutsDown : Event → ShutdownAnswer → Type 0
 EventShutsDown (message m) answer = MatchBool (is_exit m) (answer ≡ Ok true) (IsErrAnd answer IsNoExit)
 EventShutsDown timeout answer = answer ≡ Err shutdown_timeout
 EventShutsDown closed answer = answer ≡ Err shutdown_disconnected
-
--- the message is offered, whatever the outbox answers
-pub record Offers {O : Type 0} (sends : O → Message → Result (Unit {0}) SendFault → O → Type 0) (m : Message) (old new : O) : Type 0 where
-  pub outcome : Result (Unit {0}) SendFault
-  pub sent : sends old m outcome new
 
 module _ {I O : Type 0} (receives : I → Event → I → Type 0) (sends : O → Message → Result (Unit {0}) SendFault → O → Type 0) where
   -- The null is offered, whatever the outbox answers, and one event gives the answer.

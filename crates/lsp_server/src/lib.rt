@@ -19,7 +19,8 @@ pub use lifecycle::{
     finish, finish_within, shutdown, start_within, wait_within,
 };
 pub use loops::{
-    FrameOutbox, Handler, ReadEnd, SessionEnd, SessionFault, StreamInbox, read_loop, serve, session,
+    FrameOutbox, Handler, ReadEnd, SessionEnd, SessionFault, StreamInbox, WriteEnd, read_loop,
+    serve, session, write_loop,
 };
 pub use msg::{ErrorCode, Message, Notification, Request, RequestId, Response, ResponseError};
 pub use relay::{PumpFault, StartFault, pump};

@@ -30,6 +30,7 @@ mod initialized;
 mod kinds;
 mod lists;
 
+pub(crate) use exit::offer;
 pub use exit::shutdown;
 pub use gates::{CallGate, OpenGate};
 pub(crate) use initialize::refused;

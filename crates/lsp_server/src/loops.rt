@@ -1,4 +1,4 @@
-//! Loops over messages: from a reader to an outbox (LSP 3.17, "Base Protocol").
+//! Loops over messages: from a reader to an outbox, and from an inbox to a writer (LSP 3.17, "Base Protocol").
 ghost use Rattle.std.specs.Prelude.{◌≡◌, IfSome};
 ghost use Rattle.lsp_server.specs.ReadLoop.{Hands, refused_end};
 
@@ -12,11 +12,13 @@ mod frame_outbox;
 mod serving;
 mod stream_inbox;
 mod stream_session;
+mod write;
 
 pub use frame_outbox::FrameOutbox;
 pub use serving::{Handler, SessionEnd, serve};
 pub use stream_inbox::StreamInbox;
 pub use stream_session::{SessionFault, session};
+pub use write::{WriteEnd, write_loop};
 
 /// How a loop over a reader's messages ended.
 #[derive(Clone, Copy, Debug, PartialEq, Eq)]

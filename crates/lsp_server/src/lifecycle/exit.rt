@@ -1,7 +1,8 @@
 // The end of a session: `shutdown` and `exit` (LSP 3.17, "Server lifecycle").
 ghost use Rattle.std.specs.Prelude.{string_bytes};
+ghost use Rattle.lsp_server.specs.Boxes.{Offers};
 ghost use Rattle.lsp_server.specs.Event.{event_view};
-ghost use Rattle.lsp_server.specs.Shutdown.{EventShutsDown, Offers, ShutsDown};
+ghost use Rattle.lsp_server.specs.Shutdown.{EventShutsDown, ShutsDown};
 ghost use Rattle.lsp_server.specs.View.{message_view};
 
 use crate::error::ProtocolError;
@@ -39,7 +40,7 @@ pub fn shutdown<I: Inbox, O: Outbox>(
 }
 
 /// Sends a message, and takes no notice of a refusal.
-fn offer<O: Outbox>(outbox: &mut O, message: Message)
+pub(crate) fn offer<O: Outbox>(outbox: &mut O, message: Message)
     ensures { Offers O.sends (message_view message) outbox.old outbox.new }
 {
     let _ = outbox.send(message);

@@ -1,0 +1,92 @@
+// What is written of an inbox's messages (LSP 3.17, "Base Protocol"), and what is handed on afterwards.
+use crate::lifecycle::{list, note, sent_text};
+use lsp_server::{Event, ListInbox, ListOutbox, WriteEnd, WriteFault, write_loop};
+use std::alloc::Global;
+use std::io;
+use std::io::{ErrorKind, Write};
+use std::test::Fail;
+
+const TWO_FRAMES: &[u8] =
+    b"Content-Length: 30\r\n\r\n{\"jsonrpc\":\"2.0\",\"method\":\"a\"}Content-Length: 30\r\n\r\n{\"jsonrpc\":\"2.0\",\"method\":\"b\"}";
+
+// Two messages, and a timeout between them.
+fn two_messages(alloc: Global) -> Result<ListInbox, Fail> {
+    let events = vec![in alloc;
+        Event::Message(note(alloc, "a")?),
+        Event::Timeout,
+        Event::Message(note(alloc, "b")?),
+    ]?;
+    Ok(list(alloc, events)?)
+}
+
+// Takes so many bytes, and fails from then on.
+#[derive(Drop)]
+struct ShortWriter {
+    taken: Vec<u8>,
+    room: usize,
+}
+
+impl Write for ShortWriter {
+    fn write(&mut self, buf: &[u8]) -> io::Result<usize> {
+        let count = buf.len().min(self.room);
+        if count == 0 {
+            return Err(io::Error::from(ErrorKind::BrokenPipe));
+        }
+        self.taken.extend_from_slice(&buf[..count])?;
+        self.room = self.room.saturating_sub(count);
+        Ok(count)
+    }
+
+    fn flush(&mut self) -> io::Result<()> {
+        Ok(())
+    }
+}
+
+#[test]
+fn all_messages_are_written_and_handed_on(rt: HostRuntime) -> Result<(), Fail> {
+    let alloc = rt.alloc();
+    let mut inbox = two_messages(alloc)?;
+    let mut written: Vec<u8> = Vec::new(alloc);
+    let mut spent = ListOutbox::new(alloc, 9);
+    let end = write_loop(alloc, &mut inbox, &mut written, &mut spent);
+    assert_eq!(rt; end, WriteEnd::Closed);
+    assert_eq!(rt; written.as_slice(), TWO_FRAMES);
+    let handed_on = sent_text(alloc, &spent)?;
+    assert_eq!(rt; handed_on.as_str(), "{\"method\":\"a\"}{\"method\":\"b\"}");
+    assert_eq!(rt; inbox.events.len(), 0);
+    Ok(())
+}
+
+#[test]
+fn nothing_follows_a_message_that_was_not_written(rt: HostRuntime) -> Result<(), Fail> {
+    let alloc = rt.alloc();
+    let mut inbox = two_messages(alloc)?;
+    let mut writer = ShortWriter {
+        taken: Vec::new(alloc),
+        room: 10,
+    };
+    let mut spent = ListOutbox::new(alloc, 9);
+    let end = write_loop(alloc, &mut inbox, &mut writer, &mut spent);
+    assert_eq!(rt;
+        end,
+        WriteEnd::Fault(WriteFault::Output(ErrorKind::BrokenPipe))
+    );
+    assert_eq!(rt; writer.taken.as_slice(), b"Content-Le".as_slice());
+    let handed_on = sent_text(alloc, &spent)?;
+    assert_eq!(rt; handed_on.as_str(), "{\"method\":\"a\"}");
+    assert_eq!(rt; inbox.events.len(), 2);
+    Ok(())
+}
+
+#[test]
+fn a_full_outbox_stops_no_write(rt: HostRuntime) -> Result<(), Fail> {
+    let alloc = rt.alloc();
+    let mut inbox = two_messages(alloc)?;
+    let mut written: Vec<u8> = Vec::new(alloc);
+    let mut spent = ListOutbox::new(alloc, 0);
+    let end = write_loop(alloc, &mut inbox, &mut written, &mut spent);
+    assert_eq!(rt; end, WriteEnd::Closed);
+    assert_eq!(rt; written.as_slice(), TWO_FRAMES);
+    assert_eq!(rt; spent.sent.len(), 0);
+    Ok(())
+}
