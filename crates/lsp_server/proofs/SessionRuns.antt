@@ -8,7 +8,7 @@ use Rattle.std.proofs.lemmas.List.Elements.{filter_map-append}
 use Rattle.std.proofs.lemmas.List.Folds.{list_all-append}
 use Rattle.serde_json.specs.Data.{Data}
 use Rattle.lsp_server.proofs.Waiting.{FoldsTo-append, list_all-push}
-use Rattle.lsp_server.specs.Boxes.{Takes, WaitsFor, is_timeout}
+use Rattle.lsp_server.specs.Boxes.{Offers, Takes, WaitsFor, is_timeout}
 use Rattle.lsp_server.specs.Event.{Event, message, timeout, closed}
 use Rattle.lsp_server.specs.Id.{Id}
 use Rattle.lsp_server.specs.Letters.{is_exit}
@@ -18,7 +18,7 @@ use Rattle.lsp_server.specs.Replies.{null_reply}
 use Rattle.lsp_server.specs.Session.{SessionAnswer, Stop, decided, no_more, timed_out, refused, exhausted, is_served, is_shutdown, Handles, HandlesAll, IsLeft, AfterShutdown, AfterServed, Serves}
 use Rattle.lsp_server.specs.SessionRun.{message_in, is_open, Brings, OffersLast, RefusesLast, Gets, Runs}
 use Rattle.lsp_server.specs.SessionSteps.{ServesMessage, EndsAt, Replies}
-use Rattle.lsp_server.specs.Shutdown.{ShutdownAnswer, IsNoExit, EventShutsDown, Offers, OffersNull, ShutsDown}
+use Rattle.lsp_server.specs.Shutdown.{ShutdownAnswer, IsNoExit, EventShutsDown, OffersNull, ShutsDown}
 use Rattle.lsp_server.specs.Start.{fault_of_refusal}
 use Rattle.lsp_server.specs.declared.lifecycle.SendFault.{SendFault}
 use Rattle.lsp_server.specs.declared.loops.serving.SessionEnd.TheVariants.{ShutDown, Closed}
