@@ -1,3 +1,4 @@
+pub mod Answering
 pub mod Carrying
 pub mod Contents
 pub mod Deciding

@@ -1,3 +1,4 @@
+pub mod Answered
 pub mod Body
 pub mod Boxes
 pub mod Converted

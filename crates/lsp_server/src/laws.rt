@@ -11,6 +11,7 @@ use crate::frame::extent::Front;
 use crate::msg::{Message, Notification, Request, Response, ResponseError};
 use std::alloc::AllocError;
 
+pub mod sessions;
 pub mod streams;
 pub mod turns;
 
