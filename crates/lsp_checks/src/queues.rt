@@ -8,13 +8,31 @@ fn text_id(alloc: Global, text: &str) -> Result<RequestId, AllocError> {
     Ok(RequestId::from(String::from_str(alloc, text)?))
 }
 
+fn in_a_list(alloc: Global, value: Value) -> Result<Value, AllocError> {
+    let mut values = Vec::new(alloc);
+    values.push(value)?;
+    Ok(Value::Array(values))
+}
+
 // So many lists, each in the next.
 fn nested(alloc: Global, levels: u8) -> Result<Value, AllocError> {
     let mut value = Value::Array(Vec::new(alloc));
     for _ in 1..levels {
-        value = Value::Array(vec![in alloc; value]?);
+        value = in_a_list(alloc, value)?;
     }
     Ok(value)
+}
+
+// The member text of the reply to a request that is cancelled, if it was pending.
+fn cancelled(
+    alloc: Global,
+    incoming: &mut Incoming<char>,
+    id: i32,
+) -> Result<Option<String>, AllocError> {
+    match incoming.cancel(RequestId::from(id))? {
+        Some(reply) => Ok(Some(Message::from(reply).member_text(alloc)?)),
+        None => Ok(None),
+    }
 }
 
 #[test]
@@ -44,13 +62,11 @@ fn a_cancelled_request_is_answered_once(rt: HostRuntime) -> Result<(), Fail> {
     let mut queue: ReqQueue<char, char> = ReqQueue::default(alloc);
     let incoming = &mut queue.incoming;
     incoming.register(RequestId::from(7), 'a')?;
-    let reply = incoming.cancel(RequestId::from(7))?.ok_or("no reply")?;
-    let text = Message::from(reply).member_text(alloc)?;
     assert_eq!(rt;
-        text.as_str(),
-        "{\"id\":7,\"error\":{\"code\":-32800,\"message\":\"canceled by client\"}}"
+        cancelled(alloc, incoming, 7)?.as_deref(),
+        Some("{\"id\":7,\"error\":{\"code\":-32800,\"message\":\"canceled by client\"}}")
     );
-    assert!(rt; incoming.cancel(RequestId::from(7))?.is_none());
+    assert_eq!(rt; cancelled(alloc, incoming, 7)?.as_deref(), None);
     assert!(rt; incoming.is_completed(&RequestId::from(7)));
     assert!(rt; incoming.is_completed(&RequestId::from(99)));
     assert!(rt; !incoming.has_pending());
