@@ -43,9 +43,11 @@ fn runs(
     let mut writer = Vec::new(alloc);
     let mut errors = Vec::new(alloc);
     let found = pump_words(rt, alloc, words, reader, &mut writer, &mut errors);
-    assert_eq!(rt; writer.as_slice(), output, "{said}");
-    assert_eq!(rt; errors.as_slice(), said.as_bytes());
-    assert_eq!(rt; found, status, "{said}");
+    assert_eq!(rt;
+        (writer.as_slice(), errors.as_slice(), found),
+        (output, said.as_bytes(), status),
+        "{said}"
+    );
 }
 
 // Runs `pump`, by its name and without, on the input as a whole and in pieces.

@@ -22,20 +22,42 @@ fn counted(alloc: Global, message: &Message) -> Result<LimitedWriter, Fail> {
     Ok(writer)
 }
 
-// The frame is written by one write and one flush, and its content part is the body text.
-fn writes(rt: &impl Abort, alloc: Global, message: Message, frame: &str) -> Result<(), Fail> {
-    let plain = frame_of(alloc, &message)?;
-    assert_eq!(rt; plain.as_slice(), frame.as_bytes());
-    let writer = counted(alloc, &message)?;
-    assert_eq!(rt; writer.taken.as_slice(), frame.as_bytes());
-    assert_eq!(rt; writer.writes, 1, "{frame}");
-    assert_eq!(rt; writer.flushes, 1, "{frame}");
-    let body = message.body_text(alloc)?;
-    assert_eq!(rt;
-        frame.split_once("\r\n\r\n").map(|(_, content)| content),
-        Some(body.as_str())
-    );
+fn writes_frame(
+    rt: &impl Abort,
+    alloc: Global,
+    message: &Message,
+    frame: &str,
+) -> Result<(), Fail> {
+    let written = frame_of(alloc, message)?;
+    assert_eq!(rt; written.as_slice(), frame.as_bytes());
     Ok(())
+}
+
+// The frame is written by one write and one flush.
+fn writes_once(rt: &impl Abort, alloc: Global, message: &Message, frame: &str) -> Result<(), Fail> {
+    let writer = counted(alloc, message)?;
+    assert_eq!(rt; writer.taken.as_slice(), frame.as_bytes());
+    assert_eq!(rt; (writer.writes, writer.flushes), (1, 1), "{frame}");
+    Ok(())
+}
+
+// The frame's content part is the body text.
+fn has_body(rt: &impl Abort, alloc: Global, message: &Message, frame: &str) -> Result<(), Fail> {
+    let (_, content) = frame.split_once("\r\n\r\n").ok_or("no blank line")?;
+    let body = message.body_text(alloc)?;
+    assert_eq!(rt; body.as_str(), content);
+    Ok(())
+}
+
+fn all_agree(rt: &impl Abort, alloc: Global, message: &Message, frame: &str) -> Result<(), Fail> {
+    writes_frame(rt, alloc, message, frame)?;
+    writes_once(rt, alloc, message, frame)?;
+    has_body(rt, alloc, message, frame)
+}
+
+// The message is written as this frame, by one write and one flush, and the frame's content part is the body text.
+fn writes(rt: &impl Abort, alloc: Global, message: Message, frame: &str) -> Result<(), Fail> {
+    all_agree(rt, alloc, &message, frame)
 }
 
 #[test]
