@@ -109,14 +109,14 @@ fn is_error(
 ) -> Result<(), Fail> {
     let shown = error.to_string(alloc)?;
     let begins = shown.as_str().starts_with(text);
-    assert!(rt;
-        begins && (text.ends_with(' ') || shown.len() == text.len()),
-        "{shown}"
-    );
-    assert_eq!(rt; error.channel_is_disconnected(), disconnected, "{shown}");
+    let is_text = begins && (text.ends_with(' ') || shown.len() == text.len());
     assert_eq!(rt;
-        error.is_out_of_memory(),
-        text == "out of memory",
+        (
+            is_text,
+            error.channel_is_disconnected(),
+            error.is_out_of_memory()
+        ),
+        (true, disconnected, text == OUT_OF_MEMORY),
         "{shown}"
     );
     Ok(())

@@ -23,16 +23,20 @@ fn nested(alloc: Global, levels: u8) -> Result<Value, AllocError> {
     Ok(value)
 }
 
+fn member_text(alloc: Global, message: Message) -> Result<String, AllocError> {
+    message.member_text(alloc)
+}
+
 // The member text of the reply to a request that is cancelled, if it was pending.
 fn cancelled(
     alloc: Global,
     incoming: &mut Incoming<char>,
     id: i32,
 ) -> Result<Option<String>, AllocError> {
-    match incoming.cancel(RequestId::from(id))? {
-        Some(reply) => Ok(Some(Message::from(reply).member_text(alloc)?)),
-        None => Ok(None),
-    }
+    let Some(reply) = incoming.cancel(RequestId::from(id))? else {
+        return Ok(None);
+    };
+    Ok(Some(member_text(alloc, Message::from(reply))?))
 }
 
 #[test]
@@ -44,7 +48,7 @@ fn a_reply_gives_the_data_back_once(rt: HostRuntime) -> Result<(), Fail> {
     let second = outgoing.register_value(String::new(alloc), Value::Null, 'b')?;
     assert!(rt; first.id == RequestId::from(0));
     assert!(rt; second.id == RequestId::from(1));
-    let text = Message::from(first).member_text(alloc)?;
+    let text = member_text(alloc, Message::from(first))?;
     assert_eq!(rt; text.as_str(), "{\"id\":0,\"method\":\"m\",\"params\":5}");
     assert_eq!(rt; outgoing.complete(text_id(alloc, "0")?), None);
     assert_eq!(rt; outgoing.complete(RequestId::from(5)), None);
