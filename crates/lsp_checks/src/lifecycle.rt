@@ -13,23 +13,29 @@ use std::cell::Cell;
 use std::process::Abort;
 use std::test::Fail;
 
-// A request with params, which may be none.
-fn request(alloc: Global, id: i32, method: &str, params: &str) -> Result<Message, Fail> {
-    Ok(Message::Request(shutdown_request(alloc, id, method, params)?))
+// What comes in, in the order of an inbox.
+#[derive(Clone, Copy)]
+pub(crate) enum Step {
+    // A notification.
+    Note(&'static str),
+    // A request, with its params as JSON.
+    Request(i32, &'static str, &'static str),
+    // A reply with the result null.
+    Reply(i32),
+    // Nothing in time.
+    Timeout,
 }
 
-fn shutdown_request(alloc: Global, id: i32, method: &str, params: &str) -> Result<Request, Fail> {
-    let Ok(params) = Value::from_str(alloc, params) else {
-        return Err(Fail::from("no JSON"));
-    };
+// A request with params, which may be none.
+fn request(alloc: Global, id: i32, method: &str, params: &str) -> Result<Request, Fail> {
     Ok(Request {
         id: RequestId::from(id),
+        params: Value::from_str(alloc, params)?,
         method: String::from_str(alloc, method)?,
-        params,
     })
 }
 
-pub(crate) fn note(alloc: Global, method: &str) -> Result<Message, AllocError> {
+fn note(alloc: Global, method: &str) -> Result<Message, AllocError> {
     Ok(Message::Notification(Notification {
         method: String::from_str(alloc, method)?,
         params: Value::Null,
@@ -43,10 +49,21 @@ fn reply(id: i32) -> Message {
     })
 }
 
-pub(crate) fn list(alloc: Global, events: Vec<Event>) -> Result<ListInbox, AllocError> {
+fn event(alloc: Global, step: Step) -> Result<Event, Fail> {
+    Ok(match step {
+        Step::Note(method) => Event::Message(note(alloc, method)?),
+        Step::Request(id, method, params) => {
+            Event::Message(Message::Request(request(alloc, id, method, params)?))
+        }
+        Step::Reply(id) => Event::Message(reply(id)),
+        Step::Timeout => Event::Timeout,
+    })
+}
+
+pub(crate) fn list(alloc: Global, steps: &[Step]) -> Result<ListInbox, Fail> {
     let mut inbox = ListInbox::new(alloc);
-    for event in events {
-        inbox.events.push_back(event)?;
+    for step in steps {
+        inbox.events.push_back(event(alloc, *step)?)?;
     }
     Ok(inbox)
 }
@@ -91,15 +108,15 @@ fn is_error(
     disconnected: bool,
 ) -> Result<(), Fail> {
     let shown = error.to_string(alloc)?;
-    if text.ends_with(' ') {
-        assert!(rt; shown.as_str().starts_with(text), "{shown}");
-    } else {
-        assert_eq!(rt; shown.as_str(), text);
-    }
-    assert_eq!(rt; error.channel_is_disconnected(), disconnected, "{shown}");
+    let begins = shown.as_str().starts_with(text);
+    let is_text = begins && (text.ends_with(' ') || shown.len() == text.len());
     assert_eq!(rt;
-        error.is_out_of_memory(),
-        text == "out of memory",
+        (
+            is_text,
+            error.channel_is_disconnected(),
+            error.is_out_of_memory()
+        ),
+        (true, disconnected, text == OUT_OF_MEMORY),
         "{shown}"
     );
     Ok(())
@@ -121,38 +138,59 @@ const GONE: &str = "channel disconnected waiting for exit notification";
 
 const OUT_OF_MEMORY: &str = "out of memory";
 
-// The fault of a start.
-fn start_fault(
+// The call failed, with this error.
+fn fails<T: Drop>(
+    rt: &impl Abort,
     alloc: Global,
-    inbox: &mut ListInbox,
-    outbox: &mut ListOutbox,
-    gate: &mut ListGate,
-) -> Result<ProtocolError, Fail> {
-    match start_within(alloc, inbox, outbox, gate, 10) {
-        Some(Err(error)) => Ok(error),
-        _ => Err(Fail::from("no fault")),
+    answer: Option<Result<T, ProtocolError>>,
+    text: &str,
+    disconnected: bool,
+) -> Result<(), Fail> {
+    match answer {
+        Some(Err(error)) => is_error(rt, alloc, &error, text, disconnected),
+        Some(Ok(_)) | None => Err(Fail::from("no fault")),
     }
+}
+
+// Whether the call has ended, and then whether it ended well.
+fn ended<T: Drop>(answer: Option<Result<T, ProtocolError>>) -> Option<bool> {
+    match answer {
+        Some(Ok(_)) => Some(true),
+        Some(Err(_)) => Some(false),
+        None => None,
+    }
+}
+
+// What a call that ended well gives.
+fn given<T>(answer: Option<Result<T, ProtocolError>>) -> Result<T, Fail> {
+    match answer {
+        Some(Ok(value)) => Ok(value),
+        Some(Err(_)) | None => Err(Fail::from("no answer")),
+    }
+}
+
+// What a start gives: the id and the params.
+fn started(
+    alloc: Global,
+    answer: Option<Result<(RequestId, Value), ProtocolError>>,
+) -> Result<String, Fail> {
+    let (id, params) = given(answer)?;
+    Ok(format!(in alloc; "{id} {params}")?)
 }
 
 #[test]
 fn a_request_before_initialize_is_refused(rt: HostRuntime) -> Result<(), Fail> {
     let alloc = rt.alloc();
-    let mut inbox = list(
-        alloc,
-        vec![in alloc;
-            Event::Message(note(alloc, "initialized")?),
-            Event::Message(request(alloc, 7, "x", "null")?),
-            Event::Timeout,
-            Event::Message(request(alloc, 234, "initialize", "{\"a\":1}")?),
-        ]?,
-    )?;
+    let steps = [
+        Step::Note("initialized"),
+        Step::Request(7, "x", "null"),
+        Step::Timeout,
+        Step::Request(234, "initialize", "{\"a\":1}"),
+    ];
+    let mut inbox = list(alloc, &steps)?;
     let mut outbox = ListOutbox::new(alloc, 9);
-    let Some(Ok((id, params))) = start_within(alloc, &mut inbox, &mut outbox, &mut OpenGate, 10)
-    else {
-        return Err(Fail::from("no answer"));
-    };
-    assert!(rt; id == RequestId::from(234));
-    assert_eq!(rt; params.to_string(alloc)?.as_str(), "{\"a\":1}");
+    let answer = start_within(alloc, &mut inbox, &mut outbox, &mut OpenGate, 10);
+    assert_eq!(rt; started(alloc, answer)?.as_str(), "234 {\"a\":1}");
     assert_eq!(rt; inbox.events.len(), 0);
     assert_eq!(rt; outbox.sent.len(), 1);
     let sent = sent_text(alloc, &outbox)?;
@@ -163,33 +201,72 @@ fn a_request_before_initialize_is_refused(rt: HostRuntime) -> Result<(), Fail> {
     Ok(())
 }
 
+// A start that fails.
+struct FailedStart {
+    steps: &'static [Step],
+    // What the gate answers.
+    answers: &'static [bool],
+    // The room of the outbox, and how many messages are sent.
+    room: usize,
+    sent: usize,
+    text: &'static str,
+    disconnected: bool,
+}
+
+static FAILED_STARTS: [FailedStart; 5] = [
+    FailedStart {
+        steps: &[Step::Note("exit")],
+        answers: &[true],
+        room: 9,
+        sent: 0,
+        text: EXPECTED_INITIALIZE,
+        disconnected: false,
+    },
+    FailedStart {
+        steps: &[Step::Reply(1)],
+        answers: &[true],
+        room: 9,
+        sent: 0,
+        text: EXPECTED_INITIALIZE,
+        disconnected: false,
+    },
+    FailedStart {
+        steps: &[Step::Timeout],
+        answers: &[true, false],
+        room: 9,
+        sent: 0,
+        text: ABORTED,
+        disconnected: false,
+    },
+    FailedStart {
+        steps: &[],
+        answers: &[true],
+        room: 9,
+        sent: 0,
+        text: DISCONNECTED,
+        disconnected: true,
+    },
+    FailedStart {
+        steps: &[Step::Request(1, "x", "null"), Step::Request(2, "y", "null")],
+        answers: &[true, true],
+        room: 1,
+        sent: 1,
+        text: DISCONNECTED,
+        disconnected: true,
+    },
+];
+
 #[test]
 fn the_wait_for_initialize_fails(rt: HostRuntime) -> Result<(), Fail> {
     let alloc = rt.alloc();
-    let mut outbox = ListOutbox::new(alloc, 9);
-    let mut open = answers(alloc, &[true, true])?;
-    let mut inbox = list(alloc, vec![in alloc; Event::Message(note(alloc, "exit")?)]?)?;
-    let error = start_fault(alloc, &mut inbox, &mut outbox, &mut open)?;
-    is_error(&rt, alloc, &error, EXPECTED_INITIALIZE, false)?;
-    let mut inbox = list(alloc, vec![in alloc; Event::Message(reply(1))]?)?;
-    let error = start_fault(alloc, &mut inbox, &mut outbox, &mut open)?;
-    is_error(&rt, alloc, &error, EXPECTED_INITIALIZE, false)?;
-    let mut inbox = list(alloc, vec![in alloc; Event::Timeout]?)?;
-    let error = start_fault(
-        alloc,
-        &mut inbox,
-        &mut outbox,
-        &mut answers(alloc, &[true, false])?,
-    )?;
-    is_error(&rt, alloc, &error, ABORTED, false)?;
-    let error = start_fault(
-        alloc,
-        &mut inbox,
-        &mut outbox,
-        &mut answers(alloc, &[true])?,
-    )?;
-    is_error(&rt, alloc, &error, DISCONNECTED, true)?;
-    assert_eq!(rt; outbox.sent.len(), 0);
+    for case in &FAILED_STARTS {
+        let mut inbox = list(alloc, case.steps)?;
+        let mut outbox = ListOutbox::new(alloc, case.room);
+        let mut gate = answers(alloc, case.answers)?;
+        let answer = start_within(alloc, &mut inbox, &mut outbox, &mut gate, 10);
+        fails(&rt, alloc, answer, case.text, case.disconnected)?;
+        assert_eq!(rt; outbox.sent.len(), case.sent, "{}", case.text);
+    }
     Ok(())
 }
 
@@ -197,70 +274,39 @@ fn the_wait_for_initialize_fails(rt: HostRuntime) -> Result<(), Fail> {
 fn the_wait_for_initialize_goes_on(rt: HostRuntime) -> Result<(), Fail> {
     let alloc = rt.alloc();
     let mut outbox = ListOutbox::new(alloc, 9);
-    let mut inbox = list(
-        alloc,
-        vec![in alloc;
-            Event::Timeout,
-            Event::Message(request(alloc, 1, "initialize", "null")?),
-        ]?,
-    )?;
-    let answer = start_within(alloc, &mut inbox, &mut outbox, &mut OpenGate, 0);
-    assert!(rt; answer.is_none());
-    let answer = start_within(alloc, &mut inbox, &mut outbox, &mut OpenGate, 1);
-    assert!(rt; answer.is_none());
-    let answer = start_within(alloc, &mut inbox, &mut outbox, &mut OpenGate, 1);
-    assert!(rt; matches!(&answer, Some(Ok(_))));
+    let steps = [Step::Timeout, Step::Request(1, "initialize", "null")];
+    let mut inbox = list(alloc, &steps)?;
+    for (turns, wanted) in [(0, None), (1, None), (1, Some(true))] {
+        let answer = start_within(alloc, &mut inbox, &mut outbox, &mut OpenGate, turns);
+        assert_eq!(rt; ended(answer), wanted);
+    }
     Ok(())
 }
 
 #[test]
-fn a_reply_that_is_refused_ends_the_handshake(rt: HostRuntime) -> Result<(), Fail> {
+fn a_reply_without_memory_ends_the_handshake(rt: HostRuntime) -> Result<(), Fail> {
     let alloc = rt.alloc();
-    let mut inbox = list(
-        alloc,
-        vec![in alloc;
-            Event::Message(request(alloc, 1, "x", "null")?),
-            Event::Message(request(alloc, 2, "y", "null")?),
-        ]?,
-    )?;
-    let mut outbox = ListOutbox::new(alloc, 1);
-    let error = start_fault(
-        alloc,
-        &mut inbox,
-        &mut outbox,
-        &mut answers(alloc, &[true, true])?,
-    )?;
-    is_error(&rt, alloc, &error, DISCONNECTED, true)?;
-    assert_eq!(rt; outbox.sent.len(), 1);
-    let mut inbox = list(
-        alloc,
-        vec![in alloc; Event::Message(request(alloc, 1, "x", "null")?)]?,
-    )?;
-    let Some(Err(error)) = start_within(alloc, &mut inbox, &mut FullOutbox, &mut OpenGate, 5) else {
-        return Err(Fail::from("no fault"));
-    };
-    is_error(&rt, alloc, &error, OUT_OF_MEMORY, false)
+    let mut inbox = list(alloc, &[Step::Request(1, "x", "null")])?;
+    let answer = start_within(alloc, &mut inbox, &mut FullOutbox, &mut OpenGate, 5);
+    fails(&rt, alloc, answer, OUT_OF_MEMORY, false)
 }
 
 #[test]
 fn a_call_is_asked_whether_to_go_on(rt: HostRuntime) -> Result<(), Fail> {
     let alloc = rt.alloc();
-    let mut inbox = list(
-        alloc,
-        vec![in alloc; Event::Message(note(alloc, "initialized")?)]?,
-    )?;
+    let mut inbox = list(alloc, &[Step::Note("initialized")])?;
     let answer = wait_within(alloc, &mut inbox, &mut CallGate { running: || false }, 5);
-    assert!(rt; matches!(&answer, Some(Err(_))));
+    assert_eq!(rt; ended(answer), Some(false));
     assert_eq!(rt; inbox.events.len(), 1);
     let answer = wait_within(alloc, &mut inbox, &mut CallGate { running: || true }, 5);
-    assert!(rt; matches!(&answer, Some(Ok(()))));
+    assert_eq!(rt; ended(answer), Some(true));
     Ok(())
 }
 
 #[test]
 fn a_refused_result_leaves_gate_and_inbox(rt: HostRuntime) -> Result<(), Fail> {
     let alloc = rt.alloc();
-    let mut inbox = list(alloc, vec![in alloc; Event::Timeout]?)?;
+    let mut inbox = list(alloc, &[Step::Timeout])?;
     let mut gate = answers(alloc, &[true])?;
     let mut outbox = ListOutbox::new(alloc, 0);
     let answer = finish_within(
@@ -272,14 +318,25 @@ fn a_refused_result_leaves_gate_and_inbox(rt: HostRuntime) -> Result<(), Fail> {
         Value::Null,
         9,
     );
-    let Some(Err(error)) = answer else {
-        return Err(Fail::from("no fault"));
-    };
-    is_error(&rt, alloc, &error, DISCONNECTED, true)?;
     assert_eq!(rt; inbox.events.len(), 1);
     assert_eq!(rt; gate.answers.len(), 1);
     assert_eq!(rt; outbox.sent.len(), 0);
-    Ok(())
+    fails(&rt, alloc, answer, DISCONNECTED, true)
+}
+
+// Whether the result was taken, and the notification came.
+fn finishes<I: Inbox, O: Outbox>(alloc: Global, inbox: &mut I, outbox: &mut O) -> bool {
+    ended(Some(finish(alloc, inbox, outbox, RequestId::from(1), Value::Null))) == Some(true)
+}
+
+// The same, within one turn of an open gate.
+fn finishes_at_once<I: Inbox, O: Outbox>(
+    alloc: Global,
+    inbox: &mut I,
+    outbox: &mut O,
+) -> Option<bool> {
+    let id = RequestId::from(1);
+    ended(finish_within(alloc, inbox, outbox, &mut OpenGate, id, Value::Null, 1))
 }
 
 #[test]
@@ -287,19 +344,17 @@ fn the_result_is_sent_and_nothing_comes(rt: HostRuntime) -> Result<(), Fail> {
     let alloc = rt.alloc();
     let mut inbox = ListInbox::new(alloc);
     let mut outbox = ListOutbox::new(alloc, 9);
-    let Err(error) = finish(
+    let answer = finish(
         alloc,
         &mut inbox,
         &mut outbox,
         RequestId::from(1),
         Value::Null,
-    ) else {
-        return Err(Fail::from("no fault"));
-    };
-    is_error(&rt, alloc, &error, DISCONNECTED, true)?;
+    );
+    fails(&rt, alloc, Some(answer), DISCONNECTED, true)?;
     assert_eq!(rt; outbox.sent.len(), 1);
     assert_eq!(rt;
-        outbox.sent[0].member_text(alloc)?.as_str(),
+        sent_text(alloc, &outbox)?.as_str(),
         "{\"id\":1,\"result\":null}"
     );
     Ok(())
@@ -309,144 +364,150 @@ fn the_result_is_sent_and_nothing_comes(rt: HostRuntime) -> Result<(), Fail> {
 fn initialized_ends_the_handshake(rt: HostRuntime) -> Result<(), Fail> {
     let alloc = rt.alloc();
     let mut outbox = ListOutbox::new(alloc, 9);
-    let mut inbox = list(
-        alloc,
-        vec![in alloc; Event::Timeout, Event::Message(note(alloc, "initialized")?)]?,
-    )?;
-    let answer = finish(
-        alloc,
-        &mut inbox,
-        &mut outbox,
-        RequestId::from(1),
-        Value::Null,
-    );
-    assert!(rt; answer.is_ok());
+    let mut inbox = list(alloc, &[Step::Timeout, Step::Note("initialized")])?;
+    assert!(rt; finishes(alloc, &mut inbox, &mut outbox));
     inbox
         .events
-        .push_back(Event::Message(note(alloc, "initialized")?))?;
-    let answer = finish_within(
-        alloc,
-        &mut inbox,
-        &mut outbox,
-        &mut OpenGate,
-        RequestId::from(1),
-        Value::Null,
-        1,
+        .push_back(event(alloc, Step::Note("initialized"))?)?;
+    assert_eq!(rt;
+        finishes_at_once(alloc, &mut inbox, &mut outbox),
+        Some(true)
     );
-    assert!(rt; matches!(&answer, Some(Ok(()))));
     assert_eq!(rt; outbox.sent.len(), 2);
     Ok(())
 }
 
 #[test]
+fn another_notification_ends_the_wait(rt: HostRuntime) -> Result<(), Fail> {
+    let alloc = rt.alloc();
+    let mut inbox = list(alloc, &[Step::Timeout, Step::Note("x")])?;
+    let answer = wait_within(alloc, &mut inbox, &mut OpenGate, 5);
+    fails(&rt, alloc, answer, EXPECTED_INITIALIZED, false)
+}
+
+#[test]
 fn the_wait_for_initialized_ends(rt: HostRuntime) -> Result<(), Fail> {
     let alloc = rt.alloc();
-    let mut inbox = list(
-        alloc,
-        vec![in alloc; Event::Timeout, Event::Message(note(alloc, "x")?)]?,
-    )?;
-    let Some(Err(error)) = wait_within(alloc, &mut inbox, &mut OpenGate, 5) else {
-        return Err(Fail::from("no fault"));
-    };
-    is_error(&rt, alloc, &error, EXPECTED_INITIALIZED, false)?;
-    let mut inbox = list(
-        alloc,
-        vec![in alloc; Event::Timeout, Event::Message(note(alloc, "initialized")?)]?,
-    )?;
-    let answer = wait_within(alloc, &mut inbox, &mut OpenGate, 1);
-    assert!(rt; answer.is_none());
-    let answer = wait_within(alloc, &mut inbox, &mut OpenGate, 1);
-    assert!(rt; matches!(&answer, Some(Ok(()))));
-    let Some(Err(error)) = wait_within(alloc, &mut inbox, &mut ListGate::new(alloc), 5) else {
-        return Err(Fail::from("no fault"));
-    };
-    is_error(&rt, alloc, &error, ABORTED, false)
+    let mut inbox = list(alloc, &[Step::Timeout, Step::Note("initialized")])?;
+    for wanted in [None, Some(true)] {
+        let answer = wait_within(alloc, &mut inbox, &mut OpenGate, 1);
+        assert_eq!(rt; ended(answer), wanted);
+    }
+    let answer = wait_within(alloc, &mut inbox, &mut ListGate::new(alloc), 5);
+    fails(&rt, alloc, answer, ABORTED, false)
+}
+
+// What the answer to a request of this method says, if it is no fault.
+fn shuts<I: Inbox, O: Outbox>(
+    alloc: Global,
+    inbox: &mut I,
+    outbox: &mut O,
+    method: &str,
+) -> Result<Option<bool>, Fail> {
+    let asked = request(alloc, 2, method, "null")?;
+    Ok(shutdown(alloc, inbox, outbox, &asked).ok())
+}
+
+// The request `shutdown` is answered by this error.
+fn shutdown_fails(
+    rt: &impl Abort,
+    alloc: Global,
+    inbox: &mut ListInbox,
+    outbox: &mut ListOutbox,
+    text: &str,
+    disconnected: bool,
+) -> Result<(), Fail> {
+    let asked = request(alloc, 2, "shutdown", "null")?;
+    let answer = shutdown(alloc, inbox, outbox, &asked);
+    fails(rt, alloc, Some(answer), text, disconnected)
+}
+
+#[test]
+fn a_closed_outbox_is_no_fault_of_a_shutdown(rt: HostRuntime) -> Result<(), Fail> {
+    let alloc = rt.alloc();
+    let mut outbox = ListOutbox::new(alloc, 0);
+    let mut inbox = list(alloc, &[Step::Note("exit")])?;
+    let answer = shuts(alloc, &mut inbox, &mut outbox, "shutdown")?;
+    assert_eq!(rt; answer, Some(true));
+    assert_eq!(rt; outbox.sent.len(), 0);
+    Ok(())
 }
 
 #[test]
 fn shutdown_waits_for_exit(rt: HostRuntime) -> Result<(), Fail> {
     let alloc = rt.alloc();
-    let asked = shutdown_request(alloc, 2, "shutdown", "null")?;
-    let mut closed = ListOutbox::new(alloc, 0);
-    let mut inbox = list(alloc, vec![in alloc; Event::Message(note(alloc, "exit")?)]?)?;
-    let answer = shutdown(alloc, &mut inbox, &mut closed, &asked);
-    assert!(rt; matches!(&answer, Ok(true)));
-    assert_eq!(rt; closed.sent.len(), 0);
     let mut outbox = ListOutbox::new(alloc, 1);
-    let Err(error) = shutdown(alloc, &mut inbox, &mut outbox, &asked) else {
-        return Err(Fail::from("no fault"));
-    };
-    is_error(&rt, alloc, &error, GONE, true)?;
+    let mut inbox = ListInbox::new(alloc);
+    shutdown_fails(&rt, alloc, &mut inbox, &mut outbox, GONE, true)?;
     assert_eq!(rt; outbox.sent.len(), 1);
     assert_eq!(rt;
-        outbox.sent[0].member_text(alloc)?.as_str(),
+        sent_text(alloc, &outbox)?.as_str(),
         "{\"id\":2,\"result\":null}"
     );
     let mut inbox = list(
         alloc,
-        vec![in alloc;
-            Event::Timeout,
-            Event::Message(request(alloc, 3, "shutdown", "null")?),
-        ]?,
+        &[Step::Timeout, Step::Request(3, "shutdown", "null")],
     )?;
-    let Err(error) = shutdown(alloc, &mut inbox, &mut outbox, &asked) else {
-        return Err(Fail::from("no fault"));
-    };
-    is_error(&rt, alloc, &error, TIMED_OUT, false)?;
-    let Err(error) = shutdown(alloc, &mut inbox, &mut outbox, &asked) else {
-        return Err(Fail::from("no fault"));
-    };
-    is_error(&rt, alloc, &error, UNEXPECTED, false)
+    shutdown_fails(&rt, alloc, &mut inbox, &mut outbox, TIMED_OUT, false)?;
+    shutdown_fails(&rt, alloc, &mut inbox, &mut outbox, UNEXPECTED, false)
 }
 
 #[test]
 fn another_request_is_no_shutdown(rt: HostRuntime) -> Result<(), Fail> {
     let alloc = rt.alloc();
-    let asked = shutdown_request(alloc, 2, "x", "null")?;
     let mut outbox = ListOutbox::new(alloc, 9);
-    let mut inbox = list(alloc, vec![in alloc; Event::Message(note(alloc, "exit")?)]?)?;
-    let answer = shutdown(alloc, &mut inbox, &mut outbox, &asked);
-    assert!(rt; matches!(&answer, Ok(false)));
+    let mut inbox = list(alloc, &[Step::Note("exit")])?;
+    let answer = shuts(alloc, &mut inbox, &mut outbox, "x")?;
+    assert_eq!(rt; answer, Some(false));
     assert_eq!(rt; outbox.sent.len(), 0);
     assert_eq!(rt; inbox.events.len(), 1);
     Ok(())
 }
 
-#[test]
-fn errors_are_equal_by_text_and_flag(rt: HostRuntime) -> Result<(), Fail> {
-    let alloc = rt.alloc();
+// The error that a call ended with.
+fn error_of<T: Drop>(answer: Option<Result<T, ProtocolError>>) -> Result<ProtocolError, Fail> {
+    match answer {
+        Some(Err(error)) => Ok(error),
+        Some(Ok(_)) | None => Err(Fail::from("no fault")),
+    }
+}
+
+fn start_error(alloc: Global, steps: &[Step], gate: bool) -> Result<ProtocolError, Fail> {
+    let mut inbox = list(alloc, steps)?;
+    let mut outbox = ListOutbox::new(alloc, 9);
+    let mut gate = answers(alloc, &[gate])?;
+    error_of(start_within(alloc, &mut inbox, &mut outbox, &mut gate, 10))
+}
+
+fn shutdown_error(alloc: Global) -> Result<ProtocolError, Fail> {
+    let asked = request(alloc, 2, "shutdown", "null")?;
+    let mut inbox = ListInbox::new(alloc);
+    let mut outbox = ListOutbox::new(alloc, 9);
+    error_of(Some(shutdown(alloc, &mut inbox, &mut outbox, &asked)))
+}
+
+// Errors, of which the fourth to the sixth are equal.
+fn errors(alloc: Global) -> Result<Vec<ProtocolError>, Fail> {
     let mut errors = Vec::new(alloc);
     for gate in [true, false] {
-        for events in 0..3u8 {
-            let mut inbox = ListInbox::new(alloc);
-            match events {
-                0 => {}
-                1 => inbox.events.push_back(Event::Message(reply(1)))?,
-                _ => inbox.events.push_back(Event::Message(reply(2)))?,
-            }
-            let mut outbox = ListOutbox::new(alloc, 9);
-            errors.push(start_fault(
-                alloc,
-                &mut inbox,
-                &mut outbox,
-                &mut answers(alloc, &[gate])?,
-            )?)?;
+        for steps in [[].as_slice(), &[Step::Reply(1)], &[Step::Reply(2)]] {
+            errors.push(start_error(alloc, steps, gate)?)?;
         }
     }
-    let asked = shutdown_request(alloc, 2, "shutdown", "null")?;
-    let Err(gone) = shutdown(
-        alloc,
-        &mut ListInbox::new(alloc),
-        &mut ListOutbox::new(alloc, 9),
-        &asked,
-    ) else {
-        return Err(Fail::from("no fault"));
-    };
-    errors.push(gone)?;
+    errors.push(shutdown_error(alloc)?)?;
+    Ok(errors)
+}
+
+fn equals_its_clone(error: &ProtocolError) -> Result<bool, AllocError> {
+    Ok(error.clone()? == *error)
+}
+
+#[test]
+fn errors_are_equal_by_text_and_flag(rt: HostRuntime) -> Result<(), Fail> {
+    let errors = errors(rt.alloc())?;
     let same = [0, 1, 2, 3, 3, 3, 4];
     for (i, a) in errors.iter().enumerate() {
-        let copy = a.clone()?;
-        assert!(rt; copy == *a, "{a}");
+        assert!(rt; equals_its_clone(a)?, "{a}");
         for (j, b) in errors.iter().enumerate() {
             assert_eq!(rt; a == b, same.get(i) == same.get(j), "{a} and {b}");
         }
@@ -532,53 +593,35 @@ fn replies_go_out_before_the_wait(rt: HostRuntime) -> Result<(), Fail> {
         method: "initialized",
     };
     let mut outbox = CountingOutbox { sent: &sent };
-    let answer = finish_within(
-        alloc,
-        &mut inbox,
-        &mut outbox,
-        &mut OpenGate,
-        RequestId::from(1),
-        Value::Null,
-        1,
+    assert_eq!(rt;
+        finishes_at_once(alloc, &mut inbox, &mut outbox),
+        Some(true)
     );
-    assert!(rt; matches!(&answer, Some(Ok(()))));
     sent.set(0);
-    let answer = finish(
-        alloc,
-        &mut inbox,
-        &mut outbox,
-        RequestId::from(1),
-        Value::Null,
-    );
-    assert!(rt; answer.is_ok());
+    assert!(rt; finishes(alloc, &mut inbox, &mut outbox));
     sent.set(0);
     inbox.method = "exit";
-    let asked = shutdown_request(alloc, 2, "shutdown", "null")?;
-    let answer = shutdown(alloc, &mut inbox, &mut outbox, &asked);
-    assert!(rt; matches!(&answer, Ok(true)));
+    let answer = shuts(alloc, &mut inbox, &mut outbox, "shutdown")?;
+    assert_eq!(rt; answer, Some(true));
     Ok(())
 }
 
+// The notification is taken, `exit` comes next, and nothing after it.
+fn reads_two_notes(rt: &impl Abort, alloc: Global, bytes: &mut &[u8]) {
+    let mut outbox = ListOutbox::new(alloc, 9);
+    let mut inbox = StreamInbox::new(alloc, bytes);
+    assert!(rt; inbox.end().is_none());
+    assert!(rt; finishes(alloc, &mut inbox, &mut outbox));
+    assert!(rt; is_message(inbox.receive_for(1)));
+    assert!(rt; inbox.end() == Some(ReadEnd::Exit));
+    assert!(rt; is_end(inbox.receive()));
+}
+
 #[test]
-fn a_reader_is_an_inbox(rt: HostRuntime) -> Result<(), Fail> {
+fn a_reader_is_an_inbox(rt: HostRuntime) {
     let alloc = rt.alloc();
     let mut bytes: &[u8] = TWO_NOTES;
-    let mut outbox = ListOutbox::new(alloc, 9);
-    {
-        let mut inbox = StreamInbox::new(alloc, &mut bytes);
-        assert!(rt; inbox.end().is_none());
-        let answer = finish(
-            alloc,
-            &mut inbox,
-            &mut outbox,
-            RequestId::from(1),
-            Value::Null,
-        );
-        assert!(rt; answer.is_ok());
-        assert!(rt; is_message(inbox.receive_for(1)));
-        assert!(rt; inbox.end() == Some(ReadEnd::Exit));
-        assert!(rt; is_end(inbox.receive()));
-    }
+    reads_two_notes(&rt, alloc, &mut bytes);
     assert_eq!(rt; bytes, b"rest".as_slice());
     let mut inbox = StreamInbox::new(alloc, &mut bytes);
     assert!(rt; is_end(inbox.receive()));
@@ -588,7 +631,6 @@ fn a_reader_is_an_inbox(rt: HostRuntime) -> Result<(), Fail> {
     let mut inbox = StreamInbox::new(alloc, &mut none);
     assert!(rt; is_end(inbox.receive()));
     assert!(rt; inbox.end() == Some(ReadEnd::End));
-    Ok(())
 }
 
 const TWO_NOTES: &[u8] =

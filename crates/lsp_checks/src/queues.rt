@@ -8,13 +8,35 @@ fn text_id(alloc: Global, text: &str) -> Result<RequestId, AllocError> {
     Ok(RequestId::from(String::from_str(alloc, text)?))
 }
 
+fn in_a_list(alloc: Global, value: Value) -> Result<Value, AllocError> {
+    let mut values = Vec::new(alloc);
+    values.push(value)?;
+    Ok(Value::Array(values))
+}
+
 // So many lists, each in the next.
 fn nested(alloc: Global, levels: u8) -> Result<Value, AllocError> {
     let mut value = Value::Array(Vec::new(alloc));
     for _ in 1..levels {
-        value = Value::Array(vec![in alloc; value]?);
+        value = in_a_list(alloc, value)?;
     }
     Ok(value)
+}
+
+fn member_text(alloc: Global, message: Message) -> Result<String, AllocError> {
+    message.member_text(alloc)
+}
+
+// The member text of the reply to a request that is cancelled, if it was pending.
+fn cancelled(
+    alloc: Global,
+    incoming: &mut Incoming<char>,
+    id: i32,
+) -> Result<Option<String>, AllocError> {
+    let Some(reply) = incoming.cancel(RequestId::from(id))? else {
+        return Ok(None);
+    };
+    Ok(Some(member_text(alloc, Message::from(reply))?))
 }
 
 #[test]
@@ -26,7 +48,7 @@ fn a_reply_gives_the_data_back_once(rt: HostRuntime) -> Result<(), Fail> {
     let second = outgoing.register_value(String::new(alloc), Value::Null, 'b')?;
     assert!(rt; first.id == RequestId::from(0));
     assert!(rt; second.id == RequestId::from(1));
-    let text = Message::from(first).member_text(alloc)?;
+    let text = member_text(alloc, Message::from(first))?;
     assert_eq!(rt; text.as_str(), "{\"id\":0,\"method\":\"m\",\"params\":5}");
     assert_eq!(rt; outgoing.complete(text_id(alloc, "0")?), None);
     assert_eq!(rt; outgoing.complete(RequestId::from(5)), None);
@@ -44,13 +66,11 @@ fn a_cancelled_request_is_answered_once(rt: HostRuntime) -> Result<(), Fail> {
     let mut queue: ReqQueue<char, char> = ReqQueue::default(alloc);
     let incoming = &mut queue.incoming;
     incoming.register(RequestId::from(7), 'a')?;
-    let reply = incoming.cancel(RequestId::from(7))?.ok_or("no reply")?;
-    let text = Message::from(reply).member_text(alloc)?;
     assert_eq!(rt;
-        text.as_str(),
-        "{\"id\":7,\"error\":{\"code\":-32800,\"message\":\"canceled by client\"}}"
+        cancelled(alloc, incoming, 7)?.as_deref(),
+        Some("{\"id\":7,\"error\":{\"code\":-32800,\"message\":\"canceled by client\"}}")
     );
-    assert!(rt; incoming.cancel(RequestId::from(7))?.is_none());
+    assert_eq!(rt; cancelled(alloc, incoming, 7)?.as_deref(), None);
     assert!(rt; incoming.is_completed(&RequestId::from(7)));
     assert!(rt; incoming.is_completed(&RequestId::from(99)));
     assert!(rt; !incoming.has_pending());

@@ -1,6 +1,6 @@
 // What is written of an inbox's messages (LSP 3.17, "Base Protocol"), and what is handed on afterwards.
-use crate::lifecycle::{list, note, sent_text};
-use lsp_server::{Event, ListInbox, ListOutbox, WriteEnd, WriteFault, write_loop};
+use crate::lifecycle::{Step, list, sent_text};
+use lsp_server::{ListInbox, ListOutbox, WriteEnd, WriteFault, write_loop};
 use std::alloc::Global;
 use std::io;
 use std::io::{ErrorKind, Write};
@@ -11,12 +11,7 @@ const TWO_FRAMES: &[u8] =
 
 // Two messages, and a timeout between them.
 fn two_messages(alloc: Global) -> Result<ListInbox, Fail> {
-    let events = vec![in alloc;
-        Event::Message(note(alloc, "a")?),
-        Event::Timeout,
-        Event::Message(note(alloc, "b")?),
-    ]?;
-    Ok(list(alloc, events)?)
+    list(alloc, &[Step::Note("a"), Step::Timeout, Step::Note("b")])
 }
 
 // Takes so many bytes, and fails from then on.

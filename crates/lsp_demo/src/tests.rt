@@ -61,6 +61,22 @@ fn prints<D: Display>(
     Ok(())
 }
 
+fn member_text(alloc: Global, message: Message) -> Result<String, AllocError> {
+    message.member_text(alloc)
+}
+
+// The member text of the message that is read.
+fn read_text<R: BufRead>(
+    alloc: Global,
+    reader: &mut R,
+) -> Result<Result<Option<String>, ReadFault>, AllocError> {
+    Ok(match Message::read(alloc, reader) {
+        Ok(Some(message)) => Ok(Some(member_text(alloc, message)?)),
+        Ok(None) => Ok(None),
+        Err(fault) => Err(fault),
+    })
+}
+
 // Reads once, and compares what came of it.
 fn reads<R: BufRead>(
     rt: &impl Abort,
@@ -69,12 +85,8 @@ fn reads<R: BufRead>(
     name: &str,
     wanted: Answer,
 ) -> Result<(), AllocError> {
-    match Message::read(alloc, reader) {
-        Ok(Some(message)) => match wanted {
-            Ok(Some(text)) => has_text(rt, alloc, &message, text)?,
-            Ok(None) | Err(_) => panic!(rt; "{name}: a message"),
-        },
-        Ok(None) => assert_eq!(rt; Ok(None), wanted, "{name}"),
+    match read_text(alloc, reader)? {
+        Ok(text) => assert_eq!(rt; Ok(text.as_deref()), wanted, "{name}"),
         Err(fault) => assert_eq!(rt; Err(fault), wanted, "{name}"),
     }
     Ok(())

@@ -4,26 +4,44 @@ use lsp_server::RequestId;
 use std::alloc::{AllocError, Global};
 use std::collections::{BTreeMap, HashMap};
 use std::hash::{BuildHasher, BuildHasherDefault, DefaultHasher};
+use std::process::Abort;
 use std::test::Fail;
 
-fn text_id(alloc: Global, text: &str) -> Result<RequestId, AllocError> {
-    Ok(RequestId::from(String::from_str(alloc, text)?))
+// An id as it is written here.
+#[derive(Clone, Copy)]
+enum Name {
+    Number(i32),
+    Text(&'static str),
+}
+
+// Names of ids that rise, each with what its id prints.
+static RISING: [(Name, &str); 10] = [
+    (Name::Number(i32::MIN), "-2147483648"),
+    (Name::Number(-5), "-5"),
+    (Name::Number(2), "2"),
+    (Name::Number(10), "10"),
+    (Name::Text(""), "\"\""),
+    (Name::Text("1"), "\"1\""),
+    (Name::Text("10"), "\"10\""),
+    (Name::Text("2"), "\"2\""),
+    (Name::Text("Z"), "\"Z\""),
+    (Name::Text("a"), "\"a\""),
+];
+
+fn id_of(alloc: Global, name: Name) -> Result<RequestId, AllocError> {
+    match name {
+        Name::Number(number) => Ok(RequestId::from(number)),
+        Name::Text(text) => Ok(RequestId::from(String::from_str(alloc, text)?)),
+    }
 }
 
 // The ids that rise, each with what it prints.
 fn rising(alloc: Global) -> Result<Vec<(RequestId, &'static str)>, AllocError> {
-    Ok(vec![in alloc;
-        (RequestId::from(i32::MIN), "-2147483648"),
-        (RequestId::from(-5), "-5"),
-        (RequestId::from(2), "2"),
-        (RequestId::from(10), "10"),
-        (text_id(alloc, "")?, "\"\""),
-        (text_id(alloc, "1")?, "\"1\""),
-        (text_id(alloc, "10")?, "\"10\""),
-        (text_id(alloc, "2")?, "\"2\""),
-        (text_id(alloc, "Z")?, "\"Z\""),
-        (text_id(alloc, "a")?, "\"a\""),
-    ]?)
+    let mut ids = Vec::new(alloc);
+    for (name, text) in &RISING {
+        ids.push((id_of(alloc, *name)?, *text))?;
+    }
+    Ok(ids)
 }
 
 #[test]
@@ -39,89 +57,164 @@ fn ids_are_in_order(rt: HostRuntime) -> Result<(), Fail> {
     Ok(())
 }
 
+fn ids_of(alloc: Global, names: &[Name]) -> Result<Vec<RequestId>, AllocError> {
+    let mut ids = Vec::new(alloc);
+    for name in names {
+        ids.push(id_of(alloc, *name)?)?;
+    }
+    Ok(ids)
+}
+
+// What the ids print, each with a space after it.
+fn printed(alloc: Global, ids: &[RequestId]) -> Result<String, AllocError> {
+    let mut all = String::new(alloc);
+    for id in ids {
+        all.push_str(id.to_string(alloc)?.as_str())?;
+        all.push_str(" ")?;
+    }
+    Ok(all)
+}
+
 #[test]
 fn ids_sort(rt: HostRuntime) -> Result<(), Fail> {
-    let alloc = rt.alloc();
-    let mut ids = vec![in alloc;
-        text_id(alloc, "1")?,
-        RequestId::from(10),
-        text_id(alloc, "")?,
-        RequestId::from(-5),
-        RequestId::from(2),
-    ]?;
+    let names = [
+        Name::Text("1"),
+        Name::Number(10),
+        Name::Text(""),
+        Name::Number(-5),
+        Name::Number(2),
+    ];
+    let mut ids = ids_of(rt.alloc(), &names)?;
     ids.sort()?;
-    let mut shown = String::new(alloc);
-    for id in &ids {
-        shown.push_str(id.to_string(alloc)?.as_str())?;
-        shown.push_str(" ")?;
-    }
+    let shown = printed(rt.alloc(), ids.as_slice())?;
     assert_eq!(rt; shown.as_str(), "-5 2 10 \"\" \"1\" ");
     Ok(())
 }
 
+fn id_prints(rt: &impl Abort, alloc: Global, name: Name, text: &str) -> Result<(), AllocError> {
+    let id = id_of(alloc, name)?;
+    prints(rt, alloc, &id, text)
+}
+
 #[test]
 fn ids_print(rt: HostRuntime) -> Result<(), Fail> {
-    let alloc = rt.alloc();
-    for (id, text) in rising(alloc)? {
-        prints(&rt, alloc, &id, text)?;
+    for (name, text) in &RISING {
+        id_prints(&rt, rt.alloc(), *name, text)?;
     }
-    prints(&rt, alloc, &RequestId::from(92), "92")?;
-    for (text, shown) in [
-        ("92", r#""92""#),
-        ("a\"b", r#""a\"b""#),
-        ("a\\b", r#""a\\b""#),
-        ("it's", r#""it's""#),
-        ("\n\r\t", r#""\n\r\t""#),
-        ("\0", r#""\0""#),
-        ("\u{1b}\u{7f}", r#""\u{1b}\u{7f}""#),
+    for (name, text) in [
+        (Name::Number(92), "92"),
+        (Name::Text("92"), r#""92""#),
+        (Name::Text("a\"b"), r#""a\"b""#),
+        (Name::Text("a\\b"), r#""a\\b""#),
+        (Name::Text("it's"), r#""it's""#),
+        (Name::Text("\n\r\t"), r#""\n\r\t""#),
+        (Name::Text("\0"), r#""\0""#),
+        (Name::Text("\u{1b}\u{7f}"), r#""\u{1b}\u{7f}""#),
     ] {
-        prints(&rt, alloc, &text_id(alloc, text)?, shown)?;
+        id_prints(&rt, rt.alloc(), name, text)?;
     }
     Ok(())
 }
 
+fn equals(copy: RequestId, id: &RequestId) -> bool {
+    copy == *id
+}
+
+// Whether both clones of the id are equal to it.
+fn equals_its_clones(id: &RequestId) -> Result<bool, AllocError> {
+    Ok(equals(id.clone()?, id) && equals(Clone::clone(id)?, id))
+}
+
 #[test]
 fn ids_are_cloned(rt: HostRuntime) -> Result<(), Fail> {
-    for (id, text) in rising(rt.alloc())? {
-        let copy = id.clone()?;
-        let other = Clone::clone(&id)?;
-        assert!(rt; copy == id && other == id, "{text}");
+    let ids = rising(rt.alloc())?;
+    for (id, text) in &ids {
+        assert!(rt; equals_its_clones(id)?, "{text}");
     }
     Ok(())
+}
+
+type Names = BTreeMap<RequestId, &'static str>;
+
+// The ids and what they print, put in from the last to the first.
+fn ordered(rt: &impl Abort, alloc: Global) -> Result<Names, AllocError> {
+    let mut names = BTreeMap::new(alloc);
+    for (name, text) in RISING.iter().rev() {
+        let id = id_of(alloc, *name)?;
+        assert_eq!(rt; names.insert(id, *text)?, None);
+    }
+    Ok(names)
+}
+
+fn found(alloc: Global, names: &Names, name: Name) -> Result<Option<&'static str>, AllocError> {
+    let id = id_of(alloc, name)?;
+    Ok(names.get(&id).copied())
+}
+
+fn removed(
+    alloc: Global,
+    names: &mut Names,
+    name: Name,
+) -> Result<Option<&'static str>, AllocError> {
+    let id = id_of(alloc, name)?;
+    Ok(names.remove(&id))
 }
 
 #[test]
 fn ids_are_keys_of_an_ordered_map(rt: HostRuntime) -> Result<(), Fail> {
     let alloc = rt.alloc();
-    let mut names = BTreeMap::new(alloc);
-    for (id, text) in rising(alloc)?.into_iter().rev() {
-        assert_eq!(rt; names.insert(id, text)?, None);
+    let mut names = ordered(&rt, alloc)?;
+    for (name, wanted) in [
+        (Name::Number(10), Some("10")),
+        (Name::Text("10"), Some("\"10\"")),
+        (Name::Number(11), None),
+    ] {
+        assert_eq!(rt; found(alloc, &names, name)?, wanted);
     }
-    assert_eq!(rt; names.get(&RequestId::from(10)).copied(), Some("10"));
-    assert_eq!(rt; names.get(&text_id(alloc, "10")?).copied(), Some("\"10\""));
-    assert_eq!(rt; names.get(&RequestId::from(11)).copied(), None);
-    assert_eq!(rt; names.remove(&text_id(alloc, "1")?), Some("\"1\""));
+    assert_eq!(rt; removed(alloc, &mut names, Name::Text("1"))?, Some("\"1\""));
     assert_eq!(rt; names.len(), 9);
-    let first = names.keys().next().ok_or("no key")?;
-    assert!(rt; *first == RequestId::from(i32::MIN));
+    assert!(rt; names.keys().next() == Some(&RequestId::from(i32::MIN)));
     Ok(())
+}
+
+type State = BuildHasherDefault<DefaultHasher>;
+
+fn hash_of(alloc: Global, state: &State, name: Name) -> Result<u64, AllocError> {
+    let id = id_of(alloc, name)?;
+    Ok(state.hash_one(&id))
+}
+
+fn hash_of_clone(state: &State, id: &RequestId) -> Result<u64, AllocError> {
+    let copy = id.clone()?;
+    Ok(state.hash_one(&copy))
+}
+
+// The ids in no order, and what they print.
+fn unordered(
+    rt: &impl Abort,
+    alloc: Global,
+) -> Result<HashMap<RequestId, &'static str>, AllocError> {
+    let mut names = HashMap::new(alloc);
+    for (name, text) in &RISING {
+        let id = id_of(alloc, *name)?;
+        assert_eq!(rt; names.insert(id, *text)?, None);
+    }
+    Ok(names)
 }
 
 #[test]
 fn equal_ids_have_one_hash(rt: HostRuntime) -> Result<(), Fail> {
     let alloc = rt.alloc();
-    let state = BuildHasherDefault::<DefaultHasher>::default();
-    let mut names = HashMap::new(alloc);
-    for (id, text) in rising(alloc)? {
-        assert_eq!(rt; state.hash_one(&id), state.hash_one(&id.clone()?), "{text}");
-        assert_eq!(rt; names.insert(id, text)?, None);
-    }
-    for (id, text) in rising(alloc)? {
-        assert_eq!(rt; names.get(&id).copied(), Some(text));
+    let state = State::default();
+    let names = unordered(&rt, alloc)?;
+    let ids = rising(alloc)?;
+    for (id, text) in &ids {
+        assert_eq!(rt; names.get(id).copied(), Some(*text));
+        assert_eq!(rt; state.hash_one(id), hash_of_clone(&state, id)?, "{text}");
     }
     assert_ne!(rt;
-        state.hash_one(RequestId::from(1)),
-        state.hash_one(text_id(alloc, "1")?)
+        hash_of(alloc, &state, Name::Number(1))?,
+        hash_of(alloc, &state, Name::Text("1"))?
     );
     Ok(())
 }

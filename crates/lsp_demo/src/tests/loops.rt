@@ -1,5 +1,5 @@
 // What a loop over a reader's messages hands on, and to whom.
-use super::{EXIT, EXIT_LENGTH, TWO_EXITS, has_text, note};
+use super::{EXIT, EXIT_LENGTH, TWO_EXITS, note};
 use crate::devices::{AtLimit, LimitedWriter, StepReader};
 use lsp_server::{
     FrameOutbox, ListOutbox, Message, Outbox, ReadEnd, ReadFault, SendFault, WriteFault, read_loop,
@@ -108,17 +108,26 @@ static RUNS: [(&str, &[u8], usize, &str, ReadEnd, &[u8]); 11] = [
     ),
 ];
 
+// How a loop into a list with so much room ends, and the member texts of what it hands on.
+fn into_list(
+    alloc: Global,
+    reader: &mut StepReader,
+    room: usize,
+) -> Result<(ReadEnd, String), AllocError> {
+    let mut outbox = ListOutbox::new(alloc, room);
+    let end = read_loop(alloc, reader, &mut outbox);
+    let texts = member_texts(alloc, outbox.sent.as_slice())?;
+    Ok((end, texts))
+}
+
 #[test]
 fn into_a_list(rt: HostRuntime) -> Result<(), Fail> {
-    let alloc = rt.alloc();
     for (name, text, room, wanted, end, rest) in &RUNS {
         for step in [1, 1000] {
             let mut reader = StepReader::new(text, step);
-            let mut outbox = ListOutbox::new(alloc, *room);
-            let found = read_loop(alloc, &mut reader, &mut outbox);
+            let (found, texts) = into_list(rt.alloc(), &mut reader, *room)?;
+            assert_eq!(rt; texts.as_str(), *wanted, "{name}");
             assert_eq!(rt; found, *end, "{name}");
-            let handed_on = member_texts(alloc, outbox.sent.as_slice())?;
-            assert_eq!(rt; handed_on.as_str(), *wanted, "{name}");
             assert_eq!(rt; reader.left, *rest, "{name}");
         }
     }
@@ -126,7 +135,7 @@ fn into_a_list(rt: HostRuntime) -> Result<(), Fail> {
 }
 
 #[test]
-fn up_to_a_failing_read(rt: HostRuntime) -> Result<(), Fail> {
+fn up_to_a_failing_read(rt: HostRuntime) {
     let alloc = rt.alloc();
     let kind = ErrorKind::ConnectionReset;
     for before in 0..=TWO_NOTES.len() {
@@ -136,68 +145,87 @@ fn up_to_a_failing_read(rt: HostRuntime) -> Result<(), Fail> {
         assert_eq!(rt; end, ReadEnd::Fault(ReadFault::Input(kind)), "{before}");
         assert_eq!(rt; outbox.sent.len(), before / 36, "{before}");
     }
-    Ok(())
 }
 
-// The message comes back from an outbox that does not take it.
-fn comes_back(
+// What becomes of a message that is sent: it is taken, or it comes back.
+fn outcome(alloc: Global, answer: Result<(), SendFault>) -> Result<String, AllocError> {
+    match answer {
+        Ok(()) => String::from_str(alloc, "taken"),
+        Err(SendFault::Closed(message)) => message.member_text(alloc),
+        Err(SendFault::Memory(_)) => String::from_str(alloc, "no memory"),
+    }
+}
+
+// What becomes of a notification.
+fn sends<O: Outbox>(
     rt: &impl Abort,
     alloc: Global,
-    answer: Result<(), SendFault>,
+    outbox: &mut O,
+    method: &str,
     wanted: &str,
 ) -> Result<(), AllocError> {
-    match answer {
-        Ok(()) => panic!(rt; "the message was taken"),
-        Err(SendFault::Memory(_)) => panic!(rt; "no memory"),
-        Err(SendFault::Closed(message)) => has_text(rt, alloc, &message, wanted),
-    }
+    let answer = outbox.send(note(alloc, method)?);
+    let found = outcome(alloc, answer)?;
+    assert_eq!(rt; found.as_str(), wanted);
+    Ok(())
 }
 
 #[test]
 fn a_full_list_hands_back(rt: HostRuntime) -> Result<(), Fail> {
     let alloc = rt.alloc();
     let mut outbox = ListOutbox::new(alloc, 1);
-    assert!(rt; outbox.send(note(alloc, "a")?).is_ok());
-    comes_back(
-        &rt,
-        alloc,
-        outbox.send(note(alloc, "b")?),
-        "{\"method\":\"b\"}",
-    )?;
+    sends(&rt, alloc, &mut outbox, "a", "taken")?;
+    sends(&rt, alloc, &mut outbox, "b", "{\"method\":\"b\"}")?;
     assert_eq!(rt; outbox.sent.len(), 1);
+    Ok(())
+}
+
+// Two notifications are taken.
+fn takes_two(rt: &impl Abort, alloc: Global, writer: &mut LimitedWriter) -> Result<(), AllocError> {
+    let mut outbox = FrameOutbox::new(alloc, writer);
+    sends(rt, alloc, &mut outbox, "exit", "taken")?;
+    sends(rt, alloc, &mut outbox, "exit", "taken")?;
+    assert_eq!(rt; outbox.fault(), None);
     Ok(())
 }
 
 #[test]
 fn frames_and_flushes(rt: HostRuntime) -> Result<(), Fail> {
-    let alloc = rt.alloc();
-    let mut writer = LimitedWriter::unlimited(alloc);
-    let mut outbox = FrameOutbox::new(alloc, &mut writer);
-    for _ in 0..2 {
-        assert!(rt; outbox.send(note(alloc, "exit")?).is_ok());
-    }
-    assert_eq!(rt; outbox.fault(), None);
+    let mut writer = LimitedWriter::unlimited(rt.alloc());
+    takes_two(&rt, rt.alloc(), &mut writer)?;
     assert_eq!(rt; writer.taken.as_slice(), TWO_EXITS);
     assert_eq!(rt; writer.writes, 2);
     assert_eq!(rt; writer.flushes, 2);
     Ok(())
 }
 
+// Notifications come back one after another, and the fault stays.
+fn takes_none(
+    rt: &impl Abort,
+    alloc: Global,
+    writer: &mut LimitedWriter,
+    kind: ErrorKind,
+) -> Result<(), AllocError> {
+    let mut outbox = FrameOutbox::new(alloc, writer);
+    for (method, wanted) in [
+        ("exit", "{\"method\":\"exit\"}"),
+        ("a", "{\"method\":\"a\"}"),
+        ("b", "{\"method\":\"b\"}"),
+    ] {
+        sends(rt, alloc, &mut outbox, method, wanted)?;
+        assert_eq!(rt; outbox.fault(), Some(WriteFault::Output(kind)));
+    }
+    Ok(())
+}
+
 // The writer fails once, after each number of bytes, and would take more afterwards.
 #[test]
 fn nothing_follows_a_failed_write(rt: HostRuntime) -> Result<(), Fail> {
-    let alloc = rt.alloc();
     let kind = ErrorKind::BrokenPipe;
     for room in 0..EXIT_LENGTH {
-        let mut writer = LimitedWriter::new(alloc, room, AtLimit::FailsOnce(kind));
-        let mut outbox = FrameOutbox::new(alloc, &mut writer);
-        for method in ["exit", "a", "b"] {
-            let answer = outbox.send(note(alloc, method)?);
-            let wanted = format!(in alloc; "{{\"method\":\"{method}\"}}")?;
-            comes_back(&rt, alloc, answer, wanted.as_str())?;
-        }
-        assert_eq!(rt; outbox.fault(), Some(WriteFault::Output(kind)), "{room}");
-        assert_eq!(rt; writer.taken.as_slice(), EXIT.get(..room).ok_or("short")?);
+        let mut writer = LimitedWriter::new(rt.alloc(), room, AtLimit::FailsOnce(kind));
+        takes_none(&rt, rt.alloc(), &mut writer, kind)?;
+        assert_eq!(rt; Some(writer.taken.as_slice()), EXIT.get(..room), "{room}");
         assert_eq!(rt; writer.flushes, 0, "{room}");
     }
     Ok(())
@@ -205,47 +233,37 @@ fn nothing_follows_a_failed_write(rt: HostRuntime) -> Result<(), Fail> {
 
 #[test]
 fn nothing_follows_a_failed_flush(rt: HostRuntime) -> Result<(), Fail> {
-    let alloc = rt.alloc();
-    let mut writer = LimitedWriter::unlimited(alloc);
+    let mut writer = LimitedWriter::unlimited(rt.alloc());
     writer.bad_flush = 1;
-    let mut outbox = FrameOutbox::new(alloc, &mut writer);
-    comes_back(
-        &rt,
-        alloc,
-        outbox.send(note(alloc, "exit")?),
-        "{\"method\":\"exit\"}",
-    )?;
-    comes_back(
-        &rt,
-        alloc,
-        outbox.send(note(alloc, "a")?),
-        "{\"method\":\"a\"}",
-    )?;
-    assert_eq!(rt;
-        outbox.fault(),
-        Some(WriteFault::Output(ErrorKind::BrokenPipe))
-    );
+    takes_none(&rt, rt.alloc(), &mut writer, ErrorKind::BrokenPipe)?;
     assert_eq!(rt; writer.taken.as_slice(), EXIT);
     assert_eq!(rt; writer.flushes, 1);
     Ok(())
 }
 
+// How a loop into a writer ends, and the fault of the writer.
+fn into_writer(
+    alloc: Global,
+    reader: &mut &[u8],
+    writer: &mut LimitedWriter,
+) -> (ReadEnd, Option<WriteFault>) {
+    let mut outbox = FrameOutbox::new(alloc, writer);
+    let end = read_loop(alloc, reader, &mut outbox);
+    (end, outbox.fault())
+}
+
 // The loop ends at the message that was not written.
 #[test]
-fn into_a_failing_writer(rt: HostRuntime) -> Result<(), Fail> {
-    let alloc = rt.alloc();
-    let mut writer = LimitedWriter::new(alloc, 10, AtLimit::FailsOnce(ErrorKind::BrokenPipe));
-    let mut outbox = FrameOutbox::new(alloc, &mut writer);
+fn into_a_failing_writer(rt: HostRuntime) {
+    let kind = ErrorKind::BrokenPipe;
+    let mut writer = LimitedWriter::new(rt.alloc(), 10, AtLimit::FailsOnce(kind));
     let mut left = NOTES_AND_FAULT;
-    assert_eq!(rt; read_loop(alloc, &mut left, &mut outbox), ReadEnd::Closed);
+    let (end, fault) = into_writer(rt.alloc(), &mut left, &mut writer);
+    assert_eq!(rt; end, ReadEnd::Closed);
+    assert_eq!(rt; fault, Some(WriteFault::Output(kind)));
     assert_eq!(rt;
         left,
         b"Content-Length: 14\r\n\r\n{\"method\":\"b\"}Content-Length:2\r\n\r\n{}".as_slice()
     );
-    assert_eq!(rt;
-        outbox.fault(),
-        Some(WriteFault::Output(ErrorKind::BrokenPipe))
-    );
     assert_eq!(rt; writer.taken.as_slice(), b"Content-Le".as_slice());
-    Ok(())
 }

@@ -4,7 +4,9 @@ use lsp_server::{
     ErrorCode, ExtractError, Message, Notification, Request, RequestId, Response, ResponseError,
 };
 use serde_json::Value;
-use std::alloc::Global;
+use std::alloc::{AllocError, Global};
+use std::fmt::Display;
+use std::process::Abort;
 use std::test::Fail;
 
 // A request of id 7 and method `a`, whose params are 5.
@@ -17,42 +19,75 @@ fn notification(alloc: Global) -> Result<Notification, Fail> {
     Ok(Notification::new(alloc, String::from_str(alloc, "a")?, 5)?)
 }
 
+fn owned_has_text(
+    rt: &impl Abort,
+    alloc: Global,
+    message: Message,
+    text: &str,
+) -> Result<(), AllocError> {
+    has_text(rt, alloc, &message, text)
+}
+
+// The message, and its clone, have this member text.
+fn both_have_text(
+    rt: &impl Abort,
+    alloc: Global,
+    message: &Message,
+    text: &str,
+) -> Result<(), AllocError> {
+    has_text(rt, alloc, message, text)?;
+    owned_has_text(rt, alloc, message.clone()?, text)
+}
+
+// The same, where the message is not used again.
+fn is_written(
+    rt: &impl Abort,
+    alloc: Global,
+    message: Message,
+    text: &str,
+) -> Result<(), AllocError> {
+    both_have_text(rt, alloc, &message, text)
+}
+
+// The reply `success` to the request of id 3.
+fn success(alloc: Global) -> Result<Message, Fail> {
+    let reply = Response::new_ok(alloc, RequestId::from(3), "success")?;
+    Ok(Message::from(reply))
+}
+
+// An invalid request, of id 3.
+fn invalid(alloc: Global) -> Result<Message, Fail> {
+    let message = String::from_str(alloc, "bad response message")?;
+    let code = ErrorCode::InvalidRequest.number();
+    let reply = Response::new_err(RequestId::from(3), code, message);
+    Ok(Message::from(reply))
+}
+
 #[test]
 fn member_texts(rt: HostRuntime) -> Result<(), Fail> {
     let alloc = rt.alloc();
-    let message = String::from_str(alloc, "bad response message")?;
-    let code = ErrorCode::InvalidRequest.number();
-    let error = Response::new_err(RequestId::from(3), code, message);
-    for (message, text) in [
-        (
-            Message::from(request(alloc)?),
-            r#"{"id":7,"method":"a","params":5}"#,
-        ),
-        (
-            Message::from(notification(alloc)?),
-            r#"{"method":"a","params":5}"#,
-        ),
-        (note(alloc, "exit")?, r#"{"method":"exit"}"#),
-        (
-            Message::from(Response::new_ok(alloc, RequestId::from(3), "success")?),
-            r#"{"id":3,"result":"success"}"#,
-        ),
-        (
-            Message::from(error),
-            r#"{"id":3,"error":{"code":-32600,"message":"bad response message"}}"#,
-        ),
-    ] {
-        has_text(&rt, alloc, &message, text)?;
-        has_text(&rt, alloc, &message.clone()?, text)?;
-    }
+    let message = Message::from(request(alloc)?);
+    is_written(&rt, alloc, message, r#"{"id":7,"method":"a","params":5}"#)?;
+    let message = Message::from(notification(alloc)?);
+    is_written(&rt, alloc, message, r#"{"method":"a","params":5}"#)?;
+    let message = note(alloc, "exit")?;
+    is_written(&rt, alloc, message, r#"{"method":"exit"}"#)?;
+    let message = success(alloc)?;
+    is_written(&rt, alloc, message, r#"{"id":3,"result":"success"}"#)?;
+    let message = invalid(alloc)?;
+    let text = r#"{"id":3,"error":{"code":-32600,"message":"bad response message"}}"#;
+    is_written(&rt, alloc, message, text)?;
     Ok(())
+}
+
+fn body_text(alloc: Global, message: Message) -> Result<String, AllocError> {
+    message.body_text(alloc)
 }
 
 #[test]
 fn the_body_text_begins_with_the_version(rt: HostRuntime) -> Result<(), Fail> {
     let alloc = rt.alloc();
-    let reply = Message::from(Response::new_ok(alloc, RequestId::from(3), "success")?);
-    let body = reply.body_text(alloc)?;
+    let body = body_text(alloc, success(alloc)?)?;
     assert_eq!(rt;
         body.as_str(),
         r#"{"jsonrpc":"2.0","id":3,"result":"success"}"#
@@ -61,104 +96,139 @@ fn the_body_text_begins_with_the_version(rt: HostRuntime) -> Result<(), Fail> {
     Ok(())
 }
 
-#[test]
-fn null_data_is_written_and_not_read(rt: HostRuntime) -> Result<(), Fail> {
-    let alloc = rt.alloc();
-    let message = Message::from(Response {
+// An error with data that is null.
+fn null_data(alloc: Global) -> Result<Message, AllocError> {
+    Ok(Message::from(Response {
         id: RequestId::from(1),
         response_result: Err(ResponseError {
             code: -1,
             message: String::from_str(alloc, "x")?,
             data: Some(Value::Null),
         }),
-    });
-    has_text(
-        &rt,
-        alloc,
-        &message,
-        r#"{"id":1,"error":{"code":-1,"message":"x","data":null}}"#,
-    )?;
-    let tree = message.to_value(alloc)?;
-    let back = Message::from_value(alloc, &tree)?.ok_or("no message")?;
-    has_text(
-        &rt,
-        alloc,
-        &back,
-        r#"{"id":1,"error":{"code":-1,"message":"x"}}"#,
-    )?;
+    }))
+}
+
+// The message that a tree is read as.
+fn message_of(alloc: Global, tree: Value) -> Result<Message, Fail> {
+    Ok(Message::from_value(alloc, &tree)?.ok_or("no message")?)
+}
+
+fn tree_of(alloc: Global, message: Message) -> Result<Value, AllocError> {
+    message.to_value(alloc)
+}
+
+#[test]
+fn null_data_is_written_and_not_read(rt: HostRuntime) -> Result<(), Fail> {
+    let alloc = rt.alloc();
+    let message = null_data(alloc)?;
+    let written = r#"{"id":1,"error":{"code":-1,"message":"x","data":null}}"#;
+    is_written(&rt, alloc, message, written)?;
+    let message = message_of(alloc, tree_of(alloc, null_data(alloc)?)?)?;
+    let read = r#"{"id":1,"error":{"code":-1,"message":"x"}}"#;
+    is_written(&rt, alloc, message, read)?;
     Ok(())
+}
+
+// What was extracted.
+fn extracted<P, T: Drop>(answer: Result<P, ExtractError<T>>) -> Result<P, Fail> {
+    match answer {
+        Ok(params) => Ok(params),
+        Err(_) => Err(Fail::from("nothing was extracted")),
+    }
 }
 
 #[test]
 fn params_are_extracted(rt: HostRuntime) -> Result<(), Fail> {
     let alloc = rt.alloc();
-    match request(alloc)?.extract::<i32>(alloc, "a") {
-        Ok((id, params)) => {
-            assert!(rt; id == RequestId::from(7));
-            assert_eq!(rt; params, 5);
-        }
-        Err(error) => panic!(rt; "{error}"),
-    }
-    match notification(alloc)?.extract::<i32>(alloc, "a") {
-        Ok(params) => assert_eq!(rt; params, 5),
-        Err(error) => panic!(rt; "{error}"),
-    }
+    let (id, params) = extracted(request(alloc)?.extract::<i32>(alloc, "a"))?;
+    assert!(rt; id == RequestId::from(7));
+    assert_eq!(rt; params, 5);
+    let params = extracted(notification(alloc)?.extract::<i32>(alloc, "a"))?;
+    assert_eq!(rt; params, 5);
     Ok(())
 }
 
+// Why nothing was extracted.
+fn refusal<P: Drop, T>(answer: Result<P, ExtractError<T>>) -> Result<ExtractError<T>, Fail> {
+    match answer {
+        Ok(_) => Err(Fail::from("params were extracted")),
+        Err(error) => Ok(error),
+    }
+}
+
 // The message that was handed back.
-fn handed_back<T>(error: ExtractError<T>) -> Option<T> {
+fn handed_back<T>(error: ExtractError<T>) -> Result<T, Fail> {
     match error {
-        ExtractError::MethodMismatch(message) => Some(message),
-        ExtractError::JsonError { .. } => None,
+        ExtractError::MethodMismatch(message) => Ok(message),
+        ExtractError::JsonError { .. } => Err(Fail::from("no message")),
     }
 }
 
 // The method whose params did not convert.
-fn unconverted<T: Drop>(error: ExtractError<T>) -> Option<String> {
+fn unconverted<T: Drop>(error: ExtractError<T>) -> Result<String, Fail> {
     match error {
-        ExtractError::MethodMismatch(_) => None,
-        ExtractError::JsonError { method, .. } => Some(method),
+        ExtractError::MethodMismatch(_) => Err(Fail::from("another method")),
+        ExtractError::JsonError { method, .. } => Ok(method),
     }
+}
+
+// The value, which prints this.
+fn printed<D: Display + Drop>(
+    rt: &impl Abort,
+    alloc: Global,
+    value: D,
+    text: &str,
+) -> Result<D, AllocError> {
+    prints(rt, alloc, &value, text)?;
+    Ok(value)
 }
 
 #[test]
 fn another_method_hands_the_request_back(rt: HostRuntime) -> Result<(), Fail> {
     let alloc = rt.alloc();
-    let answer = request(alloc)?.extract::<i32>(alloc, "b");
-    let error = answer.err().ok_or("another method was taken")?;
-    prints(&rt, alloc, &error, "Method mismatch for request 'a'")?;
-    let message = Message::from(handed_back(error).ok_or("no request")?);
-    has_text(&rt, alloc, &message, r#"{"id":7,"method":"a","params":5}"#)?;
+    let error = refusal(request(alloc)?.extract::<i32>(alloc, "b"))?;
+    let error = printed(&rt, alloc, error, "Method mismatch for request 'a'")?;
+    let message = Message::from(handed_back(error)?);
+    is_written(&rt, alloc, message, r#"{"id":7,"method":"a","params":5}"#)?;
     Ok(())
 }
 
 #[test]
 fn another_method_hands_the_notification_back(rt: HostRuntime) -> Result<(), Fail> {
     let alloc = rt.alloc();
-    let answer = notification(alloc)?.extract::<i32>(alloc, "b");
-    let error = answer.err().ok_or("another method was taken")?;
-    prints(&rt, alloc, &error, "Method mismatch for notification 'a'")?;
-    let message = Message::from(handed_back(error).ok_or("no notification")?);
-    has_text(&rt, alloc, &message, r#"{"method":"a","params":5}"#)?;
+    let error = refusal(notification(alloc)?.extract::<i32>(alloc, "b"))?;
+    let error = printed(&rt, alloc, error, "Method mismatch for notification 'a'")?;
+    let message = Message::from(handed_back(error)?);
+    is_written(&rt, alloc, message, r#"{"method":"a","params":5}"#)?;
     Ok(())
+}
+
+// The value, whose text begins so.
+fn begins<D: Display + Drop>(
+    rt: &impl Abort,
+    alloc: Global,
+    value: D,
+    beginning: &str,
+) -> Result<D, AllocError> {
+    let text = value.to_string(alloc)?;
+    assert!(rt; text.as_str().starts_with(beginning), "{text}");
+    Ok(value)
 }
 
 #[test]
 fn params_of_another_type_are_refused(rt: HostRuntime) -> Result<(), Fail> {
     let alloc = rt.alloc();
-    let answer = request(alloc)?.extract::<String>(alloc, "a");
-    let error = answer.err().ok_or("a number was taken for a text")?;
-    let text = error.to_string(alloc)?;
-    let beginning = "Invalid request\nMethod: a\n error: ";
-    assert!(rt; text.as_str().starts_with(beginning), "{text}");
-    let method = unconverted(error).ok_or("no failed conversion")?;
-    assert_eq!(rt; method.as_str(), "a");
-    let answer = notification(alloc)?.extract::<String>(alloc, "a");
-    let error = answer.err().ok_or("a number was taken for a text")?;
-    let text = error.to_string(alloc)?;
-    let beginning = "Invalid notification\nMethod: a\n error: ";
-    assert!(rt; text.as_str().starts_with(beginning), "{text}");
+    let error = refusal(request(alloc)?.extract::<String>(alloc, "a"))?;
+    let error = begins(&rt, alloc, error, "Invalid request\nMethod: a\n error: ")?;
+    assert_eq!(rt; unconverted(error)?.as_str(), "a");
+    let error = refusal(notification(alloc)?.extract::<String>(alloc, "a"))?;
+    let error = begins(
+        &rt,
+        alloc,
+        error,
+        "Invalid notification\nMethod: a\n error: ",
+    )?;
+    assert_eq!(rt; unconverted(error)?.as_str(), "a");
     Ok(())
 }
 

@@ -1,7 +1,7 @@
 // Messages read from bytes (LSP 3.17, "Base Protocol").
-use super::{Answer, EXIT, EXIT_LENGTH, EXIT_TEXT, TWO_EXITS, has_text, prints, reads};
+use super::{Answer, EXIT, EXIT_LENGTH, EXIT_TEXT, TWO_EXITS, prints, read_text, reads};
 use crate::devices::StepReader;
-use lsp_server::{Message, ReadFault};
+use lsp_server::ReadFault;
 use std::alloc::Global;
 use std::io::ErrorKind;
 use std::process::Abort;
@@ -329,9 +329,9 @@ fn nesting_has_a_limit(rt: HostRuntime) -> Result<(), Fail> {
     let alloc = rt.alloc();
     let deepest = nested_lists(alloc, 126)?;
     let mut left = deepest.as_bytes();
-    let message = Message::read(alloc, &mut left)?.ok_or("no message")?;
+    let text = read_text(alloc, &mut left)??.ok_or("no message")?;
     assert_eq!(rt; left, b"Q".as_slice());
-    assert_eq!(rt; message.member_text(alloc)?.len(), 276);
+    assert_eq!(rt; text.len(), 276);
     let too_deep = nested_lists(alloc, 127)?;
     let mut left = too_deep.as_bytes();
     reads(&rt, alloc, &mut left, "127 lists", Err(ReadFault::NoJson))?;
@@ -382,10 +382,9 @@ fn a_failing_reader(rt: HostRuntime) -> Result<(), Fail> {
 fn an_interrupted_reader(rt: HostRuntime) -> Result<(), Fail> {
     for before in 0..EXIT_LENGTH {
         let mut reader = StepReader::failing(EXIT, 1000, before, ErrorKind::Interrupted);
-        match Message::read(rt.alloc(), &mut reader) {
-            Ok(message) => {
-                let message = message.ok_or("no message")?;
-                has_text(&rt, rt.alloc(), &message, EXIT_TEXT)?;
+        match read_text(rt.alloc(), &mut reader)? {
+            Ok(text) => {
+                assert_eq!(rt; text.as_deref(), Some(EXIT_TEXT), "{before}");
                 assert!(rt; reader.left.is_empty(), "{before}");
             }
             Err(fault) => {

@@ -506,17 +506,51 @@ fn frame_and_more(alloc: Global, body: &str) -> Result<String, Fail> {
     Ok(format!(in alloc; "Content-Length: {length}\r\n\r\n{body}Q")?)
 }
 
+// What one read gives.
+fn read_one(alloc: Global, bytes: &mut &[u8]) -> Result<Result<Message, ReadFault>, Fail> {
+    match Message::read(alloc, bytes) {
+        Ok(Some(message)) => Ok(Ok(message)),
+        Ok(None) => Err(Fail::from("the end")),
+        Err(fault) => Ok(Err(fault)),
+    }
+}
+
 // The message in a frame, which is read up to its end.
 fn framed(rt: &impl Abort, alloc: Global, body: &str) -> Result<Result<Message, ReadFault>, Fail> {
     let frame = frame_and_more(alloc, body)?;
     let mut left = frame.as_bytes();
-    let answer = match Message::read(alloc, &mut left) {
-        Ok(Some(message)) => Ok(message),
-        Ok(None) => panic!(rt; "the end: {body}"),
-        Err(fault) => Err(fault),
-    };
+    let answer = read_one(alloc, &mut left);
     assert_eq!(rt; left, b"Q".as_slice(), "{body}");
-    Ok(answer)
+    answer
+}
+
+fn parsed(alloc: Global, body: &str) -> Result<Value, Fail> {
+    Ok(Value::from_str(alloc, body)?)
+}
+
+fn message_of(alloc: Global, tree: &Value) -> Result<Message, Fail> {
+    Ok(Message::from_value(alloc, tree)?.ok_or("no message")?)
+}
+
+fn parsed_message(alloc: Global, body: &str) -> Result<Message, Fail> {
+    let tree = parsed(alloc, body)?;
+    message_of(alloc, &tree)
+}
+
+// The same message, after it went through its tree.
+fn through_tree(alloc: Global, message: &Message) -> Result<Message, Fail> {
+    let tree = message.to_value(alloc)?;
+    message_of(alloc, &tree)
+}
+
+// The same message, after it went through its frame.
+fn through_frame(rt: &impl Abort, alloc: Global, message: &Message) -> Result<Message, Fail> {
+    let mut frame = Vec::new(alloc);
+    message.write(alloc, &mut frame)?;
+    let mut left = frame.as_slice();
+    let answer = read_one(alloc, &mut left);
+    assert!(rt; left.is_empty());
+    Ok(answer??)
 }
 
 fn is_message(
@@ -530,6 +564,17 @@ fn is_message(
     has_text(rt, alloc, message, text)
 }
 
+// The same, where the message is not used again.
+fn is_given(
+    rt: &impl Abort,
+    alloc: Global,
+    message: Message,
+    kind: Kind,
+    text: &str,
+) -> Result<(), AllocError> {
+    is_message(rt, alloc, &message, kind, text)
+}
+
 // The message is the same after it went through its tree, and through its frame.
 fn comes_back(
     rt: &impl Abort,
@@ -538,41 +583,61 @@ fn comes_back(
     kind: Kind,
     text: &str,
 ) -> Result<(), Fail> {
-    let tree = message.to_value(alloc)?;
-    let from_tree = Message::from_value(alloc, &tree)?.ok_or("no message")?;
-    is_message(rt, alloc, &from_tree, kind, text)?;
-    let mut frame = Vec::new(alloc);
-    message.write(alloc, &mut frame)?;
-    let mut left = frame.as_slice();
-    let from_frame = Message::read(alloc, &mut left)?.ok_or("no message")?;
-    assert!(rt; left.is_empty(), "{text}");
-    is_message(rt, alloc, &from_frame, kind, text)?;
+    is_message(rt, alloc, message, kind, text)?;
+    is_given(rt, alloc, through_tree(alloc, message)?, kind, text)?;
+    is_given(rt, alloc, through_frame(rt, alloc, message)?, kind, text)?;
     Ok(())
 }
 
-// A body that is no message, in a frame and as a tree.
-fn is_none(rt: &impl Abort, alloc: Global, body: &str, kind: Kind) -> Result<(), Fail> {
-    let fault = framed(rt, alloc, body)?.err();
-    let tree = Value::from_str(alloc, body);
-    if kind == Kind::NoJson {
-        assert_eq!(rt; fault, Some(ReadFault::NoJson), "{body}");
-        assert!(rt; tree.is_err(), "{body}");
-        return Ok(());
+// The same, where the message is not used again.
+fn goes_round(
+    rt: &impl Abort,
+    alloc: Global,
+    message: Message,
+    kind: Kind,
+    text: &str,
+) -> Result<(), Fail> {
+    comes_back(rt, alloc, &message, kind, text)
+}
+
+// Why no message was read.
+fn fault_of<T: Drop, E>(answer: Result<T, E>) -> Option<E> {
+    match answer {
+        Ok(_) => None,
+        Err(fault) => Some(fault),
     }
+}
+
+fn is_absent<T: Drop>(value: Option<T>) -> bool {
+    value.is_none()
+}
+
+fn is_refused<T: Drop, E: Drop>(answer: Result<T, E>) -> bool {
+    answer.is_err()
+}
+
+// A body that is no JSON, in a frame and as a tree.
+fn is_no_json(rt: &impl Abort, alloc: Global, body: &str) -> Result<(), Fail> {
+    let fault = fault_of(framed(rt, alloc, body)?);
+    assert_eq!(rt; fault, Some(ReadFault::NoJson), "{body}");
+    assert!(rt; is_refused(Value::from_str(alloc, body)), "{body}");
+    Ok(())
+}
+
+// A body that is JSON and no message, in a frame and as a tree.
+fn is_no_message(rt: &impl Abort, alloc: Global, body: &str) -> Result<(), Fail> {
+    let fault = fault_of(framed(rt, alloc, body)?);
     assert_eq!(rt; fault, Some(ReadFault::NoMessage), "{body}");
-    let message = Message::from_value(alloc, &tree?)?;
-    assert!(rt; message.is_none(), "{body}");
+    let tree = parsed(alloc, body)?;
+    assert!(rt; is_absent(Message::from_value(alloc, &tree)?), "{body}");
     Ok(())
 }
 
 // A body that is a message, in a frame and as a tree.
 fn is_one(rt: &impl Abort, alloc: Global, body: &str, kind: Kind, text: &str) -> Result<(), Fail> {
-    let from_frame = framed(rt, alloc, body)??;
-    is_message(rt, alloc, &from_frame, kind, text)?;
-    let tree = Value::from_str(alloc, body)?;
-    let from_tree = Message::from_value(alloc, &tree)?.ok_or("no message")?;
-    is_message(rt, alloc, &from_tree, kind, text)?;
-    comes_back(rt, alloc, &from_frame, kind, text)
+    is_given(rt, alloc, parsed_message(alloc, body)?, kind, text)?;
+    let message = framed(rt, alloc, body)??;
+    goes_round(rt, alloc, message, kind, text)
 }
 
 fn all_mean(
@@ -582,7 +647,8 @@ fn all_mean(
 ) -> Result<(), Fail> {
     for (body, kind, text) in bodies {
         match kind {
-            Kind::NoMessage | Kind::NoJson => is_none(rt, alloc, body, *kind)?,
+            Kind::NoMessage => is_no_message(rt, alloc, body)?,
+            Kind::NoJson => is_no_json(rt, alloc, body)?,
             _ => is_one(rt, alloc, body, *kind, text)?,
         }
     }

@@ -4,7 +4,7 @@ use crate::devices::{AtLimit, LimitedWriter, StepReader};
 use crate::pump::pump_words;
 use lsp_server::{PumpFault, ReadFault, StartFault, WriteFault, pump};
 use std::alloc::{AllocError, Global};
-use std::io::ErrorKind;
+use std::io::{BufRead, ErrorKind, Write};
 use std::process::Abort;
 use std::test::Fail;
 
@@ -30,7 +30,27 @@ fn words_of(alloc: Global, text: &str) -> Result<Vec<String>, AllocError> {
     Ok(words)
 }
 
-// Runs `pump`, and compares the output, what is said of it, and the status.
+// The program on its words writes this, says this, and ends with this status.
+fn runs(
+    rt: &impl Abort,
+    alloc: Global,
+    words: &[String],
+    reader: StepReader,
+    output: &[u8],
+    said: &str,
+    status: u8,
+) {
+    let mut writer = Vec::new(alloc);
+    let mut errors = Vec::new(alloc);
+    let found = pump_words(rt, alloc, words, reader, &mut writer, &mut errors);
+    assert_eq!(rt;
+        (writer.as_slice(), errors.as_slice(), found),
+        (output, said.as_bytes(), status),
+        "{said}"
+    );
+}
+
+// Runs `pump`, by its name and without, on the input as a whole and in pieces.
 fn pumps(
     rt: &impl Abort,
     alloc: Global,
@@ -39,24 +59,20 @@ fn pumps(
     said: &str,
     status: u8,
 ) -> Result<(), Fail> {
-    for words in ["", "pump"] {
-        for step in [1, 1000] {
-            let words = words_of(alloc, words)?;
-            let reader = StepReader::new(input, step);
-            let mut writer = Vec::new(alloc);
-            let mut errors = Vec::new(alloc);
-            let found = pump_words(
-                rt,
-                alloc,
-                words.as_slice(),
-                reader,
-                &mut writer,
-                &mut errors,
-            );
-            assert_eq!(rt; writer.as_slice(), output, "{said}");
-            assert_eq!(rt; errors.as_slice(), said.as_bytes());
-            assert_eq!(rt; found, status, "{said}");
-        }
+    let pump_word = words_of(alloc, "pump")?;
+    for step in [1, 1000] {
+        let reader = StepReader::new(input, step);
+        runs(rt, alloc, &[], reader, output, said, status);
+        let reader = StepReader::new(input, step);
+        runs(
+            rt,
+            alloc,
+            pump_word.as_slice(),
+            reader,
+            output,
+            said,
+            status,
+        );
     }
     Ok(())
 }
@@ -103,49 +119,57 @@ fn faults_are_told(rt: HostRuntime) -> Result<(), Fail> {
 const NOTES_AND_FAULT: &[u8] =
     b"Content-Length: 14\r\n\r\n{\"method\":\"a\"}Content-Length: 14\r\n\r\n{\"method\":\"b\"}Content-Length:2\r\n\r\n{}";
 
+// The program without words says this, and ends with status 1.
+fn fails<R: BufRead + Drop, W: Write>(
+    rt: &impl Abort,
+    alloc: Global,
+    reader: R,
+    writer: &mut W,
+    said: &str,
+) {
+    let mut errors = Vec::new(alloc);
+    let status = pump_words(rt, alloc, &[], reader, writer, &mut errors);
+    assert_eq!(rt; errors.as_slice(), said.as_bytes());
+    assert_eq!(rt; status, 1);
+}
+
 // The writer would take the second message, and the failure is told before the fault of reading.
 #[test]
-fn a_failing_writer(rt: HostRuntime) -> Result<(), Fail> {
+fn a_failing_writer(rt: HostRuntime) {
     let alloc = rt.alloc();
     for room in 0..NOTE_FRAME.len() {
         let mut writer = LimitedWriter::new(alloc, room, AtLimit::FailsOnce(ErrorKind::BrokenPipe));
-        let mut errors = Vec::new(alloc);
-        let status = pump_words(&rt, alloc, &[], NOTES_AND_FAULT, &mut writer, &mut errors);
-        assert_eq!(rt; status, 1, "{room}");
+        fails(
+            &rt,
+            alloc,
+            NOTES_AND_FAULT,
+            &mut writer,
+            "lsp_demo: write fault 1\n",
+        );
         assert_eq!(rt;
-            errors.as_slice(),
-            b"lsp_demo: write fault 1\n".as_slice(),
+            Some(writer.taken.as_slice()),
+            NOTE_FRAME.get(..room),
             "{room}"
         );
-        assert_eq!(rt;
-            writer.taken.as_slice(),
-            NOTE_FRAME.get(..room).ok_or("short")?
-        );
     }
-    let mut writer = LimitedWriter::unlimited(alloc);
-    writer.bad_flush = 1;
-    let mut errors = Vec::new(alloc);
-    let status = pump_words(&rt, alloc, &[], NOTE, &mut writer, &mut errors);
-    assert_eq!(rt; status, 1);
-    assert_eq!(rt; errors.as_slice(), b"lsp_demo: write fault 1\n".as_slice());
-    assert_eq!(rt; writer.taken.as_slice(), NOTE_FRAME);
-    Ok(())
 }
 
 #[test]
-fn a_failing_reader(rt: HostRuntime) -> Result<(), Fail> {
+fn a_failing_flush(rt: HostRuntime) {
+    let alloc = rt.alloc();
+    let mut writer = LimitedWriter::unlimited(alloc);
+    writer.bad_flush = 1;
+    fails(&rt, alloc, NOTE, &mut writer, "lsp_demo: write fault 1\n");
+    assert_eq!(rt; writer.taken.as_slice(), NOTE_FRAME);
+}
+
+#[test]
+fn a_failing_reader(rt: HostRuntime) {
     let alloc = rt.alloc();
     for before in 0..=NOTE.len() {
         let reader = StepReader::failing(NOTE, 1000, before, ErrorKind::BrokenPipe);
         let mut writer = Vec::new(alloc);
-        let mut errors = Vec::new(alloc);
-        let status = pump_words(&rt, alloc, &[], reader, &mut writer, &mut errors);
-        assert_eq!(rt; status, 1, "{before}");
-        assert_eq!(rt;
-            errors.as_slice(),
-            b"lsp_demo: read fault 1\n".as_slice(),
-            "{before}"
-        );
+        fails(&rt, alloc, reader, &mut writer, "lsp_demo: read fault 1\n");
         let output = if before < NOTE.len() {
             b"".as_slice()
         } else {
@@ -153,7 +177,6 @@ fn a_failing_reader(rt: HostRuntime) -> Result<(), Fail> {
         };
         assert_eq!(rt; writer.as_slice(), output, "{before}");
     }
-    Ok(())
 }
 
 #[test]

@@ -3,41 +3,83 @@ use super::{EXIT, EXIT_LENGTH, TWO_EXITS, note, prints};
 use crate::devices::{AtLimit, LimitedWriter};
 use lsp_server::{ErrorCode, Message, Request, RequestId, Response, WriteFault};
 use serde_json::Value;
-use std::alloc::Global;
+use std::alloc::{AllocError, Global};
 use std::io::ErrorKind;
 use std::process::Abort;
 use std::test::Fail;
 
-// The frame is written by one write and one flush, and its content part is the body text.
-fn writes(rt: &impl Abort, alloc: Global, message: &Message, frame: &str) -> Result<(), Fail> {
-    let mut plain = Vec::new(alloc);
-    message.write(alloc, &mut plain)?;
-    assert_eq!(rt; plain.as_slice(), frame.as_bytes());
-    let mut counting = LimitedWriter::unlimited(alloc);
-    message.write(alloc, &mut counting)?;
-    assert_eq!(rt; counting.taken.as_slice(), frame.as_bytes());
-    assert_eq!(rt; counting.writes, 1, "{frame}");
-    assert_eq!(rt; counting.flushes, 1, "{frame}");
-    let (_, body) = frame.split_once("\r\n\r\n").ok_or("no blank line")?;
-    assert_eq!(rt; message.body_text(alloc)?.as_str(), body);
+// What the message writes.
+fn frame_of(alloc: Global, message: &Message) -> Result<Vec<u8>, Fail> {
+    let mut frame = Vec::new(alloc);
+    message.write(alloc, &mut frame)?;
+    Ok(frame)
+}
+
+// A writer that the message was written to.
+fn counted(alloc: Global, message: &Message) -> Result<LimitedWriter, Fail> {
+    let mut writer = LimitedWriter::unlimited(alloc);
+    message.write(alloc, &mut writer)?;
+    Ok(writer)
+}
+
+fn writes_frame(
+    rt: &impl Abort,
+    alloc: Global,
+    message: &Message,
+    frame: &str,
+) -> Result<(), Fail> {
+    let written = frame_of(alloc, message)?;
+    assert_eq!(rt; written.as_slice(), frame.as_bytes());
     Ok(())
 }
 
+// The frame is written by one write and one flush.
+fn writes_once(rt: &impl Abort, alloc: Global, message: &Message, frame: &str) -> Result<(), Fail> {
+    let writer = counted(alloc, message)?;
+    assert_eq!(rt; writer.taken.as_slice(), frame.as_bytes());
+    assert_eq!(rt; (writer.writes, writer.flushes), (1, 1), "{frame}");
+    Ok(())
+}
+
+// The frame's content part is the body text.
+fn has_body(rt: &impl Abort, alloc: Global, message: &Message, frame: &str) -> Result<(), Fail> {
+    let (_, content) = frame.split_once("\r\n\r\n").ok_or("no blank line")?;
+    let body = message.body_text(alloc)?;
+    assert_eq!(rt; body.as_str(), content);
+    Ok(())
+}
+
+fn all_agree(rt: &impl Abort, alloc: Global, message: &Message, frame: &str) -> Result<(), Fail> {
+    writes_frame(rt, alloc, message, frame)?;
+    writes_once(rt, alloc, message, frame)?;
+    has_body(rt, alloc, message, frame)
+}
+
+// The message is written as this frame, by one write and one flush, and the frame's content part is the body text.
+fn writes(rt: &impl Abort, alloc: Global, message: Message, frame: &str) -> Result<(), Fail> {
+    all_agree(rt, alloc, &message, frame)
+}
+
 #[test]
-fn notifications_and_requests(rt: HostRuntime) -> Result<(), Fail> {
+fn notifications(rt: HostRuntime) -> Result<(), Fail> {
     let alloc = rt.alloc();
     writes(
         &rt,
         alloc,
-        &note(alloc, "exit")?,
+        note(alloc, "exit")?,
         "Content-Length: 33\r\n\r\n{\"jsonrpc\":\"2.0\",\"method\":\"exit\"}",
     )?;
     writes(
         &rt,
         alloc,
-        &note(alloc, "\u{e9}")?,
+        note(alloc, "\u{e9}")?,
         "Content-Length: 31\r\n\r\n{\"jsonrpc\":\"2.0\",\"method\":\"\u{e9}\"}",
-    )?;
+    )
+}
+
+#[test]
+fn a_request(rt: HostRuntime) -> Result<(), Fail> {
+    let alloc = rt.alloc();
     let request = Request {
         id: RequestId::from(1),
         method: String::from_str(alloc, "initialize")?,
@@ -46,37 +88,48 @@ fn notifications_and_requests(rt: HostRuntime) -> Result<(), Fail> {
     writes(
         &rt,
         alloc,
-        &Message::from(request),
+        Message::from(request),
         "Content-Length: 46\r\n\r\n{\"jsonrpc\":\"2.0\",\"id\":1,\"method\":\"initialize\"}",
     )
 }
 
 #[test]
-fn replies(rt: HostRuntime) -> Result<(), Fail> {
+fn results(rt: HostRuntime) -> Result<(), Fail> {
     let alloc = rt.alloc();
     writes(
         &rt,
         alloc,
-        &Message::from(Response::new_ok(alloc, RequestId::from(3), "success")?),
+        Message::from(Response::new_ok(alloc, RequestId::from(3), "success")?),
         "Content-Length: 43\r\n\r\n{\"jsonrpc\":\"2.0\",\"id\":3,\"result\":\"success\"}",
     )?;
     writes(
         &rt,
         alloc,
-        &Message::from(Response::new_ok(alloc, RequestId::from(2), Value::Null)?),
+        Message::from(Response::new_ok(alloc, RequestId::from(2), Value::Null)?),
         "Content-Length: 38\r\n\r\n{\"jsonrpc\":\"2.0\",\"id\":2,\"result\":null}",
-    )?;
-    let refusal = Response::new_err(
-        RequestId::from(String::from_str(alloc, "x")?),
-        ErrorCode::MethodNotFound.number(),
-        String::from_str(alloc, "method not found")?,
-    );
+    )
+}
+
+#[test]
+fn an_error(rt: HostRuntime) -> Result<(), Fail> {
+    let alloc = rt.alloc();
+    let text = String::from_str(alloc, "method not found")?;
+    let id = RequestId::from(String::from_str(alloc, "x")?);
+    let refusal = Response::new_err(id, ErrorCode::MethodNotFound.number(), text);
     writes(
         &rt,
         alloc,
-        &Message::from(refusal),
+        Message::from(refusal),
         "Content-Length: 79\r\n\r\n{\"jsonrpc\":\"2.0\",\"id\":\"x\",\"error\":{\"code\":-32601,\"message\":\"method not found\"}}",
     )
+}
+
+// Writes the notification `exit`.
+fn write_exit(
+    alloc: Global,
+    writer: &mut LimitedWriter,
+) -> Result<Result<(), WriteFault>, AllocError> {
+    Ok(note(alloc, "exit")?.write(alloc, writer))
 }
 
 // After a failure the writer holds a beginning of the frame.
@@ -88,12 +141,11 @@ fn fails_after(
     at_limit: AtLimit,
     kind: ErrorKind,
 ) -> Result<(), Fail> {
-    let message = note(alloc, "exit")?;
     let mut writer = LimitedWriter::new(alloc, room, at_limit);
     writer.step = step;
-    let answer = message.write(alloc, &mut writer);
+    let answer = write_exit(alloc, &mut writer)?;
     assert_eq!(rt; answer, Err(WriteFault::Output(kind)), "{room}");
-    assert_eq!(rt; writer.taken.as_slice(), EXIT.get(..room).ok_or("short")?);
+    assert_eq!(rt; Some(writer.taken.as_slice()), EXIT.get(..room), "{room}");
     assert_eq!(rt; writer.flushes, 0, "{room}");
     Ok(())
 }
@@ -126,7 +178,7 @@ fn a_failing_writer(rt: HostRuntime) -> Result<(), Fail> {
 #[test]
 fn ten_bytes_and_then_a_failure(rt: HostRuntime) -> Result<(), Fail> {
     let mut writer = LimitedWriter::new(rt.alloc(), 10, AtLimit::Fails(ErrorKind::BrokenPipe));
-    let answer = note(rt.alloc(), "exit")?.write(rt.alloc(), &mut writer);
+    let answer = write_exit(rt.alloc(), &mut writer)?;
     assert_eq!(rt; answer, Err(WriteFault::Output(ErrorKind::BrokenPipe)));
     assert_eq!(rt; writer.taken.as_slice(), b"Content-Le".as_slice());
     Ok(())
@@ -134,14 +186,12 @@ fn ten_bytes_and_then_a_failure(rt: HostRuntime) -> Result<(), Fail> {
 
 #[test]
 fn a_failing_flush(rt: HostRuntime) -> Result<(), Fail> {
-    let alloc = rt.alloc();
-    let message = note(alloc, "exit")?;
-    let mut writer = LimitedWriter::unlimited(alloc);
+    let mut writer = LimitedWriter::unlimited(rt.alloc());
     writer.step = 3;
     writer.bad_flush = 2;
-    message.write(alloc, &mut writer)?;
+    assert_eq!(rt; write_exit(rt.alloc(), &mut writer)?, Ok(()));
     assert_eq!(rt; writer.flushes, 1);
-    let answer = message.write(alloc, &mut writer);
+    let answer = write_exit(rt.alloc(), &mut writer)?;
     assert_eq!(rt; answer, Err(WriteFault::Output(ErrorKind::BrokenPipe)));
     assert_eq!(rt; writer.flushes, 2);
     assert_eq!(rt; writer.taken.as_slice(), TWO_EXITS);
