@@ -9,3 +9,5 @@ mod fronts;
 mod lifecycle;
 #[cfg(test)]
 mod queues;
+#[cfg(test)]
+mod session;
