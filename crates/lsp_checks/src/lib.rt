@@ -3,6 +3,7 @@
 #![tactic(auto)]
 
 pub mod example;
+pub mod server;
 #[cfg(test)]
 mod fronts;
 #[cfg(test)]
