@@ -9,7 +9,7 @@ use std::io::{BufRead, Write};
 pub struct Documents {
     alloc: Global,
     /// How many are open.
-    open: u32,
+    open_count: u32,
 }
 
 impl Handler for Documents {
@@ -18,11 +18,11 @@ impl Handler for Documents {
     // A request changes nothing, and a notification opens at most one document.
     ghost answers = { λ old _ _ _ _ new. new ≡ old };
 
-    ghost notes = { λ old _ _ new. new.open ≤ old.open + 1 };
+    ghost notes = { λ old _ _ new. new.open_count ≤ old.open_count + 1 };
 
     fn answer(&mut self, request: &Request) -> Result<Result<Value, ResponseError>, AllocError> {
         if request.method.as_str() == "demo/openDocuments" {
-            return Ok(Ok(Value::from(self.open)));
+            return Ok(Ok(Value::from(self.open_count)));
         }
         Ok(Err(ResponseError {
             code: ErrorCode::MethodNotFound.number(),
@@ -33,8 +33,8 @@ impl Handler for Documents {
 
     fn note(&mut self, notification: &Notification) -> Result<(), AllocError> {
         match notification.method.as_str() {
-            "textDocument/didOpen" => self.open = self.open.saturating_add(1),
-            "textDocument/didClose" => self.open = self.open.saturating_sub(1),
+            "textDocument/didOpen" => self.open_count = self.open_count.saturating_add(1),
+            "textDocument/didClose" => self.open_count = self.open_count.saturating_sub(1),
             _ => {}
         }
         Ok(())
@@ -49,7 +49,10 @@ pub fn run_server<R: BufRead, W: Write>(
 ) -> anyhow::Result<SessionEnd> {
     // The client is to tell what it opens and closes.
     let capabilities = json!(in alloc; { "textDocumentSync": { "openClose": true } })?;
-    let mut documents = Documents { alloc, open: 0 };
+    let mut documents = Documents {
+        alloc,
+        open_count: 0,
+    };
     Ok(session(alloc, reader, writer, capabilities, &mut documents)?)
 }
 

@@ -22,6 +22,10 @@ const SHUTDOWN: &str =
 
 const EXIT: &str = "Content-Length: 33\r\n\r\n{\"jsonrpc\":\"2.0\",\"method\":\"exit\"}";
 
+// All four.
+const SESSION: &str =
+    "Content-Length: 46\r\n\r\n{\"jsonrpc\":\"2.0\",\"id\":1,\"method\":\"initialize\"}Content-Length: 40\r\n\r\n{\"jsonrpc\":\"2.0\",\"method\":\"initialized\"}Content-Length: 44\r\n\r\n{\"jsonrpc\":\"2.0\",\"id\":2,\"method\":\"shutdown\"}Content-Length: 33\r\n\r\n{\"jsonrpc\":\"2.0\",\"method\":\"exit\"}";
+
 // A notification of another method.
 const NOTE: &str = "Content-Length: 30\r\n\r\n{\"jsonrpc\":\"2.0\",\"method\":\"x\"}";
 
@@ -31,6 +35,10 @@ const CAPABILITIES: &str =
 
 // The reply to `shutdown`.
 const NULL: &str = "Content-Length: 38\r\n\r\n{\"jsonrpc\":\"2.0\",\"id\":2,\"result\":null}";
+
+// Both replies.
+const REPLIES: &str =
+    "Content-Length: 53\r\n\r\n{\"jsonrpc\":\"2.0\",\"id\":1,\"result\":{\"capabilities\":{}}}Content-Length: 38\r\n\r\n{\"jsonrpc\":\"2.0\",\"id\":2,\"result\":null}";
 
 const SHUT_DOWN: &str = "shut down";
 
@@ -187,14 +195,6 @@ impl Write for Line<'_> {
     }
 }
 
-fn joined(alloc: Global, parts: &[&str]) -> Result<String, AllocError> {
-    let mut all = String::new(alloc);
-    for part in parts {
-        all.push_str(part)?;
-    }
-    Ok(all)
-}
-
 // How a session ended, or the fault's text.
 fn end_text<E: Display + Drop>(
     alloc: Global,
@@ -218,29 +218,57 @@ fn end_of<R: BufRead, W: Write, H: Handler>(
     end_text(alloc, session(alloc, reader, writer, capabilities, handler))
 }
 
-// What came of a session.
+// What came of a session: its end, what it wrote, and how much it left unread.
 #[derive(Drop)]
 struct Outcome {
     end: String,
     written: Vec<u8>,
     left: usize,
-    asked: u32,
-    told: u32,
 }
 
 // Runs a session over a text that is read so many bytes at a time.
-fn run(alloc: Global, text: &[u8], step: usize) -> Result<Outcome, AllocError> {
+fn run<H: Handler>(
+    alloc: Global,
+    text: &[u8],
+    step: usize,
+    handler: &mut H,
+) -> Result<Outcome, AllocError> {
     let mut reader = StepReader { left: text, step };
     let mut written = Vec::new(alloc);
-    let mut handler = Echo::new(alloc);
-    let end = end_of(alloc, &mut reader, &mut written, &mut handler)?;
+    let end = end_of(alloc, &mut reader, &mut written, handler)?;
     Ok(Outcome {
         end,
         written,
         left: reader.left.len(),
-        asked: handler.asked,
-        told: handler.told,
     })
+}
+
+// Runs a session over such a text, which is in parts.
+fn run_parts<H: Handler>(
+    alloc: Global,
+    parts: &[&str],
+    behind: &str,
+    step: usize,
+    handler: &mut H,
+) -> Result<Outcome, AllocError> {
+    let mut text = String::new(alloc);
+    for part in parts {
+        text.push_str(part)?;
+    }
+    text.push_str(behind)?;
+    run(alloc, text.as_bytes(), step, handler)
+}
+
+// The bytes are these parts.
+fn consists_of(bytes: &[u8], parts: &[&str]) -> bool {
+    let mut left = bytes;
+    for part in parts {
+        let Some(others) = left.strip_prefix(part.as_bytes()) else {
+            return false;
+        };
+        left = others;
+    }
+    left.is_empty()
 }
 
 // A text with an open end is the beginning of what is found.
@@ -250,12 +278,7 @@ fn agrees(found: &str, wanted: &str) -> bool {
 
 // What the client sends and the session uses, what follows it, how the session ends, and what it writes.
 static RUNS: [(&[&str], &str, &str, &[&str]); 12] = [
-    (
-        &[INITIALIZE, INITIALIZED, SHUTDOWN, EXIT],
-        "",
-        SHUT_DOWN,
-        &[CAPABILITIES, NULL],
-    ),
+    (&[SESSION], "", SHUT_DOWN, &[REPLIES]),
     (
         &[INITIALIZE, INITIALIZED, SHUTDOWN, EXIT],
         "Q",
@@ -269,7 +292,12 @@ static RUNS: [(&[&str], &str, &str, &[&str]); 12] = [
         &[CAPABILITIES, NULL],
     ),
     (&[INITIALIZE, INITIALIZED], "", CLOSED, &[CAPABILITIES]),
-    (&[INITIALIZE, INITIALIZED, EXIT], NOTE, CLOSED, &[CAPABILITIES]),
+    (
+        &[INITIALIZE, INITIALIZED, EXIT],
+        NOTE,
+        CLOSED,
+        &[CAPABILITIES],
+    ),
     (&[INITIALIZE], "", DISCONNECTED, &[CAPABILITIES]),
     (
         &[INITIALIZE, INITIALIZED, SHUTDOWN, NOTE],
@@ -289,7 +317,12 @@ static RUNS: [(&[&str], &str, &str, &[&str]); 12] = [
         "read fault 4",
         &[CAPABILITIES],
     ),
-    (&[INITIALIZE, EXIT], NOTE, EXPECTED_INITIALIZED, &[CAPABILITIES]),
+    (
+        &[INITIALIZE, EXIT],
+        NOTE,
+        EXPECTED_INITIALIZED,
+        &[CAPABILITIES],
+    ),
     (&[], "", DISCONNECTED, &[]),
     (&[EXIT], INITIALIZE, EXPECTED_INITIALIZE, &[]),
 ];
@@ -297,15 +330,13 @@ static RUNS: [(&[&str], &str, &str, &[&str]); 12] = [
 #[test]
 fn sessions_of_bytes(rt: HostRuntime) -> Result<(), Fail> {
     let alloc = rt.alloc();
-    for (used, behind, end, output) in &RUNS {
-        let mut sent = joined(alloc, used)?;
-        sent.push_str(behind)?;
-        let written = joined(alloc, output)?;
+    for (row, (used, behind, end, output)) in RUNS.iter().enumerate() {
         for step in [1, 1000] {
-            let outcome = run(alloc, sent.as_bytes(), step)?;
-            assert!(rt; agrees(outcome.end.as_str(), end), "{sent}");
-            assert_eq!(rt; outcome.written.as_slice(), written.as_bytes(), "{sent}");
-            assert_eq!(rt; outcome.left, behind.len(), "{sent}");
+            let outcome = run_parts(alloc, used, behind, step, &mut Echo::new(alloc))?;
+            let found = outcome.end.as_str();
+            assert!(rt; agrees(found, end), "{row}: {found}");
+            assert!(rt; consists_of(outcome.written.as_slice(), output), "{row}");
+            assert_eq!(rt; outcome.left, behind.len(), "{row}");
         }
     }
     Ok(())
@@ -319,30 +350,43 @@ const EARLY: &str =
 const EARLY_REPLY: &str =
     "{\"jsonrpc\":\"2.0\",\"id\":7,\"error\":{\"code\":-32002,\"message\":\"expected initialize request, got ";
 
+// The body of a frame whose header gives its length.
+fn body_of(frame: &str) -> Option<&str> {
+    let (header, body) = frame.split_once("\r\n\r\n")?;
+    let length = header
+        .strip_prefix("Content-Length: ")?
+        .parse::<usize>()
+        .ok()?;
+    (length == body.len()).then_some(body)
+}
+
+// The bytes are the frame of the early request's reply, and then the two replies.
+fn is_refusal_and_replies(bytes: &[u8]) -> bool {
+    let Ok(text) = str::from_utf8(bytes) else {
+        return false;
+    };
+    let Some(body) = text.strip_suffix(REPLIES).and_then(body_of) else {
+        return false;
+    };
+    body.starts_with(EARLY_REPLY) && body.ends_with("\"}}")
+}
+
 #[test]
 fn an_early_request_is_refused(rt: HostRuntime) -> Result<(), Fail> {
     let alloc = rt.alloc();
-    let sent = joined(alloc, &[EARLY, INITIALIZE, INITIALIZED, SHUTDOWN, EXIT])?;
-    let outcome = run(alloc, sent.as_bytes(), 1000)?;
+    let mut echo = Echo::new(alloc);
+    let outcome = run_parts(alloc, &[EARLY, SESSION], "", 1000, &mut echo)?;
     assert_eq!(rt; outcome.end.as_str(), SHUT_DOWN);
-    assert_eq!(rt; outcome.asked, 0);
-    assert_eq!(rt; outcome.told, 0);
-    let written = str::from_utf8(outcome.written.as_slice())?;
-    let others = joined(alloc, &[CAPABILITIES, NULL])?;
-    let frame = written.strip_suffix(others.as_str()).ok_or("no end")?;
-    let (header, body) = frame.split_once("\r\n\r\n").ok_or("no body")?;
-    let wanted = format!(in alloc; "Content-Length: {}", body.len())?;
-    assert_eq!(rt; header, wanted.as_str());
-    assert!(rt; body.starts_with(EARLY_REPLY), "{body}");
-    assert!(rt; body.ends_with("\"}}"), "{body}");
+    assert!(rt; is_refusal_and_replies(outcome.written.as_slice()));
+    assert_eq!(rt; echo.asked, 0);
+    assert_eq!(rt; echo.told, 0);
     Ok(())
 }
 
 const ECHO: &str =
     "Content-Length: 58\r\n\r\n{\"jsonrpc\":\"2.0\",\"id\":5,\"method\":\"demo/echo\",\"params\":[1]}";
 
-const ECHO_REPLY: &str =
-    "Content-Length: 37\r\n\r\n{\"jsonrpc\":\"2.0\",\"id\":5,\"result\":[1]}";
+const ECHO_REPLY: &str = "Content-Length: 37\r\n\r\n{\"jsonrpc\":\"2.0\",\"id\":5,\"result\":[1]}";
 
 const RESPONSE: &str = "Content-Length: 38\r\n\r\n{\"jsonrpc\":\"2.0\",\"id\":3,\"result\":null}";
 
@@ -352,17 +396,32 @@ const UNKNOWN: &str =
 const UNKNOWN_REPLY: &str =
     "Content-Length: 79\r\n\r\n{\"jsonrpc\":\"2.0\",\"id\":\"x\",\"error\":{\"code\":-32601,\"message\":\"method not found\"}}";
 
+static MIDDLE: [&str; 8] = [
+    INITIALIZE,
+    INITIALIZED,
+    ECHO,
+    NOTE,
+    RESPONSE,
+    UNKNOWN,
+    SHUTDOWN,
+    EXIT,
+];
+
 #[test]
 fn the_handler_answers_in_order(rt: HostRuntime) -> Result<(), Fail> {
     let alloc = rt.alloc();
-    let sent = joined(alloc, &[INITIALIZE, INITIALIZED, ECHO, NOTE, RESPONSE, UNKNOWN, SHUTDOWN, EXIT])?;
-    let written = joined(alloc, &[CAPABILITIES, ECHO_REPLY, UNKNOWN_REPLY, NULL])?;
     for step in [1, 1000] {
-        let outcome = run(alloc, sent.as_bytes(), step)?;
+        let mut echo = Echo::new(alloc);
+        let outcome = run_parts(alloc, &MIDDLE, "", step, &mut echo)?;
         assert_eq!(rt; outcome.end.as_str(), SHUT_DOWN);
-        assert_eq!(rt; outcome.written.as_slice(), written.as_bytes());
-        assert_eq!(rt; outcome.asked, 2);
-        assert_eq!(rt; outcome.told, 1);
+        assert!(rt;
+            consists_of(
+                outcome.written.as_slice(),
+                &[CAPABILITIES, ECHO_REPLY, UNKNOWN_REPLY, NULL]
+            )
+        );
+        assert_eq!(rt; echo.asked, 2);
+        assert_eq!(rt; echo.told, 1);
     }
     Ok(())
 }
@@ -376,31 +435,33 @@ fn cut_end(inside: usize, between: &'static str) -> &'static str {
     }
 }
 
-// How a session ends that is cut off after so many bytes, and how many it wrote.
-fn prefix_end(count: usize) -> (&'static str, usize) {
+// How a session ends that is cut off after so many bytes, and what it wrote.
+fn prefix_end(count: usize) -> (&'static str, &'static str) {
     if count >= 196 {
-        return (cut_end(count.saturating_sub(196), NO_EXIT), 135);
+        return (cut_end(count.saturating_sub(196), NO_EXIT), REPLIES);
     }
     if count >= 130 {
-        return (cut_end(count.saturating_sub(130), CLOSED), 75);
+        return (cut_end(count.saturating_sub(130), CLOSED), CAPABILITIES);
     }
     if count >= 68 {
-        return (cut_end(count.saturating_sub(68), DISCONNECTED), 75);
+        return (
+            cut_end(count.saturating_sub(68), DISCONNECTED),
+            CAPABILITIES,
+        );
     }
-    (cut_end(count, DISCONNECTED), 0)
+    (cut_end(count, DISCONNECTED), "")
 }
 
 #[test]
 fn sessions_that_are_cut_off(rt: HostRuntime) -> Result<(), Fail> {
     let alloc = rt.alloc();
-    let sent = joined(alloc, &[INITIALIZE, INITIALIZED, SHUTDOWN, EXIT])?;
+    let sent = SESSION.as_bytes();
     assert_eq!(rt; sent.len(), 251);
-    let written = joined(alloc, &[CAPABILITIES, NULL])?;
-    for count in 0..251 {
-        let (end, length) = prefix_end(count);
-        let outcome = run(alloc, sent.as_bytes().get(..count).ok_or("short")?, 1000)?;
+    for count in 0..sent.len() {
+        let (end, written) = prefix_end(count);
+        let outcome = run(alloc, &sent[..count], 1000, &mut Echo::new(alloc))?;
         assert_eq!(rt; outcome.end.as_str(), end, "{count}");
-        assert_eq!(rt; Some(outcome.written.as_slice()), written.as_bytes().get(..length), "{count}");
+        assert_eq!(rt; outcome.written.as_slice(), written.as_bytes(), "{count}");
         assert_eq!(rt; outcome.left, 0, "{count}");
     }
     Ok(())
@@ -409,11 +470,9 @@ fn sessions_that_are_cut_off(rt: HostRuntime) -> Result<(), Fail> {
 #[test]
 fn replies_go_out_before_the_next_read(rt: HostRuntime) -> Result<(), Fail> {
     let alloc = rt.alloc();
-    let sent = joined(alloc, &[INITIALIZE, INITIALIZED, SHUTDOWN, EXIT])?;
-    let written = joined(alloc, &[CAPABILITIES, NULL])?;
     let got = Cell::new(0);
     let mut client = WaitingClient {
-        left: sent.as_bytes(),
+        left: SESSION.as_bytes(),
         got: &got,
     };
     let mut line = Line {
@@ -423,26 +482,25 @@ fn replies_go_out_before_the_next_read(rt: HostRuntime) -> Result<(), Fail> {
     };
     let end = end_of(alloc, &mut client, &mut line, &mut Echo::new(alloc))?;
     assert_eq!(rt; end.as_str(), SHUT_DOWN);
-    assert_eq!(rt; line.taken.as_slice(), written.as_bytes());
+    assert_eq!(rt; line.taken.as_slice(), REPLIES.as_bytes());
     Ok(())
 }
 
 #[test]
 fn the_writer_fails(rt: HostRuntime) -> Result<(), Fail> {
     let alloc = rt.alloc();
-    let sent = joined(alloc, &[INITIALIZE, INITIALIZED, SHUTDOWN, EXIT])?;
-    let written = joined(alloc, &[CAPABILITIES, NULL])?;
+    let replies = REPLIES.as_bytes();
     let flushed = Cell::new(0);
-    for room in 0..135 {
+    for room in 0..replies.len() {
         let mut line = Line {
             taken: Vec::new(alloc),
             room,
             flushed: &flushed,
         };
-        let mut reader = sent.as_bytes();
+        let mut reader = SESSION.as_bytes();
         let end = end_of(alloc, &mut reader, &mut line, &mut Echo::new(alloc))?;
         assert_eq!(rt; end.as_str(), "write fault 1", "{room}");
-        assert_eq!(rt; Some(line.taken.as_slice()), written.as_bytes().get(..room), "{room}");
+        assert_eq!(rt; line.taken.as_slice(), &replies[..room], "{room}");
     }
     Ok(())
 }
@@ -510,8 +568,7 @@ fn sessions_over_lists(rt: HostRuntime) -> Result<(), Fail> {
     for (room, frames, end, output) in &LIST_RUNS {
         let (found, sent) = list_session(alloc, frames, *room)?;
         assert_eq!(rt; found.as_str(), *end, "{room}");
-        let wanted = joined(alloc, output)?;
-        assert_eq!(rt; sent.as_slice(), wanted.as_bytes(), "{room}");
+        assert!(rt; consists_of(sent.as_slice(), output), "{room}");
     }
     Ok(())
 }
@@ -554,32 +611,42 @@ static RECORDED: [&str; 14] = [
     r#"{"jsonrpc": "2.0", "method": "exit", "params": null}"#,
 ];
 
-// The ids of its requests between the handshake and `shutdown`, as they stand in the text.
-static RECORDED_IDS: [&str; 8] = ["\"sym\"", "2", "3", "17", "\"fold\"", "30", "31", "32"];
+// The ids of its requests after the handshake, as they stand in the text.
+static RECORDED_IDS: [&str; 9] = [
+    "\"sym\"", "2", "3", "17", "\"fold\"", "30", "31", "32", "33",
+];
 
 fn add_frame(alloc: Global, frames: &mut String, body: &str) -> Result<(), AllocError> {
     let frame = format!(in alloc; "Content-Length: {}\r\n\r\n{body}", body.len())?;
     frames.push_str(frame.as_str())
 }
 
-#[test]
-fn a_recorded_session(rt: HostRuntime) -> Result<(), Fail> {
-    let alloc = rt.alloc();
+fn recorded_input(alloc: Global) -> Result<String, AllocError> {
     let mut sent = String::new(alloc);
     for body in &RECORDED {
         add_frame(alloc, &mut sent, body)?;
     }
-    let mut wanted = String::from_str(alloc, CAPABILITIES)?;
+    Ok(sent)
+}
+
+// The null replies to the requests after the handshake.
+fn recorded_replies(alloc: Global) -> Result<String, AllocError> {
+    let mut replies = String::from_str(alloc, CAPABILITIES)?;
     for id in &RECORDED_IDS {
         let body = format!(in alloc; "{{\"jsonrpc\":\"2.0\",\"id\":{id},\"result\":null}}")?;
-        add_frame(alloc, &mut wanted, body.as_str())?;
+        add_frame(alloc, &mut replies, body.as_str())?;
     }
-    add_frame(alloc, &mut wanted, "{\"jsonrpc\":\"2.0\",\"id\":33,\"result\":null}")?;
-    let mut reader = sent.as_bytes();
-    let mut written = Vec::new(alloc);
-    let end = end_of(alloc, &mut reader, &mut written, &mut Nulls)?;
-    assert_eq!(rt; end.as_str(), SHUT_DOWN);
-    assert_eq!(rt; written.as_slice(), wanted.as_bytes());
-    assert_eq!(rt; reader.len(), 0);
+    Ok(replies)
+}
+
+#[test]
+fn a_recorded_session(rt: HostRuntime) -> Result<(), Fail> {
+    let alloc = rt.alloc();
+    let sent = recorded_input(alloc)?;
+    let outcome = run(alloc, sent.as_bytes(), 1000, &mut Nulls)?;
+    assert_eq!(rt; outcome.end.as_str(), SHUT_DOWN);
+    assert_eq!(rt; outcome.left, 0);
+    let wanted = recorded_replies(alloc)?;
+    assert_eq!(rt; outcome.written.as_slice(), wanted.as_bytes());
     Ok(())
 }
