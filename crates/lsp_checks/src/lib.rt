@@ -1,14 +1,17 @@
 //! Tests of the public surface of `lsp_server` that the program `lsp_demo` has no part in: how much of a message has come,
-//! the queues, the handshake and end of a session, and the loop that writes. They stand in a crate of their own, beside
-//! the other tests.
+//! the queues, the handshake and end of a session, whole sessions, and the loop that writes; and the examples of the README.
+//! They stand in a crate of their own, beside the other tests.
 #![tactic(auto)]
 
 pub mod example;
+pub mod server;
 #[cfg(test)]
 mod fronts;
 #[cfg(test)]
 mod lifecycle;
 #[cfg(test)]
 mod queues;
+#[cfg(test)]
+mod session;
 #[cfg(test)]
 mod write_loop;

@@ -1,0 +1,652 @@
+// Sessions of a server, from bytes to bytes (LSP 3.17, "Base Protocol" and "Server lifecycle").
+use lsp_server::{
+    Event, Handler, Inbox, ListInbox, ListOutbox, Notification, Request, ResponseError, SessionEnd,
+    StreamInbox, serve, session,
+};
+use serde_json::{Map, Value};
+use std::alloc::{AllocError, Global};
+use std::cell::Cell;
+use std::fmt::Display;
+use std::io;
+use std::io::{BufRead, ErrorKind, Read, Write};
+use std::test::Fail;
+
+const INITIALIZE: &str =
+    "Content-Length: 46\r\n\r\n{\"jsonrpc\":\"2.0\",\"id\":1,\"method\":\"initialize\"}";
+
+const INITIALIZED: &str =
+    "Content-Length: 40\r\n\r\n{\"jsonrpc\":\"2.0\",\"method\":\"initialized\"}";
+
+const SHUTDOWN: &str =
+    "Content-Length: 44\r\n\r\n{\"jsonrpc\":\"2.0\",\"id\":2,\"method\":\"shutdown\"}";
+
+const EXIT: &str = "Content-Length: 33\r\n\r\n{\"jsonrpc\":\"2.0\",\"method\":\"exit\"}";
+
+// All four.
+const SESSION: &str =
+    "Content-Length: 46\r\n\r\n{\"jsonrpc\":\"2.0\",\"id\":1,\"method\":\"initialize\"}Content-Length: 40\r\n\r\n{\"jsonrpc\":\"2.0\",\"method\":\"initialized\"}Content-Length: 44\r\n\r\n{\"jsonrpc\":\"2.0\",\"id\":2,\"method\":\"shutdown\"}Content-Length: 33\r\n\r\n{\"jsonrpc\":\"2.0\",\"method\":\"exit\"}";
+
+// A notification of another method.
+const NOTE: &str = "Content-Length: 30\r\n\r\n{\"jsonrpc\":\"2.0\",\"method\":\"x\"}";
+
+// The reply to `initialize`.
+const CAPABILITIES: &str =
+    "Content-Length: 53\r\n\r\n{\"jsonrpc\":\"2.0\",\"id\":1,\"result\":{\"capabilities\":{}}}";
+
+// The reply to `shutdown`.
+const NULL: &str = "Content-Length: 38\r\n\r\n{\"jsonrpc\":\"2.0\",\"id\":2,\"result\":null}";
+
+// Both replies.
+const REPLIES: &str =
+    "Content-Length: 53\r\n\r\n{\"jsonrpc\":\"2.0\",\"id\":1,\"result\":{\"capabilities\":{}}}Content-Length: 38\r\n\r\n{\"jsonrpc\":\"2.0\",\"id\":2,\"result\":null}";
+
+const SHUT_DOWN: &str = "shut down";
+
+const CLOSED: &str = "closed";
+
+const DISCONNECTED: &str = "disconnected channel";
+
+const EXPECTED_INITIALIZE: &str = "expected initialize request, got ";
+
+const EXPECTED_INITIALIZED: &str = "expected initialized notification, got: ";
+
+const UNEXPECTED: &str = "unexpected message during shutdown: ";
+
+const NO_EXIT: &str = "channel disconnected waiting for exit notification";
+
+// Echoes the params of `demo/echo`, knows no other method, and counts what comes.
+#[derive(Drop)]
+struct Echo {
+    alloc: Global,
+    asked: u32,
+    told: u32,
+}
+
+impl Echo {
+    fn new(alloc: Global) -> Echo {
+        Echo {
+            alloc,
+            asked: 0,
+            told: 0,
+        }
+    }
+}
+
+impl Handler for Echo {
+    ghost use Rattle.std.specs.Prelude.{⊤};
+
+    ghost answers = { λ _ _ _ _ _ _. ⊤ };
+
+    ghost notes = { λ _ _ _ _. ⊤ };
+
+    fn answer(&mut self, request: &Request) -> Result<Result<Value, ResponseError>, AllocError> {
+        self.asked = self.asked.saturating_add(1);
+        if request.method.as_str() == "demo/echo" {
+            return Ok(Ok(request.params.clone()?));
+        }
+        Ok(Err(ResponseError {
+            code: -32601,
+            message: String::from_str(self.alloc, "method not found")?,
+            data: None,
+        }))
+    }
+
+    fn note(&mut self, _notification: &Notification) -> Result<(), AllocError> {
+        self.told = self.told.saturating_add(1);
+        Ok(())
+    }
+}
+
+// Shows its bytes, at most so many at a time.
+#[derive(Drop)]
+struct StepReader<'a> {
+    left: &'a [u8],
+    step: usize,
+}
+
+impl Read for StepReader<'_> {
+    fn read(&mut self, buf: &mut [u8]) -> io::Result<usize> {
+        let shown = self.fill_buf()?;
+        let count = shown.len().min(buf.len());
+        buf[..count].copy_from_slice(&shown[..count]);
+        self.consume(count);
+        Ok(count)
+    }
+}
+
+impl BufRead for StepReader<'_> {
+    fn fill_buf(&mut self) -> io::Result<&[u8]> {
+        let count = self.left.len().min(self.step);
+        Ok(&self.left[..count])
+    }
+
+    fn consume(&mut self, amount: usize) {
+        self.left = &self.left[amount.min(self.left.len())..];
+    }
+}
+
+// A client that sends `initialized` and `shutdown` once it got one reply, and `exit` once it got two. To read on before is
+// a fault.
+#[derive(Drop)]
+struct WaitingClient<'a> {
+    left: &'a [u8],
+    got: &'a Cell<usize>,
+}
+
+impl WaitingClient<'_> {
+    // How many bytes are unsent while the client waits.
+    fn held_back(&self) -> usize {
+        if self.got.get() < 75 {
+            return 183;
+        }
+        if self.got.get() < 135 {
+            return 55;
+        }
+        0
+    }
+}
+
+impl Read for WaitingClient<'_> {
+    fn read(&mut self, buf: &mut [u8]) -> io::Result<usize> {
+        let shown = self.fill_buf()?;
+        let count = shown.len().min(buf.len());
+        buf[..count].copy_from_slice(&shown[..count]);
+        self.consume(count);
+        Ok(count)
+    }
+}
+
+impl BufRead for WaitingClient<'_> {
+    fn fill_buf(&mut self) -> io::Result<&[u8]> {
+        let count = self.left.len().saturating_sub(self.held_back());
+        if count == 0 {
+            return Err(io::Error::from(ErrorKind::WouldBlock));
+        }
+        Ok(&self.left[..count])
+    }
+
+    fn consume(&mut self, amount: usize) {
+        self.left = &self.left[amount.min(self.left.len())..];
+    }
+}
+
+// Takes so many bytes, fails at the next one, and says how many were flushed.
+#[derive(Drop)]
+struct Line<'a> {
+    taken: Vec<u8>,
+    room: usize,
+    flushed: &'a Cell<usize>,
+}
+
+impl Write for Line<'_> {
+    fn write(&mut self, buf: &[u8]) -> io::Result<usize> {
+        let count = buf.len().min(self.room);
+        if count == 0 {
+            return Err(io::Error::from(ErrorKind::BrokenPipe));
+        }
+        self.room = self.room.saturating_sub(count);
+        self.taken.extend_from_slice(&buf[..count])?;
+        Ok(count)
+    }
+
+    fn flush(&mut self) -> io::Result<()> {
+        self.flushed.set(self.taken.len());
+        Ok(())
+    }
+}
+
+// How a session ended, or the fault's text.
+fn end_text<E: Display + Drop>(
+    alloc: Global,
+    answer: Result<SessionEnd, E>,
+) -> Result<String, AllocError> {
+    match answer {
+        Ok(SessionEnd::ShutDown) => String::from_str(alloc, SHUT_DOWN),
+        Ok(SessionEnd::Closed) => String::from_str(alloc, CLOSED),
+        Err(fault) => fault.to_string(alloc),
+    }
+}
+
+// How a session with no capabilities ends.
+fn end_of<R: BufRead, W: Write, H: Handler>(
+    alloc: Global,
+    reader: &mut R,
+    writer: &mut W,
+    handler: &mut H,
+) -> Result<String, AllocError> {
+    let capabilities = Value::Object(Map::new(alloc));
+    end_text(alloc, session(alloc, reader, writer, capabilities, handler))
+}
+
+// What came of a session: its end, what it wrote, and how much it left unread.
+#[derive(Drop)]
+struct Outcome {
+    end: String,
+    written: Vec<u8>,
+    left: usize,
+}
+
+// Runs a session over a text that is read so many bytes at a time.
+fn run<H: Handler>(
+    alloc: Global,
+    text: &[u8],
+    step: usize,
+    handler: &mut H,
+) -> Result<Outcome, AllocError> {
+    let mut reader = StepReader { left: text, step };
+    let mut written = Vec::new(alloc);
+    let end = end_of(alloc, &mut reader, &mut written, handler)?;
+    Ok(Outcome {
+        end,
+        written,
+        left: reader.left.len(),
+    })
+}
+
+// Runs a session over such a text, which is in parts.
+fn run_parts<H: Handler>(
+    alloc: Global,
+    parts: &[&str],
+    behind: &str,
+    step: usize,
+    handler: &mut H,
+) -> Result<Outcome, AllocError> {
+    let mut text = String::new(alloc);
+    for part in parts {
+        text.push_str(part)?;
+    }
+    text.push_str(behind)?;
+    run(alloc, text.as_bytes(), step, handler)
+}
+
+// The bytes are these parts.
+fn consists_of(bytes: &[u8], parts: &[&str]) -> bool {
+    let mut left = bytes;
+    for part in parts {
+        let Some(others) = left.strip_prefix(part.as_bytes()) else {
+            return false;
+        };
+        left = others;
+    }
+    left.is_empty()
+}
+
+// A text with an open end is the beginning of what is found.
+fn agrees(found: &str, wanted: &str) -> bool {
+    found == wanted || wanted.ends_with(' ') && found.starts_with(wanted)
+}
+
+// What the client sends and the session uses, what follows it, how the session ends, and what it writes.
+static RUNS: [(&[&str], &str, &str, &[&str]); 12] = [
+    (&[SESSION], "", SHUT_DOWN, &[REPLIES]),
+    (
+        &[INITIALIZE, INITIALIZED, SHUTDOWN, EXIT],
+        "Q",
+        SHUT_DOWN,
+        &[CAPABILITIES, NULL],
+    ),
+    (
+        &[INITIALIZE, INITIALIZED, SHUTDOWN, EXIT],
+        INITIALIZE,
+        SHUT_DOWN,
+        &[CAPABILITIES, NULL],
+    ),
+    (&[INITIALIZE, INITIALIZED], "", CLOSED, &[CAPABILITIES]),
+    (
+        &[INITIALIZE, INITIALIZED, EXIT],
+        NOTE,
+        CLOSED,
+        &[CAPABILITIES],
+    ),
+    (&[INITIALIZE], "", DISCONNECTED, &[CAPABILITIES]),
+    (
+        &[INITIALIZE, INITIALIZED, SHUTDOWN, NOTE],
+        EXIT,
+        UNEXPECTED,
+        &[CAPABILITIES, NULL],
+    ),
+    (
+        &[INITIALIZE, INITIALIZED, SHUTDOWN],
+        "",
+        NO_EXIT,
+        &[CAPABILITIES, NULL],
+    ),
+    (
+        &[INITIALIZE, INITIALIZED, "Content-Length:2\r\n"],
+        "\r\n{}",
+        "read fault 4",
+        &[CAPABILITIES],
+    ),
+    (
+        &[INITIALIZE, EXIT],
+        NOTE,
+        EXPECTED_INITIALIZED,
+        &[CAPABILITIES],
+    ),
+    (&[], "", DISCONNECTED, &[]),
+    (&[EXIT], INITIALIZE, EXPECTED_INITIALIZE, &[]),
+];
+
+#[test]
+fn sessions_of_bytes(rt: HostRuntime) -> Result<(), Fail> {
+    let alloc = rt.alloc();
+    for (row, (used, behind, end, output)) in RUNS.iter().enumerate() {
+        for step in [1, 1000] {
+            let outcome = run_parts(alloc, used, behind, step, &mut Echo::new(alloc))?;
+            let found = outcome.end.as_str();
+            assert!(rt; agrees(found, end), "{row}: {found}");
+            assert!(rt; consists_of(outcome.written.as_slice(), output), "{row}");
+            assert_eq!(rt; outcome.left, behind.len(), "{row}");
+        }
+    }
+    Ok(())
+}
+
+// A request and a notification that come too early.
+const EARLY: &str =
+    "Content-Length: 37\r\n\r\n{\"jsonrpc\":\"2.0\",\"id\":7,\"method\":\"x\"}Content-Length: 40\r\n\r\n{\"jsonrpc\":\"2.0\",\"method\":\"initialized\"}";
+
+// How the body of the reply to that request begins. The end of its message is open.
+const EARLY_REPLY: &str =
+    "{\"jsonrpc\":\"2.0\",\"id\":7,\"error\":{\"code\":-32002,\"message\":\"expected initialize request, got ";
+
+// The body of a frame whose header gives its length.
+fn body_of(frame: &str) -> Option<&str> {
+    let (header, body) = frame.split_once("\r\n\r\n")?;
+    let length = header
+        .strip_prefix("Content-Length: ")?
+        .parse::<usize>()
+        .ok()?;
+    (length == body.len()).then_some(body)
+}
+
+// The bytes are the frame of the early request's reply, and then the two replies.
+fn is_refusal_and_replies(bytes: &[u8]) -> bool {
+    let Ok(text) = str::from_utf8(bytes) else {
+        return false;
+    };
+    let Some(body) = text.strip_suffix(REPLIES).and_then(body_of) else {
+        return false;
+    };
+    body.starts_with(EARLY_REPLY) && body.ends_with("\"}}")
+}
+
+#[test]
+fn an_early_request_is_refused(rt: HostRuntime) -> Result<(), Fail> {
+    let alloc = rt.alloc();
+    let mut echo = Echo::new(alloc);
+    let outcome = run_parts(alloc, &[EARLY, SESSION], "", 1000, &mut echo)?;
+    assert_eq!(rt; outcome.end.as_str(), SHUT_DOWN);
+    assert!(rt; is_refusal_and_replies(outcome.written.as_slice()));
+    assert_eq!(rt; echo.asked, 0);
+    assert_eq!(rt; echo.told, 0);
+    Ok(())
+}
+
+const ECHO: &str =
+    "Content-Length: 58\r\n\r\n{\"jsonrpc\":\"2.0\",\"id\":5,\"method\":\"demo/echo\",\"params\":[1]}";
+
+const ECHO_REPLY: &str = "Content-Length: 37\r\n\r\n{\"jsonrpc\":\"2.0\",\"id\":5,\"result\":[1]}";
+
+const RESPONSE: &str = "Content-Length: 38\r\n\r\n{\"jsonrpc\":\"2.0\",\"id\":3,\"result\":null}";
+
+const UNKNOWN: &str =
+    "Content-Length: 41\r\n\r\n{\"jsonrpc\":\"2.0\",\"id\":\"x\",\"method\":\"foo\"}";
+
+const UNKNOWN_REPLY: &str =
+    "Content-Length: 79\r\n\r\n{\"jsonrpc\":\"2.0\",\"id\":\"x\",\"error\":{\"code\":-32601,\"message\":\"method not found\"}}";
+
+static MIDDLE: [&str; 8] = [
+    INITIALIZE,
+    INITIALIZED,
+    ECHO,
+    NOTE,
+    RESPONSE,
+    UNKNOWN,
+    SHUTDOWN,
+    EXIT,
+];
+
+#[test]
+fn the_handler_answers_in_order(rt: HostRuntime) -> Result<(), Fail> {
+    let alloc = rt.alloc();
+    for step in [1, 1000] {
+        let mut echo = Echo::new(alloc);
+        let outcome = run_parts(alloc, &MIDDLE, "", step, &mut echo)?;
+        assert_eq!(rt; outcome.end.as_str(), SHUT_DOWN);
+        assert!(rt;
+            consists_of(
+                outcome.written.as_slice(),
+                &[CAPABILITIES, ECHO_REPLY, UNKNOWN_REPLY, NULL]
+            )
+        );
+        assert_eq!(rt; echo.asked, 2);
+        assert_eq!(rt; echo.told, 1);
+    }
+    Ok(())
+}
+
+// How a session ends that is cut off so far inside a frame of the four.
+fn cut_end(inside: usize, between: &'static str) -> &'static str {
+    match inside {
+        0 | 20 => between,
+        1..22 => "read fault 3",
+        _ => "read fault 7",
+    }
+}
+
+// How a session ends that is cut off after so many bytes, and what it wrote.
+fn prefix_end(count: usize) -> (&'static str, &'static str) {
+    if count >= 196 {
+        return (cut_end(count.saturating_sub(196), NO_EXIT), REPLIES);
+    }
+    if count >= 130 {
+        return (cut_end(count.saturating_sub(130), CLOSED), CAPABILITIES);
+    }
+    if count >= 68 {
+        return (
+            cut_end(count.saturating_sub(68), DISCONNECTED),
+            CAPABILITIES,
+        );
+    }
+    (cut_end(count, DISCONNECTED), "")
+}
+
+#[test]
+fn sessions_that_are_cut_off(rt: HostRuntime) -> Result<(), Fail> {
+    let alloc = rt.alloc();
+    let sent = SESSION.as_bytes();
+    assert_eq!(rt; sent.len(), 251);
+    for count in 0..sent.len() {
+        let (end, written) = prefix_end(count);
+        let outcome = run(alloc, &sent[..count], 1000, &mut Echo::new(alloc))?;
+        assert_eq!(rt; outcome.end.as_str(), end, "{count}");
+        assert_eq!(rt; outcome.written.as_slice(), written.as_bytes(), "{count}");
+        assert_eq!(rt; outcome.left, 0, "{count}");
+    }
+    Ok(())
+}
+
+#[test]
+fn replies_go_out_before_the_next_read(rt: HostRuntime) -> Result<(), Fail> {
+    let alloc = rt.alloc();
+    let got = Cell::new(0);
+    let mut client = WaitingClient {
+        left: SESSION.as_bytes(),
+        got: &got,
+    };
+    let mut line = Line {
+        taken: Vec::new(alloc),
+        room: 1000,
+        flushed: &got,
+    };
+    let end = end_of(alloc, &mut client, &mut line, &mut Echo::new(alloc))?;
+    assert_eq!(rt; end.as_str(), SHUT_DOWN);
+    assert_eq!(rt; line.taken.as_slice(), REPLIES.as_bytes());
+    Ok(())
+}
+
+#[test]
+fn the_writer_fails(rt: HostRuntime) -> Result<(), Fail> {
+    let alloc = rt.alloc();
+    let replies = REPLIES.as_bytes();
+    let flushed = Cell::new(0);
+    for room in 0..replies.len() {
+        let mut line = Line {
+            taken: Vec::new(alloc),
+            room,
+            flushed: &flushed,
+        };
+        let mut reader = SESSION.as_bytes();
+        let end = end_of(alloc, &mut reader, &mut line, &mut Echo::new(alloc))?;
+        assert_eq!(rt; end.as_str(), "write fault 1", "{room}");
+        assert_eq!(rt; line.taken.as_slice(), &replies[..room], "{room}");
+    }
+    Ok(())
+}
+
+// Each frame's message, after a timeout. `exit` comes in time.
+fn events(alloc: Global, frames: &[&str]) -> Result<ListInbox, AllocError> {
+    let mut inbox = ListInbox::new(alloc);
+    for frame in frames {
+        if *frame != EXIT {
+            inbox.events.push_back(Event::Timeout)?;
+        }
+        let mut bytes = frame.as_bytes();
+        inbox
+            .events
+            .push_back(StreamInbox::new(alloc, &mut bytes).receive())?;
+    }
+    Ok(inbox)
+}
+
+// How a session over lists ends whose outbox has so much room, and what it sent, as frames.
+fn list_session(alloc: Global, frames: &[&str], room: usize) -> Result<(String, Vec<u8>), Fail> {
+    let mut inbox = events(alloc, frames)?;
+    let mut outbox = ListOutbox::new(alloc, room);
+    let capabilities = Value::Object(Map::new(alloc));
+    let end = serve(
+        alloc,
+        &mut inbox,
+        &mut outbox,
+        capabilities,
+        &mut Echo::new(alloc),
+    );
+    let mut sent = Vec::new(alloc);
+    for message in &outbox.sent {
+        message.write(alloc, &mut sent)?;
+    }
+    Ok((end_text(alloc, end)?, sent))
+}
+
+// How a session over lists ends by the room of its outbox, and what it sends.
+static LIST_RUNS: [(usize, &[&str], &str, &[&str]); 4] = [
+    (0, &[INITIALIZE], DISCONNECTED, &[]),
+    (
+        1,
+        &[INITIALIZE, INITIALIZED, SHUTDOWN, EXIT],
+        SHUT_DOWN,
+        &[CAPABILITIES],
+    ),
+    (
+        2,
+        &[INITIALIZE, INITIALIZED, SHUTDOWN, EXIT],
+        SHUT_DOWN,
+        &[CAPABILITIES, NULL],
+    ),
+    (
+        4,
+        &[INITIALIZE, INITIALIZED, ECHO, NOTE, EXIT],
+        CLOSED,
+        &[CAPABILITIES, ECHO_REPLY],
+    ),
+];
+
+#[test]
+fn sessions_over_lists(rt: HostRuntime) -> Result<(), Fail> {
+    let alloc = rt.alloc();
+    for (room, frames, end, output) in &LIST_RUNS {
+        let (found, sent) = list_session(alloc, frames, *room)?;
+        assert_eq!(rt; found.as_str(), *end, "{room}");
+        assert!(rt; consists_of(sent.as_slice(), output), "{room}");
+    }
+    Ok(())
+}
+
+// Answers each request with null.
+#[derive(Drop)]
+struct Nulls;
+
+impl Handler for Nulls {
+    ghost use Rattle.std.specs.Prelude.{⊤};
+
+    ghost answers = { λ _ _ _ _ _ _. ⊤ };
+
+    ghost notes = { λ _ _ _ _. ⊤ };
+
+    fn answer(&mut self, _request: &Request) -> Result<Result<Value, ResponseError>, AllocError> {
+        Ok(Ok(Value::Null))
+    }
+
+    fn note(&mut self, _notification: &Notification) -> Result<(), AllocError> {
+        Ok(())
+    }
+}
+
+// What a client sent to clangd, without what it told of a document's text, and five of six like requests.
+static RECORDED: [&str; 14] = [
+    r#"{"jsonrpc": "2.0", "id": 1, "method": "initialize", "params": {"processId": null, "rootUri": "file:///project", "capabilities": {"textDocument": {"completion": {"completionItem": {"snippetSupport": true}}, "hover": {"contentFormat": ["markdown"]}, "semanticTokens": {"requests": {"full": true}, "tokenTypes": [], "tokenModifiers": [], "formats": ["relative"]}, "publishDiagnostics": {"relatedInformation": true}}, "window": {"workDoneProgress": true}}}}"#,
+    r#"{"jsonrpc": "2.0", "method": "initialized", "params": {}}"#,
+    r#"{"jsonrpc": "2.0", "id": "sym", "method": "textDocument/documentSymbol", "params": {"textDocument": {"uri": "file:///project/till.cpp"}}}"#,
+    r#"{"jsonrpc": "2.0", "id": 2, "method": "textDocument/hover", "params": {"textDocument": {"uri": "file:///project/till.cpp"}, "position": {"line": 22, "character": 8}}}"#,
+    r#"{"jsonrpc": "2.0", "id": 3, "method": "textDocument/completion", "params": {"textDocument": {"uri": "file:///project/till.cpp"}, "position": {"line": 23, "character": 7}}}"#,
+    r#"{"jsonrpc": "2.0", "id": 17, "method": "textDocument/codeAction", "params": {"textDocument": {"uri": "file:///project/till.cpp"}, "range": {"start": {"line": 25, "character": 0}, "end": {"line": 25, "character": 30}}, "context": {"diagnostics": []}}}"#,
+    r#"{"jsonrpc": "2.0", "id": "fold", "method": "textDocument/foldingRange", "params": {"textDocument": {"uri": "file:///project/till.cpp"}}}"#,
+    r#"{"jsonrpc": "2.0", "id": 30, "method": "textDocument/semanticTokens/full", "params": {"textDocument": {"uri": "file:///project/till.cpp"}}}"#,
+    r#"{"jsonrpc": "2.0", "id": 31, "method": "textDocument/definition", "params": {"textDocument": {"uri": "file:///project/till.cpp"}, "position": {"line": 23, "character": 8}}}"#,
+    r#"{"jsonrpc": "2.0", "id": 32, "method": "no/such/method", "params": {"x": [1, 2.5, null, true, "é"]}}"#,
+    r#"{"jsonrpc": "2.0", "method": "$/cancelRequest", "params": {"id": 32}}"#,
+    r#"{"jsonrpc": "2.0", "method": "textDocument/didClose", "params": {"textDocument": {"uri": "file:///project/till.cpp"}}}"#,
+    r#"{"jsonrpc": "2.0", "id": 33, "method": "shutdown", "params": null}"#,
+    r#"{"jsonrpc": "2.0", "method": "exit", "params": null}"#,
+];
+
+// The ids of its requests after the handshake, as they stand in the text.
+static RECORDED_IDS: [&str; 9] = [
+    "\"sym\"", "2", "3", "17", "\"fold\"", "30", "31", "32", "33",
+];
+
+fn add_frame(alloc: Global, frames: &mut String, body: &str) -> Result<(), AllocError> {
+    let frame = format!(in alloc; "Content-Length: {}\r\n\r\n{body}", body.len())?;
+    frames.push_str(frame.as_str())
+}
+
+fn recorded_input(alloc: Global) -> Result<String, AllocError> {
+    let mut sent = String::new(alloc);
+    for body in &RECORDED {
+        add_frame(alloc, &mut sent, body)?;
+    }
+    Ok(sent)
+}
+
+// The null replies to the requests after the handshake.
+fn recorded_replies(alloc: Global) -> Result<String, AllocError> {
+    let mut replies = String::from_str(alloc, CAPABILITIES)?;
+    for id in &RECORDED_IDS {
+        let body = format!(in alloc; "{{\"jsonrpc\":\"2.0\",\"id\":{id},\"result\":null}}")?;
+        add_frame(alloc, &mut replies, body.as_str())?;
+    }
+    Ok(replies)
+}
+
+#[test]
+fn a_recorded_session(rt: HostRuntime) -> Result<(), Fail> {
+    let alloc = rt.alloc();
+    let sent = recorded_input(alloc)?;
+    let outcome = run(alloc, sent.as_bytes(), 1000, &mut Nulls)?;
+    assert_eq!(rt; outcome.end.as_str(), SHUT_DOWN);
+    assert_eq!(rt; outcome.left, 0);
+    let wanted = recorded_replies(alloc)?;
+    assert_eq!(rt; outcome.written.as_slice(), wanted.as_bytes());
+    Ok(())
+}
