@@ -5,17 +5,17 @@ use Rattle.std.specs.List.{AllZip, filter_map}
 use Rattle.std.specs.Prelude.{Result, Ok, Err, IsErr, IsErrAnd}
 use Rattle.std.proofs.lemmas.List.Elements.{filter_map-append}
 use Rattle.serde_json.specs.Data.{Data, null as null_tree}
+use Rattle.lsp_message.specs.Id.{Id}
+use Rattle.lsp_message.specs.Letters.{is_exit}
+use Rattle.lsp_message.specs.Message.{Message, ErrorObject, request, notification, response}
+use Rattle.lsp_message.specs.Written.{GetsFrames}
 use Rattle.lsp_server.proofs.Starting.{AllZip-append}
 use Rattle.lsp_server.specs.Answered.{RepliesTo, RepliesToEach, requests_of, AnswersAll, AnswersAllButLast, AnswersRequests}
 use Rattle.lsp_server.specs.Finish.{is_initialized}
-use Rattle.lsp_server.specs.Id.{Id}
-use Rattle.lsp_server.specs.Letters.{is_exit}
-use Rattle.lsp_server.specs.Message.{Message, ErrorObject, request, notification, response}
 use Rattle.lsp_server.specs.ProtocolError.{ProtocolFault, expected_initialized, unexpected_in_shutdown, Shows}
 use Rattle.lsp_server.specs.Session.{SessionAnswer, Stop, decided, no_more, timed_out, refused, exhausted, request_id, IsLast, IsSilent, Handles, HandlesAll, AfterShutdown, AfterServed, Serves, AfterInitialize, AfterEarly, SessionOut}
 use Rattle.lsp_server.specs.SessionBytes.{BeginsWith, all_of, LeftAfter, Comes, Fails, Gives}
 use Rattle.lsp_server.specs.Start.{IsEarlyReply}
-use Rattle.lsp_server.specs.Written.{GetsFrames}
 use Rattle.lsp_server.specs.declared.loops.serving.SessionEnd.{SessionEnd}
 use Rattle.lsp_server.specs.declared.loops.serving.SessionEnd.TheVariants.{ShutDown, Closed}
 use Rattle.lsp_server.specs.declared.loops.stream_session.SessionFault.{SessionFault}
@@ -121,7 +121,7 @@ module _ {H : Type 0} (answers : H → Id → List ℕ → Data → Result Data 
     serves_replied letters output serves =
         subst (λ out. Replied stop letters out answer) (all_of_end output null)
         (rw serves.cut (replied_after stop serves.middle serves.rest output (all_of [] null) answer (handles_replied h serves.after serves.middle output serves.handled)
-          (served_replied serves.rest stop null answer serves.end)))
+        (served_replied serves.rest stop null answer serves.end)))
 
     silent_last : (m : Message) (rest output : List Message) → IsLast rest stop → IsErr answer → IsSilent answers notes h h' output null → Replied stop (m ∷ rest) (all_of output null) answer
     silent_last m rest output last failed silent = rw (last.0, last.1, silent.1, silent.2) (replied_last m answer failed)
@@ -164,7 +164,7 @@ module _ {H : Type 0} (answers : H → Id → List ℕ → Data → Result Data 
 -- a session whose requests were all answered, but perhaps for the one that ended it
 module _ (P : List Message → Stop → List Message → Option Message → SessionAnswer → Type 0)
     (replies : (letters : List Message) (stop : Stop) (output : List Message) (null : Option Message) (answer : SessionAnswer)
-      → P letters stop output null answer → Replied stop letters (all_of output null) answer)
+    → P letters stop output null answer → Replied stop letters (all_of output null) answer)
     (text : List ℕ) (left a b : Option (List ℕ)) where
   all_answered : (letters : List Message) (at : List ℕ) (output : List Message) (stop : Stop) (answer : SessionAnswer) → BeginsWith text letters at
       → GetsFrames output a b → (replied : Replied stop letters output answer) → replied.extra ≡ [] → AnswersAll text a b
@@ -174,7 +174,7 @@ module _ (P : List Message → Stop → List Message → Option Message → Sess
   module _ (letters : List Message) (at : List ℕ) (output : List Message) (answer : SessionAnswer) (read : BeginsWith text letters at) (written : GetsFrames output a b) where
     stopped_answered : (stop : Stop) → LeftAfter stop at left → Replied stop letters output answer → AnswersAll text a b ⊎ (IsErr answer × AnswersAllButLast text a b)
     stopped_answered decided rest replied = elim replied.few [
-        inl none ↦ inl (all_answered letters at output decided answer read written replied none)
+      | inl none ↦ inl (all_answered letters at output decided answer read written replied none)
       | inr last ↦ inr (last.0, (letters, at, output, replied.answered, last.1.0, read, rw last.1.1 at replied.all, replied.each, written))
     ]
     stopped_answered no_more rest replied = inl (all_answered letters at output no_more answer read written replied replied.few)
@@ -200,7 +200,7 @@ module _ (P : List Message → Stop → List Message → Option Message → Sess
 -- the same where the text is known
 pub answers_known : (P : List Message → Stop → List Message → Option Message → SessionAnswer → Type 0)
     → ((letters : List Message) (stop : Stop) (output : List Message) (null : Option Message) (answer : SessionAnswer)
-      → P letters stop output null answer → Replied stop letters (all_of output null) answer)
+    → P letters stop output null answer → Replied stop letters (all_of output null) answer)
     → (known left a b : Option (List ℕ)) (answer : Result SessionEnd SessionFault) → IfSome known (λ text. Gives P text left a b answer)
     → IfSome known (λ text. AnswersRequests text a b answer)
 answers_known P replies None left a b answer gives = tt

@@ -3,12 +3,12 @@ use Rattle.std.proofs.Common.{◌≡◌, ◌+◌, ℕ, List, [], ◌∷◌, ◌+
 use Rattle.std.proofs.KnownBytes.{Appends-trans}
 use Rattle.std.proofs.lemmas.Fn.{FoldsTo-push}
 use Rattle.std.proofs.lemmas.List.{length_push, map-append}
+use Rattle.lsp_message.specs.Message.{Message}
+use Rattle.lsp_message.specs.Written.{IsFrameOf, AreFramesOf, GetsFrames, Writes}
+use Rattle.lsp_message.specs.declared.frame.WriteFault.{WriteFault}
 use Rattle.lsp_server.specs.Boxes.{Offers, WaitsFor}
 use Rattle.lsp_server.specs.Event.{Event, message, closed}
-use Rattle.lsp_server.specs.Message.{Message}
 use Rattle.lsp_server.specs.WriteLoop.{GivesAll, OffersAll, WritesOut}
-use Rattle.lsp_server.specs.Written.{IsFrameOf, AreFramesOf, GetsFrames, Writes}
-use Rattle.lsp_server.specs.declared.frame.WriteFault.{WriteFault}
 use Rattle.lsp_server.specs.declared.lifecycle.SendFault.{SendFault}
 use Rattle.lsp_server.specs.declared.loops.write.WriteEnd.TheVariants.{Closed, Fault}
 

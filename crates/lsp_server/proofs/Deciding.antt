@@ -5,11 +5,11 @@ use Rattle.std.specs.List.{FoldsTo, list_all}
 use Rattle.std.specs.Option.{option_map}
 use Rattle.std.specs.Prelude.{IsSome, Result}
 use Rattle.serde_json.specs.declared.value.Value.{Value}
+use Rattle.lsp_message.specs.Id.{Id}
+use Rattle.lsp_message.specs.Message.{Message}
 use Rattle.lsp_server.specs.Event.{Event, closed, event_view}
 use Rattle.lsp_server.specs.Finish.{FinishAnswer, is_idle, AwaitsWithin, FinishesWithin}
-use Rattle.lsp_server.specs.Id.{Id}
 use Rattle.lsp_server.specs.Lists.{GivesNext}
-use Rattle.lsp_server.specs.Message.{Message}
 use Rattle.lsp_server.specs.ProtocolError.{ProtocolFault}
 use Rattle.lsp_server.specs.Start.{start_view, is_undecided, StartsWithin}
 use Rattle.lsp_server.specs.Turns.{Turn, stopped, got, TakesTurn}

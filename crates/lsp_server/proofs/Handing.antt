@@ -2,19 +2,19 @@
 use Rattle.std.proofs.Common.{◌≡◌, ℕ, true, false, List, [], ◌∷◌, ◌++◌, Option, Some, None, IfSome, IsSomeAnd, Result, Ok, Err, refl, ap}
 use Rattle.std.proofs.lemmas.Fn.{FoldsTo-push}
 use Rattle.std.specs.List.{FoldsTo}
-use Rattle.lsp_server.specs.Body.{body_means, reading_of}
+use Rattle.lsp_message.specs.Body.{body_means, reading_of}
+use Rattle.lsp_message.specs.Frame.{Answers, StopsWithin}
+use Rattle.lsp_message.specs.Letters.{Begins, Passes, PassesAll, is_exit}
+use Rattle.lsp_message.specs.Message.{Message}
+use Rattle.lsp_message.specs.declared.frame.ReadFault.{ReadFault}
+use Rattle.lsp_message.specs.declared.frame.ReadFault.TheVariants.{Input, Memory as NoMemory}
+use Rattle.lsp_message.specs.declared.msg.Message as msg
+use Rattle.lsp_message.proofs.Contents.{frame_unread}
 use Rattle.lsp_server.specs.Boxes.{Takes}
-use Rattle.lsp_server.specs.Frame.{Answers, StopsWithin}
-use Rattle.lsp_server.specs.Letters.{Begins, Passes, PassesAll, is_exit}
-use Rattle.lsp_server.specs.Message.{Message}
 use Rattle.lsp_server.specs.ReadLoop.{HandsBefore, Refuses, Hands, refused_end}
-use Rattle.lsp_server.specs.declared.frame.ReadFault.{ReadFault}
-use Rattle.lsp_server.specs.declared.frame.ReadFault.TheVariants.{Input, Memory as NoMemory}
 use Rattle.lsp_server.specs.declared.lifecycle.SendFault.{SendFault}
 use Rattle.lsp_server.specs.declared.lifecycle.SendFault.TheVariants.{Closed as IsClosed, Memory as IsFull}
 use Rattle.lsp_server.specs.declared.loops.ReadEnd.TheVariants.{Exit, End, Fault}
-use Rattle.lsp_server.specs.declared.msg.Message as msg
-use Rattle.lsp_server.proofs.Contents.{frame_unread}
 
 -- what a read answered, as the reading of the whole text
 pub begins : (at : List ℕ) (m : Message) → (reading_of at).outcome ≡ Ok (Some m) → Begins at m (reading_of at).rest

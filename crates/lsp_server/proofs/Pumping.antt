@@ -3,23 +3,23 @@ use Rattle.std.proofs.Common.{◌≡◌, ℕ, List, [], ◌∷◌, ◌++◌, Opt
 use Rattle.std.proofs.KnownBytes.{Appends-nil, Appends-trans}
 use Rattle.std.specs.Io.KnownBytes.{Keeps, Appends}
 use Rattle.std.specs.List.{FoldsTo}
+use Rattle.lsp_message.specs.Letters.{Ending, exited, ended, failed}
+use Rattle.lsp_message.specs.Message.{Message}
+use Rattle.lsp_message.specs.Written.{IsFrameOf, AreFramesOf, GetsFrames, Writes}
+use Rattle.lsp_message.specs.declared.frame.ReadFault.{ReadFault}
+use Rattle.lsp_message.specs.declared.frame.ReadFault.TheVariants.{Input, Memory as NoMemoryToRead}
+use Rattle.lsp_message.specs.declared.frame.WriteFault.{WriteFault}
+use Rattle.lsp_message.specs.declared.frame.WriteFault.TheVariants.{Output, Memory as NoMemory}
+use Rattle.lsp_message.specs.declared.msg.Message as msg
 use Rattle.lsp_server.specs.Boxes.{Takes}
 use Rattle.lsp_server.specs.FrameBoxes.{FrameOutboxSends, IsClosed, Told, kept_write}
-use Rattle.lsp_server.specs.Letters.{Ending, exited, ended, failed}
-use Rattle.lsp_server.specs.Message.{Message}
 use Rattle.lsp_server.specs.Pump.{Pumps, PassesOn, PassesOnSome, BreaksOff, pump_answer}
 use Rattle.lsp_server.specs.ReadLoop.{Hands, HandsAll, HandsBefore, Refuses}
-use Rattle.lsp_server.specs.Written.{IsFrameOf, AreFramesOf, GetsFrames, Writes}
-use Rattle.lsp_server.specs.declared.frame.ReadFault.{ReadFault}
-use Rattle.lsp_server.specs.declared.frame.ReadFault.TheVariants.{Input, Memory as NoMemoryToRead}
-use Rattle.lsp_server.specs.declared.frame.WriteFault.{WriteFault}
-use Rattle.lsp_server.specs.declared.frame.WriteFault.TheVariants.{Output, Memory as NoMemory}
 use Rattle.lsp_server.specs.declared.lifecycle.SendFault.{SendFault}
 use Rattle.lsp_server.specs.declared.lifecycle.SendFault.TheVariants.{Closed as Shut, Memory as Full}
 use Rattle.lsp_server.specs.declared.loops.ReadEnd.{ReadEnd}
 use Rattle.lsp_server.specs.declared.loops.ReadEnd.TheVariants.{Exit, End, Fault, Closed, Memory}
 use Rattle.lsp_server.specs.declared.loops.frame_outbox.FrameOutbox.{FrameOutbox}
-use Rattle.lsp_server.specs.declared.msg.Message as msg
 
 -- one send while no write has failed
 abbrev Sent : Message → Option (List ℕ) → Result (Unit {0}) SendFault → Option WriteFault → Option WriteFault → Option (List ℕ) → Type 0

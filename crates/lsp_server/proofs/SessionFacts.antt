@@ -7,11 +7,11 @@ use Rattle.std.specs.Str.{bytes_eq}
 use Rattle.std.proofs.lemmas.List.Folds.{list_all-append}
 use Rattle.std.proofs.lemmas.Slice.Eq.{bytes_eq-Decides}
 use Rattle.serde_json.specs.Data.{Data}
+use Rattle.lsp_message.specs.Id.{Id}
+use Rattle.lsp_message.specs.Letters.{is_exit}
+use Rattle.lsp_message.specs.Message.{Message, ErrorObject, request, notification, response}
 use Rattle.lsp_server.proofs.SessionStarts.{and-true}
 use Rattle.lsp_server.specs.Finish.{is_initialized}
-use Rattle.lsp_server.specs.Id.{Id}
-use Rattle.lsp_server.specs.Letters.{is_exit}
-use Rattle.lsp_server.specs.Message.{Message, ErrorObject, request, notification, response}
 use Rattle.lsp_server.specs.ProtocolError.{ProtocolFault, expected_initialize, expected_initialized, unexpected_in_shutdown, is_disconnected, is_memory, Shows}
 use Rattle.lsp_server.specs.Session.{SessionAnswer, Stop, decided, no_more, timed_out, refused, exhausted, is_served, is_shutdown, IsLast, IsSilent, AfterShutdown, AfterServed, Serves, AfterInitialize, AfterEarly, SessionOut}
 use Rattle.lsp_server.specs.SessionFault.{ran_out, came_to_no_more}

@@ -6,17 +6,22 @@ use Rattle.std.specs.List.{FoldsTo, list_all, filter_map}
 use Rattle.std.specs.Prelude.{Result, Ok, Err, MatchOption, if◌then◌else◌}
 use Rattle.std.specs.declared.io.ErrorKind.TheVariants.{Other}
 use Rattle.serde_json.specs.Data.{Data}
-use Rattle.lsp_server.proofs.Contents.{frame_unread}
+use Rattle.lsp_message.proofs.Contents.{frame_unread}
+use Rattle.lsp_message.specs.Body.{body_means, reading_of}
+use Rattle.lsp_message.specs.Frame.{Answers}
+use Rattle.lsp_message.specs.Letters.{Begins}
+use Rattle.lsp_message.specs.Message.{Message}
+use Rattle.lsp_message.specs.Written.{GetsFrames}
+use Rattle.lsp_message.specs.declared.frame.ReadFault.{ReadFault}
+use Rattle.lsp_message.specs.declared.frame.ReadFault.TheVariants.{Input, LineNotText, LineEnd, NoSeparator, BadLength, NoLength, ShortBody, BodyNotText, NoJson, NoMessage, Memory as NoMemoryToRead}
+use Rattle.lsp_message.specs.declared.frame.WriteFault.{WriteFault}
+use Rattle.lsp_message.specs.declared.frame.WriteFault.TheVariants.{Output, Memory as NoMemory}
 use Rattle.lsp_server.proofs.SessionFacts.{is_no_exit, Facts, session_facts}
 use Rattle.lsp_server.proofs.SessionStarts.{FoldsTo-split}
 use Rattle.lsp_server.proofs.SessionStreams.{brought_begins, Brought, brought_open, no_timeout, whole_begins, NotRefused, IsWritten, gets_written, gets_keeps}
 use Rattle.lsp_server.proofs.Streaming.{streams_of}
-use Rattle.lsp_server.specs.Body.{body_means, reading_of}
-use Rattle.lsp_server.specs.Frame.{Answers}
 use Rattle.lsp_server.specs.Event.{Event, message, timeout, closed}
 use Rattle.lsp_server.specs.FrameBoxes.{FrameOutboxSends}
-use Rattle.lsp_server.specs.Letters.{Begins}
-use Rattle.lsp_server.specs.Message.{Message}
 use Rattle.lsp_server.specs.ProtocolError.{ProtocolFault, out_of_memory, is_disconnected, is_memory}
 use Rattle.lsp_server.specs.Session.{SessionAnswer, Stop, decided, no_more, timed_out, refused, exhausted}
 use Rattle.lsp_server.specs.SessionBytes.{BeginsWith, all_of, GetsBeginning, FailedAfter, Comes, Fails, BreaksOff, Gives}
@@ -24,11 +29,6 @@ use Rattle.lsp_server.specs.SessionFault.{ran_out, came_to_no_more, plain_answer
 use Rattle.lsp_server.specs.SessionRun.{message_in, is_open, Brings, Runs}
 use Rattle.lsp_server.specs.StreamBoxes.{stream_of, StreamInboxGives}
 use Rattle.lsp_server.specs.Streams.{Stream, StreamGives, StreamReads}
-use Rattle.lsp_server.specs.Written.{GetsFrames}
-use Rattle.lsp_server.specs.declared.frame.ReadFault.{ReadFault}
-use Rattle.lsp_server.specs.declared.frame.ReadFault.TheVariants.{Input, LineNotText, LineEnd, NoSeparator, BadLength, NoLength, ShortBody, BodyNotText, NoJson, NoMessage, Memory as NoMemoryToRead}
-use Rattle.lsp_server.specs.declared.frame.WriteFault.{WriteFault}
-use Rattle.lsp_server.specs.declared.frame.WriteFault.TheVariants.{Output, Memory as NoMemory}
 use Rattle.lsp_server.specs.declared.loops.ReadEnd.{ReadEnd}
 use Rattle.lsp_server.specs.declared.loops.ReadEnd.TheVariants.{Exit, End, Fault, Closed as Shut, Memory as Full}
 use Rattle.lsp_server.specs.declared.loops.serving.SessionEnd.TheVariants.{ShutDown, Closed}

@@ -7,12 +7,12 @@ use Rattle.std.specs.Str.{bytes_eq}
 use Rattle.std.proofs.lemmas.List.Elements.{filter_map-append}
 use Rattle.std.proofs.lemmas.List.Folds.{list_all-append}
 use Rattle.serde_json.specs.Data.{Data}
+use Rattle.lsp_message.specs.Id.{Id}
+use Rattle.lsp_message.specs.Letters.{is_exit}
+use Rattle.lsp_message.specs.Message.{Message, ErrorObject, request, notification, response}
 use Rattle.lsp_server.proofs.Waiting.{FoldsTo-append, list_all-push}
 use Rattle.lsp_server.specs.Boxes.{Offers, Takes, WaitsFor, is_timeout}
 use Rattle.lsp_server.specs.Event.{Event, message, timeout, closed}
-use Rattle.lsp_server.specs.Id.{Id}
-use Rattle.lsp_server.specs.Letters.{is_exit}
-use Rattle.lsp_server.specs.Message.{Message, ErrorObject, request, notification, response}
 use Rattle.lsp_server.specs.ProtocolError.{ProtocolFault, unexpected_in_shutdown, out_of_memory, Shows}
 use Rattle.lsp_server.specs.Replies.{null_reply}
 use Rattle.lsp_server.specs.Session.{SessionAnswer, Stop, decided, no_more, timed_out, refused, exhausted, is_served, is_shutdown, Handles, HandlesAll, IsLeft, AfterShutdown, AfterServed, Serves}

@@ -6,14 +6,14 @@ use Rattle.std.specs.Prelude.{Result, Ok, Err, IsErrAnd, MatchOption}
 use Rattle.std.proofs.lemmas.List.Elements.{filter_map-append}
 use Rattle.std.proofs.lemmas.List.Folds.{list_all-append}
 use Rattle.serde_json.specs.Data.{Data}
+use Rattle.lsp_message.specs.Id.{Id}
+use Rattle.lsp_message.specs.Message.{Message, ErrorObject, request, notification, response}
 use Rattle.lsp_server.proofs.SessionRuns.{runs_after, waited_exhausted, waited_closed, waited_decided, letters_waited, open_waited}
 use Rattle.lsp_server.proofs.Starting.{AllZip-append}
 use Rattle.lsp_server.proofs.Waiting.{list_all-push}
 use Rattle.lsp_server.specs.Boxes.{Takes, WaitsFor}
 use Rattle.lsp_server.specs.Event.{Event, message, timeout, closed}
 use Rattle.lsp_server.specs.Finish.{FinishAnswer, IsUninvited, EventFinishes, FinishesAt, is_initialized}
-use Rattle.lsp_server.specs.Id.{Id}
-use Rattle.lsp_server.specs.Message.{Message, ErrorObject, request, notification, response}
 use Rattle.lsp_server.specs.ProtocolError.{ProtocolFault, disconnected, expected_initialized, out_of_memory, Shows}
 use Rattle.lsp_server.specs.Replies.{ok_reply}
 use Rattle.lsp_server.specs.Session.{SessionAnswer, Stop, decided, no_more, timed_out, refused, exhausted, request_id, initialize_result, is_initialize, Serves, AfterInitialize, AfterEarly, SessionOut}

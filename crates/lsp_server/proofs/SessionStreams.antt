@@ -4,22 +4,22 @@ use Rattle.std.proofs.KnownBytes.{Appends-nil, Appends-trans}
 use Rattle.std.specs.Io.KnownBytes.{Keeps, Appends}
 use Rattle.std.specs.List.{FoldsTo, list_all, filter_map}
 use Rattle.std.specs.Prelude.{Result, Ok, Err, MatchOption, if◌then◌else◌}
+use Rattle.lsp_message.specs.Body.{reading_of}
+use Rattle.lsp_message.specs.Letters.{is_exit}
+use Rattle.lsp_message.specs.Message.{Message}
+use Rattle.lsp_message.specs.Written.{IsFrameOf, AreFramesOf, GetsFrames, Writes}
+use Rattle.lsp_message.specs.declared.frame.WriteFault.{WriteFault}
+use Rattle.lsp_message.specs.declared.frame.WriteFault.TheVariants.{Output, Memory as NoMemory}
 use Rattle.lsp_server.proofs.Handing.{begins}
 use Rattle.lsp_server.proofs.Pumping.{taken_frames, taken_keeps, Appends-Keeps}
 use Rattle.lsp_server.proofs.SessionFacts.{is_no_exit}
-use Rattle.lsp_server.specs.Body.{reading_of}
 use Rattle.lsp_server.specs.Boxes.{Takes}
 use Rattle.lsp_server.specs.Event.{Event, message, timeout, closed}
 use Rattle.lsp_server.specs.FrameBoxes.{FrameOutboxSends, IsClosed, Told, kept_write}
-use Rattle.lsp_server.specs.Letters.{is_exit}
-use Rattle.lsp_server.specs.Message.{Message}
 use Rattle.lsp_server.specs.Session.{Stop, decided, no_more, timed_out, refused, exhausted}
 use Rattle.lsp_server.specs.SessionBytes.{BeginsWith, all_of, BeginsNext, GetsBeginning}
 use Rattle.lsp_server.specs.SessionRun.{message_in, is_open, OffersLast, RefusesLast, Gets}
 use Rattle.lsp_server.specs.Streams.{Stream, StreamGives, StreamReads, Reads}
-use Rattle.lsp_server.specs.Written.{IsFrameOf, AreFramesOf, GetsFrames, Writes}
-use Rattle.lsp_server.specs.declared.frame.WriteFault.{WriteFault}
-use Rattle.lsp_server.specs.declared.frame.WriteFault.TheVariants.{Output, Memory as NoMemory}
 use Rattle.lsp_server.specs.declared.lifecycle.SendFault.{SendFault}
 use Rattle.lsp_server.specs.declared.lifecycle.SendFault.TheVariants.{Closed as Shut, Memory as Full}
 use Rattle.lsp_server.specs.declared.loops.ReadEnd.{ReadEnd}

@@ -7,10 +7,10 @@ use Rattle.std.proofs.lemmas.Fn.{FoldsTo-push}
 use Rattle.std.proofs.lemmas.List.Folds.{list_all-append}
 use Rattle.std.proofs.lemmas.List.Elements.{filter_map-append}
 use Rattle.serde_json.specs.Data.{Data}
+use Rattle.lsp_message.specs.Id.{Id}
+use Rattle.lsp_message.specs.Message.{Message, request}
 use Rattle.lsp_server.proofs.Waiting.{FoldsTo-append}
 use Rattle.lsp_server.specs.Event.{Event, message}
-use Rattle.lsp_server.specs.Id.{Id}
-use Rattle.lsp_server.specs.Message.{Message, request}
 use Rattle.lsp_server.specs.Start.{StartAnswer, is_undecided, request_of, IsEarlyReply, fault_of_refusal, PassesOver, Ends, StartsWithin}
 use Rattle.lsp_server.specs.Turns.{Turn, got, TakesTurn}
 use Rattle.lsp_server.specs.declared.lifecycle.SendFault.{SendFault}

@@ -2,9 +2,9 @@
 use Rattle.std.proofs.Common.{◌≡◌, ◌∙◌, ap, refl, inl, inr, ℕ, List, [], ◌∷◌, ◌++◌, Option}
 use Rattle.std.specs.List.{FoldsTo}
 use Rattle.std.specs.Prelude.{Result}
+use Rattle.lsp_message.specs.Message.{Message}
 use Rattle.lsp_server.specs.Event.{Event}
 use Rattle.lsp_server.specs.Finish.{FinishAnswer, FinishesAt}
-use Rattle.lsp_server.specs.Message.{Message}
 use Rattle.lsp_server.specs.StreamBoxes.{stream_of, StreamInboxGives}
 use Rattle.lsp_server.specs.Streams.{StreamGives}
 use Rattle.lsp_server.specs.declared.lifecycle.SendFault.{SendFault}

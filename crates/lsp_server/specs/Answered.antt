@@ -2,11 +2,11 @@
 use Rattle.serde_json.specs.Data.{Data}
 use Rattle.std.specs.List.{AllZip, filter_map}
 use Rattle.std.specs.Prelude.{◌≡◌, ◌⊎◌, ℕ, List, [], ◌∷◌, ◌++◌, Option, Result, Ok, Err}
-use Rattle.lsp_server.specs.Id.{Id}
-use Rattle.lsp_server.specs.Message.{Message, ErrorObject, response}
+use Rattle.lsp_message.specs.Id.{Id}
+use Rattle.lsp_message.specs.Message.{Message, ErrorObject, response}
+use Rattle.lsp_message.specs.Written.{GetsFrames}
 use Rattle.lsp_server.specs.Session.{request_id}
 use Rattle.lsp_server.specs.SessionBytes.{BeginsWith}
-use Rattle.lsp_server.specs.Written.{GetsFrames}
 use Rattle.lsp_server.specs.declared.loops.serving.SessionEnd.{SessionEnd}
 use Rattle.lsp_server.specs.declared.loops.stream_session.SessionFault.{SessionFault}
 use Rattle.lsp_server.specs.declared.loops.stream_session.SessionFault.TheVariants.{Protocol, Read, Write, Memory}

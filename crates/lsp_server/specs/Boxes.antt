@@ -1,9 +1,9 @@
 -- What one call of a box may do to its contents, and what several do one after another.
 use Rattle.std.specs.List.{FoldsTo, list_all}
 use Rattle.std.specs.Prelude.{◌≡◌, Bool, true, false, List, [], ◌∷◌, ◌++◌, Result, Ok}
+use Rattle.lsp_message.specs.Message.{Message}
+use Rattle.lsp_message.specs.declared.msg.Message as msg
 use Rattle.lsp_server.specs.Event.{Event, message, timeout, closed}
-use Rattle.lsp_server.specs.Message.{Message}
-use Rattle.lsp_server.specs.declared.msg.Message as msg
 use Rattle.lsp_server.specs.declared.lifecycle.SendFault.{SendFault}
 use Rattle.lsp_server.specs.declared.lifecycle.SendFault.TheVariants.{Closed, Memory}
 

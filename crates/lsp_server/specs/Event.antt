@@ -1,6 +1,6 @@
 -- What a receive gives, as plain data.
-use Rattle.lsp_server.specs.Message.{Message}
-use Rattle.lsp_server.specs.View.{message_view}
+use Rattle.lsp_message.specs.Message.{Message}
+use Rattle.lsp_message.specs.View.{message_view}
 use Rattle.lsp_server.specs.declared.lifecycle.Event as event
 use Rattle.lsp_server.specs.declared.lifecycle.Event.TheVariants as variant
 

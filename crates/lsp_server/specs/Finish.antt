@@ -4,9 +4,9 @@ use Rattle.std.specs.Bool.{MatchBool}
 use Rattle.std.specs.List.{FoldsTo, list_all}
 use Rattle.std.specs.Prelude.{◌≡◌, ◌≤◌, ◌⊎◌, ℕ, Bool, true, false, List, [], ◌∷◌, ◌++◌, length, Option, Some, IsNone, MatchOption, Result, Ok, Err, IsErrAnd, codes}
 use Rattle.std.specs.Str.{bytes_eq}
+use Rattle.lsp_message.specs.Message.{Message, request, notification, response}
 use Rattle.lsp_server.specs.Boxes.{Takes, WaitsFor}
 use Rattle.lsp_server.specs.Event.{Event, message, timeout, closed}
-use Rattle.lsp_server.specs.Message.{Message, request, notification, response}
 use Rattle.lsp_server.specs.ProtocolError.{ProtocolFault, disconnected, expected_initialized, aborted, out_of_memory, Shows}
 use Rattle.lsp_server.specs.Start.{fault_of_refusal}
 use Rattle.lsp_server.specs.Turns.{Turn, stopped, got, TakesTurn}

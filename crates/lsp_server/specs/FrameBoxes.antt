@@ -2,10 +2,10 @@
 use Rattle.std.specs.Borrow.{MutBor}
 use Rattle.std.specs.Io.KnownBytes.{Keeps, Appends}
 use Rattle.std.specs.Prelude.{◌≡◌, ℕ, List, Option, Some, None, Result, Ok, Err, MatchOption}
-use Rattle.lsp_server.specs.Message.{Message}
-use Rattle.lsp_server.specs.Written.{IsFrameOf, Writes}
-use Rattle.lsp_server.specs.declared.frame.WriteFault.{WriteFault}
-use Rattle.lsp_server.specs.declared.frame.WriteFault.TheVariants.{Output, Memory as NoMemory}
+use Rattle.lsp_message.specs.Message.{Message}
+use Rattle.lsp_message.specs.Written.{IsFrameOf, Writes}
+use Rattle.lsp_message.specs.declared.frame.WriteFault.{WriteFault}
+use Rattle.lsp_message.specs.declared.frame.WriteFault.TheVariants.{Output, Memory as NoMemory}
 use Rattle.lsp_server.specs.declared.lifecycle.SendFault.{SendFault}
 use Rattle.lsp_server.specs.declared.lifecycle.SendFault.TheVariants.{Closed, Memory}
 use Rattle.lsp_server.specs.declared.loops.frame_outbox.FrameOutbox.{FrameOutbox}

@@ -1,7 +1,7 @@
 -- What one call does to a box whose contents are a list.
 use Rattle.std.specs.Prelude.{◌≡◌, ℕ, ◌<◌, ◌≤◌, Bool, false, List, [], ◌∷◌, ◌++◌, length, Result, Ok, Err}
+use Rattle.lsp_message.specs.Message.{Message}
 use Rattle.lsp_server.specs.Event.{Event, closed}
-use Rattle.lsp_server.specs.Message.{Message}
 use Rattle.lsp_server.specs.declared.lifecycle.SendFault.{SendFault}
 use Rattle.lsp_server.specs.declared.lifecycle.SendFault.TheVariants.{Closed, Memory}
 

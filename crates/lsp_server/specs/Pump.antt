@@ -1,13 +1,13 @@
 -- What is written of the messages of a text.
 use Rattle.std.specs.Io.KnownBytes.{Keeps, Appends}
 use Rattle.std.specs.Prelude.{◌≡◌, ◌⊎◌, ℕ, List, ◌++◌, Option, Some, None, Result, Ok, Err, codes}
-use Rattle.lsp_server.specs.Faults.{read_fault_text, write_fault_text}
-use Rattle.lsp_server.specs.Letters.{Begins, PassesAll, Ending, exited, ended, failed, Letters}
-use Rattle.lsp_server.specs.Message.{Message}
-use Rattle.lsp_server.specs.Written.{IsFrameOf, AreFramesOf, AppendsBeginning, GetsFrames}
-use Rattle.lsp_server.specs.declared.frame.ReadFault.TheVariants.{Input, Memory}
-use Rattle.lsp_server.specs.declared.frame.WriteFault.TheVariants.{Output, Memory as NoMemory}
-use Rattle.lsp_server.specs.declared.frame.WriteFault.{WriteFault}
+use Rattle.lsp_message.specs.Faults.{read_fault_text, write_fault_text}
+use Rattle.lsp_message.specs.Letters.{Begins, PassesAll, Ending, exited, ended, failed, Letters}
+use Rattle.lsp_message.specs.Message.{Message}
+use Rattle.lsp_message.specs.Written.{IsFrameOf, AreFramesOf, AppendsBeginning, GetsFrames}
+use Rattle.lsp_message.specs.declared.frame.ReadFault.TheVariants.{Input, Memory}
+use Rattle.lsp_message.specs.declared.frame.WriteFault.TheVariants.{Output, Memory as NoMemory}
+use Rattle.lsp_message.specs.declared.frame.WriteFault.{WriteFault}
 use Rattle.lsp_server.specs.declared.loops.ReadEnd.{ReadEnd}
 use Rattle.lsp_server.specs.declared.loops.ReadEnd.TheVariants.{Exit, End, Fault, Closed, Memory as Full}
 use Rattle.lsp_server.specs.declared.relay.PumpFault.{PumpFault}

@@ -1,10 +1,10 @@
 -- The queues of requests that have no reply yet (JSON-RPC 2.0, section 5): two finite maps from ids, and a count.
 use Rattle.std.specs.FinMap.{FinMap}
 use Rattle.std.specs.Prelude.{ℕ, ◌^◌, Err, None, codes}
-use Rattle.lsp_server.specs.ErrorCode.{number_of}
-use Rattle.lsp_server.specs.Id.{Id, id_cmp}
-use Rattle.lsp_server.specs.Message.{Message, response}
-use Rattle.lsp_server.specs.declared.msg.code.ErrorCode.TheVariants.{RequestCanceled}
+use Rattle.lsp_message.specs.ErrorCode.{number_of}
+use Rattle.lsp_message.specs.Id.{Id, id_cmp}
+use Rattle.lsp_message.specs.Message.{Message, response}
+use Rattle.lsp_message.specs.declared.msg.code.ErrorCode.TheVariants.{RequestCanceled}
 
 -- the requests of the other side that are pending, each with its data
 abbrev pub Pending : Type 0 → Type 0

@@ -1,15 +1,15 @@
 -- What a loop over a reader's messages hands on.
 use Rattle.std.specs.List.{FoldsTo}
 use Rattle.std.specs.Prelude.{◌≡◌, ℕ, List, Option, Some, Result, Err}
+use Rattle.lsp_message.specs.Body.{reading_of}
+use Rattle.lsp_message.specs.Frame.{StopsWithin}
+use Rattle.lsp_message.specs.Letters.{Begins, PassesAll, Ending, exited, ended, failed, Letters}
+use Rattle.lsp_message.specs.Message.{Message}
+use Rattle.lsp_message.specs.declared.frame.ReadFault.TheVariants.{Input, Memory as NoMemory}
+use Rattle.lsp_message.specs.declared.msg.Message as msg
 use Rattle.lsp_server.specs.Boxes.{Takes}
-use Rattle.lsp_server.specs.Body.{reading_of}
-use Rattle.lsp_server.specs.Frame.{StopsWithin}
-use Rattle.lsp_server.specs.Letters.{Begins, PassesAll, Ending, exited, ended, failed, Letters}
-use Rattle.lsp_server.specs.Message.{Message}
-use Rattle.lsp_server.specs.declared.frame.ReadFault.TheVariants.{Input, Memory as NoMemory}
 use Rattle.lsp_server.specs.declared.lifecycle.SendFault.{SendFault}
 use Rattle.lsp_server.specs.declared.lifecycle.SendFault.TheVariants.{Closed as IsClosed, Memory as IsFull}
-use Rattle.lsp_server.specs.declared.msg.Message as msg
 use Rattle.lsp_server.specs.declared.loops.ReadEnd.{ReadEnd}
 use Rattle.lsp_server.specs.declared.loops.ReadEnd.TheVariants.{Exit, End, Fault, Closed, Memory}
 

@@ -4,10 +4,10 @@ use Rattle.std.specs.Bool.{MatchBool}
 use Rattle.std.specs.List.{AllZip, list_all, filter_map}
 use Rattle.std.specs.Prelude.{◌≡◌, ℕ, Bool, true, false, not, ◌&&◌, List, [], ◌∷◌, ◌++◌, Option, Some, None, Result, Ok, Err, IsErrAnd, codes}
 use Rattle.std.specs.Str.{bytes_eq}
+use Rattle.lsp_message.specs.Id.{Id}
+use Rattle.lsp_message.specs.Letters.{is_exit}
+use Rattle.lsp_message.specs.Message.{Message, ErrorObject, request, notification, response}
 use Rattle.lsp_server.specs.Finish.{is_initialized}
-use Rattle.lsp_server.specs.Id.{Id}
-use Rattle.lsp_server.specs.Letters.{is_exit}
-use Rattle.lsp_server.specs.Message.{Message, ErrorObject, request, notification, response}
 use Rattle.lsp_server.specs.ProtocolError.{ProtocolFault, disconnected, expected_initialize, expected_initialized, unexpected_in_shutdown, shutdown_timeout, shutdown_disconnected, out_of_memory, Shows}
 use Rattle.lsp_server.specs.Replies.{ok_reply, null_reply}
 use Rattle.lsp_server.specs.Start.{is_early, IsEarlyReply, fault_of_refusal}

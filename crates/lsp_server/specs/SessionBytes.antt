@@ -2,16 +2,16 @@
 use Rattle.std.specs.Io.KnownBytes.{Appends}
 use Rattle.std.specs.List.{FoldsTo}
 use Rattle.std.specs.Prelude.{◌≡◌, ◌⊎◌, ℕ, List, [], ◌∷◌, ◌++◌, Option, Some, None, Result, Ok, Err}
-use Rattle.lsp_server.specs.Body.{reading_of}
-use Rattle.lsp_server.specs.Faults.{read_fault_text, write_fault_text}
-use Rattle.lsp_server.specs.Frame.{StopsWithin}
-use Rattle.lsp_server.specs.Letters.{Begins}
-use Rattle.lsp_server.specs.Message.{Message}
+use Rattle.lsp_message.specs.Body.{reading_of}
+use Rattle.lsp_message.specs.Faults.{read_fault_text, write_fault_text}
+use Rattle.lsp_message.specs.Frame.{StopsWithin}
+use Rattle.lsp_message.specs.Letters.{Begins}
+use Rattle.lsp_message.specs.Message.{Message}
+use Rattle.lsp_message.specs.Written.{IsFrameOf, AreFramesOf, GetsFrames, IsOutput}
+use Rattle.lsp_message.specs.declared.frame.ReadFault.{ReadFault}
+use Rattle.lsp_message.specs.declared.frame.ReadFault.TheVariants.{Input, Memory as NoMemoryToRead}
 use Rattle.lsp_server.specs.ProtocolError.{fault_text}
 use Rattle.lsp_server.specs.Session.{SessionAnswer, Stop, decided, no_more, timed_out, refused, exhausted}
-use Rattle.lsp_server.specs.Written.{IsFrameOf, AreFramesOf, GetsFrames, IsOutput}
-use Rattle.lsp_server.specs.declared.frame.ReadFault.{ReadFault}
-use Rattle.lsp_server.specs.declared.frame.ReadFault.TheVariants.{Input, Memory as NoMemoryToRead}
 use Rattle.lsp_server.specs.declared.loops.serving.SessionEnd.{SessionEnd}
 use Rattle.lsp_server.specs.declared.loops.stream_session.SessionFault.{SessionFault}
 use Rattle.lsp_server.specs.declared.loops.stream_session.SessionFault.TheVariants.{Protocol, Read, Write, Memory}

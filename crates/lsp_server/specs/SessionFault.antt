@@ -1,12 +1,12 @@
 -- The answer of a session over a reader and a writer, by what its parts answered. For private clauses.
 use Rattle.std.specs.Prelude.{Bool, true, false, Option, Some, None, Result, Ok, Err, if◌then◌else◌}
 use Rattle.std.specs.declared.io.ErrorKind.TheVariants.{Other}
+use Rattle.lsp_message.specs.declared.frame.ReadFault.{ReadFault}
+use Rattle.lsp_message.specs.declared.frame.ReadFault.TheVariants.{Input, Memory as NoMemoryToRead}
+use Rattle.lsp_message.specs.declared.frame.WriteFault.{WriteFault}
+use Rattle.lsp_message.specs.declared.frame.WriteFault.TheVariants.{Output, Memory as NoMemory}
 use Rattle.lsp_server.specs.ProtocolError.{ProtocolFault, is_disconnected, is_memory}
 use Rattle.lsp_server.specs.Session.{SessionAnswer}
-use Rattle.lsp_server.specs.declared.frame.ReadFault.{ReadFault}
-use Rattle.lsp_server.specs.declared.frame.ReadFault.TheVariants.{Input, Memory as NoMemoryToRead}
-use Rattle.lsp_server.specs.declared.frame.WriteFault.{WriteFault}
-use Rattle.lsp_server.specs.declared.frame.WriteFault.TheVariants.{Output, Memory as NoMemory}
 use Rattle.lsp_server.specs.declared.loops.ReadEnd.{ReadEnd}
 use Rattle.lsp_server.specs.declared.loops.ReadEnd.TheVariants.{Fault}
 use Rattle.lsp_server.specs.declared.loops.serving.SessionEnd.{SessionEnd}

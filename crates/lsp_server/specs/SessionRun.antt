@@ -1,9 +1,9 @@
 -- A session over boxes: what was received are its letters, and what the outbox got is its output.
 use Rattle.std.specs.List.{FoldsTo, list_all, filter_map}
 use Rattle.std.specs.Prelude.{◌≡◌, ◌≤◌, ◌-◌, ◌^◌, ◌⊎◌, ℕ, Bool, true, false, List, [], ◌∷◌, ◌++◌, length, Option, Some, None, Result, Ok, Err}
+use Rattle.lsp_message.specs.Message.{Message}
 use Rattle.lsp_server.specs.Boxes.{Offers, Takes}
 use Rattle.lsp_server.specs.Event.{Event, message, timeout, closed}
-use Rattle.lsp_server.specs.Message.{Message}
 use Rattle.lsp_server.specs.Session.{SessionAnswer, Stop, decided, no_more, timed_out, refused, exhausted}
 use Rattle.lsp_server.specs.declared.lifecycle.SendFault.{SendFault}
 

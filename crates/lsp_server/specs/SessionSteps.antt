@@ -2,10 +2,10 @@
 use Rattle.serde_json.specs.Data.{Data}
 use Rattle.std.specs.List.{FoldsTo}
 use Rattle.std.specs.Prelude.{◌≡◌, ◌⊎◌, ℕ, true, List, [], ◌∷◌, Option, Some, None, Result, Ok, Err}
+use Rattle.lsp_message.specs.Id.{Id}
+use Rattle.lsp_message.specs.Message.{Message, ErrorObject}
 use Rattle.lsp_server.specs.Boxes.{Takes}
 use Rattle.lsp_server.specs.Event.{Event}
-use Rattle.lsp_server.specs.Id.{Id}
-use Rattle.lsp_server.specs.Message.{Message, ErrorObject}
 use Rattle.lsp_server.specs.ProtocolError.{ProtocolFault, out_of_memory}
 use Rattle.lsp_server.specs.Session.{SessionAnswer, Stop, exhausted, is_served, Handles, Serves}
 use Rattle.lsp_server.specs.SessionRun.{Runs}

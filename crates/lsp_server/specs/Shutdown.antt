@@ -2,11 +2,11 @@
 use Rattle.std.specs.Bool.{MatchBool}
 use Rattle.std.specs.Prelude.{◌≡◌, ◌⊎◌, ℕ, List, Bool, true, false, Result, Ok, Err, IsErrAnd, codes}
 use Rattle.std.specs.Str.{bytes_eq}
+use Rattle.lsp_message.specs.Id.{Id}
+use Rattle.lsp_message.specs.Letters.{is_exit}
+use Rattle.lsp_message.specs.Message.{Message}
 use Rattle.lsp_server.specs.Boxes.{Offers}
 use Rattle.lsp_server.specs.Event.{Event, message, timeout, closed}
-use Rattle.lsp_server.specs.Id.{Id}
-use Rattle.lsp_server.specs.Letters.{is_exit}
-use Rattle.lsp_server.specs.Message.{Message}
 use Rattle.lsp_server.specs.ProtocolError.{ProtocolFault, unexpected_in_shutdown, shutdown_timeout, shutdown_disconnected, out_of_memory, Shows}
 use Rattle.lsp_server.specs.Replies.{null_reply}
 use Rattle.lsp_server.specs.declared.lifecycle.SendFault.{SendFault}

@@ -6,16 +6,16 @@ use Rattle.serde_json.specs.declared.value.Value.{Value}
 use Rattle.std.specs.List.{FoldsTo, AllZip, list_all, filter_map}
 use Rattle.std.specs.Prelude.{◌≡◌, ◌≤◌, length, IsNone, ℕ, Bool, true, false, not, List, [], ◌∷◌, ◌++◌, Option, Some, None, Result, Ok, Err, ◌⊎◌, codes, MatchOption, IsErrAnd}
 use Rattle.std.specs.Str.{bytes_eq}
+use Rattle.lsp_message.specs.ErrorCode.{number_of}
+use Rattle.lsp_message.specs.Id.{Id}
+use Rattle.lsp_message.specs.Message.{Message, request, notification, response}
+use Rattle.lsp_message.specs.declared.msg.code.ErrorCode.TheVariants.{ServerNotInitialized}
 use Rattle.lsp_server.specs.Boxes.{Takes}
-use Rattle.lsp_server.specs.ErrorCode.{number_of}
 use Rattle.lsp_server.specs.Event.{Event, message, timeout, closed}
-use Rattle.lsp_server.specs.Id.{Id}
-use Rattle.lsp_server.specs.Message.{Message, request, notification, response}
 use Rattle.lsp_server.specs.ProtocolError.{ProtocolFault, disconnected, expected_initialize, aborted, out_of_memory, fault_text, Shows}
 use Rattle.lsp_server.specs.Turns.{Turn, stopped, got, TakesTurn}
 use Rattle.lsp_server.specs.declared.lifecycle.SendFault.{SendFault}
 use Rattle.lsp_server.specs.declared.lifecycle.SendFault.TheVariants.{Closed, Memory}
-use Rattle.lsp_server.specs.declared.msg.code.ErrorCode.TheVariants.{ServerNotInitialized}
 
 -- what the handshake answers: the id and the params of `initialize`, or why there is none
 abbrev pub StartAnswer : Type 0

@@ -1,13 +1,13 @@
 -- What an inbox over a reader gives (LSP 3.17, "Base Protocol").
 use Rattle.std.specs.Io.KnownBytes.{Keeps}
 use Rattle.std.specs.Prelude.{◌≡◌, ℕ, List, Option, Some, None, IfSome, Result, Ok, Err, MatchOption, if◌then◌else◌}
-use Rattle.lsp_server.specs.Body.{reading_of}
+use Rattle.lsp_message.specs.Body.{reading_of}
+use Rattle.lsp_message.specs.Frame.{Answers}
+use Rattle.lsp_message.specs.Gathering.{TakesFront}
+use Rattle.lsp_message.specs.Letters.{is_exit}
+use Rattle.lsp_message.specs.Message.{Message}
+use Rattle.lsp_message.specs.declared.frame.ReadFault.{ReadFault}
 use Rattle.lsp_server.specs.Event.{Event, message, closed}
-use Rattle.lsp_server.specs.Frame.{Answers}
-use Rattle.lsp_server.specs.Gathering.{TakesFront}
-use Rattle.lsp_server.specs.Letters.{is_exit}
-use Rattle.lsp_server.specs.Message.{Message}
-use Rattle.lsp_server.specs.declared.frame.ReadFault.{ReadFault}
 use Rattle.lsp_server.specs.declared.loops.ReadEnd.{ReadEnd}
 use Rattle.lsp_server.specs.declared.loops.ReadEnd.TheVariants.{Exit, End, Fault}
 

@@ -1,11 +1,11 @@
 -- What a loop over an inbox's messages writes (LSP 3.17, "Base Protocol").
 use Rattle.std.specs.List.{FoldsTo}
 use Rattle.std.specs.Prelude.{◌≡◌, ◌⊎◌, ◌-◌, ◌^◌, ℕ, List, [], ◌∷◌, ◌++◌, length, map, Option, Result, Err}
+use Rattle.lsp_message.specs.Message.{Message}
+use Rattle.lsp_message.specs.Written.{GetsFrames, Writes}
+use Rattle.lsp_message.specs.declared.frame.WriteFault.{WriteFault}
 use Rattle.lsp_server.specs.Boxes.{Offers, WaitsFor}
 use Rattle.lsp_server.specs.Event.{Event, message, closed}
-use Rattle.lsp_server.specs.Message.{Message}
-use Rattle.lsp_server.specs.Written.{GetsFrames, Writes}
-use Rattle.lsp_server.specs.declared.frame.WriteFault.{WriteFault}
 use Rattle.lsp_server.specs.declared.lifecycle.SendFault.{SendFault}
 use Rattle.lsp_server.specs.declared.loops.write.WriteEnd.{WriteEnd}
 use Rattle.lsp_server.specs.declared.loops.write.WriteEnd.TheVariants.{Closed, Fault}

@@ -1,71 +1,20 @@
 //! Laws of messages, ids and queues, each as the contract of a function: the proofs of callers may rest on them.
-ghost use Rattle.std.specs.Prelude.{◌≡◌, ◌≢◌, ◌++◌, ◌<◌, ◌^◌, ℕ, List, length, take, IfOk};
+ghost use Rattle.std.specs.Prelude.{◌≡◌, List};
 ghost use Rattle.std.specs.FinMap as map;
-ghost use Rattle.lsp_server.specs.Front.{front_of};
-ghost use Rattle.lsp_server.specs.Id.{Id, printed, number as number_id, text as text_id};
+ghost use Rattle.lsp_message.specs.Id.{Id};
 ghost use Rattle.lsp_server.specs.QueueRun.{Call, after_all, last_registered};
-ghost use Rattle.lsp_server.specs.Written.{frame_text};
-ghost use Rattle.lsp_server.specs.View.{error_view, request_view, notification_view, response_view, message_view};
-
-use crate::frame::extent::Front;
-use crate::msg::{Message, Notification, Request, Response, ResponseError};
-use std::alloc::AllocError;
 
 pub mod sessions;
 pub mod streams;
 pub mod turns;
 
-/// A clone of a request is equal to it.
-pub fn clone_of_request(request: &Request) -> Result<Request, AllocError>
-    ensures { IfOk result (λ copy. request_view copy ≡ request_view request.now) }
-{
-    request.clone()
-}
-
-/// A clone of a notification is equal to it.
-pub fn clone_of_notification(notification: &Notification) -> Result<Notification, AllocError>
-    ensures { IfOk result (λ copy. notification_view copy ≡ notification_view notification.now) }
-{
-    notification.clone()
-}
-
-/// A clone of an error is equal to it.
-pub fn clone_of_error(error: &ResponseError) -> Result<ResponseError, AllocError>
-    ensures { IfOk result (λ copy. error_view copy ≡ error_view error.now) }
-{
-    error.clone()
-}
-
-/// A clone of a response is equal to it.
-pub fn clone_of_response(response: &Response) -> Result<Response, AllocError>
-    ensures { IfOk result (λ copy. response_view copy ≡ response_view response.now) }
-{
-    response.clone()
-}
-
-/// A clone of a message is equal to it.
-pub fn clone_of_message(message: &Message) -> Result<Message, AllocError>
-    ensures { IfOk result (λ copy. message_view copy ≡ message_view message.now) }
-{
-    message.clone()
-}
-
-/// An id that is a number and one that is a text never print the same. A text past ASCII has no stated print.
-pub fn kinds_print_apart(number: i32, text: &str)
-    ensures { printed (number_id number) ≢ printed (text_id text.now) }
-{
-    let _number = number;
-    let _text = text;
-}
+pub use lsp_message::laws::{
+    clone_of_error, clone_of_message, clone_of_notification, clone_of_request, clone_of_response,
+    front_of_frame, kinds_print_apart,
+};
 
 /// Over any list of calls on a queue, what is pending under an id is the data last registered under it, unless that was
 /// completed or cancelled since. So `complete` gives it once.
 pub fn pending_is_last_registered<D>()
     ensures { (calls : List (Call D)) (id : Id) → map.get (after_all calls) id ≡ last_registered id calls }
-{}
-
-/// The front of a frame, whatever follows it, is that frame, and that of a part of a frame is `More`.
-pub fn front_of_frame()
-    ensures whole { (body rest : List ℕ) → length body < 2 ^ 64 → front_of (frame_text body ++ rest) ≡ Front.Whole (length (frame_text body)) }
-    ensures part { (body : List ℕ) (count : ℕ) → length body < 2 ^ 64 → count < length (frame_text body) → front_of (take count (frame_text body)) ≡ Front.More }
 {}

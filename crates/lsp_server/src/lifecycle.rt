@@ -17,11 +17,11 @@
 //! A closed outbox ends the handshake with `disconnected channel`, and a growth that is refused with `out of memory`.
 //! `shutdown` takes no notice of a null that was not sent, and waits for `exit`.
 ghost use Rattle.std.specs.Prelude.{◌≡◌, ◌≢◌, IfErr};
+ghost use Rattle.lsp_message.specs.View.{message_view};
 ghost use Rattle.lsp_server.specs.Boxes.{handed_back, WaitsFor};
 ghost use Rattle.lsp_server.specs.Event.{event_view, timeout};
-ghost use Rattle.lsp_server.specs.View.{message_view};
 
-use crate::msg::Message;
+use lsp_message::Message;
 
 mod exit;
 mod gates;
@@ -79,7 +79,7 @@ pub enum SendFault {
 /// What takes messages one after another.
 pub trait Outbox {
     ghost use Rattle.std.specs.Prelude.{Result};
-    ghost use Rattle.lsp_server.specs.Message.{Message};
+    ghost use Rattle.lsp_message.specs.Message.{Message};
     ghost use Rattle.lsp_server.specs.declared.lifecycle.SendFault.{SendFault};
 
     /// One send of this message may have this outcome, and change the contents so.

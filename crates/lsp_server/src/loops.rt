@@ -2,9 +2,8 @@
 ghost use Rattle.std.specs.Prelude.{◌≡◌, IfSome};
 ghost use Rattle.lsp_server.specs.ReadLoop.{Hands, refused_end};
 
-use crate::frame::ReadFault;
 use crate::lifecycle::{Outbox, SendFault, is_exit};
-use crate::msg::Message;
+use lsp_message::{Message, ReadFault};
 use std::alloc::Global;
 use std::io::{BufRead, ErrorKind};
 

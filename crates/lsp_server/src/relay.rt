@@ -2,8 +2,8 @@
 ghost use Rattle.std.specs.Prelude.{◌≡◌, IfSome};
 ghost use Rattle.lsp_server.specs.Pump.{Pumps, pump_answer};
 
-use crate::frame::{ReadFault, WriteFault};
 use crate::loops::{FrameOutbox, ReadEnd, read_loop};
+use lsp_message::{ReadFault, WriteFault};
 use std::alloc::Global;
 use std::error::Error;
 use std::fmt;

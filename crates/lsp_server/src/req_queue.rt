@@ -1,13 +1,13 @@
 //! The requests that have no reply yet, of both sides (JSON-RPC 2.0, section 5).
 ghost use Rattle.std.specs.Prelude.{◌≡◌, ◌==◌, ◌+◌, ◌^◌, ◌<◌, ◌||◌, not, pos, Ok, Err, None, option_map, IfOk, IfErr, OnOk, OnErr, if◌then◌else◌};
 ghost use Rattle.std.specs.FinMap as map;
-ghost use Rattle.lsp_server.specs.Id.{number, id_cmp};
+ghost use Rattle.lsp_message.specs.Id.{number, id_cmp};
+ghost use Rattle.lsp_message.specs.View.{response_view};
 ghost use Rattle.lsp_server.specs.Queue.{pending_of, count_of, all_ids, cancelled};
 ghost use Rattle.lsp_server.specs.Registering.{IsFaultOf};
-ghost use Rattle.lsp_server.specs.View.{response_view};
 
 use crate::error::RegisterFault;
-use crate::msg::{ErrorCode, Request, RequestId, Response};
+use lsp_message::{ErrorCode, Request, RequestId, Response};
 use serde::Serialize;
 use serde_json::Value;
 use std::alloc::{AllocError, Global};
@@ -52,8 +52,8 @@ pub struct Incoming<I> {
 
 impl<I> Model for Incoming<I> {
     ghost use Rattle.std.specs.FinMap as map;
-    ghost use Rattle.lsp_server.specs.Id.{id_cmp};
-    ghost use Rattle.lsp_server.specs.IdKeys.{coded_id};
+    ghost use Rattle.lsp_message.specs.Id.{id_cmp};
+    ghost use Rattle.lsp_message.specs.IdKeys.{coded_id};
 
     ghost Value = { map.FinMap id_cmp I };
 
@@ -145,8 +145,8 @@ impl<O> Model for Outgoing<O> {
     ghost use Rattle.std.specs.Prelude.{ℕ, ◌≤◌, ◌^◌};
     ghost use Rattle.std.specs.FinMap as map;
     ghost use Rattle.std.specs.Coded.{coded×, coded_ℕ};
-    ghost use Rattle.lsp_server.specs.Id.{id_cmp};
-    ghost use Rattle.lsp_server.specs.IdKeys.{coded_id};
+    ghost use Rattle.lsp_message.specs.Id.{id_cmp};
+    ghost use Rattle.lsp_message.specs.IdKeys.{coded_id};
 
     ghost Value = { map.FinMap id_cmp O × ℕ };
 

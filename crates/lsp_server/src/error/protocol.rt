@@ -2,7 +2,7 @@
 ghost use Rattle.std.specs.Prelude.{◌≡◌, ◌⊎◌, IfOk};
 ghost use Rattle.lsp_server.specs.ProtocolError.{disconnected, expected_initialize, aborted, expected_initialized, unexpected_in_shutdown, shutdown_timeout, shutdown_disconnected, out_of_memory, Shows};
 
-use crate::msg::Message;
+use lsp_message::Message;
 use std::alloc::{AllocError, Global};
 use std::fmt;
 use std::marker::Model;

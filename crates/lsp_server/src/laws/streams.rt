@@ -9,7 +9,7 @@ ghost use Rattle.lsp_server.specs.declared.loops.ReadEnd.{ReadEnd as ReadEndType
 use crate::error::ProtocolError;
 use crate::lifecycle::{Outbox, finish};
 use crate::loops::StreamInbox;
-use crate::msg::RequestId;
+use lsp_message::RequestId;
 use serde_json::Value;
 use std::alloc::Global;
 use std::io::BufRead;

@@ -3,7 +3,7 @@ ghost use Rattle.std.specs.Prelude.{◌<◌, length, IsSome};
 
 use crate::error::ProtocolError;
 use crate::lifecycle::{Gate, ListInbox, Outbox, finish_within, start_within, wait_within};
-use crate::msg::RequestId;
+use lsp_message::RequestId;
 use serde_json::Value;
 use std::alloc::Global;
 

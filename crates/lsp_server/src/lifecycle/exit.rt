@@ -1,15 +1,15 @@
 // The end of a session: `shutdown` and `exit` (LSP 3.17, "Server lifecycle").
 ghost use Rattle.std.specs.Prelude.{string_bytes};
+ghost use Rattle.lsp_message.specs.View.{message_view};
 ghost use Rattle.lsp_server.specs.Boxes.{Offers};
 ghost use Rattle.lsp_server.specs.Event.{event_view};
 ghost use Rattle.lsp_server.specs.Shutdown.{EventShutsDown, ShutsDown};
-ghost use Rattle.lsp_server.specs.View.{message_view};
 
 use crate::error::ProtocolError;
 use crate::lifecycle::initialized::ok_reply;
 use crate::lifecycle::kinds::is_exit;
 use crate::lifecycle::{Event, Inbox, Outbox};
-use crate::msg::{Message, Request};
+use lsp_message::{Message, Request};
 use serde_json::Value;
 use std::alloc::Global;
 

@@ -1,15 +1,15 @@
 // The wait for the request `initialize` (LSP 3.17, "Server lifecycle").
 ghost use Rattle.std.specs.Prelude.{◌≡◌, List, IfOk, MatchOption, ◌∷◌, [], false, codes, string_bytes, option_map};
 ghost use Rattle.std.specs.Str.{bytes_eq};
+ghost use Rattle.lsp_message.specs.Message.{Message as PlainMessage};
+ghost use Rattle.lsp_message.specs.View.{message_view, request_view};
 ghost use Rattle.lsp_server.specs.Event.{event_view, message as message_event};
-ghost use Rattle.lsp_server.specs.Message.{Message as PlainMessage};
 ghost use Rattle.lsp_server.specs.Start.{start_view, fault_of_refusal, IsEarlyReply, PassesOver, Ends, StartsWithin};
 ghost use Rattle.lsp_server.specs.Turns.{got};
-ghost use Rattle.lsp_server.specs.View.{message_view, request_view};
 
 use crate::error::ProtocolError;
 use crate::lifecycle::{Event, Gate, Inbox, Outbox, SendFault};
-use crate::msg::{ErrorCode, Message, Request, RequestId, Response};
+use lsp_message::{ErrorCode, Message, Request, RequestId, Response};
 use serde_json::Value;
 use std::alloc::{AllocError, Global};
 

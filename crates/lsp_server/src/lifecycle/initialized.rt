@@ -1,16 +1,16 @@
 // The end of the handshake: the result of `initialize`, and the wait for `initialized` (LSP 3.17, "Server lifecycle").
 ghost use Rattle.serde_json.specs.View.{view};
 ghost use Rattle.std.specs.Prelude.{◌≡◌};
+ghost use Rattle.lsp_message.specs.View.{message_view};
 ghost use Rattle.lsp_server.specs.Event.{message as message_event};
 ghost use Rattle.lsp_server.specs.Finish.{EventFinishes, AwaitsWithin, FinishesWithin, FinishesAt};
 ghost use Rattle.lsp_server.specs.Replies.{ok_reply as ok_reply_spec};
-ghost use Rattle.lsp_server.specs.View.{message_view};
 
 use crate::error::ProtocolError;
 use crate::lifecycle::initialize::{TURN_SECONDS, refused};
 use crate::lifecycle::kinds::is_initialized;
 use crate::lifecycle::{Event, Gate, Inbox, Outbox};
-use crate::msg::{Message, RequestId, Response};
+use lsp_message::{Message, RequestId, Response};
 use serde_json::Value;
 use std::alloc::Global;
 

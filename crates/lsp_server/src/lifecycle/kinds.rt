@@ -1,10 +1,10 @@
 // The notifications that the lifecycle waits for (LSP 3.17, "Server lifecycle").
 ghost use Rattle.std.specs.Prelude.{◌≡◌};
+ghost use Rattle.lsp_message.specs.Letters.{is_exit as exit_spec};
+ghost use Rattle.lsp_message.specs.View.{message_view};
 ghost use Rattle.lsp_server.specs.Finish.{is_initialized as initialized_spec};
-ghost use Rattle.lsp_server.specs.Letters.{is_exit as exit_spec};
-ghost use Rattle.lsp_server.specs.View.{message_view};
 
-use crate::msg::Message;
+use lsp_message::Message;
 
 /// Whether the message is the notification `exit`.
 pub(crate) fn is_exit(message: &Message) -> bool

@@ -1,6 +1,6 @@
 // Boxes whose contents are lists.
 use crate::lifecycle::{Event, Gate, Inbox, Outbox, SendFault};
-use crate::msg::Message;
+use lsp_message::Message;
 use std::alloc::Global;
 use std::collections::VecDeque;
 
@@ -77,8 +77,8 @@ impl ListOutbox {
 
 impl Outbox for ListOutbox {
     ghost use Rattle.std.specs.Prelude.{map};
+    ghost use Rattle.lsp_message.specs.View.{message_view};
     ghost use Rattle.lsp_server.specs.Lists.{TakesUpToRoom};
-    ghost use Rattle.lsp_server.specs.View.{message_view};
 
     ghost sends = { λ old message outcome new.
         TakesUpToRoom old.room new.room (map message_view old.sent.items) message outcome (map message_view new.sent.items) };

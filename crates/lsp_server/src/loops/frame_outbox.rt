@@ -1,7 +1,6 @@
 // An outbox that writes frames.
-use crate::frame::WriteFault;
 use crate::lifecycle::{Outbox, SendFault};
-use crate::msg::Message;
+use lsp_message::{Message, WriteFault};
 use std::alloc::Global;
 use std::io::Write;
 

@@ -1,16 +1,16 @@
 // A session of a server (LSP 3.17, "Server lifecycle").
 ghost use Rattle.serde_json.specs.View.{view};
 ghost use Rattle.std.specs.Prelude.{◌≡◌, List, IfOk, MatchOption, MatchResult, string_bytes};
+ghost use Rattle.lsp_message.specs.View.{message_view, request_view, outcome_view};
 ghost use Rattle.lsp_server.specs.ProtocolError.{out_of_memory};
 ghost use Rattle.lsp_server.specs.Replies.{ok_reply};
 ghost use Rattle.lsp_server.specs.Session.{SessionOut, AfterInitialize, Serves, initialize_result as initialize_result_spec};
 ghost use Rattle.lsp_server.specs.SessionRun.{Runs};
 ghost use Rattle.lsp_server.specs.SessionSteps.{RunsFrom, ServesMessage, EndsAt, Replies};
-ghost use Rattle.lsp_server.specs.View.{message_view, request_view, outcome_view};
 
 use crate::error::ProtocolError;
 use crate::lifecycle::{Event, Inbox, OpenGate, Outbox, finish, refused, shutdown, start_within};
-use crate::msg::{Message, Notification, Request, RequestId, Response, ResponseError};
+use lsp_message::{Message, Notification, Request, RequestId, Response, ResponseError};
 use serde_json::{Map, Value, put};
 use std::alloc::{AllocError, Global};
 
@@ -27,8 +27,8 @@ pub enum SessionEnd {
 pub trait Handler {
     ghost use Rattle.serde_json.specs.Data.{Data};
     ghost use Rattle.std.specs.Prelude.{ℕ, Result};
-    ghost use Rattle.lsp_server.specs.Id.{Id};
-    ghost use Rattle.lsp_server.specs.Message.{ErrorObject};
+    ghost use Rattle.lsp_message.specs.Id.{Id};
+    ghost use Rattle.lsp_message.specs.Message.{ErrorObject};
 
     /// A request with this id, method and params may have this outcome, and change the handler so.
     ghost answers: { Self → Id → List ℕ → Data → Result Data ErrorObject → Self → Type 0 };

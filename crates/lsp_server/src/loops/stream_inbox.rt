@@ -5,7 +5,7 @@ ghost use Rattle.lsp_server.specs.StreamBoxes.{StreamInboxGives};
 
 use crate::lifecycle::{Event, Inbox, is_exit};
 use crate::loops::ReadEnd;
-use crate::msg::Message;
+use lsp_message::Message;
 use std::alloc::Global;
 use std::io::BufRead;
 

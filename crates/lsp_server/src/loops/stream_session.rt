@@ -6,8 +6,8 @@ ghost use Rattle.lsp_server.specs.SessionBytes.{Gives};
 ghost use Rattle.lsp_server.specs.SessionFault.{ran_out as ran_out_spec, came_to_no_more as came_to_no_more_spec, protocol_fault as protocol_fault_spec, read_fault as read_fault_spec, plain_answer as plain_answer_spec, read_answer as read_answer_spec, session_answer as session_answer_spec};
 
 use crate::error::ProtocolError;
-use crate::frame::{ReadFault, WriteFault};
 use crate::loops::{FrameOutbox, Handler, ReadEnd, SessionEnd, StreamInbox, serve};
+use lsp_message::{ReadFault, WriteFault};
 use serde_json::Value;
 use std::alloc::Global;
 use std::error::Error;

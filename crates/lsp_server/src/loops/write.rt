@@ -1,12 +1,11 @@
 // A loop from an inbox to a writer.
+ghost use Rattle.lsp_message.specs.View.{message_view};
+ghost use Rattle.lsp_message.specs.Written.{Writes};
 ghost use Rattle.lsp_server.specs.Boxes.{Offers};
-ghost use Rattle.lsp_server.specs.View.{message_view};
 ghost use Rattle.lsp_server.specs.WriteLoop.{WritesOut};
-ghost use Rattle.lsp_server.specs.Written.{Writes};
 
-use crate::frame::WriteFault;
 use crate::lifecycle::{Event, Inbox, Outbox, offer};
-use crate::msg::Message;
+use lsp_message::{Message, WriteFault};
 use std::alloc::Global;
 use std::io::Write;
 

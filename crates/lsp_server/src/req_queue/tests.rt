@@ -1,7 +1,7 @@
 // What only this module sees: the last ids, and the order in which the maps keep their keys.
 use super::{Incoming, Outgoing};
 use crate::error::RegisterFault;
-use crate::msg::RequestId;
+use lsp_message::RequestId;
 use serde_json::Value;
 use std::alloc::{AllocError, Global};
 use std::collections::BTreeMap;

@@ -1,9 +1,9 @@
 use Rattle.std.proofs.Common.{◌≡◌, Ok, IfSome, false, true, sym, ap, subst, ◌∙◌}
-use Rattle.lsp_server.specs.Body.{reading_of}
-use Rattle.lsp_server.specs.Frame.{Answers}
-use Rattle.lsp_server.specs.Letters.{is_exit}
+use Rattle.lsp_message.specs.Body.{reading_of}
+use Rattle.lsp_message.specs.Frame.{Answers}
+use Rattle.lsp_message.specs.Letters.{is_exit}
+use Rattle.lsp_message.specs.View.{message_view}
 use Rattle.lsp_server.specs.ReadLoop.{Hands}
-use Rattle.lsp_server.specs.View.{message_view}
 use Rattle.lsp_server.proofs.Handing.{Handed-more, hands_exit, hands_refused, hands_end, hands_fault, hands_on}
 use Rattle.lsp_server.proofs.loops.read_loop.Goals as goal
 

@@ -1,5 +1,5 @@
-use Rattle.lsp_server.specs.IdKeys.{id_antisymmetric}
-use Rattle.lsp_server.specs.IdLaws.{id_total}
+use Rattle.lsp_message.specs.IdKeys.{id_antisymmetric}
+use Rattle.lsp_message.specs.IdLaws.{id_total}
 use Rattle.lsp_server.proofs.Keys.{one_key_inserted}
 use Rattle.lsp_server.proofs.req_queue.keep.Goals as goal
 

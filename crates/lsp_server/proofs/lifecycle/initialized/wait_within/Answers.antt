@@ -1,8 +1,8 @@
 use Rattle.std.proofs.Common.{refl}
+use Rattle.lsp_message.specs.View.{message_view}
 use Rattle.lsp_server.proofs.Finishing.{idles_more, awaits_answered}
 use Rattle.lsp_server.specs.Event.{message, closed}
 use Rattle.lsp_server.specs.Turns.{stopped, got}
-use Rattle.lsp_server.specs.View.{message_view}
 use Rattle.lsp_server.proofs.lifecycle.initialized.wait_within.Goals as goal
 
 pub returns-then-not-ask : goal.returns-then-not-ask

@@ -1,6 +1,6 @@
 use Rattle.std.proofs.Common.{refl, inl}
-use Rattle.lsp_server.specs.Message.{response}
-use Rattle.lsp_server.specs.View.{outcome_view}
+use Rattle.lsp_message.specs.Message.{response}
+use Rattle.lsp_message.specs.View.{outcome_view}
 use Rattle.lsp_server.proofs.loops.serving.reply.Goals as goal
 
 pub returns : goal.returns

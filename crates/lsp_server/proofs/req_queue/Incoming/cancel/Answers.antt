@@ -1,6 +1,6 @@
 use Rattle.std.proofs.Common.{sym}
-use Rattle.lsp_server.specs.IdLaws.{id_total}
-use Rattle.lsp_server.specs.IdKeys.{id_antisymmetric}
+use Rattle.lsp_message.specs.IdLaws.{id_total}
+use Rattle.lsp_message.specs.IdKeys.{id_antisymmetric}
 use Rattle.lsp_server.proofs.Keys.{remove_absent, is_none_of}
 use Rattle.lsp_server.proofs.req_queue.Incoming.cancel.Goals as goal
 

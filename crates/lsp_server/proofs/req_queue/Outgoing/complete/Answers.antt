@@ -1,7 +1,7 @@
 use Rattle.std.proofs.Common.{◌∙◌, sym, ap}
 use Rattle.std.specs.FinMap as map
-use Rattle.lsp_server.specs.IdLaws.{id_total}
-use Rattle.lsp_server.specs.IdKeys.{id_antisymmetric}
+use Rattle.lsp_message.specs.IdLaws.{id_total}
+use Rattle.lsp_message.specs.IdKeys.{id_antisymmetric}
 use Rattle.lsp_server.specs.Queue.{Asked, Pending}
 use Rattle.lsp_server.proofs.Keys.{get_at_key, one_key_removed}
 use Rattle.lsp_server.proofs.req_queue.Outgoing.complete.Goals as goal

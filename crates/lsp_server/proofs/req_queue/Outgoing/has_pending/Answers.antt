@@ -1,7 +1,7 @@
 use Rattle.std.proofs.Common.{◌≡◌, ◌∙◌, sym, ap, not, ◌==◌, ℕ}
 use Rattle.std.specs.FinMap as map
-use Rattle.lsp_server.specs.IdLaws.{id_total}
-use Rattle.lsp_server.specs.IdKeys.{id_antisymmetric}
+use Rattle.lsp_message.specs.IdLaws.{id_total}
+use Rattle.lsp_message.specs.IdKeys.{id_antisymmetric}
 use Rattle.lsp_server.specs.Queue.{Asked}
 use Rattle.lsp_server.proofs.Keys.{none_pending}
 use Rattle.lsp_server.proofs.req_queue.Outgoing.has_pending.Goals as goal

@@ -1,6 +1,6 @@
 use Rattle.std.proofs.Common.{◌∙◌, ap, ◌+◌, pos}
 use Rattle.std.specs.FinMap as map
-use Rattle.lsp_server.specs.Id.{number}
+use Rattle.lsp_message.specs.Id.{number}
 use Rattle.lsp_server.specs.Queue.{Asked, Pending}
 use Rattle.lsp_server.proofs.req_queue.Outgoing.register_value.Goals as goal
 

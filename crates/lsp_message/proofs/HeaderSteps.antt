@@ -1,0 +1,218 @@
+-- The header part, line by line.
+use Rattle.std.proofs.Common.{◌≡◌, ℕ, Bool, true, false, cond, eqb, List, [], ◌∷◌, length, Option, Some, None, IfSome, IsSomeAnd, Result, Ok, Err, refl, sym, ap, subst, ◌∙◌}
+use Rattle.std.specs.Io.BufRead.{take_through, drop_through}
+use Rattle.std.specs.List.{concat}
+use Rattle.std.specs.Result.{result_map_both}
+use Rattle.lsp_message.specs.Frame.{Answers, StopsWithin}
+use Rattle.lsp_message.specs.Gathering.{EndsLine}
+use Rattle.lsp_message.specs.HeaderPart.{Reading, header_line, is_field, fields, after_fields, length_in, or_else, content_length, at_last_line, header_end, header_of, first_line}
+use Rattle.lsp_message.specs.Lines.{lines, onto_first}
+use Rattle.lsp_message.specs.declared.frame.ReadFault.{ReadFault}
+use Rattle.lsp_message.specs.declared.frame.ReadFault.TheVariants.{Input, Memory}
+use Rattle.lsp_message.specs.declared.frame.header.HeaderLine.{HeaderLine}
+use Rattle.lsp_message.specs.declared.frame.header.HeaderLine.TheVariants.{Blank, Length, Other}
+use Rattle.lsp_message.proofs.Suffixes.{EndsIn, EndsIn-refl, EndsIn-append, StopsWithin-less, StopsWithin-start}
+
+-- the first line is what stands up to the first line feed
+pub lines-split : (b : ℕ) (bs : List ℕ) → lines (b ∷ bs) ≡ take_through 10 (b ∷ bs) ∷ lines (drop_through 10 (b ∷ bs))
+lines-split b [] = at (eqb b 10)
+  where
+    at : (t : Bool) → cond t ((b ∷ []) ∷ []) ((b ∷ []) ∷ []) ≡ cond t (b ∷ []) (b ∷ []) ∷ lines (cond t [] [])
+    at true = refl
+    at false = refl
+lines-split b (c ∷ cs) = at (eqb b 10) (lines-split c cs)
+  where
+    at : (t : Bool) → lines (c ∷ cs) ≡ take_through 10 (c ∷ cs) ∷ lines (drop_through 10 (c ∷ cs))
+        → cond t ((b ∷ []) ∷ lines (c ∷ cs)) (onto_first b (lines (c ∷ cs))) ≡ cond t (b ∷ []) (b ∷ take_through 10 (c ∷ cs)) ∷ lines (cond t (c ∷ cs) (drop_through 10 (c ∷ cs)))
+    at true later = refl
+    at false later = ap (onto_first b) later
+
+onto_first-concat : (b : ℕ) (ls : List (List ℕ)) → concat (onto_first b ls) ≡ b ∷ concat ls
+onto_first-concat b [] = refl
+onto_first-concat b (l ∷ ls) = refl
+
+-- no byte is lost
+pub concat-lines : (text : List ℕ) → concat (lines text) ≡ text
+concat-lines [] = refl
+concat-lines (b ∷ bs) = at (eqb b 10) (concat-lines bs)
+  where
+    at : (t : Bool) → concat (lines bs) ≡ bs → concat (cond t ((b ∷ []) ∷ lines bs) (onto_first b (lines bs))) ≡ b ∷ bs
+    at true h = ap (λ l. b ∷ l) h
+    at false h = onto_first-concat b (lines bs) ∙ ap (λ l. b ∷ l) h
+
+-- what the header part comes to after fields with this length
+abbrev pub header_after : Option ℕ → List ℕ → Reading ℕ
+header_after length text = header_end (or_else (content_length (fields (lines text))) length) (after_fields (lines text))
+
+pub or_else-none : (a : Option ℕ) → or_else a None ≡ a
+or_else-none None = refl
+or_else-none (Some n) = refl
+
+pub or_else-assoc : (a b c : Option ℕ) → or_else (or_else a b) c ≡ or_else a (or_else b c)
+or_else-assoc None b c = refl
+or_else-assoc (Some n) b c = refl
+
+pub header_after-none : (text : List ℕ) → header_of text ≡ header_after None text
+header_after-none text = ap (λ n. header_end n (after_fields (lines text))) (sym (or_else-none _))
+
+-- the header part with its first line split off
+abbrev split_header : Option ℕ → List ℕ → List (List ℕ) → Reading ℕ
+split_header length line more = header_end (or_else (content_length (fields (line ∷ more))) length) (after_fields (line ∷ more))
+
+pub after_field : (length : Option ℕ) (b : ℕ) (bs : List ℕ) (line : Result HeaderLine ReadFault) → header_line (take_through 10 (b ∷ bs)) ≡ line → is_field line ≡ true
+    → header_after length (b ∷ bs) ≡ header_after (or_else (length_in line) length) (drop_through 10 (b ∷ bs))
+after_field length b bs line is goes =
+    let first = take_through 10 (b ∷ bs) in
+    let more = lines (drop_through 10 (b ∷ bs)) in
+    let holds : is_field (header_line first) ≡ true = ap is_field is ∙ goes in
+    ap (λ ls. header_end (or_else (content_length (fields ls)) length) (after_fields ls)) (lines-split b bs)
+    ∙ (rw (holds) (ap (λ n. header_end n (after_fields more)) (or_else-assoc (content_length (fields more)) (length_in (header_line first)) length
+    ∙ ap (λ l. or_else (content_length (fields more)) (or_else (length_in l) length)) is)))
+
+pub at_line : (length : Option ℕ) (b : ℕ) (bs : List ℕ) (line : Result HeaderLine ReadFault) → header_line (take_through 10 (b ∷ bs)) ≡ line → is_field line ≡ false
+    → header_after length (b ∷ bs) ≡ record { outcome = at_last_line length line; rest = drop_through 10 (b ∷ bs) }
+at_line length b bs line is stops =
+    let first = take_through 10 (b ∷ bs) in
+    let rest = drop_through 10 (b ∷ bs) in
+    let holds : is_field (header_line first) ≡ false = ap is_field is ∙ stops in
+    ap (λ ls. header_end (or_else (content_length (fields ls)) length) (after_fields ls)) (lines-split b bs)
+    ∙ (rw (holds, is, concat-lines rest) refl)
+
+-- lines, and what is left of the header part that they begin
+header_end-rest : (n : Option ℕ) (ls : List (List ℕ)) → EndsIn (concat ls) (header_end n (after_fields ls)).rest
+header_end-rest n [] = EndsIn-refl []
+header_end-rest n (line ∷ more) = EndsIn-append line (concat more) _ (at (is_field (header_line line)) (header_end-rest n more))
+  where
+    at : (t : Bool) → EndsIn (concat more) (header_end n (after_fields more)).rest
+        → EndsIn (concat more) (header_end n (cond t (after_fields more) (line ∷ more))).rest
+    at true later = later
+    at false later = EndsIn-refl (concat more)
+
+pub header_after-rest : (length : Option ℕ) (text : List ℕ) → EndsIn text (header_after length text).rest
+header_after-rest length text =
+    subst (λ l. EndsIn l (header_after length text).rest) (concat-lines text) (header_end-rest (or_else (content_length (fields (lines text))) length) (lines text))
+
+-- what the header part leaves follows its first line
+pub header_after-line : (length : Option ℕ) (text : List ℕ) → EndsIn (first_line text).rest (header_after length text).rest
+header_after-line length [] = EndsIn-refl []
+header_after-line length (b ∷ bs) = at (is_field (header_line (take_through 10 (b ∷ bs)))) refl
+  where
+    at : (t : Bool) → is_field (header_line (take_through 10 (b ∷ bs))) ≡ t → EndsIn (drop_through 10 (b ∷ bs)) (header_after length (b ∷ bs)).rest
+    at true is = rw (after_field length b bs _ refl is) (header_after-rest _ (drop_through 10 (b ∷ bs)))
+    at false is = rw (at_line length b bs _ refl is) (EndsIn-refl _)
+
+-- of the header part that the first bytes begin, the second are left after fields with this length
+abbrev pub Continues : Option (List ℕ) → Option (List ℕ) → Option ℕ → Type 0
+Continues a b length = IfSome a (λ text. IsSomeAnd b (λ left. header_of text ≡ header_after length left))
+
+pub Continues-start : (a : Option (List ℕ)) → Continues a a None
+Continues-start None = tt
+Continues-start (Some text) = header_after-none text
+
+-- a fault that is the reading's, or comes from outside
+pub Answers-fault : {X A : Type 0} (view : X → A) (fault : ReadFault) (left : Option (List ℕ)) (reading : Reading A) → reading.outcome ≡ Err fault → left ≡ Some reading.rest
+    → Answers view (Err fault) left reading
+Answers-fault view (Input kind) left reading outcome rest = ([], rest)
+Answers-fault view Memory left reading outcome rest = ([], rest)
+Answers-fault view fault left reading outcome rest = (outcome, rest)
+
+module _ (given : Option ℕ) where
+  -- the input ends at a line's start
+  pub at_input_end : (a b c : Option (List ℕ)) → Continues a b given → IfSome b (λ left. Answers (λ line. line) (Ok None) c (first_line left))
+      → IfSome a (λ text. Answers (λ n. n) (Ok None) c (header_of text))
+  at_input_end None b c same line = tt
+  at_input_end (Some text) None c same line = absurd same
+  at_input_end (Some text) (Some []) c same line = (ap (λ r. r.outcome) same, line.1 ∙ ap (λ r. Some r.rest) (sym same))
+  at_input_end (Some text) (Some (x ∷ xs)) c same line = absurd (never (header_line (take_through 10 (x ∷ xs))) line.0)
+    where
+      never : (r : Result HeaderLine ReadFault) → result_map_both Some (λ fault. fault) r ≡ Ok None → ⊥
+      never (Ok line) is = cc
+      never (Err fault) is = cc
+
+  found_line : (r : Result HeaderLine ReadFault) (line : HeaderLine) → result_map_both Some (λ fault. fault) r ≡ Ok (Some line) → r ≡ Ok line
+  found_line (Ok line) last is = cc
+  found_line (Err fault) last is = cc
+
+  refused_line : (r : Result HeaderLine ReadFault) (fault : ReadFault) → result_map_both Some (λ fault. fault) r ≡ Err fault → r ≡ Err fault
+  refused_line (Ok line) fault is = cc
+  refused_line (Err first) fault is = cc
+
+  -- a field
+  pub at_field : (line : HeaderLine) (a b c : Option (List ℕ)) → is_field (Ok line) ≡ true → Continues a b given → IfSome b (λ left. Answers (λ line. line) (Ok (Some line)) c (first_line left))
+      → Continues a c (or_else (length_in (Ok line)) given)
+  at_field line None b c goes same read = tt
+  at_field line (Some text) None c goes same read = absurd same
+  at_field line (Some text) (Some []) c goes same read = absurd (cc (read.0))
+  at_field line (Some text) (Some (x ∷ xs)) c goes same read = rw (read.1) (same ∙ after_field given x xs (Ok line) (found_line _ line read.0) goes)
+
+  -- a bad line, or the blank one
+  pub at_last : (line : Result HeaderLine ReadFault) (a b c : Option (List ℕ)) → is_field line ≡ false → Continues a b given
+      → IfSome b (λ left. ((first_line left).outcome ≡ result_map_both Some (λ fault. fault) line) × (c ≡ Some (first_line left).rest))
+      → IfSome a (λ text. ((header_of text).outcome ≡ at_last_line given line) × (c ≡ Some (header_of text).rest))
+  at_last line None b c stops same read = tt
+  at_last line (Some text) None c stops same read = absurd same
+  at_last line (Some text) (Some []) c stops same read = absurd (never line read.0)
+    where
+      never : (r : Result HeaderLine ReadFault) → Ok None ≡ result_map_both Some (λ fault. fault) r → ⊥
+      never (Ok line) is = cc
+      never (Err fault) is = cc
+  at_last line (Some text) (Some (x ∷ xs)) c stops same read =
+      let reading = same ∙ at_line given x xs line (same_line _ line read.0) stops in
+      (ap (λ r. r.outcome) reading, read.1 ∙ ap (λ r. Some r.rest) (sym reading))
+    where
+      same_line : (r s : Result HeaderLine ReadFault) → result_map_both Some (λ fault. fault) r ≡ result_map_both Some (λ fault. fault) s → r ≡ s
+      same_line (Ok r) (Ok s) is = cc
+      same_line (Ok r) (Err s) is = cc
+      same_line (Err r) (Ok s) is = cc
+      same_line (Err r) (Err s) is = cc
+
+-- a line that was gathered and tested
+pub line_read : (a c : Option (List ℕ)) (gathered : List ℕ) (r : Result HeaderLine ReadFault) → EndsLine [] a gathered c → (length gathered ≡ 0 → ⊥) → r ≡ header_line gathered
+    → IfSome a (λ text. Answers (λ line. line) (result_map_both Some (λ fault. fault) r) c (first_line text))
+line_read None c gathered r ends some is = tt
+line_read (Some []) c gathered r ends some is = absurd (some (ap length ends.0))
+line_read (Some (x ∷ xs)) c gathered (Ok line) ends some is = (ap (result_map_both Some (λ fault. fault)) (sym (is ∙ ap header_line ends.0)), ends.1)
+line_read (Some (x ∷ xs)) c gathered (Err fault) ends some is =
+    Answers-fault (λ line. line) fault c (first_line (x ∷ xs)) (ap (result_map_both Some (λ fault. fault)) (sym (is ∙ ap header_line ends.0))) ends.1
+
+-- nothing after the line was taken
+at_stop : (given : Option ℕ) (a b c : Option (List ℕ)) → Continues a b given → IfSome b (λ left. StopsWithin c (first_line left)) → IfSome a (λ text. StopsWithin c (header_of text))
+at_stop given None b c same read = tt
+at_stop given (Some text) None c same read = absurd same
+at_stop given (Some text) (Some left) c same read =
+    rw (same) (StopsWithin-less c (first_line left) (header_after given left) read (header_after-line given left))
+
+-- the header part was not read to its end
+pub Continues-stops : (a b : Option (List ℕ)) (given : Option ℕ) → Continues a b given → IfSome a (λ text. StopsWithin b (header_of text))
+Continues-stops None b given same = tt
+Continues-stops (Some text) None given same = absurd same
+Continues-stops (Some text) (Some left) given same = rw (same) (StopsWithin-start left (header_after given left) (header_after-rest given left))
+
+-- the line was refused
+pub at_fault : (given : Option ℕ) (fault : ReadFault) (a b c : Option (List ℕ)) → Continues a b given → IfSome b (λ left. Answers (λ line. line) (Err fault) c (first_line left))
+    → IfSome a (λ text. Answers (λ n. n) (Err fault) c (header_of text))
+at_fault given (Input kind) a b c same read = at_stop given a b c same read
+at_fault given Memory a b c same read = at_stop given a b c same read
+at_fault given fault a b c same read = at_last given (Err fault) a b c refl same read
+
+-- the blank line
+pub at_blank : (given : Option ℕ) (a b c : Option (List ℕ)) → Continues a b given → IfSome b (λ left. Answers (λ line. line) (Ok (Some Blank)) c (first_line left))
+    → IfSome a (λ text. Answers (λ n. n) (at_last_line given (Ok Blank)) c (header_of text))
+at_blank None a b c same read = at_last None (Ok Blank) a b c refl same read
+at_blank (Some n) a b c same read = at_last (Some n) (Ok Blank) a b c refl same read
+
+-- what the next line of the header part comes to
+abbrev pub Next : Option ℕ → Option (List ℕ) → Option (List ℕ) → Result (Option HeaderLine) ReadFault → Type 0
+Next given a c (Err fault) = IfSome a (λ text. Answers (λ n. n) (Err fault) c (header_of text))
+Next given a c (Ok None) = IfSome a (λ text. Answers (λ n. n) (Ok None) c (header_of text))
+Next given a c (Ok (Some Blank)) = IfSome a (λ text. Answers (λ n. n) (at_last_line given (Ok Blank)) c (header_of text))
+Next given a c (Ok (Some (Length n))) = Continues a c (Some n)
+Next given a c (Ok (Some Other)) = Continues a c given
+
+pub next : (given : Option ℕ) (a b c : Option (List ℕ)) (r : Result (Option HeaderLine) ReadFault) → Continues a b given
+    → IfSome b (λ left. Answers (λ line. line) r c (first_line left)) → Next given a c r
+next given a b c (Err fault) same read = at_fault given fault a b c same read
+next given a b c (Ok None) same read = at_input_end given a b c same read
+next given a b c (Ok (Some Blank)) same read = at_blank given a b c same read
+next given a b c (Ok (Some (Length n))) same read = at_field given (Length n) a b c refl same read
+next given a b c (Ok (Some Other)) same read = at_field given Other a b c refl same read

@@ -1,0 +1,21 @@
+pub mod Contents
+mod FrontOfFrame
+mod FrontSteps
+mod HeaderSteps
+mod Joined
+mod Members
+mod Numerals
+mod Places
+mod Printed
+mod ReadBack
+mod Readings
+mod ReadsBack
+mod Rows
+mod Separators
+mod Shown
+mod Suffixes
+mod Takings
+mod Texts
+mod TreeLaws
+mod Unique
+mod Writings

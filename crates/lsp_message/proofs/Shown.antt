@@ -1,0 +1,118 @@
+-- What a reader shows of the bytes that it has left, and what a line takes of it.
+use Rattle.std.proofs.Common.{◌≡◌, ◌≢◌, ℕ, zero, suc, ◌+◌, ◌<◌, ◌≤◌, eqb, eq-eqb, ne_eqb, Bool, true, false, true≢false, List, [], ◌∷◌, ◌++◌, length, take, drop, get_or, get_or-take, take-take, take_all, length-take, append_assoc, le_refl, eqb-true, All, Option, Some, None, IfSome, Result, Ok, Bor, refl, sym, ap, subst, ◌∙◌, arith}
+use Rattle.std.proofs.lemmas.List.{get_or_default}
+use Rattle.std.specs.Io.{StartsWith}
+use Rattle.std.specs.Io.BufRead.{take_through, drop_through, FillKeeps, DropsConsumable}
+use Rattle.std.specs.Io.KnownBytes.{Keeps}
+use Rattle.std.proofs.KnownBytes.{starts_with_rest}
+use Rattle.std.proofs.BufReadLemmas.{take_through-append, drop_through-append}
+use Rattle.memchr.specs.Find.{IsFirstByte, is_byte}
+use Rattle.lsp_message.specs.Gathering.{KeepsLine, EndsLine}
+
+-- the first line ends at its first line feed
+take_through-at : (xs : List ℕ) (k : ℕ) → k < length xs → get_or xs k 0 ≡ 10 → ((j : ℕ) → j < k → get_or xs j 0 ≢ 10)
+    → (take_through 10 xs ≡ take (k + 1) xs) × (drop_through 10 xs ≡ drop (k + 1) xs)
+take_through-at [] k within at before = absurd (omega arith)
+take_through-at (x ∷ xs) zero within at before = let hit = eq-eqb x 10 at in (rw hit refl, rw hit refl)
+take_through-at (x ∷ xs) (suc k) within at before =
+    let miss = ne_eqb x 10 (before 0 (omega arith)) in
+    let later = take_through-at xs k (omega arith) at (λ j below. before (suc j) (omega arith)) in
+    let same : suc k + 1 ≡ suc (k + 1) = omega arith in
+    (rw (miss, later.0, same) refl, rw (miss, later.1, same) refl)
+
+-- what `fill_buf` keeps, at the slice that it shows
+pub kept_shown : {E : Type 0} (a b : Option (List ℕ)) (limit : Option ℕ) (r : Result (Bor (List ℕ)) E) (s : Bor (List ℕ)) → r ≡ Ok s
+    → FillKeeps a b limit r → Keeps a b × IfSome a (λ _. IfSome limit (λ n. length s.now ≤ n))
+kept_shown a b limit r s is kept = subst (FillKeeps a b limit) is kept
+
+-- a reader that kept its bytes while it showed some, and then gave n of these
+pub dropped : (a b c : Option (List ℕ)) (limit : Option ℕ) (shown : List ℕ) (n : ℕ) → n ≤ length shown → Keeps a b
+    → IfSome a (λ _. IfSome limit (λ k. length shown ≤ k)) → DropsConsumable b c limit n → IfSome a (λ xs. c ≡ Some (drop n xs))
+dropped None b c limit shown n within kept fits drops = tt
+dropped (Some x) None c limit shown n within kept fits drops = absurd kept
+dropped (Some x) (Some y) c limit shown n within kept fits drops = drops (room limit fits) ∙ ap (λ l. Some (drop n l)) kept
+  where
+    room : (o : Option ℕ) → IfSome o (λ k. length shown ≤ k) → IfSome o (λ k. n ≤ k)
+    room None h = tt
+    room (Some k) h = omega arith
+
+module _ (shown xs : List ℕ) (front : StartsWith xs shown) where
+  shown_at : (k : ℕ) → k < length shown → get_or shown k 0 ≡ get_or xs k 0
+  shown_at k below = ap (λ l. get_or l k 0) (sym front) ∙ get_or-take (length shown) xs k 0 below
+
+  shown_take : (n : ℕ) → n ≤ length shown → take n shown ≡ take n xs
+  shown_take n within = ap (take n) (sym front) ∙ take-take n (length shown) xs within
+
+  shown_within : length shown ≤ length xs
+  shown_within = omega (arith, length-take (length shown) xs, ap length front)
+
+  -- the line feed is shown
+  pub through_feed : (k : ℕ) → IsFirstByte (is_byte 10) shown (Some k)
+      → (take_through 10 xs ≡ take (k + 1) shown) × (drop_through 10 xs ≡ drop (k + 1) xs)
+  through_feed k first =
+      let below = first.0.high in
+      let within = shown_within in
+      let here : get_or xs k 0 ≡ 10 = sym (shown_at k below) ∙ eqb-true _ _ first.1 in
+      let before : (j : ℕ) → j < k → get_or xs j 0 ≢ 10 =
+      λ j lower is. first.0.before j (omega arith) lower (eq-eqb _ _ (shown_at j (omega arith) ∙ is)) in
+      let found = take_through-at xs k (omega arith) here before in
+      (found.0 ∙ sym (shown_take (k + 1) (omega arith)), found.1)
+
+  -- no line feed is shown
+  pub past_shown : IsFirstByte (is_byte 10) shown None
+      → (take_through 10 xs ≡ shown ++ take_through 10 (drop (length shown) xs)) × (drop_through 10 xs ≡ drop_through 10 (drop (length shown) xs))
+  past_shown nowhere =
+      let split = starts_with_rest xs shown front in
+      let none : All (λ x. x ≢ 10) shown = λ j d below is. nowhere j (omega arith) below (eq-eqb _ _ (get_or_default shown j 0 d below ∙ is)) in
+      (ap (take_through 10) split ∙ take_through-append 10 shown _ none, ap (drop_through 10) split ∙ drop_through-append 10 shown _ none)
+
+-- the first count bytes of what is shown belong to the first line, and whether they end it
+pub record IsLinePart (shown : List ℕ) (count : ℕ) (whole : Bool) : Type 0 where
+  pub within : count ≤ length shown
+  pub ended : whole ≡ true → (xs : List ℕ) → StartsWith xs shown → (length shown ≡ 0 → xs ≡ [])
+      → (take_through 10 xs ≡ take count shown) × (drop_through 10 xs ≡ drop count xs)
+  pub unended : whole ≡ false → (xs : List ℕ) → StartsWith xs shown
+      → (take_through 10 xs ≡ take count shown ++ take_through 10 (drop count xs)) × (drop_through 10 xs ≡ drop_through 10 (drop count xs))
+
+pub part_to_feed : (shown : List ℕ) (k : ℕ) → IsFirstByte (is_byte 10) shown (Some k) → IsLinePart shown (k + 1) true
+part_to_feed shown k first = record {
+  within = let below = first.0.high in omega arith;
+  ended = λ _ xs front _. through_feed shown xs front k first;
+  unended = λ e. absurd (true≢false e);
+}
+
+pub part_with_no_feed : (shown : List ℕ) → IsFirstByte (is_byte 10) shown None → IsLinePart shown (length shown) (eqb (length shown) 0)
+part_with_no_feed shown nowhere = record {
+  within = le_refl _;
+  ended = λ e xs front end.
+      let none = eqb-true _ _ e in
+      let empty = end none in (
+        ap (take_through 10) empty ∙ sym (ap (λ n. take n shown) none),
+        ap (drop_through 10) empty ∙ sym (ap (λ n. drop n []) none) ∙ sym (ap (drop (length shown)) empty),
+      );
+  unended = λ _ xs front.
+      let past = past_shown shown xs front nowhere in
+      (past.0 ∙ ap (λ l. l ++ take_through 10 (drop (length shown) xs)) (sym (take_all (length shown) shown (le_refl _))), past.1);
+}
+
+module _ (a c : Option (List ℕ)) (old new shown : List ℕ) (count : ℕ) (whole : Bool) (part : IsLinePart shown count whole)
+    (taken : new ≡ old ++ take count shown) where
+  pub line_ends : IfSome a (λ xs. StartsWith xs shown) → IfSome a (λ xs. length shown ≡ 0 → xs ≡ [])
+      → IfSome a (λ xs. c ≡ Some (drop count xs)) → whole ≡ true → EndsLine old a new c
+  line_ends = at a
+    where
+      at : (o : Option (List ℕ)) → IfSome o (λ xs. StartsWith xs shown) → IfSome o (λ xs. length shown ≡ 0 → xs ≡ [])
+          → IfSome o (λ xs. c ≡ Some (drop count xs)) → whole ≡ true → EndsLine old o new c
+      at None front end left is = tt
+      at (Some xs) front end left is =
+          let line = part.ended is xs front end in
+          (taken ∙ ap (λ l. old ++ l) (sym line.0), left ∙ ap Some (sym line.1))
+
+  pub line_goes_on : IfSome a (λ xs. StartsWith xs shown) → IfSome a (λ xs. c ≡ Some (drop count xs)) → whole ≡ false → KeepsLine old a new c
+  line_goes_on = at a
+    where
+      at : (o : Option (List ℕ)) → IfSome o (λ xs. StartsWith xs shown) → IfSome o (λ xs. c ≡ Some (drop count xs)) → whole ≡ false → KeepsLine old o new c
+      at None front left is = tt
+      at (Some xs) front left is =
+          let line = part.unended is xs front in
+          rw left (ap (λ l. l ++ take_through 10 (drop count xs)) taken ∙ append_assoc old _ _ ∙ ap (λ l. old ++ l) (sym line.0), sym line.1)

@@ -1,0 +1,17 @@
+-- Takings from a reader, one after another.
+use Rattle.std.proofs.Common.{ℕ, List, Option, Some, None, ◌∙◌}
+use Rattle.std.proofs.KnownBytes.{Consumes-nil, Consumes-trans}
+use Rattle.lsp_message.specs.Gathering.{TakesFront, KeepsLine}
+
+pub TakesFront-none : (a : Option (List ℕ)) → TakesFront a a
+TakesFront-none a = (_, Consumes-nil a)
+
+pub TakesFront-trans : (a b c : Option (List ℕ)) → TakesFront a b → TakesFront b c → TakesFront a c
+TakesFront-trans a b c first second = (_, Consumes-trans a b c _ _ first.1 second.1)
+
+pub KeepsLine-trans : (x : List ℕ) (a : Option (List ℕ)) (y : List ℕ) (b : Option (List ℕ)) (z : List ℕ) (c : Option (List ℕ))
+    → KeepsLine x a y b → KeepsLine y b z c → KeepsLine x a z c
+KeepsLine-trans x None y b z c first second = tt
+KeepsLine-trans x (Some xs) y None z c first second = absurd first
+KeepsLine-trans x (Some xs) y (Some ys) z None first second = absurd second
+KeepsLine-trans x (Some xs) y (Some ys) z (Some zs) first second = (second.0 ∙ first.0, second.1 ∙ first.1)

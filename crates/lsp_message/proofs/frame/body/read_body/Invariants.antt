@@ -1,0 +1,10 @@
+use Rattle.std.proofs.Common.{◌≤◌, vec_len, vec_capacity}
+use Rattle.std.specs.Io.KnownBytes.{Consumes}
+use Rattle.lsp_message.proofs.frame.body.read_body.Given as goal
+
+abbrev pub invariant-loop : goal.invariant-loop
+invariant-loop g l = record {
+  taken : Consumes (g.R.Read.remaining l.initial.reader) (g.R.Read.remaining l.reader) l.body.items;
+  within : vec_len l.body ≤ l.size;
+  room : l.size ≤ vec_capacity l.body;
+}

@@ -1,0 +1,15 @@
+use Rattle.std.proofs.Common.{Ok, ap}
+use Rattle.lsp_message.proofs.Takings.{TakesFront-trans, KeepsLine-trans}
+use Rattle.lsp_message.proofs.frame.line.gather_line.Goals as goal
+
+pub returns-in_err-gather_some-clause-begun : goal.returns-in_err-gather_some-clause-begun
+returns-in_err-gather_some-clause-begun g c = TakesFront-trans _ _ _ c.loop.invariant.begun c.gather_some.ensures.begun
+
+pub returns-then-branch-clause-begun : goal.returns-then-branch-clause-begun
+returns-then-branch-clause-begun g c = TakesFront-trans _ _ _ c.loop.invariant.begun c.gather_some.ensures.begun
+
+pub loop-preserved : goal.loop-preserved
+loop-preserved g c = record {
+  line = KeepsLine-trans _ _ _ _ _ _ c.loop.invariant.line (c.in_ok-gather_some.ensures.more (ap Ok c.if-branch.false));
+  begun = TakesFront-trans _ _ _ c.loop.invariant.begun c.gather_some.ensures.begun;
+}

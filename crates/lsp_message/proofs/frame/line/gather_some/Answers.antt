@@ -1,0 +1,33 @@
+use Rattle.std.proofs.Common.{◌≤◌, length, IfSome, sym, subst}
+use Rattle.std.specs.Io.KnownBytes.{Keeps}
+use Rattle.std.proofs.BufReadLemmas.{Consumes_shown}
+use Rattle.lsp_message.proofs.Shown.{IsLinePart, part_to_feed, part_with_no_feed, kept_shown, dropped, line_ends, line_goes_on}
+use Rattle.lsp_message.proofs.frame.line.gather_some.Given.{Over}
+use Rattle.lsp_message.proofs.frame.line.gather_some.Goals.{in-Some, in-None}
+use Rattle.lsp_message.proofs.frame.line.gather_some.Goals as goal
+
+-- the reader's bytes are kept by `fill_buf`
+kept : (g : Over) (c : goal.After-consume g)
+    → Keeps (g.R.Read.remaining c.args.reader.now) (g.R.Read.remaining c.fill_buf.follows.lender-at-none)
+    × IfSome (g.R.Read.remaining c.args.reader.now) (λ _. IfSome (g.R.BufRead.consumable_len c.fill_buf.follows.lender-at-none) (λ n. length c.in-Ok.shown.now ≤ n))
+kept g c = kept_shown _ _ _ _ _ c.in-Ok.is c.fill_buf.follows.holds-at-none
+
+part : (g : Over) (c : goal.After-consume g) → IsLinePart c.in-Ok.shown.now c.match-memchr.count.0 c.match-memchr.count.1
+part g c = elim c.match-memchr.branch [
+  | in-Some w ↦ subst (λ p. IsLinePart c.in-Ok.shown.now p.0 p.1) (sym w.count-is) (part_to_feed _ _ w.in-Some.ensures)
+  | in-None w ↦ subst (λ p. IsLinePart c.in-Ok.shown.now p.0 p.1) (sym w.count-is) (subst (IsLinePart _ _) (sym w.is_empty.ensures) (part_with_no_feed _ w.in-None.ensures))
+]
+
+pub returns-clause-more : goal.returns-clause-more
+returns-clause-more g c = λ is.
+    let moved = dropped _ _ _ _ _ _ (part g c).within (kept g c).0 (kept g c).1 c.consume.ensures.bytes in
+    line_goes_on _ _ _ _ _ _ _ (part g c) c.in_ok-extend_from_slice.ensures.items c.in-Ok.ensures.front moved (cc)
+
+pub returns-clause-end : goal.returns-clause-end
+returns-clause-end g c = λ is.
+    let moved = dropped _ _ _ _ _ _ (part g c).within (kept g c).0 (kept g c).1 c.consume.ensures.bytes in
+    line_ends _ _ _ _ _ _ _ (part g c) c.in_ok-extend_from_slice.ensures.items c.in-Ok.ensures.front c.in-Ok.ensures.end moved (cc)
+
+pub returns-clause-begun : goal.returns-clause-begun
+returns-clause-begun g c =
+    (_, (Consumes_shown _ _ _ _ _ _ (part g c).within c.in-Ok.ensures.front c.in-Ok.ensures.end (kept g c).0 (kept g c).1 c.consume.ensures.bytes).0)

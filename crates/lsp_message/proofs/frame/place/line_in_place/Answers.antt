@@ -1,0 +1,28 @@
+use Rattle.std.proofs.Common.{Ok, Err, sym, ◌∙◌}
+use Rattle.lsp_message.proofs.Places.{placed_line, placed_begun}
+use Rattle.lsp_message.proofs.Shown.{kept_shown}
+use Rattle.lsp_message.proofs.Suffixes.{line_unread}
+use Rattle.lsp_message.proofs.frame.place.line_in_place.Goals as goal
+
+pub returns-in_default-clause-exact : goal.returns-in_default-clause-exact
+returns-in_default-clause-exact g c = line_unread _ _ c.fill_buf.follows.holds-at-none.0
+
+pub returns-in-Ok-line-clause-exact : goal.returns-in-Ok-line-clause-exact
+returns-in-Ok-line-clause-exact g c =
+    let kept = kept_shown _ _ _ _ _ c.in-Ok.is c.fill_buf.follows.holds-at-none in
+    placed_line _ _ _ _ _ _ c.in-Some.ensures c.in-Ok.ensures.front c.in-Ok.ensures.end kept c.consume.ensures.bytes (Ok c.in-Ok-line.line) (sym c.in-Ok-line.is ∙ c.header_line-line.ensures)
+
+pub returns-in-Err-line-clause-exact : goal.returns-in-Err-line-clause-exact
+returns-in-Err-line-clause-exact g c =
+    let kept = kept_shown _ _ _ _ _ c.in-Ok.is c.fill_buf.follows.holds-at-none in
+    placed_line _ _ _ _ _ _ c.in-Some.ensures c.in-Ok.ensures.front c.in-Ok.ensures.end kept c.consume.ensures.bytes (Err c.in-Err-line.fault) (sym c.in-Err-line.is ∙ c.header_line-line.ensures)
+
+pub returns-in-Ok-line-clause-begun : goal.returns-in-Ok-line-clause-begun
+returns-in-Ok-line-clause-begun g c =
+    let kept = kept_shown _ _ _ _ _ c.in-Ok.is c.fill_buf.follows.holds-at-none in
+    placed_begun _ _ _ _ _ _ c.in-Some.ensures c.in-Ok.ensures.front c.in-Ok.ensures.end kept c.consume.ensures.bytes
+
+pub returns-in-Err-line-clause-begun : goal.returns-in-Err-line-clause-begun
+returns-in-Err-line-clause-begun g c =
+    let kept = kept_shown _ _ _ _ _ c.in-Ok.is c.fill_buf.follows.holds-at-none in
+    placed_begun _ _ _ _ _ _ c.in-Some.ensures c.in-Ok.ensures.front c.in-Ok.ensures.end kept c.consume.ensures.bytes

@@ -1,0 +1,9 @@
+use Rattle.lsp_message.specs.Gathering.{TakesFront}
+use Rattle.lsp_message.proofs.HeaderSteps.{Continues}
+use Rattle.lsp_message.proofs.frame.read.read_header.Given as goal
+
+abbrev pub invariant-loop : goal.invariant-loop
+invariant-loop g l = record {
+  header : Continues (g.R.Read.remaining l.initial.reader) (g.R.Read.remaining l.reader) l.length;
+  begun : TakesFront (g.R.Read.remaining l.initial.reader) (g.R.Read.remaining l.reader);
+}

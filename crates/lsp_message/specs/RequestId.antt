@@ -1,0 +1,9 @@
+-- The id that a `RequestId` keeps.
+use Rattle.std.specs.Prelude.{string_bytes}
+use Rattle.lsp_message.specs.Id.{Id, number, text}
+use Rattle.lsp_message.specs.declared.msg.id.IdRepr.{IdRepr}
+use Rattle.lsp_message.specs.declared.msg.id.IdRepr.TheVariants.{Number, Text}
+
+abbrev pub id_kept : IdRepr → Id
+id_kept (Number z) = number z
+id_kept (Text s) = text (string_bytes s)

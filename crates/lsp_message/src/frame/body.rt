@@ -1,0 +1,65 @@
+// The content part, taken from a reader.
+ghost use Rattle.std.specs.Prelude.{◌≡◌, ◌+◌, ◌<◌, ◌≤◌, length, false, Ok, Err, Some, IfSome, IfOk, IfErr, OnSome, vec_len, vec_capacity};
+ghost use Rattle.std.specs.Result.{result_map_both};
+ghost use Rattle.std.specs.Io.KnownBytes.{IsAtEnd};
+ghost use Rattle.lsp_message.specs.Frame.{Answers, body_of};
+ghost use Rattle.lsp_message.specs.Gathering.{TakesFront, TakesInto, IsFromReader};
+
+use crate::frame::ReadFault;
+use std::alloc::Global;
+use std::io::{BufRead, ErrorKind};
+
+/// The content part, of so many bytes. Its room is reserved before the first of them is taken.
+pub(crate) fn read_body<R: BufRead>(
+    alloc: Global,
+    reader: &mut R,
+    count: u64,
+) -> Result<Vec<u8>, ReadFault>
+    ensures exact { IfSome (R.remaining reader.old) (λ text.
+        Answers (λ body. body.items) (result_map_both Some (λ fault. fault) result) (R.remaining reader.new) (body_of Ok count text)) }
+    ensures begun { TakesFront (R.remaining reader.old) (R.remaining reader.new) }
+    ensures unread { result ≡ Err ReadFault.Memory → reader.new ≡ reader.old }
+{
+    let size = count as usize;
+    let mut body = Vec::with_capacity(alloc, size)?;
+    for _ in 0..u64::MAX {
+        let missing = size - body.len();
+        if missing == 0 {
+            return Ok(body);
+        }
+        if !take_part(reader, missing, &mut body)? {
+            return Err(ReadFault::ShortBody);
+        }
+    }
+    Err(ReadFault::Input(ErrorKind::Other))
+}
+
+/// Takes what the reader shows of the missing bytes. Is false where the input ended.
+fn take_part<R: BufRead>(
+    reader: &mut R,
+    missing: usize,
+    body: &mut Vec<u8>,
+) -> Result<bool, ReadFault>
+    requires some { 0 < missing }
+    requires room { vec_len body.old + missing ≤ vec_capacity body.old }
+    ensures part { TakesInto body.old.items (R.remaining reader.old) body.new.items (R.remaining reader.new) }
+    ensures fits { vec_len body.new ≤ vec_len body.old + missing }
+    ensures room_kept { vec_capacity body.old ≤ vec_capacity body.new }
+    ensures end { result ≡ Ok false → OnSome (R.remaining reader.old) (IsAtEnd (R.remaining reader.new)) }
+    ensures short { result ≡ Ok false → vec_len body.new ≡ vec_len body.old }
+    ensures fault { IfErr result IsFromReader }
+{
+    let shown = match reader.fill_buf() {
+        Ok(shown) => shown,
+        Err(error) => {
+            return match error.kind() {
+                ErrorKind::Interrupted => Ok(true),
+                kind => Err(ReadFault::Input(kind)),
+            };
+        }
+    };
+    let count = shown.len().min(missing);
+    body.extend_from_slice(&shown[..count]).unwrap();
+    reader.consume(count);
+    Ok(count != 0)
+}

@@ -1,0 +1,48 @@
+// The lines of the header part, gathered from a reader.
+ghost use Rattle.std.specs.Prelude.{◌≡◌, true, false, Ok, OnOk, OnErr, IfErr};
+ghost use Rattle.lsp_message.specs.Gathering.{TakesFront, IsFromOutside, KeepsLine, EndsLine, StaysInLine};
+
+use crate::frame::ReadFault;
+use memchr::memchr;
+use std::io::{BufRead, ErrorKind};
+
+/// Gathers what the input has of its first line, up to and with the line feed, or to the end of the input.
+pub(crate) fn gather_line<R: BufRead>(reader: &mut R, line: &mut Vec<u8>) -> Result<(), ReadFault>
+    ensures line { OnOk result (EndsLine line.old.items (R.remaining reader.old) line.new.items (R.remaining reader.new)) }
+    ensures stays { OnErr result (StaysInLine (R.remaining reader.old) (R.remaining reader.new)) }
+    ensures begun { TakesFront (R.remaining reader.old) (R.remaining reader.new) }
+    ensures fault { IfErr result IsFromOutside }
+{
+    for _ in 0..u64::MAX {
+        if gather_some(reader, line)? {
+            return Ok(());
+        }
+    }
+    Err(ReadFault::Input(ErrorKind::Other))
+}
+
+/// Takes what the reader shows of the line, and says whether the line is at its end.
+fn gather_some<R: BufRead>(reader: &mut R, line: &mut Vec<u8>) -> Result<bool, ReadFault>
+    ensures more { result ≡ Ok false → KeepsLine line.old.items (R.remaining reader.old) line.new.items (R.remaining reader.new) }
+    ensures end { result ≡ Ok true → EndsLine line.old.items (R.remaining reader.old) line.new.items (R.remaining reader.new) }
+    ensures stays { OnErr result (StaysInLine (R.remaining reader.old) (R.remaining reader.new)) }
+    ensures begun { TakesFront (R.remaining reader.old) (R.remaining reader.new) }
+    ensures fault { IfErr result IsFromOutside }
+{
+    let shown = match reader.fill_buf() {
+        Ok(shown) => shown,
+        Err(error) => {
+            return match error.kind() {
+                ErrorKind::Interrupted => Ok(false),
+                kind => Err(ReadFault::Input(kind)),
+            };
+        }
+    };
+    let (count, is_whole) = match memchr(b'\n', shown) {
+        Some(at) => (at + 1, true),
+        None => (shown.len(), shown.is_empty()),
+    };
+    line.extend_from_slice(&shown[..count])?;
+    reader.consume(count);
+    Ok(is_whole)
+}

@@ -1,0 +1,47 @@
+// A line of the header part that is tested where the reader shows it.
+ghost use Rattle.std.specs.Prelude.{IfSome};
+ghost use Rattle.lsp_message.specs.Frame.{AnswersInPlace};
+ghost use Rattle.lsp_message.specs.Gathering.{TakesFront};
+
+use crate::frame::ReadFault;
+use crate::frame::header::{HeaderLine, header_line};
+use memchr::memchr;
+use std::io::{BufRead, ErrorKind};
+
+/// The next line, as far as the reader shows it at once.
+#[derive(Clone, Copy, Debug, PartialEq, Eq)]
+pub(crate) enum InPlace {
+    /// It was shown whole, and taken.
+    Whole(HeaderLine),
+    /// It was not shown whole, and nothing was taken.
+    Cut,
+    /// The input is at its end.
+    AtEnd,
+}
+
+/// The next line, where the reader shows it whole. Otherwise nothing is taken.
+pub(crate) fn line_in_place<R: BufRead>(reader: &mut R) -> Result<InPlace, ReadFault>
+    ensures exact { IfSome (R.remaining reader.old) (AnswersInPlace result (R.remaining reader.new)) }
+    ensures begun { TakesFront (R.remaining reader.old) (R.remaining reader.new) }
+{
+    let shown = match reader.fill_buf() {
+        Ok(shown) => shown,
+        Err(error) => {
+            return match error.kind() {
+                ErrorKind::Interrupted => Ok(InPlace::Cut),
+                kind => Err(ReadFault::Input(kind)),
+            };
+        }
+    };
+    let count = match memchr(b'\n', shown) {
+        Some(at) => at + 1,
+        None if shown.is_empty() => return Ok(InPlace::AtEnd),
+        None => return Ok(InPlace::Cut),
+    };
+    let line = header_line(&shown[..count]);
+    reader.consume(count);
+    match line {
+        Ok(line) => Ok(InPlace::Whole(line)),
+        Err(fault) => Err(fault),
+    }
+}

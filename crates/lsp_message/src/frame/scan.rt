@@ -1,0 +1,40 @@
+// The first message of bytes that have come so far, by a scan of its header part.
+ghost use Rattle.std.specs.Prelude.{◌≡◌, ◌≤◌, Ok};
+ghost use Rattle.lsp_message.specs.Front.{front_of, at_header_end};
+ghost use Rattle.lsp_message.specs.HeaderPart.{at_last_line};
+
+use crate::frame::ReadFault;
+use crate::frame::extent::Front;
+use crate::frame::header::{HeaderLine, header_line};
+use memchr::memchr;
+
+/// Finds how much of the bytes is their first message (LSP 3.17, "Base Protocol"). It takes no memory.
+pub fn front(bytes: &[u8]) -> Front
+    ensures { result ≡ front_of bytes.now }
+{
+    let mut length = None;
+    let mut rest = bytes;
+    while let Some(at) = memchr(b'\n', rest) {
+        let line = &rest[..at + 1];
+        rest = &rest[at + 1..];
+        match header_line(line) {
+            Ok(HeaderLine::Length(count)) => length = Some(count),
+            Ok(HeaderLine::Other) => {}
+            Ok(HeaderLine::Blank) => return after_blank_line(bytes.len(), length, rest.len()),
+            Err(fault) => return Front::Fault(fault),
+        }
+    }
+    Front::More
+}
+
+/// The same after the blank line, with so many of all the bytes left.
+fn after_blank_line(all: usize, length: Option<u64>, left: usize) -> Front
+    requires { left ≤ all }
+    ensures { result ≡ at_header_end all (at_last_line length (Ok HeaderLine.Blank)) left }
+{
+    match length {
+        None => Front::Fault(ReadFault::NoLength),
+        Some(count) if count as usize <= left => Front::Whole(all - (left - count as usize)),
+        Some(_) => Front::More,
+    }
+}

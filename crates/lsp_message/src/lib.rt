@@ -1,0 +1,14 @@
+//! Messages between an editor and a language server (JSON-RPC 2.0) and their frames (LSP 3.17, "Base Protocol"): the lower
+//! half of `lsp_server`, which gives all of it on under the same names.
+#![tactic(auto)]
+
+mod error;
+mod frame;
+pub mod laws;
+mod msg;
+
+pub use error::ExtractError;
+pub use frame::extent::Front;
+pub use frame::scan::front;
+pub use frame::{ReadFault, WriteFault};
+pub use msg::{ErrorCode, Message, Notification, Request, RequestId, Response, ResponseError};

@@ -1,0 +1,183 @@
+ghost use Rattle.std.specs.Prelude.{◌≡◌, Some, IfOk, string_bytes};
+
+use serde_json::Value;
+use std::alloc::{AllocError, Global};
+use std::cmp::Ordering;
+use std::fmt;
+use std::hash::{Hash, Hasher};
+use std::marker::Model;
+
+// How an id is kept.
+#[derive(Debug, Drop)]
+enum IdRepr {
+    Number(i32),
+    Text(String),
+}
+
+/// The id of a request (JSON-RPC 2.0, section 4): a whole number of 32 signed bits, or a text.
+///
+/// Numbers come before texts, numbers by value and texts by their bytes. A number prints in decimal, a text in the debug
+/// form of Rust, in quotes.
+#[derive(Debug, Drop)]
+pub struct RequestId(IdRepr);
+
+impl Model for RequestId {
+    ghost use Rattle.lsp_message.specs.Id.{Id};
+    ghost use Rattle.lsp_message.specs.RequestId.{id_kept};
+
+    ghost Value = { Id };
+
+    ghost view = { λ r. id_kept r.0 };
+}
+
+impl From<i32> for RequestId {
+    ghost use Rattle.lsp_message.specs.Id.{number};
+
+    ghost from_gives = { λ z id. id ≡ number z };
+
+    fn from(id: i32) -> RequestId {
+        RequestId(IdRepr::Number(id))
+    }
+}
+
+impl From<String> for RequestId {
+    ghost use Rattle.lsp_message.specs.Id.{text};
+
+    ghost from_gives = { λ s id. id ≡ text (string_bytes s) };
+
+    fn from(id: String) -> RequestId {
+        RequestId(IdRepr::Text(id))
+    }
+}
+
+impl RequestId {
+    /// The same id. It takes memory for a text, and is an `Err` where that is refused.
+    pub fn clone(&self) -> Result<RequestId, AllocError>
+        ensures { IfOk result (λ id. id ≡ self.now) }
+    {
+        match &self.0 {
+            IdRepr::Number(number) => Ok(RequestId(IdRepr::Number(*number))),
+            IdRepr::Text(text) => Ok(RequestId(IdRepr::Text(text.clone()?))),
+        }
+    }
+}
+
+impl PartialEq for RequestId {
+    ghost use Rattle.std.specs.Ordering.{eq_by_cmp};
+    ghost use Rattle.std.specs.Cmp.{partial_equiv_from_equiv};
+    ghost use Rattle.lsp_message.specs.Id.{id_cmp};
+    ghost use Rattle.lsp_message.specs.IdLaws.{id_equiv};
+
+    ghost eq = { eq_by_cmp id_cmp };
+
+    ghost laws = { partial_equiv_from_equiv id_equiv };
+
+    fn eq(&self, other: &RequestId) -> bool {
+        self.cmp(other) == Ordering::Equal
+    }
+}
+
+impl Eq for RequestId {
+    ghost use Rattle.lsp_message.specs.IdLaws.{id_equiv};
+
+    ghost laws = { id_equiv };
+}
+
+impl PartialOrd for RequestId {
+    ghost use Rattle.std.specs.Ordering.{as_partial_cmp};
+    ghost use Rattle.std.specs.Cmp.{partial_order_from_agreeing_total};
+    ghost use Rattle.lsp_message.specs.Id.{id_cmp};
+    ghost use Rattle.lsp_message.specs.IdLaws.{id_partial_order};
+
+    ghost partial_cmp = { as_partial_cmp id_cmp };
+
+    ghost laws = { id_partial_order };
+
+    fn partial_cmp(&self, other: &RequestId) -> Option<Ordering> {
+        Some(self.cmp(other))
+    }
+}
+
+impl Ord for RequestId {
+    ghost use Rattle.lsp_message.specs.Id.{id_cmp};
+    ghost use Rattle.lsp_message.specs.IdLaws.{id_total, id_agrees, id_ties};
+
+    ghost cmp = { id_cmp };
+
+    ghost total = { id_total };
+
+    ghost matches_partial_cmp = { id_agrees };
+
+    ghost matches_eq = { id_ties };
+
+    fn cmp(&self, other: &RequestId) -> Ordering {
+        match (&self.0, &other.0) {
+            (IdRepr::Number(a), IdRepr::Number(b)) => a.cmp(b),
+            (IdRepr::Number(_), IdRepr::Text(_)) => Ordering::Less,
+            (IdRepr::Text(_), IdRepr::Number(_)) => Ordering::Greater,
+            (IdRepr::Text(a), IdRepr::Text(b)) => a.cmp(b),
+        }
+    }
+}
+
+impl Hash for RequestId {
+    ghost use Rattle.lsp_message.specs.Id.{hashed};
+    ghost use Rattle.lsp_message.specs.IdLaws.{id_alike};
+
+    ghost hash_input = { hashed };
+
+    ghost respects_eq = { id_alike };
+
+    fn hash<H: Hasher>(&self, state: &mut H) {
+        match &self.0 {
+            IdRepr::Number(number) => {
+                state.write_u8(0);
+                number.hash(state);
+            }
+            IdRepr::Text(text) => {
+                state.write_u8(1);
+                text.hash(state);
+            }
+        }
+    }
+}
+
+impl fmt::Display for RequestId {
+    ghost use Rattle.lsp_message.specs.Id.{printed};
+
+    ghost output = { printed };
+
+    fn fmt<W: fmt::Write>(&self, f: &mut fmt::Formatter<W>) -> fmt::Result {
+        match &self.0 {
+            IdRepr::Number(number) => write!(f, "{number}"),
+            IdRepr::Text(text) => write!(f, "{text:?}"),
+        }
+    }
+}
+
+impl Clone for RequestId {
+    ghost is_clone = { λ a b. b ≡ a };
+
+    fn clone(&self) -> Result<RequestId, AllocError> {
+        RequestId::clone(self)
+    }
+}
+
+impl RequestId {
+    ghost use Rattle.serde_json.specs.View.{view};
+    ghost use Rattle.lsp_message.specs.Meaning.{as_id};
+    ghost use Rattle.lsp_message.specs.Ranges.{IsIdInRange};
+    ghost use Rattle.lsp_message.specs.Tree.{id_tree};
+
+    // The member `id` of a message.
+    pub(crate) fn to_value(&self, alloc: Global) -> Result<Value, AllocError>
+        ensures tree { IfOk result (λ v. view v ≡ id_tree self.now) }
+        ensures good { as_id (id_tree self.now) ≡ Some self.now }
+        ensures range { IsIdInRange self.now }
+    {
+        match &self.0 {
+            IdRepr::Number(number) => Ok(Value::from(*number)),
+            IdRepr::Text(text) => Value::try_from_str(alloc, text.as_str()),
+        }
+    }
+}

@@ -1,0 +1,85 @@
+// Messages, read from a reader and written to a writer.
+ghost use Rattle.std.specs.Prelude.{◌≡◌, ◌<◌, ◌≤◌, length, Err, IfSome, OnOk};
+ghost use Rattle.serde_json.specs.Read.{read as read_json, max_depth};
+ghost use Rattle.lsp_message.specs.Body.{ContentUnreadOrTaken, body_means, tree_means, reading_of};
+ghost use Rattle.lsp_message.specs.Frame.{Answers, Decodes};
+ghost use Rattle.lsp_message.specs.Gathering.{TakesFront};
+ghost use Rattle.lsp_message.specs.Ranges.{nesting};
+ghost use Rattle.lsp_message.specs.Readable.{WritesReadably};
+ghost use Rattle.lsp_message.specs.View.{message_view};
+ghost use Rattle.lsp_message.specs.Written.{Writes};
+
+use crate::frame::body::read_body;
+use crate::frame::read::read_header;
+use crate::frame::write::write_body;
+use crate::frame::{ReadFault, WriteFault};
+use crate::msg::Message;
+use serde_json::Value;
+use std::alloc::Global;
+use std::io::{BufRead, Write};
+
+impl Message {
+    /// Reads one message (LSP 3.17, "Base Protocol"). `Ok(None)` is the end of the input at the start of a header line.
+    ///
+    /// Each fault of `ReadFault` comes as its documentation says; what follows the message, or the bytes at fault, is
+    /// left unread. The room of the content part is reserved before its first byte is read. After `Input` and `Memory`
+    /// nothing after the message was taken, and after `Memory` nothing of the content part, or all of it.
+    pub fn read<R: BufRead>(alloc: Global, reader: &mut R) -> Result<Option<Message>, ReadFault>
+        ensures exact { IfSome (R.remaining reader.old) (λ text.
+            Answers message_view result (R.remaining reader.new) (reading_of text)) }
+        ensures begun { TakesFront (R.remaining reader.old) (R.remaining reader.new) }
+        ensures memory { result ≡ Err ReadFault.Memory → IfSome (R.remaining reader.old) (λ text.
+            ContentUnreadOrTaken text (R.remaining reader.new)) }
+    {
+        let count = match read_header(alloc, reader)? {
+            Some(count) => count,
+            None => return Ok(None),
+        };
+        let body = read_body(alloc, reader, count)?;
+        Ok(Some(message_in(alloc, &body)?))
+    }
+
+    /// Writes one message as a frame (LSP 3.17, "Base Protocol"). The frame is composed first, then written, then
+    /// flushed once.
+    ///
+    /// After `WriteFault::Output` the writer got a beginning of the frame, after `WriteFault::Memory` nothing. A message
+    /// that nests at most 127 levels is read back from its frame, whatever follows that.
+    pub fn write<W: Write>(&self, alloc: Global, writer: &mut W) -> Result<(), WriteFault>
+        ensures frame { Writes (message_view self.now) (W.contents writer.old) result (W.contents writer.new) }
+        ensures memory { result ≡ Err WriteFault.Memory → writer.new ≡ writer.old }
+        ensures reads_back { OnOk result (nesting (message_view self.now) ≤ max_depth
+            → WritesReadably (message_view self.now) (W.contents writer.old) (W.contents writer.new)) }
+    {
+        let body = self.body_text(alloc)?;
+        write_body(alloc, writer, body.as_str())
+    }
+}
+
+/// The message that a content part holds.
+fn message_in(alloc: Global, body: &[u8]) -> Result<Message, ReadFault>
+    ensures { Decodes message_view result (body_means body.now) }
+{
+    match std::str::from_utf8(body) {
+        Ok(text) => message_in_text(alloc, text),
+        Err(_) => Err(ReadFault::BodyNotText),
+    }
+}
+
+/// The message that a text is, in JSON. An empty text needs no memory.
+fn message_in_text(alloc: Global, text: &str) -> Result<Message, ReadFault>
+    ensures means { Decodes message_view result (tree_means (read_json text.now)) }
+    ensures some { result ≡ Err ReadFault.Memory → 0 < length text.now }
+{
+    match Value::from_str(alloc, text) {
+        Ok(tree) => match Message::from_tree(tree) {
+            Some(message) => Ok(message),
+            None => Err(ReadFault::NoMessage),
+        },
+        Err(error) => {
+            if error.is_memory() {
+                return Err(ReadFault::Memory);
+            }
+            Err(ReadFault::NoJson)
+        }
+    }
+}

@@ -1,0 +1,250 @@
+// From a message to text, in the order in which JSON-RPC 2.0 shows the members.
+ghost use Rattle.std.specs.Prelude.{◌≡◌, ◌≤◌, ◌++◌, ℕ, List, true, Some, Ok, IfOk, OnOk, option_map, string_bytes, codes};
+ghost use Rattle.serde_json.specs.Data.{string, number as json_number};
+ghost use Rattle.serde_json.specs.Find.{of_integer};
+ghost use Rattle.serde_json.specs.Read.{max_depth};
+ghost use Rattle.serde_json.specs.View.{view};
+ghost use Rattle.serde_json.specs.Written.{compact_text};
+ghost use Rattle.lsp_message.specs.Body.{body_means};
+ghost use Rattle.lsp_message.specs.Meaning.{is_i32, unless_null};
+ghost use Rattle.lsp_message.specs.Message.{response};
+ghost use Rattle.lsp_message.specs.Ranges.{IsIdInRange, IsInRange, nesting};
+ghost use Rattle.lsp_message.specs.Tree.{id_tree, without_null_details};
+ghost use Rattle.lsp_message.specs.Text.{IsValueText, named, Adds, IsLaterMember, IsErrorText, IsTextFrom, IsMemberText, IsBodyOf};
+ghost use Rattle.lsp_message.specs.View.{error_view, request_view, notification_view, response_view, message_view};
+
+use crate::msg::{Message, Notification, Request, RequestId, Response, ResponseError};
+use serde_json::Value;
+use std::alloc::{AllocError, Global};
+
+fn value_text(alloc: Global, value: &Value) -> Result<String, AllocError>
+    ensures { IfOk result (λ s. IsValueText (view value.now) (string_bytes s)) }
+{
+    value.to_string(alloc)
+}
+
+// A text in quotes, with JSON's escapes.
+fn quoted(alloc: Global, text: &str) -> Result<String, AllocError>
+    ensures { IfOk result (λ s. string_bytes s ≡ compact_text (string text.now)) }
+{
+    Value::try_from_str(alloc, text)?.to_string(alloc)
+}
+
+fn id_text(alloc: Global, id: &RequestId) -> Result<String, AllocError>
+    ensures text { IfOk result (λ s. string_bytes s ≡ compact_text (id_tree id.now)) }
+    ensures range { OnOk result (IsIdInRange id.now) }
+{
+    id.to_value(alloc)?.to_string(alloc)
+}
+
+fn number_text(alloc: Global, number: i32) -> Result<String, AllocError>
+    ensures text { IfOk result (λ s. string_bytes s ≡ compact_text (json_number (of_integer number))) }
+    ensures range { is_i32 number ≡ true }
+{
+    let value = Value::from(number);
+    value.to_string(alloc)
+}
+
+// Adds a member.
+fn push_named(out: &mut String, before: &str, name: &str, value: &str) -> Result<(), AllocError>
+    ensures { OnOk result (string_bytes out.new
+        ≡ string_bytes out.old ++ named before.now name.now value.now) }
+{
+    out.push_str(before)?;
+    out.push_str("\"")?;
+    out.push_str(name)?;
+    out.push_str("\":")?;
+    out.push_str(value)
+}
+
+fn push_number(
+    out: &mut String,
+    alloc: Global,
+    before: &str,
+    name: &str,
+    number: i32,
+) -> Result<(), AllocError>
+    ensures text { OnOk result (string_bytes out.new ≡ string_bytes out.old
+        ++ named before.now name.now (compact_text (json_number (of_integer number)))) }
+    ensures range { OnOk result (is_i32 number ≡ true) }
+{
+    let text = number_text(alloc, number)?;
+    push_named(out, before, name, text.as_str())
+}
+
+fn push_text(
+    out: &mut String,
+    alloc: Global,
+    before: &str,
+    name: &str,
+    value: &str,
+) -> Result<(), AllocError>
+    ensures { OnOk result (string_bytes out.new ≡ string_bytes out.old
+        ++ named before.now name.now (compact_text (string value.now))) }
+{
+    let text = quoted(alloc, value)?;
+    push_named(out, before, name, text.as_str())
+}
+
+fn push_id(out: &mut String, alloc: Global, before: &str, id: &RequestId) -> Result<(), AllocError>
+    ensures text { OnOk result (string_bytes out.new ≡ string_bytes out.old
+        ++ named before.now (codes "id") (compact_text (id_tree id.now))) }
+    ensures range { OnOk result (IsIdInRange id.now) }
+{
+    let text = id_text(alloc, id)?;
+    push_named(out, before, "id", text.as_str())
+}
+
+// Adds a member after others, where there is a value.
+fn push_later_member(
+    out: &mut String,
+    alloc: Global,
+    name: &str,
+    value: Option<&Value>,
+) -> Result<(), AllocError>
+    ensures { OnOk result (Adds (IsLaterMember name.now (option_map (λ v. view v.now) value.entry))
+        (string_bytes out.old) (string_bytes out.new)) }
+{
+    if let Some(value) = value {
+        let text = value_text(alloc, value)?;
+        push_named(out, ",", name, text.as_str())?;
+    }
+    Ok(())
+}
+
+// Adds the params of a message, which are not written where they are null.
+fn push_params(out: &mut String, alloc: Global, params: &Value) -> Result<(), AllocError>
+    ensures { OnOk result (Adds (IsLaterMember (codes "params") (unless_null (Some (view params.now))))
+        (string_bytes out.old) (string_bytes out.new)) }
+{
+    match params {
+        Value::Null => push_later_member(out, alloc, "params", None),
+        params => push_later_member(out, alloc, "params", Some(params)),
+    }
+}
+
+fn push_error(out: &mut String, alloc: Global, error: &ResponseError) -> Result<(), AllocError>
+    ensures text { OnOk result (Adds (IsErrorText (error_view error.now))
+        (string_bytes out.old) (string_bytes out.new)) }
+    ensures range { OnOk result (is_i32 error.now.code ≡ true) }
+{
+    push_number(out, alloc, "{", "code", error.code)?;
+    push_text(out, alloc, ",", "message", error.message.as_str())?;
+    push_later_member(out, alloc, "data", error.data.as_ref())?;
+    out.push_str("}")?;
+    Ok(())
+}
+
+fn push_request(
+    out: &mut String,
+    alloc: Global,
+    before: &str,
+    request: &Request,
+) -> Result<(), AllocError>
+    ensures text { OnOk result (Adds (IsTextFrom before.now (request_view request.now))
+        (string_bytes out.old) (string_bytes out.new)) }
+    ensures range { OnOk result (IsInRange (request_view request.now)) }
+{
+    push_id(out, alloc, before, &request.id)?;
+    push_text(out, alloc, ",", "method", request.method.as_str())?;
+    push_params(out, alloc, &request.params)?;
+    out.push_str("}")?;
+    Ok(())
+}
+
+fn push_notification(
+    out: &mut String,
+    alloc: Global,
+    before: &str,
+    notification: &Notification,
+) -> Result<(), AllocError>
+    ensures { OnOk result (Adds (IsTextFrom before.now (notification_view notification.now))
+        (string_bytes out.old) (string_bytes out.new)) }
+{
+    push_text(out, alloc, before, "method", notification.method.as_str())?;
+    push_params(out, alloc, &notification.params)?;
+    out.push_str("}")?;
+    Ok(())
+}
+
+fn push_result(
+    out: &mut String,
+    alloc: Global,
+    before: &str,
+    id: &RequestId,
+    value: &Value,
+) -> Result<(), AllocError>
+    ensures text { OnOk result (Adds (IsTextFrom before.now (response id.now (Ok (view value.now))))
+        (string_bytes out.old) (string_bytes out.new)) }
+    ensures range { OnOk result (IsIdInRange id.now) }
+{
+    let text = value_text(alloc, value)?;
+    push_id(out, alloc, before, id)?;
+    push_named(out, ",", "result", text.as_str())?;
+    out.push_str("}")?;
+    Ok(())
+}
+
+fn push_failure(
+    out: &mut String,
+    alloc: Global,
+    before: &str,
+    id: &RequestId,
+    error: &ResponseError,
+) -> Result<(), AllocError>
+    ensures text { OnOk result (Adds (IsTextFrom before.now (response id.now (Err (error_view error.now))))
+        (string_bytes out.old) (string_bytes out.new)) }
+    ensures range { OnOk result (IsIdInRange id.now × (is_i32 error.now.code ≡ true)) }
+{
+    push_id(out, alloc, before, id)?;
+    out.push_str(",\"error\":")?;
+    push_error(out, alloc, error)?;
+    out.push_str("}")?;
+    Ok(())
+}
+
+impl Message {
+    /// The message alone, as one text without spaces (JSON-RPC 2.0, sections 4 and 5): its members in the order `id`,
+    /// `method`, `params`, or `id` and then `result` or `error`. Null params are left out, a null result is written.
+    pub fn member_text(&self, alloc: Global) -> Result<String, AllocError>
+        ensures { IfOk result (λ s. IsMemberText (message_view self.now) (string_bytes s)) }
+    {
+        self.text_from(alloc, "{")
+    }
+
+    /// The content part of the message's frame (LSP 3.17, "Content Part"): the member text with the member `jsonrpc`
+    /// before it. A message that nests at most 127 levels is read back from it.
+    pub fn body_text(&self, alloc: Global) -> Result<String, AllocError>
+        ensures text { IfOk result (λ s. IsBodyOf (message_view self.now) (string_bytes s)) }
+        ensures reads_back { IfOk result (λ s. nesting (message_view self.now) ≤ max_depth
+            → body_means (string_bytes s) ≡ Ok (without_null_details (message_view self.now))) }
+    {
+        self.text_from(alloc, "{\"jsonrpc\":\"2.0\",")
+    }
+
+    fn text_from(&self, alloc: Global, before: &str) -> Result<String, AllocError>
+        ensures text { IfOk result (λ s. IsTextFrom before.now (message_view self.now) (string_bytes s)) }
+        ensures range { OnOk result (IsInRange (message_view self.now)) }
+    {
+        let mut out = String::new(alloc);
+        self.push_to(&mut out, alloc, before)?;
+        Ok(out)
+    }
+
+    fn push_to(&self, out: &mut String, alloc: Global, before: &str) -> Result<(), AllocError>
+        ensures text { OnOk result (Adds (IsTextFrom before.now (message_view self.now))
+            (string_bytes out.old) (string_bytes out.new)) }
+        ensures range { OnOk result (IsInRange (message_view self.now)) }
+    {
+        match self {
+            Message::Request(request) => push_request(out, alloc, before, request),
+            Message::Notification(notification) => {
+                push_notification(out, alloc, before, notification)
+            }
+            Message::Response(response) => match &response.response_result {
+                Ok(value) => push_result(out, alloc, before, &response.id, value),
+                Err(error) => push_failure(out, alloc, before, &response.id, error),
+            },
+        }
+    }
+}

@@ -1,8 +1,0 @@
-use Rattle.lsp_server.specs.Gathering.{TakesFront, KeepsLine}
-use Rattle.lsp_server.proofs.frame.line.gather_line.Given as goal
-
-abbrev pub invariant-loop : goal.invariant-loop
-invariant-loop g l = record {
-  line : KeepsLine l.initial.line.items (g.R.Read.remaining l.initial.reader) l.line.items (g.R.Read.remaining l.reader);
-  begun : TakesFront (g.R.Read.remaining l.initial.reader) (g.R.Read.remaining l.reader);
-}

@@ -1,9 +1,0 @@
-use Rattle.lsp_server.specs.Gathering.{TakesFront}
-use Rattle.lsp_server.proofs.HeaderSteps.{Continues}
-use Rattle.lsp_server.proofs.frame.read.read_header.Given as goal
-
-abbrev pub invariant-loop : goal.invariant-loop
-invariant-loop g l = record {
-  header : Continues (g.R.Read.remaining l.initial.reader) (g.R.Read.remaining l.reader) l.length;
-  begun : TakesFront (g.R.Read.remaining l.initial.reader) (g.R.Read.remaining l.reader);
-}

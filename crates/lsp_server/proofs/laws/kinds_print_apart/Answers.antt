@@ -1,5 +1,0 @@
-use Rattle.lsp_server.proofs.Printed.{printed_apart}
-use Rattle.lsp_server.proofs.laws.kinds_print_apart.Goals as goal
-
-pub returns : goal.returns
-returns c = printed_apart c.args.number c.args.text.now c.ranges.number
