@@ -16,8 +16,8 @@ use Rattle.lsp_server.specs.Event.{Event, message, timeout, closed}
 use Rattle.lsp_server.specs.ProtocolError.{ProtocolFault, unexpected_in_shutdown, out_of_memory, Shows}
 use Rattle.lsp_server.specs.Replies.{null_reply}
 use Rattle.lsp_server.specs.Session.{SessionAnswer, Stop, decided, no_more, timed_out, refused, exhausted, is_served, is_shutdown, Handles, HandlesAll, IsLeft, AfterShutdown, AfterServed, Serves}
-use Rattle.lsp_server.specs.SessionRun.{message_in, is_open, Brings, OffersLast, RefusesLast, Gets, Runs}
-use Rattle.lsp_server.specs.SessionSteps.{ServesMessage, EndsAt, Replies}
+use Rattle.lsp_server.specs.SessionRun.{message_in, is_open, Brings, OffersLast, RefusesLast, Gets, AwaitsExit, RunsAwaiting, Runs}
+use Rattle.lsp_server.specs.SessionSteps.{AwaitsLast, ServesMessage, EndsAt, Replies}
 use Rattle.lsp_server.specs.Shutdown.{ShutdownAnswer, IsNoExit, EventShutsDown, OffersNull, ShutsDown}
 use Rattle.lsp_server.specs.Start.{fault_of_refusal}
 use Rattle.lsp_server.specs.declared.lifecycle.SendFault.{SendFault}
@@ -84,13 +84,14 @@ gets_after sends old mid new output0 output null (refused fault) taken got =
     )
 
 module _ {I O : Type 0} (receives : I → Event → I → Type 0) (sends : O → Message → Result (Unit {0}) SendFault → O → Type 0) where
-  -- a part of a session that goes on as another part
-  pub runs_after : (P Q : List Message → Stop → List Message → Option Message → SessionAnswer → Type 0) (old mid new : I × O) (answer : SessionAnswer)
+  -- a part of a session that goes on as another part, in which events are awaited otherwise
+  awaits_after : (A A' : List Event → Option Message → Type 0) (P Q : List Message → Stop → List Message → Option Message → SessionAnswer → Type 0) (old mid new : I × O) (answer : SessionAnswer)
       (events0 : List Event) (letters0 output0 : List Message)
       → FoldsTo receives old.0 events0 mid.0 → filter_map message_in events0 ≡ letters0 → list_all is_open events0 ≡ true → FoldsTo (Takes sends) old.1 output0 mid.1
+      → ((events : List Event) (null : Option Message) → A' events null → A (events0 ++ events) null)
       → ((letters : List Message) (stop : Stop) (output : List Message) (null : Option Message) → Q letters stop output null answer → P (letters0 ++ letters) stop (output0 ++ output) null answer)
-      → Runs receives sends Q mid answer new → Runs receives sends P old answer new
-  runs_after P Q old mid new answer events0 letters0 output0 received brought still_open taken goes_on run = record {
+      → RunsAwaiting receives sends A' Q mid answer new → RunsAwaiting receives sends A P old answer new
+  awaits_after A A' P Q old mid new answer events0 letters0 output0 received brought still_open taken awaits goes_on run = record {
     events = events0 ++ run.events;
     received = FoldsTo-append receives events0 run.events old.0 mid.0 new.0 received run.received;
     letters = letters0 ++ run.letters;
@@ -98,9 +99,23 @@ module _ {I O : Type 0} (receives : I → Event → I → Type 0) (sends : O →
     brought = brings_after events0 run.events letters0 run.letters run.stop brought still_open run.brought;
     output = output0 ++ run.output;
     null = run.null;
+    awaited = awaits run.events run.null run.awaited;
     got = gets_after sends old.1 mid.1 new.1 output0 run.output run.null run.stop taken run.got;
     part = goes_on run.letters run.stop run.output run.null run.part;
   }
+
+  -- the same where they are not
+  pub runs_after : (P Q : List Message → Stop → List Message → Option Message → SessionAnswer → Type 0) (old mid new : I × O) (answer : SessionAnswer)
+      (events0 : List Event) (letters0 output0 : List Message)
+      → FoldsTo receives old.0 events0 mid.0 → filter_map message_in events0 ≡ letters0 → list_all is_open events0 ≡ true → FoldsTo (Takes sends) old.1 output0 mid.1
+      → ((letters : List Message) (stop : Stop) (output : List Message) (null : Option Message) → Q letters stop output null answer → P (letters0 ++ letters) stop (output0 ++ output) null answer)
+      → Runs receives sends Q mid answer new → Runs receives sends P old answer new
+  runs_after P Q old mid new answer events0 letters0 output0 received brought still_open taken goes_on run =
+      awaits_after AwaitsExit AwaitsExit P Q old mid new answer events0 letters0 output0 received brought still_open taken still_awaits goes_on run
+    where
+      still_awaits : (events : List Event) (null : Option Message) → AwaitsExit events null → AwaitsExit (events0 ++ events) null
+      still_awaits events None awaited = tt
+      still_awaits events (Some null) awaited = (events0 ++ awaited.0, awaited.1, awaited.2, rw (awaited.3, append_assoc) refl, awaited.4)
 
   -- a growth is refused at a message that was waited for
   pub waited_exhausted : (P : List Message → Stop → List Message → Option Message → SessionAnswer → Type 0) (i i' : I) (o : O) (m : Message) (answer : SessionAnswer)
@@ -113,6 +128,7 @@ module _ {I O : Type 0} (receives : I → Event → I → Type 0) (sends : O →
     brought = (m, letters_waited waits.passed (message m) waits.only_timeouts, open_waited waits.passed m waits.only_timeouts);
     output = [];
     null = None;
+    awaited = tt;
     got = (o, refl, refl);
     part = part;
   }
@@ -128,6 +144,7 @@ module _ {I O : Type 0} (receives : I → Event → I → Type 0) (sends : O →
     brought = (letters_waited waits.passed closed waits.only_timeouts, inl (waits.passed, refl, all_open waits.passed waits.only_timeouts));
     output = [];
     null = None;
+    awaited = tt;
     got = (o, refl, refl);
     part = part;
   }
@@ -143,6 +160,7 @@ module _ {I O : Type 0} (receives : I → Event → I → Type 0) (sends : O →
     brought = (letters_waited waits.passed (message m) waits.only_timeouts, open_waited waits.passed m waits.only_timeouts);
     output = [];
     null = None;
+    awaited = tt;
     got = (o, refl, refl);
     part = part;
   }
@@ -156,6 +174,11 @@ abbrev pub shut_answer : ShutdownAnswer → SessionAnswer
 shut_answer (Ok b) = Ok ShutDown
 shut_answer (Err e) = Err e
 
+-- one event is awaited
+abbrev Once : List Event → Option Message → Type 0
+Once events None = Unit {0}
+Once events (Some null) = (last : Event) × (events ≡ last ∷ [])
+
 -- what a session goes on to after the null was offered
 abbrev ExitTail : Id → List Message → Stop → List Message → Option Message → SessionAnswer → Type 0
 ExitTail i letters stop output null answer = (output ≡ []) × (null ≡ Some (null_reply i)) × AfterShutdown letters stop answer
@@ -164,7 +187,7 @@ module _ {I O : Type 0} (receives : I → Event → I → Type 0) (sends : O →
     (id : Id) (i i' : I) (o o' : O) (offers : Offers sends (null_reply id) o o') where
   -- a message came in the place of `exit`
   exit_message : (m : Message) (received : receives i (message m) i') (answer : ShutdownAnswer) (b : Bool)
-      → is_exit m ≡ b → MatchBool b (answer ≡ Ok true) (IsErrAnd answer IsNoExit) → Runs receives sends (ExitTail id) (i, o) (shut_answer answer) (i', o')
+      → is_exit m ≡ b → MatchBool b (answer ≡ Ok true) (IsErrAnd answer IsNoExit) → RunsAwaiting receives sends Once (ExitTail id) (i, o) (shut_answer answer) (i', o')
   exit_message m received answer true e decides = record {
     events = message m ∷ [];
     received = (i', received, refl);
@@ -173,6 +196,7 @@ module _ {I O : Type 0} (receives : I → Event → I → Type 0) (sends : O →
     brought = (refl, refl);
     output = [];
     null = Some (null_reply id);
+    awaited = (_, refl);
     got = (o, refl, offers);
     part = (refl, refl, ((refl, refl), rw e (ap shut_answer decides)));
   }
@@ -186,6 +210,7 @@ module _ {I O : Type 0} (receives : I → Event → I → Type 0) (sends : O →
       brought = (refl, refl);
       output = [];
       null = Some (null_reply id);
+      awaited = (_, refl);
       got = (o, refl, offers);
       part = (refl, refl, ((refl, refl), rw e shows));
     }
@@ -197,6 +222,7 @@ module _ {I O : Type 0} (receives : I → Event → I → Type 0) (sends : O →
       brought = (m, refl, refl);
       output = [];
       null = Some (null_reply id);
+      awaited = (_, refl);
       got = (o, refl, offers);
       part = (refl, refl, ap (λ (x : ProtocolFault). Err x) memory);
     }
@@ -204,7 +230,7 @@ module _ {I O : Type 0} (receives : I → Event → I → Type 0) (sends : O →
 
   -- an event came in the place of `exit`
   exit_run : (event : Event) (received : receives i event i') (answer : ShutdownAnswer)
-      → EventShutsDown event answer → Runs receives sends (ExitTail id) (i, o) (shut_answer answer) (i', o')
+      → EventShutsDown event answer → RunsAwaiting receives sends Once (ExitTail id) (i, o) (shut_answer answer) (i', o')
   exit_run (message m) received answer decides = exit_message m received answer (is_exit m) refl decides
   exit_run timeout received answer decides = record {
     events = timeout ∷ [];
@@ -214,6 +240,7 @@ module _ {I O : Type 0} (receives : I → Event → I → Type 0) (sends : O →
     brought = (refl, ([], refl, refl));
     output = [];
     null = Some (null_reply id);
+    awaited = (_, refl);
     got = (o, refl, offers);
     part = (refl, refl, ap shut_answer decides);
   }
@@ -225,6 +252,7 @@ module _ {I O : Type 0} (receives : I → Event → I → Type 0) (sends : O →
     brought = (refl, inl ([], refl, refl));
     output = [];
     null = Some (null_reply id);
+    awaited = (_, refl);
     got = (o, refl, offers);
     part = (refl, refl, ap shut_answer decides);
   }
@@ -259,18 +287,19 @@ module _ {H : Type 0} (answers : H → Id → List ℕ → Data → Result Data 
     end = later.end;
   }
 
-  left_same : (stop : Stop) (h : H) → IsLeft answers notes stop h h
-  left_same decided h = refl
-  left_same no_more h = refl
-  left_same timed_out h = refl
-  left_same (refused fault) h = refl
-  left_same exhausted h = tt
+  left_same : (stop : Stop) (null : Option Message) (h : H) → IsLeft answers notes stop null h h
+  left_same decided null h = refl
+  left_same no_more null h = refl
+  left_same timed_out null h = refl
+  left_same (refused fault) null h = refl
+  left_same exhausted None h = tt
+  left_same exhausted (Some null) h = refl
 
   -- nothing more is served
   pub serves_end : (h : H) (rest : List Message) (stop : Stop) (null : Option Message) (answer : SessionAnswer)
       → AfterServed rest stop null answer → Serves answers notes h h rest stop [] null answer
   serves_end h rest stop null answer end =
-      record { middle = []; rest = rest; cut = refl; served = refl; after = h; handled = (refl, refl); left = left_same stop h; end = end }
+      record { middle = []; rest = rest; cut = refl; served = refl; after = h; handled = (refl, refl); left = left_same stop null h; end = end }
 
 module _ {H I O : Type 0} (answers : H → Id → List ℕ → Data → Result Data ErrorObject → H → Type 0) (notes : H → List ℕ → Data → H → Type 0)
     (receives : I → Event → I → Type 0) (sends : O → Message → Result (Unit {0}) SendFault → O → Type 0) where
@@ -285,6 +314,7 @@ module _ {H I O : Type 0} (answers : H → Id → List ℕ → Data → Result D
     brought = (refl, refl);
     output = [];
     null = None;
+    awaited = tt;
     got = (o, refl, refl);
     part = serves_end answers notes h (notification method params ∷ []) decided None (Ok Closed) (e, (refl, refl), refl, refl);
   })
@@ -294,11 +324,15 @@ module _ {H I O : Type 0} (answers : H → Id → List ℕ → Data → Result D
     ends_at_shutdown : (answer : ShutdownAnswer) → bytes_eq method (codes "shutdown") ≡ true → OffersNull receives sends id (i, o) answer (i', o')
         → EndsAt answers notes receives sends (request id method params) (h, i, o) (shut_answer answer) (h, i', o')
     ends_at_shutdown answer e null = inl
-        (runs_after receives sends (λ letters. Serves answers notes h h (request id method params ∷ letters)) (ExitTail id) (i, o) (i, o) (i', o') (shut_answer answer)
-        [] [] [] refl refl refl refl
+        (awaits_after receives sends (AwaitsLast (request id method params)) Once (λ letters. Serves answers notes h h (request id method params ∷ letters)) (ExitTail id)
+        (i, o) (i, o) (i', o') (shut_answer answer) [] [] [] refl refl refl refl last
         (λ letters stop output sent part.
-        rw part.0 (serves_end answers notes h (request id method params ∷ letters) stop sent (shut_answer answer) (e, part.1, part.2)))
+          rw part.0 (serves_end answers notes h (request id method params ∷ letters) stop sent (shut_answer answer) (e, part.1, part.2)))
         (exit_run receives sends id i i' o o' null.offered null.event null.received answer null.decides))
+      where
+        last : (events : List Event) (sent : Option Message) → Once events sent → AwaitsLast (request id method params) events sent
+        last events None once = tt
+        last events (Some sent) once = (once.0, once.1, e)
 
     -- the same, of what `shutdown` ensures
     ends_shut : (answer : ShutdownAnswer) (b : Bool) → bytes_eq method (codes "shutdown") ≡ b
@@ -369,6 +403,7 @@ module _ {H I O : Type 0} (answers : H → Id → List ℕ → Data → Result D
               brought = (refl, refl);
               output = unsent.0 ∷ [];
               null = None;
+              awaited = tt;
               got = (([], unsent.0, o, refl, refl, rw passed.2 at unsent.3), refl);
               part = record {
                 middle = request id method params ∷ [];
@@ -389,9 +424,9 @@ module _ {H I O : Type 0} (answers : H → Id → List ℕ → Data → Result D
       → WaitsFor receives i (message m) i' → EndsAt answers notes receives sends m (h, i', o) answer (h', i'', o')
       → Runs receives sends (Serves answers notes h h') (i, o) answer (i'', o')
   ends_waited h h' i i' i'' o o' m answer waits ends = elim ends [
-    | inl run ↦ runs_after receives sends (Serves answers notes h h') (λ letters. Serves answers notes h h' (m ∷ letters)) (i, o) (i', o) (i'', o') answer
+      inl run ↦ awaits_after receives sends AwaitsExit (AwaitsLast m) (Serves answers notes h h') (λ letters. Serves answers notes h h' (m ∷ letters)) (i, o) (i', o) (i'', o') answer
         (waits.passed ++ message m ∷ []) (m ∷ []) [] waits.received (letters_waited waits.passed (message m) waits.only_timeouts)
-        (open_waited waits.passed m waits.only_timeouts) refl (λ letters stop output null part. part) run
+        (open_waited waits.passed m waits.only_timeouts) refl then_last (λ letters stop output null part. part) run
     | inr memory ↦ rw (memory.1, memory.2) (waited_exhausted receives sends (Serves answers notes h h') i i' o m answer waits (record {
       middle = [];
       rest = [];
@@ -403,6 +438,10 @@ module _ {H I O : Type 0} (answers : H → Id → List ℕ → Data → Result D
       end = (memory.0, refl);
     }))
   ]
+    where
+      then_last : (events : List Event) (null : Option Message) → AwaitsLast m events null → AwaitsExit ((waits.passed ++ message m ∷ []) ++ events) null
+      then_last events None awaited = tt
+      then_last events (Some null) awaited = (waits.passed, m, awaited.0, rw (awaited.1, append_assoc) refl, awaited.2)
 
   -- The handler served what came so far: at least so many letters or timeouts.
   pub record Served (h : H) (count : ℕ) (old : I × O) (h' : H) (new : I × O) : Type 0 where
@@ -458,6 +497,7 @@ module _ {H I O : Type 0} (answers : H → Id → List ℕ → Data → Result D
     brought = (refl, inr (so_far.many, so_far.still_open));
     output = so_far.output;
     null = None;
+    awaited = tt;
     got = (new.1, so_far.taken, refl);
     part = record {
       middle = filter_map message_in so_far.events;

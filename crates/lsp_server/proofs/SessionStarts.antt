@@ -87,6 +87,7 @@ module _ {H I O : Type 0} (answers : H → Id → List ℕ → Data → Result D
       brought = (refl, refl);
       output = reply ∷ [];
       null = None;
+      awaited = tt;
       got = (([], reply, o, refl, refl, f.1), refl);
       part = ([], refl, (ap (λ (a : FinishAnswer). as_answer a) f.2, (refl, refl, refl)));
     })
@@ -244,6 +245,7 @@ module _ {H I O : Type 0} (answers : H → Id → List ℕ → Data → Result D
           brought = (refl, inr (rw (run, sym starts.starts.end.0) (omega (arith, many)), turns_open before starts.starts.passed.undecided));
           output = starts.replies;
           null = None;
+          awaited = tt;
           got = (starts.starts.mid, starts.starts.passed.taken, starts.starts.end.1);
           part = record {
             before = letters_of before;
@@ -289,6 +291,7 @@ module _ {H I O : Type 0} (answers : H → Id → List ℕ → Data → Result D
           brought = (refl, turns_open all undecided);
           output = replies ++ refuses.reply ∷ [];
           null = None;
+          awaited = tt;
           got = ((replies, refuses.reply, o', refl, passed.taken, refuses.refuses), refl);
           part = record {
             before = letters_of all;

@@ -70,7 +70,7 @@ AfterShutdown [] stop answer = Undecided stop (Err shutdown_disconnected) answer
 AfterShutdown (m ∷ rest) stop answer =
     IsLast rest stop × MatchBool (is_exit m) (answer ≡ Ok ShutDown) (IsErrAnd answer (Shows unexpected_in_shutdown))
 
--- a letter that the handler serves, where it is no response
+-- neither the request `shutdown` nor the notification `exit`
 abbrev pub is_served : Message → Bool
 is_served m = not (is_shutdown m) && not (is_exit m)
 
@@ -100,10 +100,10 @@ module _ {H : Type 0} (answers : H → Id → List ℕ → Data → Result Data 
   abbrev pub IsSilent : H → H → List Message → Option Message → Type 0
   IsSilent h h' output null = (h' ≡ h) × (output ≡ []) × (null ≡ None)
 
-  -- what the handler is in the end, unless it ran out of memory
-  abbrev pub IsLeft : Stop → H → H → Type 0
-  IsLeft exhausted after h' = Unit {0}
-  IsLeft stop after h' = h' ≡ after
+  -- what the handler is in the end, unless it ran out of memory itself
+  abbrev pub IsLeft : Stop → Option Message → H → H → Type 0
+  IsLeft exhausted None after h' = Unit {0}
+  IsLeft stop null after h' = h' ≡ after
 
   -- From `initialized` on, the handler serves the letters before the first `shutdown` or `exit`.
   pub record Serves (h h' : H) (letters : List Message) (stop : Stop) (output : List Message) (null : Option Message) (answer : SessionAnswer) : Type 0 where
@@ -113,7 +113,7 @@ module _ {H : Type 0} (answers : H → Id → List ℕ → Data → Result Data 
     pub served : list_all is_served middle ≡ true
     pub after : H
     pub handled : HandlesAll h middle output after
-    pub left : IsLeft stop after h'
+    pub left : IsLeft stop null after h'
     pub end : AfterServed rest stop null answer
 
   -- After `initialize` was answered, the next letter is `initialized`.
@@ -133,7 +133,8 @@ module _ {H : Type 0} (answers : H → Id → List ℕ → Data → Result Data 
       (is_early m ≡ false) × IsLast rest stop × IsErrAnd answer (Shows expected_initialize) × IsSilent h h' output null
 
   -- What a session writes and answers. Before `initialize` each request is answered with an error, and a notification is
-  -- dropped. The null of `shutdown`, which comes last, stands apart: a session takes no notice where it can't be sent.
+  -- dropped. The null of `shutdown`, which comes last, stands apart: `serve` takes no notice where it can't
+  -- be sent.
   pub record SessionOut (capabilities : Data) (h h' : H) (letters : List Message) (stop : Stop) (output : List Message) (null : Option Message) (answer : SessionAnswer) : Type 0 where
     pub before : List Message
     pub rest : List Message

@@ -4,7 +4,7 @@ use Rattle.std.specs.Prelude.{◌≡◌, ◌≤◌, ◌-◌, ◌^◌, ◌⊎◌,
 use Rattle.lsp_message.specs.Message.{Message}
 use Rattle.lsp_server.specs.Boxes.{Offers, Takes}
 use Rattle.lsp_server.specs.Event.{Event, message, timeout, closed}
-use Rattle.lsp_server.specs.Session.{SessionAnswer, Stop, decided, no_more, timed_out, refused, exhausted}
+use Rattle.lsp_server.specs.Session.{SessionAnswer, is_shutdown, Stop, decided, no_more, timed_out, refused, exhausted}
 use Rattle.lsp_server.specs.declared.lifecycle.SendFault.{SendFault}
 
 -- the message that an event brings
@@ -20,7 +20,7 @@ is_open timeout = true
 is_open closed = false
 
 -- The events brought these letters and no other message, and ended as the letters did. At a refused growth one more
--- message came. A session takes at most 2^64 - 1 messages, and ends then as if no more came.
+-- message came. After 2^64 - 1 events or more a session may end as if no more came.
 abbrev pub Brings : List Event → List Message → Stop → Type 0
 Brings events letters decided = (filter_map message_in events ≡ letters) × (list_all is_open events ≡ true)
 Brings events letters no_more =
@@ -31,6 +31,11 @@ Brings events letters timed_out =
     (filter_map message_in events ≡ letters) × ((earlier : List Event) × (events ≡ earlier ++ timeout ∷ []) × (list_all is_open earlier ≡ true))
 Brings events letters (refused fault) = (filter_map message_in events ≡ letters) × (list_all is_open events ≡ true)
 Brings events letters exhausted = (next : Message) × (filter_map message_in events ≡ letters ++ next ∷ []) × (list_all is_open events ≡ true)
+
+-- After the message `shutdown`, which is answered with null, exactly one event was awaited.
+abbrev pub AwaitsExit : List Event → Option Message → Type 0
+AwaitsExit events None = Unit {0}
+AwaitsExit events (Some null) = (earlier : List Event) × (m : Message) × (last : Event) × (events ≡ earlier ++ message m ∷ last ∷ []) × (is_shutdown m ≡ true)
 
 module _ {O : Type 0} (sends : O → Message → Result (Unit {0}) SendFault → O → Type 0) where
   -- the null, where there is one, is offered, whatever the outbox answers
@@ -50,8 +55,8 @@ module _ {O : Type 0} (sends : O → Message → Result (Unit {0}) SendFault →
   Gets old output null stop new = (mid : O) × FoldsTo (Takes sends) old output mid × OffersLast mid null new
 
 module _ {I O : Type 0} (receives : I → Event → I → Type 0) (sends : O → Message → Result (Unit {0}) SendFault → O → Type 0) where
-  -- The boxes went from old to new in a part of a session that P describes.
-  pub record Runs (P : List Message → Stop → List Message → Option Message → SessionAnswer → Type 0) (old : I × O) (answer : SessionAnswer) (new : I × O) : Type 0 where
+  -- The boxes went from old to new in a part of a session that P describes, in which events were awaited so.
+  pub record RunsAwaiting (Awaits : List Event → Option Message → Type 0) (P : List Message → Stop → List Message → Option Message → SessionAnswer → Type 0) (old : I × O) (answer : SessionAnswer) (new : I × O) : Type 0 where
     pub events : List Event
     pub received : FoldsTo receives old.0 events new.0
     pub letters : List Message
@@ -59,5 +64,10 @@ module _ {I O : Type 0} (receives : I → Event → I → Type 0) (sends : O →
     pub brought : Brings events letters stop
     pub output : List Message
     pub null : Option Message
+    pub awaited : Awaits events null
     pub got : Gets sends old.1 output null stop new.1
     pub part : P letters stop output null answer
+
+  -- the same of a whole session, or of its part from some message on
+  abbrev pub Runs : (List Message → Stop → List Message → Option Message → SessionAnswer → Type 0) → I × O → SessionAnswer → I × O → Type 0
+  Runs = RunsAwaiting AwaitsExit

@@ -7,8 +7,8 @@ use Rattle.lsp_message.specs.Message.{Message, ErrorObject}
 use Rattle.lsp_server.specs.Boxes.{Takes}
 use Rattle.lsp_server.specs.Event.{Event}
 use Rattle.lsp_server.specs.ProtocolError.{ProtocolFault, out_of_memory}
-use Rattle.lsp_server.specs.Session.{SessionAnswer, Stop, exhausted, is_served, Handles, Serves}
-use Rattle.lsp_server.specs.SessionRun.{Runs}
+use Rattle.lsp_server.specs.Session.{SessionAnswer, Stop, exhausted, is_served, is_shutdown, Handles, Serves}
+use Rattle.lsp_server.specs.SessionRun.{RunsAwaiting, Runs}
 use Rattle.lsp_server.specs.Start.{fault_of_refusal}
 use Rattle.lsp_server.specs.declared.lifecycle.SendFault.{SendFault}
 
@@ -18,6 +18,11 @@ module _ {I O : Type 0} (receives : I → Event → I → Type 0) (sends : O →
   RunsFrom P reply old answer new =
       Runs receives sends (λ letters stop output null answer. (later : List Message) × (output ≡ reply ∷ later) × P letters stop later null answer) old answer new
       ⊎ ((new ≡ old) × P [] exhausted [] None answer)
+
+-- what comes after the message `shutdown` is awaited once
+abbrev pub AwaitsLast : Message → List Event → Option Message → Type 0
+AwaitsLast m events None = Unit {0}
+AwaitsLast m events (Some null) = (last : Event) × (events ≡ last ∷ []) × (is_shutdown m ≡ true)
 
 module _ {H I O : Type 0} (answers : H → Id → List ℕ → Data → Result Data ErrorObject → H → Type 0) (notes : H → List ℕ → Data → H → Type 0)
     (receives : I → Event → I → Type 0) (sends : O → Message → Result (Unit {0}) SendFault → O → Type 0) where
@@ -32,7 +37,7 @@ module _ {H I O : Type 0} (answers : H → Id → List ℕ → Data → Result D
   -- A message that was received is the first of the letters that the session ends with, or a growth is refused at it.
   abbrev pub EndsAt : Message → H × I × O → SessionAnswer → H × I × O → Type 0
   EndsAt m old answer new =
-      Runs receives sends (λ letters. Serves answers notes old.0 new.0 (m ∷ letters)) (old.1, old.2) answer (new.1, new.2)
+      RunsAwaiting receives sends (AwaitsLast m) (λ letters. Serves answers notes old.0 new.0 (m ∷ letters)) (old.1, old.2) answer (new.1, new.2)
       ⊎ ((answer ≡ Err out_of_memory) × (new.1 ≡ old.1) × (new.2 ≡ old.2))
 
 module _ {H O : Type 0} (answers : H → Id → List ℕ → Data → Result Data ErrorObject → H → Type 0) (notes : H → List ℕ → Data → H → Type 0)
