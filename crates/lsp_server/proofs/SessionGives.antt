@@ -8,7 +8,8 @@ use Rattle.std.specs.declared.io.ErrorKind.TheVariants.{Other}
 use Rattle.serde_json.specs.Data.{Data}
 use Rattle.lsp_message.proofs.Contents.{frame_unread}
 use Rattle.lsp_message.specs.Body.{body_means, reading_of}
-use Rattle.lsp_message.specs.Frame.{Answers}
+use Rattle.lsp_message.specs.HeaderPart.{Reading}
+use Rattle.lsp_message.specs.Frame.{Answers, StopsWithin}
 use Rattle.lsp_message.specs.Letters.{Begins}
 use Rattle.lsp_message.specs.Message.{Message}
 use Rattle.lsp_message.specs.Written.{GetsFrames}
@@ -18,13 +19,13 @@ use Rattle.lsp_message.specs.declared.frame.WriteFault.{WriteFault}
 use Rattle.lsp_message.specs.declared.frame.WriteFault.TheVariants.{Output, Memory as NoMemory}
 use Rattle.lsp_server.proofs.SessionFacts.{is_no_exit, Facts, session_facts}
 use Rattle.lsp_server.proofs.SessionStarts.{FoldsTo-split}
-use Rattle.lsp_server.proofs.SessionStreams.{brought_begins, Brought, brought_open, no_timeout, whole_begins, NotRefused, IsWritten, gets_written, gets_keeps}
+use Rattle.lsp_server.proofs.SessionStreams.{Brought, brought_open, no_timeout, whole_first, GetsPart, NotRefused, gets_written, gets_keeps}
 use Rattle.lsp_server.proofs.Streaming.{streams_of}
 use Rattle.lsp_server.specs.Event.{Event, message, timeout, closed}
 use Rattle.lsp_server.specs.FrameBoxes.{FrameOutboxSends}
 use Rattle.lsp_server.specs.ProtocolError.{ProtocolFault, out_of_memory, is_disconnected, is_memory}
 use Rattle.lsp_server.specs.Session.{SessionAnswer, Stop, decided, no_more, timed_out, refused, exhausted}
-use Rattle.lsp_server.specs.SessionBytes.{BeginsWith, all_of, GetsBeginning, FailedAfter, Comes, Fails, BreaksOff, Gives}
+use Rattle.lsp_server.specs.SessionBytes.{BeginsWith, all_of, BreaksOffLast, GetsFirst, IsUnsent, FailedAfter, Comes, Fails, WriteFails, RunsOut, Gives}
 use Rattle.lsp_server.specs.SessionFault.{ran_out, came_to_no_more, plain_answer, read_fault, read_answer, session_answer}
 use Rattle.lsp_server.specs.SessionRun.{message_in, is_open, Brings, Runs}
 use Rattle.lsp_server.specs.StreamBoxes.{stream_of, StreamInboxGives}
@@ -36,16 +37,6 @@ use Rattle.lsp_server.specs.declared.loops.frame_outbox.FrameOutbox.{FrameOutbox
 use Rattle.lsp_server.specs.declared.loops.stream_inbox.StreamInbox.{StreamInbox}
 use Rattle.lsp_server.specs.declared.loops.stream_session.SessionFault.{SessionFault}
 use Rattle.lsp_server.specs.declared.loops.stream_session.SessionFault.TheVariants.{Memory}
-
--- the messages that came are the first of the text, and the letters the first of these
-letters_begin : (events : List Event) (letters : List Message) (stop : Stop) (text : List ℕ) → Brings events letters stop
-    → (at : List ℕ) × BeginsWith text (filter_map message_in events) at → (at : List ℕ) × BeginsWith text letters at
-letters_begin events letters decided text brought read = (read.0, rw brought.0 at read.1)
-letters_begin events letters no_more text brought read = (read.0, rw brought.0 at read.1)
-letters_begin events letters timed_out text brought read = (read.0, rw brought.0 at read.1)
-letters_begin events letters (refused fault) text brought read = (read.0, rw brought.0 at read.1)
-letters_begin events letters exhausted text brought read =
-    let parts = FoldsTo-split Begins letters (brought.0 ∷ []) text read.0 (rw brought.1 at read.1) in (parts.0, parts.1)
 
 -- a reading that failed
 unread_at : (fault : ReadFault) (at : List ℕ) → (reading_of at).outcome ≡ Err fault → reading_of at ≡ record { outcome = Err fault; rest = (reading_of at).rest }
@@ -64,11 +55,28 @@ ran_out_gives (Some end) = refl
 
 module _ (P : List Message → Stop → List Message → Option Message → SessionAnswer → Type 0) (text : List ℕ) (a b : Option (List ℕ))
     (letters : List Message) (output : List Message) (null : Option Message) where
-  -- a session that was broken off
-  broken : (left : Option (List ℕ)) (stop : Stop) (answer : SessionAnswer) → P letters stop output null answer → (at : List ℕ) × BeginsWith text letters at
-      → GetsBeginning (all_of output null) a b → BreaksOff P text left a b
-  broken left stop answer part read written =
-      record { letters = letters; at = read.0; read = read.1; stop = stop; output = output; null = null; answer = answer; part = part; written = written }
+  -- a growth was refused
+  runs_out : (left : Option (List ℕ)) (stop : Stop) (answer : SessionAnswer) → P letters stop output null answer
+      → (at : List ℕ) × BeginsWith text letters at × StopsWithin left (reading_of at) → GetsFirst (all_of output null) a b → RunsOut P text left a b
+  runs_out left stop answer part read written =
+      record { letters = letters; at = read.0; read = read.1; rest = read.2; stop = stop; output = output; null = null; answer = answer; part = part; written = written }
+
+  -- a write failed
+  write_fails : (left : Option (List ℕ)) (stop : Stop) (answer : SessionAnswer) → P letters stop output null answer
+      → (at : List ℕ) × BeginsWith text letters at × StopsWithin left (reading_of at) → IsUnsent stop null → BreaksOffLast (all_of output null) a b → WriteFails P text left a b
+  write_fails left stop answer part read unsent written = record {
+    letters = letters;
+    at = read.0;
+    read = read.1;
+    rest = read.2;
+    stop = stop;
+    output = output;
+    null = null;
+    unsent = unsent;
+    answer = answer;
+    part = part;
+    written = written;
+  }
 
   module _ (written : GetsFrames (all_of output null) a b) (new : Stream) (answer : SessionAnswer) where
     -- a session that came to its end
@@ -121,7 +129,7 @@ module _ (P : List Message → Stop → List Message → Option Message → Sess
 
         fault_gives : (fault : ReadFault) → Answers (λ (m : Message). m) (Err fault) new.remaining (reading_of at) → Gives P text new.remaining a b (Err (read_fault fault))
         fault_gives (Input kind) answers = fails (Input kind) answers
-        fault_gives NoMemoryToRead answers = broken new.remaining no_more answer part (at, read) (whole_begins (all_of output null) a b written)
+        fault_gives NoMemoryToRead answers = runs_out new.remaining no_more answer part (at, read, answers) (whole_first (all_of output null) a b written)
         fault_gives fault answers = fails fault ((reading_of at).rest, unread_at fault at answers.0, answers.1)
 
         -- no more came
@@ -146,6 +154,54 @@ last_event : (earlier : List Event) (event : Event) (old new : Stream) → Folds
     → (mid : Stream) × FoldsTo StreamGives old earlier mid × StreamGives mid event new
 last_event earlier event old new run = let parts = FoldsTo-split StreamGives earlier (event ∷ []) old new run in (parts.0, parts.1, rw parts.2.2 at parts.2.1)
 
+-- no byte after the message that was read last was taken
+reads_within : (at : List ℕ) (end : Option ReadEnd) (left : Option (List ℕ)) → StreamReads (Some at) closed end left → StopsWithin left (reading_of at)
+reads_within at None left reads = absurd reads
+reads_within at (Some End) left reads = ([], reads.0.1)
+reads_within at (Some (Fault fault)) left reads = fault_within fault reads.0
+  where
+    fault_within : (fault : ReadFault) → Answers (λ (m : Message). m) (Err fault) left (reading_of at) → StopsWithin left (reading_of at)
+    fault_within (Input kind) answers = answers
+    fault_within NoMemoryToRead answers = answers
+    fault_within fault answers = ([], answers.1)
+reads_within at (Some end) left reads = absurd reads
+
+module _ (text : List ℕ) (old new : Stream) (unended : old.end ≡ None) (known : old.remaining ≡ Some text)
+    (events : List Event) (run : FoldsTo StreamGives old events new) where
+  -- what was left when an inbox told that no more come
+  pub record ClosedAt (letters : List Message) : Type 0 where
+    pub at : List ℕ
+    pub read : BeginsWith text letters at
+    pub reads : StreamReads (Some at) closed new.end new.remaining
+
+  closed_at : (earlier : List Event) (letters : List Message) → events ≡ earlier ++ closed ∷ [] → list_all is_open earlier ≡ true → filter_map message_in events ≡ letters
+      → list_all is_no_exit letters ≡ true → ClosedAt letters
+  closed_at earlier letters cut still_open brings no_exit =
+      let last = last_event earlier closed old new (rw cut at run) in
+      let same : filter_map message_in earlier ≡ letters = rw (sym brings, cut, filter_map-append message_in earlier (closed ∷ []), append-nil) refl in
+      let brought = rw same at (brought_open earlier text old last.0 unended known last.1 still_open) in
+      let unended' : last.0.end ≡ None = rw (brought.end, no_exit) refl in
+      record { at = brought.at; read = brought.read; reads = rw (unended', brought.left) at last.2 }
+
+  open_within : (letters : List Message) → Brought text letters new → (at : List ℕ) × BeginsWith text letters at × StopsWithin new.remaining (reading_of at)
+  open_within letters brought = (brought.at, brought.read, rw brought.left (frame_unread body_means brought.at))
+
+  -- the letters that were used, and what is left after them
+  left_within : (letters : List Message) (stop : Stop) (answer : SessionAnswer) → Brings events letters stop → Facts stop letters answer
+      → (at : List ℕ) × BeginsWith text letters at × StopsWithin new.remaining (reading_of at)
+  left_within letters decided answer brought facts = open_within letters (rw brought.0 at (brought_open events text old new unended known run brought.1))
+  left_within letters no_more answer brought facts = elim brought.1 [
+      inl last ↦ let closed' = closed_at last.0 letters last.1 last.2 brought.0 facts.2 in (closed'.at, closed'.read, reads_within closed'.at new.end new.remaining closed'.reads)
+    | inr many ↦ open_within letters (rw brought.0 at (brought_open events text old new unended known run many.1))
+  ]
+  left_within letters timed_out answer brought facts = absurd (no_timeout brought.1.0 old new (rw brought.1.1 at run))
+  left_within letters (refused fault) answer brought facts = open_within letters (rw brought.0 at (brought_open events text old new unended known run brought.1))
+  left_within letters exhausted answer brought facts =
+      let all = rw brought.1 at (brought_open events text old new unended known run brought.2) in
+      let parts = FoldsTo-split Begins letters (brought.0 ∷ []) text all.at all.read in
+      let after : (reading_of parts.0).rest ≡ all.at = ap (λ (r : Reading Message). r.rest) parts.2.1 ∙ parts.2.2 in
+      (parts.0, parts.1, ([], rw after all.left))
+
 module _ (P : List Message → Stop → List Message → Option Message → SessionAnswer → Type 0)
     (knows : (letters : List Message) (stop : Stop) (output : List Message) (null : Option Message) (answer : SessionAnswer) → P letters stop output null answer → Facts stop letters answer)
     (text : List ℕ) (old new : Stream) (unended : old.end ≡ None) (known : old.remaining ≡ Some text)
@@ -155,11 +211,8 @@ module _ (P : List Message → Stop → List Message → Option Message → Sess
       → Gives P text new.remaining a b (read_answer answer new.end)
   closed_gives earlier cut still_open brings part =
       let facts = knows letters no_more output null answer part in
-      let last = last_event earlier closed old new (rw cut at run) in
-      let same : filter_map message_in earlier ≡ letters = rw (sym brings, cut, filter_map-append message_in earlier (closed ∷ []), append-nil) refl in
-      let brought = rw same at (brought_open earlier text old last.0 unended known last.1 still_open) in
-      let unended' : last.0.end ≡ None = rw (brought.end, facts.2) refl in
-      end_gives P text a b letters output null written new answer part facts brought.at brought.read new.end (rw (unended', brought.left) at last.2)
+      let last = closed_at text old new unended known events run earlier letters cut still_open brings facts.2 in
+      end_gives P text a b letters output null written new answer part facts last.at last.read new.end last.reads
 
   open_brought : filter_map message_in events ≡ letters → list_all is_open events ≡ true → Brought text letters new
   open_brought brings still_open = rw brings at (brought_open events text old new unended known run still_open)
@@ -175,10 +228,10 @@ module _ (P : List Message → Stop → List Message → Option Message → Sess
   stop_gives timed_out brought taken part = absurd (no_timeout brought.1.0 old new (rw brought.1.1 at run))
   stop_gives (refused fault) brought taken part = absurd taken
   stop_gives exhausted brought taken part =
-      rw (ran_out_answer answer (knows letters exhausted output null answer part), ran_out_gives new.end)
-      (broken P text a b letters output null new.remaining exhausted answer part
-      (letters_begin events letters exhausted text brought (brought_begins events text old new unended known run))
-      (whole_begins (all_of output null) a b written))
+      let facts = knows letters exhausted output null answer part in
+      rw (ran_out_answer answer facts, ran_out_gives new.end)
+      (runs_out P text a b letters output null new.remaining exhausted answer part
+      (left_within text old new unended known events run letters exhausted answer brought facts) (whole_first (all_of output null) a b written))
 
 module _ {R W : Type 0} (remaining : R → Option (List ℕ)) (contents : W → Option (List ℕ))
     (P : List Message → Stop → List Message → Option Message → SessionAnswer → Type 0)
@@ -194,21 +247,26 @@ module _ {R W : Type 0} (remaining : R → Option (List ℕ)) (contents : W → 
       run : FoldsTo StreamGives (stream_of remaining inbox) runs.events (stream_of remaining inbox')
       run = (streams_of remaining runs.events inbox inbox' runs.received).0
 
-      broken_off : GetsBeginning (all_of runs.output runs.null) (contents outbox.writer.now) (contents outbox'.writer.now)
-          → BreaksOff P text (remaining inbox'.reader.now) (contents outbox.writer.now) (contents outbox'.writer.now)
-      broken_off begun =
-          broken P text (contents outbox.writer.now) (contents outbox'.writer.now) runs.letters runs.output runs.null (remaining inbox'.reader.now) runs.stop answer runs.part
-          (letters_begin runs.events runs.letters runs.stop text runs.brought (brought_begins runs.events text (stream_of remaining inbox) (stream_of remaining inbox') unended known run)) begun
+      within : (at : List ℕ) × BeginsWith text runs.letters at × StopsWithin (remaining inbox'.reader.now) (reading_of at)
+      within =
+          left_within text (stream_of remaining inbox) (stream_of remaining inbox') unended known runs.events run runs.letters runs.stop answer runs.brought
+          (knows runs.letters runs.stop runs.output runs.null answer runs.part)
 
       at : (fault : Option WriteFault)
           → MatchOption fault (NotRefused runs.stop × GetsFrames (all_of runs.output runs.null) (contents outbox.writer.now) (contents outbox'.writer.now))
-          (λ f. GetsBeginning (all_of runs.output runs.null) (contents outbox.writer.now) (contents outbox'.writer.now))
+            (λ f. IsUnsent runs.stop runs.null × GetsPart f (all_of runs.output runs.null) (contents outbox.writer.now) (contents outbox'.writer.now))
           → Gives P text (remaining inbox'.reader.now) (contents outbox.writer.now) (contents outbox'.writer.now) (session_answer answer inbox'.end fault)
       at None written =
           stop_gives P knows text (stream_of remaining inbox) (stream_of remaining inbox') unended known runs.events run runs.letters runs.output runs.null answer
           (contents outbox.writer.now) (contents outbox'.writer.now) written.1 runs.stop runs.brought written.0 runs.part
-      at (Some (Output kind)) begun = (tt, broken_off begun)
-      at (Some NoMemory) begun = broken_off begun
+      at (Some (Output kind)) unwritten = (
+        tt,
+        write_fails P text (contents outbox.writer.now) (contents outbox'.writer.now) runs.letters runs.output runs.null (remaining inbox'.reader.now) runs.stop answer runs.part
+        within unwritten.0 unwritten.1,
+      )
+      at (Some NoMemory) unwritten =
+          runs_out P text (contents outbox.writer.now) (contents outbox'.writer.now) runs.letters runs.output runs.null (remaining inbox'.reader.now) runs.stop answer runs.part
+          within unwritten.1
 
   -- the same of the reader and the writer that were lent
   pub session_gives : (first last : R) (first' last' : W) → inbox.reader.now ≡ first → outbox.writer.now ≡ first'

@@ -17,7 +17,7 @@ use Rattle.lsp_server.specs.Boxes.{Takes}
 use Rattle.lsp_server.specs.Event.{Event, message, timeout, closed}
 use Rattle.lsp_server.specs.FrameBoxes.{FrameOutboxSends, IsClosed, Told, kept_write}
 use Rattle.lsp_server.specs.Session.{Stop, decided, no_more, timed_out, refused, exhausted}
-use Rattle.lsp_server.specs.SessionBytes.{BeginsWith, all_of, BeginsNext, GetsBeginning}
+use Rattle.lsp_server.specs.SessionBytes.{BeginsWith, all_of, BreaksOffLast, GetsFirst, IsUnsent}
 use Rattle.lsp_server.specs.SessionRun.{message_in, is_open, OffersLast, RefusesLast, Gets}
 use Rattle.lsp_server.specs.Streams.{Stream, StreamGives, StreamReads, Reads}
 use Rattle.lsp_server.specs.declared.lifecycle.SendFault.{SendFault}
@@ -112,9 +112,14 @@ frames_push [] m frames frame none last = rw none (frame, [], last, refl, rw app
 frames_push (x ∷ xs) m frames frame some last =
     (some.0, some.1 ++ frame, some.2, frames_push xs m some.1 frame some.3 last, rw (some.4, append_assoc) refl)
 
--- all of it is a beginning
-pub whole_begins : (ms : List Message) (old new : Option (List ℕ)) → GetsFrames ms old new → GetsBeginning ms old new
-whole_begins ms old new got = (ms, [], got.0, [], rw append-nil refl, got.1, refl, rw append-nil got.2)
+-- all of it was written
+pub whole_first : (ms : List Message) (old new : Option (List ℕ)) → GetsFrames ms old new → GetsFirst ms old new
+whole_first ms old new got = (ms, [], rw append-nil refl, got)
+
+-- what is written of messages where the write of the last one failed
+abbrev pub GetsPart : WriteFault → List Message → Option (List ℕ) → Option (List ℕ) → Type 0
+GetsPart (Output kind) ms old new = BreaksOffLast ms old new
+GetsPart NoMemory ms old new = GetsFirst ms old new
 
 -- the outbox refused no reply
 abbrev pub NotRefused : Stop → Type 0
@@ -128,54 +133,49 @@ module _ {W : Type 0} (contents : W → Option (List ℕ)) where
   -- a message offered after those whose frames were written
   offered : (ms : List Message) (m : Message) (a b c : Option (List ℕ)) (outcome : Result (Unit {0}) SendFault) (fault : Option WriteFault) → GetsFrames ms a b
       → Writes m b (kept_write fault) c → Told outcome fault
-      → MatchOption fault ((outcome ≡ Ok tt) × GetsFrames (ms ++ m ∷ []) a c) (λ f. GetsBeginning (ms ++ m ∷ []) a c)
+      → MatchOption fault ((outcome ≡ Ok tt) × GetsFrames (ms ++ m ∷ []) a c) (λ f. GetsPart f (ms ++ m ∷ []) a c)
   offered ms m a b c (Ok done) None got writes told =
       (refl, (got.0 ++ writes.0, frames_push ms m got.0 writes.0 got.1 writes.1, Appends-trans a b c got.0 writes.0 got.2 writes.2))
   offered ms m a b c (Err (Shut back)) None got writes told = absurd told
   offered ms m a b c (Err (Full back)) None got writes told = absurd told
   offered ms m a b c outcome (Some (Output kind)) got writes told =
-      (ms, m ∷ [], got.0, writes.2.0, refl, got.1, inr (writes.0, writes.2.1, writes.1, writes.2.2), Appends-trans a b c got.0 writes.2.0 got.2 writes.2.3)
-  offered ms m a b c outcome (Some NoMemory) got writes told =
-      (ms, m ∷ [], got.0, [], refl, got.1, inl refl, rw append-nil (Appends-Keeps a b c got.0 got.2 writes))
+      let part = writes.2 in
+      (ms, m, got.0, writes.0, part.0, part.1, refl, got.1, writes.1, part.2, Appends-trans a b c got.0 part.0 got.2 part.3)
+  offered ms m a b c outcome (Some NoMemory) got writes told = (ms, m ∷ [], refl, (got.0, got.1, Appends-Keeps a b c got.0 got.2 writes))
 
   -- the same, of an outbox that no write has failed in
   sent_after : (ms : List Message) (m : Message) (a b : Option (List ℕ)) (mid new : FrameOutbox W) (outcome : Result (Unit {0}) SendFault) → mid.fault ≡ None
       → b ≡ at mid → GetsFrames ms a b → FrameOutboxSends contents mid m outcome new
-      → MatchOption new.fault ((outcome ≡ Ok tt) × GetsFrames (ms ++ m ∷ []) a (at new)) (λ f. GetsBeginning (ms ++ m ∷ []) a (at new))
+      → MatchOption new.fault ((outcome ≡ Ok tt) × GetsFrames (ms ++ m ∷ []) a (at new)) (λ f. GetsPart f (ms ++ m ∷ []) a (at new))
   sent_after ms m a b mid new outcome unfailed is got sends =
       let writes = rw unfailed at sends.0 in
       offered ms m a (at mid) (at new) outcome new.fault (rw is at got) writes.0 writes.1
 
   -- nothing is left to offer, or the null
-  last_written : (output : List Message) (null : Option Message) (a : Option (List ℕ)) (mid new : FrameOutbox W) → mid.fault ≡ None → GetsFrames output a (at mid)
+  last_written : (stop : Stop) (output : List Message) (null : Option Message) (a : Option (List ℕ)) (mid new : FrameOutbox W) → mid.fault ≡ None → GetsFrames output a (at mid)
       → OffersLast (FrameOutboxSends contents) mid null new
-      → MatchOption new.fault (GetsFrames (all_of output null) a (at new)) (λ f. GetsBeginning (all_of output null) a (at new))
-  last_written output None a mid new unfailed got same = rw (same, unfailed) got
-  last_written output (Some null) a mid new unfailed got offers =
+      → MatchOption new.fault (Unit {0} × GetsFrames (all_of output null) a (at new)) (λ f. IsUnsent stop null × GetsPart f (all_of output null) a (at new))
+  last_written stop output None a mid new unfailed got same = rw (same, unfailed) (tt, got)
+  last_written stop output (Some null) a mid new unfailed got offers =
       pick new.fault (sent_after output null a (at mid) mid new offers.outcome unfailed refl got offers.sent)
     where
       pick : (fault : Option WriteFault)
-          → MatchOption fault ((offers.outcome ≡ Ok tt) × GetsFrames (output ++ null ∷ []) a (at new)) (λ f. GetsBeginning (output ++ null ∷ []) a (at new))
-          → MatchOption fault (GetsFrames (output ++ null ∷ []) a (at new)) (λ f. GetsBeginning (output ++ null ∷ []) a (at new))
-      pick None both = both.1
-      pick (Some f) begun = begun
+          → MatchOption fault ((offers.outcome ≡ Ok tt) × GetsFrames (output ++ null ∷ []) a (at new)) (λ f. GetsPart f (output ++ null ∷ []) a (at new))
+          → MatchOption fault (Unit {0} × GetsFrames (output ++ null ∷ []) a (at new)) (λ f. Unit {0} × GetsPart f (output ++ null ∷ []) a (at new))
+      pick None both = (tt, both.1)
+      pick (Some f) part = (tt, part)
 
   module _ (old new : FrameOutbox W) (output : List Message) (null : Option Message) (unfailed : old.fault ≡ None) where
-    -- the output is written, or a beginning of it where a write failed
+    -- the output is written, or a part of it where a write failed
     abbrev pub IsWritten : Stop → Type 0
-    IsWritten stop = MatchOption new.fault (NotRefused stop × GetsFrames (all_of output null) (at old) (at new)) (λ f. GetsBeginning (all_of output null) (at old) (at new))
+    IsWritten stop =
+        MatchOption new.fault (NotRefused stop × GetsFrames (all_of output null) (at old) (at new)) (λ f. IsUnsent stop null × GetsPart f (all_of output null) (at old) (at new))
 
-    taken_written : (mid : FrameOutbox W) → FoldsTo (Takes (FrameOutboxSends contents)) old output mid → OffersLast (FrameOutboxSends contents) mid null new
-        → MatchOption new.fault (Unit {0} × GetsFrames (all_of output null) (at old) (at new)) (λ f. GetsBeginning (all_of output null) (at old) (at new))
-    taken_written mid taken offers =
+    taken_written : (stop : Stop) (mid : FrameOutbox W) → FoldsTo (Takes (FrameOutboxSends contents)) old output mid → OffersLast (FrameOutboxSends contents) mid null new
+        → MatchOption new.fault (Unit {0} × GetsFrames (all_of output null) (at old) (at new)) (λ f. IsUnsent stop null × GetsPart f (all_of output null) (at old) (at new))
+    taken_written stop mid taken offers =
         let frames = taken_frames contents old output mid unfailed taken in
-        pick new.fault (last_written output null (at old) mid new frames.0 frames.1 offers)
-      where
-        pick : (fault : Option WriteFault)
-            → MatchOption fault (GetsFrames (all_of output null) (at old) (at new)) (λ f. GetsBeginning (all_of output null) (at old) (at new))
-            → MatchOption fault (Unit {0} × GetsFrames (all_of output null) (at old) (at new)) (λ f. GetsBeginning (all_of output null) (at old) (at new))
-        pick None got = (tt, got)
-        pick (Some f) begun = begun
+        last_written stop output null (at old) mid new frames.0 frames.1 offers
 
     refused_written : (fault : SendFault) → RefusesLast (FrameOutboxSends contents) old output fault new → null ≡ None → IsWritten (refused fault)
     refused_written fault last none =
@@ -183,17 +183,17 @@ module _ {W : Type 0} (contents : W → Option (List ℕ)) where
         rw (none, last.3) (pick new.fault (sent_after last.0 last.1 (at old) (at last.2) last.2 new (Err fault) frames.0 refl frames.1 last.5))
       where
         pick : (kept : Option WriteFault)
-            → MatchOption kept ((◌≡◌ {A = Result (Unit {0}) SendFault} (Err fault) (Ok tt)) × GetsFrames (last.0 ++ last.1 ∷ []) (at old) (at new)) (λ f. GetsBeginning (last.0 ++ last.1 ∷ []) (at old) (at new))
-            → MatchOption kept (⊥ × GetsFrames (last.0 ++ last.1 ∷ []) (at old) (at new)) (λ f. GetsBeginning (last.0 ++ last.1 ∷ []) (at old) (at new))
+            → MatchOption kept ((◌≡◌ {A = Result (Unit {0}) SendFault} (Err fault) (Ok tt)) × GetsFrames (last.0 ++ last.1 ∷ []) (at old) (at new)) (λ f. GetsPart f (last.0 ++ last.1 ∷ []) (at old) (at new))
+            → MatchOption kept (⊥ × GetsFrames (last.0 ++ last.1 ∷ []) (at old) (at new)) (λ f. Unit {0} × GetsPart f (last.0 ++ last.1 ∷ []) (at old) (at new))
         pick None both = absurd (cc (both.0))
-        pick (Some f) begun = begun
+        pick (Some f) part = (tt, part)
 
     pub gets_written : (stop : Stop) → Gets (FrameOutboxSends contents) old output null stop new → IsWritten stop
-    gets_written decided got = taken_written got.0 got.1 got.2
-    gets_written no_more got = taken_written got.0 got.1 got.2
-    gets_written timed_out got = taken_written got.0 got.1 got.2
+    gets_written decided got = taken_written decided got.0 got.1 got.2
+    gets_written no_more got = taken_written no_more got.0 got.1 got.2
+    gets_written timed_out got = taken_written timed_out got.0 got.1 got.2
     gets_written (refused fault) got = refused_written fault got.0 got.1
-    gets_written exhausted got = taken_written got.0 got.1 got.2
+    gets_written exhausted got = taken_written exhausted got.0 got.1 got.2
 
   last_keeps : (null : Option Message) (mid new : FrameOutbox W) → OffersLast (FrameOutboxSends contents) mid null new → new.writer.ghost_name ≡ mid.writer.ghost_name
   last_keeps None mid new same = ap (λ (o : FrameOutbox W). o.writer.ghost_name) same

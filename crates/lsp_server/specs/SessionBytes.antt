@@ -25,18 +25,23 @@ abbrev pub all_of : List Message → Option Message → List Message
 all_of output None = output
 all_of output (Some null) = output ++ null ∷ []
 
--- nothing, or a beginning of a frame of the first of these messages
-abbrev pub BeginsNext : List Message → List ℕ → Type 0
-BeginsNext [] part = part ≡ []
-BeginsNext (m ∷ ms) part = (part ≡ []) ⊎ ((frame : List ℕ) × (more : List ℕ) × IsFrameOf m frame × (frame ≡ part ++ more))
+-- the writer got frames of all but the last of these messages, and a beginning of a frame of that one
+abbrev pub BreaksOffLast : List Message → Option (List ℕ) → Option (List ℕ) → Type 0
+BreaksOffLast ms old new =
+    (whole : List Message) × (last : Message) × (frames : List ℕ) × (frame : List ℕ) × (part : List ℕ) × (more : List ℕ)
+    × (ms ≡ whole ++ last ∷ []) × AreFramesOf whole frames × IsFrameOf last frame × (frame ≡ part ++ more) × Appends old new (frames ++ part)
 
--- the writer got a beginning of frames of these messages
-abbrev pub GetsBeginning : List Message → Option (List ℕ) → Option (List ℕ) → Type 0
-GetsBeginning ms old new =
-    (whole : List Message) × (cut : List Message) × (frames : List ℕ) × (part : List ℕ)
-    × (ms ≡ whole ++ cut) × AreFramesOf whole frames × BeginsNext cut part × Appends old new (frames ++ part)
+-- the writer got frames of the first of these messages, and nothing of the others
+abbrev pub GetsFirst : List Message → Option (List ℕ) → Option (List ℕ) → Type 0
+GetsFirst ms old new = (sent : List Message) × (unsent : List Message) × (ms ≡ sent ++ unsent) × GetsFrames sent old new
 
--- What follows the last letter is left, where a letter decided. Where the text ended instead, what follows the end is left.
+-- the last message was not sent: a reply, or the null of `shutdown`
+abbrev pub IsUnsent : Stop → Option Message → Type 0
+IsUnsent stop (Some null) = Unit {0}
+IsUnsent (refused fault) None = Unit {0}
+IsUnsent stop None = ⊥
+
+-- What follows the last letter is left, where a letter decided. Where the text ended instead, what follows its end is left: nothing.
 abbrev pub LeftAfter : Stop → List ℕ → Option (List ℕ) → Type 0
 LeftAfter decided at left = left ≡ Some at
 LeftAfter no_more at left = (rest : List ℕ) × (reading_of at ≡ record { outcome = Ok None; rest = rest }) × (left ≡ Some rest)
@@ -61,7 +66,7 @@ module _ (P : List Message → Stop → List Message → Option Message → Sess
     pub part : P letters stop output null answer
     pub written : GetsFrames (all_of output null) old new
 
-  -- No more letters could be read. All output for those before was written.
+  -- No further letter could be read. All output for those before was written.
   pub record Fails (fault : ReadFault) : Type 0 where
     pub letters : List Message
     pub at : List ℕ
@@ -73,25 +78,40 @@ module _ (P : List Message → Stop → List Message → Option Message → Sess
     pub part : P letters no_more output null answer
     pub written : GetsFrames (all_of output null) old new
 
-  -- A session of the first messages of the text was broken off: a beginning of its output was written.
-  pub record BreaksOff : Type 0 where
+  -- A write failed. What was written of the output is all but its last message, and a beginning of that one. No byte after
+  -- the message that was read last was taken.
+  pub record WriteFails : Type 0 where
     pub letters : List Message
     pub at : List ℕ
     pub read : BeginsWith text letters at
+    pub rest : StopsWithin left (reading_of at)
+    pub stop : Stop
+    pub output : List Message
+    pub null : Option Message
+    pub unsent : IsUnsent stop null
+    pub answer : SessionAnswer
+    pub part : P letters stop output null answer
+    pub written : BreaksOffLast (all_of output null) old new
+
+  -- A growth was refused. The first messages of the output were written, each whole.
+  pub record RunsOut : Type 0 where
+    pub letters : List Message
+    pub at : List ℕ
+    pub read : BeginsWith text letters at
+    pub rest : StopsWithin left (reading_of at)
     pub stop : Stop
     pub output : List Message
     pub null : Option Message
     pub answer : SessionAnswer
     pub part : P letters stop output null answer
-    pub written : GetsBeginning (all_of output null) old new
+    pub written : GetsFirst (all_of output null) old new
 
-  -- Of several faults that fit it is `Write`, else `Memory`, else `Read`, else `Protocol`.
   abbrev pub Gives : Result SessionEnd SessionFault → Type 0
   Gives (Ok end) = Comes (Ok end)
   Gives (Err (Protocol fault)) = Comes (Err fault)
   Gives (Err (Read fault)) = Fails fault
-  Gives (Err (Write fault)) = IsOutput fault × BreaksOff
-  Gives (Err Memory) = BreaksOff
+  Gives (Err (Write fault)) = IsOutput fault × WriteFails
+  Gives (Err Memory) = RunsOut
 
 -- what a fault prints
 abbrev pub session_fault_text : SessionFault → Option (List ℕ)
