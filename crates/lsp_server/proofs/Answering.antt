@@ -10,37 +10,63 @@ use Rattle.lsp_message.specs.Letters.{is_exit}
 use Rattle.lsp_message.specs.Message.{Message, ErrorObject, request, notification, response}
 use Rattle.lsp_message.specs.Written.{GetsFrames}
 use Rattle.lsp_server.proofs.Starting.{AllZip-append}
-use Rattle.lsp_server.specs.Answered.{RepliesTo, RepliesToEach, requests_of, AnswersAll, AnswersAllButLast, AnswersRequests}
+use Rattle.lsp_server.specs.Answered.{RepliesTo, RepliesToEach, requests_of, AnswersAll, ReadsNoMore, AnswersAllButLast, AnswersRequests}
 use Rattle.lsp_server.specs.Finish.{is_initialized}
 use Rattle.lsp_server.specs.ProtocolError.{ProtocolFault, expected_initialized, unexpected_in_shutdown, Shows}
 use Rattle.lsp_server.specs.Session.{SessionAnswer, Stop, decided, no_more, timed_out, refused, exhausted, request_id, IsLast, IsSilent, Handles, HandlesAll, AfterShutdown, AfterServed, Serves, AfterInitialize, AfterEarly, SessionOut}
-use Rattle.lsp_server.specs.SessionBytes.{BeginsWith, all_of, LeftAfter, Comes, Fails, Gives}
+use Rattle.lsp_server.specs.SessionBytes.{BeginsWith, all_of, LeftAfter, FailedAfter, Comes, Fails, Gives}
 use Rattle.lsp_server.specs.Start.{IsEarlyReply}
 use Rattle.lsp_server.specs.declared.loops.serving.SessionEnd.{SessionEnd}
 use Rattle.lsp_server.specs.declared.loops.serving.SessionEnd.TheVariants.{ShutDown, Closed}
 use Rattle.lsp_server.specs.declared.loops.stream_session.SessionFault.{SessionFault}
 use Rattle.lsp_server.specs.declared.loops.stream_session.SessionFault.TheVariants.{Protocol, Read, Write, Memory}
 
--- how many requests may stay without a reply
-abbrev pub Few : Stop → SessionAnswer → List Id → Type 0
-Few decided answer extra = (extra ≡ []) ⊎ (IsErr answer × ((last : Id) × (extra ≡ last ∷ [])))
-Few no_more answer extra = extra ≡ []
-Few stop answer extra = Unit {0}
+-- the last letter is a request, and those before it were answered
+abbrev pub LastUnanswered : List Message → List Id → Type 0
+LastUnanswered letters answered =
+    (before : List Message) × (i : Id) × (method : List ℕ) × (params : Data) × (letters ≡ before ++ request i method params ∷ []) × (answered ≡ requests_of before)
 
--- the requests of the letters, but for the few, got these replies
+-- which requests may stay without a reply
+abbrev pub Few : Stop → SessionAnswer → List Message → List Id → List Id → Type 0
+Few decided answer letters answered extra = (extra ≡ []) ⊎ (IsErr answer × LastUnanswered letters answered)
+Few no_more answer letters answered extra = extra ≡ []
+Few stop answer letters answered extra = Unit {0}
+
+-- the requests of the letters, but for those few, got these replies
 pub record Replied (stop : Stop) (letters : List Message) (output : List Message) (answer : SessionAnswer) : Type 0 where
   pub answered : List Id
   pub extra : List Id
   pub all : requests_of letters ≡ answered ++ extra
   pub each : RepliesToEach answered output
-  pub few : Few stop answer extra
+  pub few : Few stop answer letters answered extra
 
-few_none : (stop : Stop) (answer : SessionAnswer) → Few stop answer []
-few_none decided answer = inl refl
-few_none no_more answer = refl
-few_none timed_out answer = tt
-few_none (refused fault) answer = tt
-few_none exhausted answer = tt
+few_none : (stop : Stop) (answer : SessionAnswer) (letters : List Message) (answered : List Id) → Few stop answer letters answered []
+few_none decided answer letters answered = inl refl
+few_none no_more answer letters answered = refl
+few_none timed_out answer letters answered = tt
+few_none (refused fault) answer letters answered = tt
+few_none exhausted answer letters answered = tt
+
+few_after : (stop : Stop) (answer : SessionAnswer) (before letters : List Message) (answered extra : List Id) → Few stop answer letters answered extra
+    → Few stop answer (before ++ letters) (requests_of before ++ answered) extra
+few_after decided answer before letters answered extra few = elim few [
+  | inl none ↦ inl none
+  | inr last ↦ inr (
+    last.0,
+    (
+      before ++ last.1.0,
+      last.1.1,
+      last.1.2,
+      last.1.3,
+      rw (last.1.4, append_assoc) refl,
+      rw (last.1.5, filter_map-append request_id before last.1.0) refl,
+    ),
+  )
+]
+few_after no_more answer before letters answered extra few = few
+few_after timed_out answer before letters answered extra few = tt
+few_after (refused fault) answer before letters answered extra few = tt
+few_after exhausted answer before letters answered extra few = tt
 
 -- letters whose requests were all answered come first
 replied_after : (stop : Stop) (before rest output0 output : List Message) (answer : SessionAnswer) → RepliesToEach (requests_of before) output0
@@ -50,16 +76,16 @@ replied_after stop before rest output0 output answer each replied = record {
   extra = replied.extra;
   all = rw (filter_map-append request_id before rest, replied.all, append_assoc) refl;
   each = AllZip-append RepliesTo (requests_of before) replied.answered output0 output each replied.each;
-  few = replied.few;
+  few = few_after stop answer before rest replied.answered replied.extra replied.few;
 }
 
 -- nothing was written, and no request came
 replied_none : (stop : Stop) (answer : SessionAnswer) → Replied stop [] [] answer
-replied_none stop answer = record { answered = []; extra = []; all = refl; each = tt; few = few_none stop answer }
+replied_none stop answer = record { answered = []; extra = []; all = refl; each = tt; few = few_none stop answer [] [] }
 
 -- an error in the place of a reply to the last letter
 replied_last : (m : Message) (answer : SessionAnswer) → IsErr answer → Replied decided (m ∷ []) [] answer
-replied_last (request i method params) answer failed = record { answered = []; extra = i ∷ []; all = refl; each = tt; few = inr (failed, (i, refl)) }
+replied_last (request i method params) answer failed = record { answered = []; extra = i ∷ []; all = refl; each = tt; few = inr (failed, ([], i, method, params, refl, refl)) }
 replied_last (notification method params) answer failed = record { answered = []; extra = []; all = refl; each = tt; few = inl refl }
 replied_last (response i outcome) answer failed = record { answered = []; extra = []; all = refl; each = tt; few = inl refl }
 
@@ -166,34 +192,48 @@ module _ (P : List Message → Stop → List Message → Option Message → Sess
     (replies : (letters : List Message) (stop : Stop) (output : List Message) (null : Option Message) (answer : SessionAnswer)
     → P letters stop output null answer → Replied stop letters (all_of output null) answer)
     (text : List ℕ) (left a b : Option (List ℕ)) where
-  all_answered : (letters : List Message) (at : List ℕ) (output : List Message) (stop : Stop) (answer : SessionAnswer) → BeginsWith text letters at
-      → GetsFrames output a b → (replied : Replied stop letters output answer) → replied.extra ≡ [] → AnswersAll text a b
-  all_answered letters at output stop answer read written replied none =
-      (letters, at, output, read, rw (replied.all, none, append-nil) replied.each, written)
-
   module _ (letters : List Message) (at : List ℕ) (output : List Message) (answer : SessionAnswer) (read : BeginsWith text letters at) (written : GetsFrames output a b) where
-    stopped_answered : (stop : Stop) → LeftAfter stop at left → Replied stop letters output answer → AnswersAll text a b ⊎ (IsErr answer × AnswersAllButLast text a b)
+    all_answered : (Left : List ℕ → Type 0) (stop : Stop) → Left at → (replied : Replied stop letters output answer) → replied.extra ≡ [] → AnswersAll text left a b Left
+    all_answered Left stop rest replied none = (letters, at, output, read, rest, rw (replied.all, none, append-nil) replied.each, written)
+
+    stopped_answered : (stop : Stop) → LeftAfter stop at left → Replied stop letters output answer
+        → AnswersAll text left a b (ReadsNoMore text left a b) ⊎ (IsErr answer × AnswersAllButLast text left a b)
     stopped_answered decided rest replied = elim replied.few [
-      | inl none ↦ inl (all_answered letters at output decided answer read written replied none)
-      | inr last ↦ inr (last.0, (letters, at, output, replied.answered, last.1.0, read, rw last.1.1 at replied.all, replied.each, written))
+      | inl none ↦ inl (all_answered (ReadsNoMore text left a b) decided (decided, rest) replied none)
+      | inr last ↦ inr (
+        last.0,
+        (
+          last.1.0,
+          last.1.1,
+          last.1.2,
+          last.1.3,
+          at,
+          output,
+          rw last.1.4 at read,
+          rest,
+          rw last.1.5 at replied.each,
+          written,
+        ),
+      )
     ]
-    stopped_answered no_more rest replied = inl (all_answered letters at output no_more answer read written replied replied.few)
+    stopped_answered no_more rest replied = inl (all_answered (ReadsNoMore text left a b) no_more (no_more, rest) replied replied.few)
     stopped_answered timed_out rest replied = absurd rest
     stopped_answered (refused fault) rest replied = absurd rest
     stopped_answered exhausted rest replied = absurd rest
 
-  comes_answered : (answer : SessionAnswer) → Comes P text left a b answer → AnswersAll text a b ⊎ (IsErr answer × AnswersAllButLast text a b)
+  comes_answered : (answer : SessionAnswer) → Comes P text left a b answer
+      → AnswersAll text left a b (ReadsNoMore text left a b) ⊎ (IsErr answer × AnswersAllButLast text left a b)
   comes_answered answer comes =
       stopped_answered comes.letters comes.at (all_of comes.output comes.null) answer comes.read comes.written comes.stop comes.rest
       (replies comes.letters comes.stop comes.output comes.null answer comes.part)
 
   -- what became of a session's requests
-  pub answers_requests : (answer : Result SessionEnd SessionFault) → Gives P text left a b answer → AnswersRequests text a b answer
+  answers_requests : (answer : Result SessionEnd SessionFault) → Gives P text left a b answer → AnswersRequests text left a b answer
   answers_requests (Ok end) comes = elim (comes_answered (Ok end) comes) [ inl all ↦ all | inr last ↦ absurd (cc (last.0)) ]
   answers_requests (Err (Protocol fault)) comes = elim (comes_answered (Err fault) comes) [ inl all ↦ inl all | inr last ↦ inr last.1 ]
   answers_requests (Err (Read fault)) fails =
       let replied = replies fails.letters no_more fails.output fails.null fails.answer fails.part in
-      all_answered fails.letters fails.at (all_of fails.output fails.null) no_more fails.answer fails.read fails.written replied replied.few
+      all_answered fails.letters fails.at (all_of fails.output fails.null) fails.answer fails.read fails.written (λ at. FailedAfter fault at left) no_more fails.rest replied replied.few
   answers_requests (Err (Write fault)) gives = tt
   answers_requests (Err Memory) gives = tt
 
@@ -202,6 +242,6 @@ pub answers_known : (P : List Message → Stop → List Message → Option Messa
     → ((letters : List Message) (stop : Stop) (output : List Message) (null : Option Message) (answer : SessionAnswer)
     → P letters stop output null answer → Replied stop letters (all_of output null) answer)
     → (known left a b : Option (List ℕ)) (answer : Result SessionEnd SessionFault) → IfSome known (λ text. Gives P text left a b answer)
-    → IfSome known (λ text. AnswersRequests text a b answer)
+    → IfSome known (λ text. AnswersRequests text left a b answer)
 answers_known P replies None left a b answer gives = tt
 answers_known P replies (Some text) left a b answer gives = answers_requests P replies text left a b answer gives

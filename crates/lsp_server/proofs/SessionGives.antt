@@ -191,7 +191,7 @@ module _ (text : List ℕ) (old new : Stream) (unended : old.end ≡ None) (know
       → (at : List ℕ) × BeginsWith text letters at × StopsWithin new.remaining (reading_of at)
   left_within letters decided answer brought facts = open_within letters (rw brought.0 at (brought_open events text old new unended known run brought.1))
   left_within letters no_more answer brought facts = elim brought.1 [
-      inl last ↦ let closed' = closed_at last.0 letters last.1 last.2 brought.0 facts.2 in (closed'.at, closed'.read, reads_within closed'.at new.end new.remaining closed'.reads)
+    | inl last ↦ let closed' = closed_at last.0 letters last.1 last.2 brought.0 facts.2 in (closed'.at, closed'.read, reads_within closed'.at new.end new.remaining closed'.reads)
     | inr many ↦ open_within letters (rw brought.0 at (brought_open events text old new unended known run many.1))
   ]
   left_within letters timed_out answer brought facts = absurd (no_timeout brought.1.0 old new (rw brought.1.1 at run))
@@ -254,7 +254,7 @@ module _ {R W : Type 0} (remaining : R → Option (List ℕ)) (contents : W → 
 
       at : (fault : Option WriteFault)
           → MatchOption fault (NotRefused runs.stop × GetsFrames (all_of runs.output runs.null) (contents outbox.writer.now) (contents outbox'.writer.now))
-            (λ f. IsUnsent runs.stop runs.null × GetsPart f (all_of runs.output runs.null) (contents outbox.writer.now) (contents outbox'.writer.now))
+          (λ f. IsUnsent runs.stop runs.null × GetsPart f (all_of runs.output runs.null) (contents outbox.writer.now) (contents outbox'.writer.now))
           → Gives P text (remaining inbox'.reader.now) (contents outbox.writer.now) (contents outbox'.writer.now) (session_answer answer inbox'.end fault)
       at None written =
           stop_gives P knows text (stream_of remaining inbox) (stream_of remaining inbox') unended known runs.events run runs.letters runs.output runs.null answer
@@ -262,7 +262,7 @@ module _ {R W : Type 0} (remaining : R → Option (List ℕ)) (contents : W → 
       at (Some (Output kind)) unwritten = (
         tt,
         write_fails P text (contents outbox.writer.now) (contents outbox'.writer.now) runs.letters runs.output runs.null (remaining inbox'.reader.now) runs.stop answer runs.part
-        within unwritten.0 unwritten.1,
+            within unwritten.0 unwritten.1,
       )
       at (Some NoMemory) unwritten =
           runs_out P text (contents outbox.writer.now) (contents outbox'.writer.now) runs.letters runs.output runs.null (remaining inbox'.reader.now) runs.stop answer runs.part

@@ -327,7 +327,7 @@ module _ {H I O : Type 0} (answers : H → Id → List ℕ → Data → Result D
         (awaits_after receives sends (AwaitsLast (request id method params)) Once (λ letters. Serves answers notes h h (request id method params ∷ letters)) (ExitTail id)
         (i, o) (i, o) (i', o') (shut_answer answer) [] [] [] refl refl refl refl last
         (λ letters stop output sent part.
-          rw part.0 (serves_end answers notes h (request id method params ∷ letters) stop sent (shut_answer answer) (e, part.1, part.2)))
+        rw part.0 (serves_end answers notes h (request id method params ∷ letters) stop sent (shut_answer answer) (e, part.1, part.2)))
         (exit_run receives sends id i i' o o' null.offered null.event null.received answer null.decides))
       where
         last : (events : List Event) (sent : Option Message) → Once events sent → AwaitsLast (request id method params) events sent
@@ -424,7 +424,7 @@ module _ {H I O : Type 0} (answers : H → Id → List ℕ → Data → Result D
       → WaitsFor receives i (message m) i' → EndsAt answers notes receives sends m (h, i', o) answer (h', i'', o')
       → Runs receives sends (Serves answers notes h h') (i, o) answer (i'', o')
   ends_waited h h' i i' i'' o o' m answer waits ends = elim ends [
-      inl run ↦ awaits_after receives sends AwaitsExit (AwaitsLast m) (Serves answers notes h h') (λ letters. Serves answers notes h h' (m ∷ letters)) (i, o) (i', o) (i'', o') answer
+    | inl run ↦ awaits_after receives sends AwaitsExit (AwaitsLast m) (Serves answers notes h h') (λ letters. Serves answers notes h h' (m ∷ letters)) (i, o) (i', o) (i'', o') answer
         (waits.passed ++ message m ∷ []) (m ∷ []) [] waits.received (letters_waited waits.passed (message m) waits.only_timeouts)
         (open_waited waits.passed m waits.only_timeouts) refl then_last (λ letters stop output null part. part) run
     | inr memory ↦ rw (memory.1, memory.2) (waited_exhausted receives sends (Serves answers notes h h') i i' o m answer waits (record {

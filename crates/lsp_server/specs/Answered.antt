@@ -1,12 +1,12 @@
 -- Which requests of a session get which replies (JSON-RPC 2.0, section 5).
 use Rattle.serde_json.specs.Data.{Data}
 use Rattle.std.specs.List.{AllZip, filter_map}
-use Rattle.std.specs.Prelude.{◌≡◌, ◌⊎◌, ℕ, List, [], ◌∷◌, ◌++◌, Option, Result, Ok, Err}
+use Rattle.std.specs.Prelude.{◌≡◌, ◌⊎◌, ℕ, List, [], ◌∷◌, ◌++◌, Option, Some, Result, Ok, Err}
 use Rattle.lsp_message.specs.Id.{Id}
-use Rattle.lsp_message.specs.Message.{Message, ErrorObject, response}
+use Rattle.lsp_message.specs.Message.{Message, ErrorObject, request, response}
 use Rattle.lsp_message.specs.Written.{GetsFrames}
-use Rattle.lsp_server.specs.Session.{request_id}
-use Rattle.lsp_server.specs.SessionBytes.{BeginsWith}
+use Rattle.lsp_server.specs.Session.{Stop, request_id}
+use Rattle.lsp_server.specs.SessionBytes.{BeginsWith, LeftAfter, FailedAfter}
 use Rattle.lsp_server.specs.declared.loops.serving.SessionEnd.{SessionEnd}
 use Rattle.lsp_server.specs.declared.loops.stream_session.SessionFault.{SessionFault}
 use Rattle.lsp_server.specs.declared.loops.stream_session.SessionFault.TheVariants.{Protocol, Read, Write, Memory}
@@ -22,21 +22,25 @@ RepliesToEach = AllZip RepliesTo
 abbrev pub requests_of : List Message → List Id
 requests_of letters = filter_map request_id letters
 
-module _ (text : List ℕ) (old new : Option (List ℕ)) where
+module _ (text : List ℕ) (left old new : Option (List ℕ)) where
   -- Each request among the messages that were read got exactly one reply, under its id, in order. Nothing else was written.
-  abbrev pub AnswersAll : Type 0
-  AnswersAll = (letters : List Message) × (at : List ℕ) × (replies : List Message)
-      × BeginsWith text letters at × RepliesToEach (requests_of letters) replies × GetsFrames replies old new
+  abbrev pub AnswersAll : (List ℕ → Type 0) → Type 0
+  AnswersAll Left = (letters : List Message) × (at : List ℕ) × (replies : List Message)
+      × BeginsWith text letters at × Left at × RepliesToEach (requests_of letters) replies × GetsFrames replies old new
 
-  -- The same but for one last request, which the lifecycle does not allow and which ended the session.
+  -- no further message was read, but that the text ended
+  abbrev pub ReadsNoMore : List ℕ → Type 0
+  ReadsNoMore at = (stop : Stop) × LeftAfter stop at left
+
+  -- The same but for the last message that was read, a request that the lifecycle does not allow.
   abbrev pub AnswersAllButLast : Type 0
-  AnswersAllButLast = (letters : List Message) × (at : List ℕ) × (replies : List Message) × (answered : List Id) × (last : Id)
-      × BeginsWith text letters at × (requests_of letters ≡ answered ++ last ∷ []) × RepliesToEach answered replies × GetsFrames replies old new
+  AnswersAllButLast = (before : List Message) × (id : Id) × (method : List ℕ) × (params : Data) × (at : List ℕ) × (replies : List Message)
+      × BeginsWith text (before ++ request id method params ∷ []) at × (left ≡ Some at) × RepliesToEach (requests_of before) replies × GetsFrames replies old new
 
   -- what became of a session's requests; where writing failed or memory ran out, this says nothing
   abbrev pub AnswersRequests : Result SessionEnd SessionFault → Type 0
-  AnswersRequests (Ok end) = AnswersAll
-  AnswersRequests (Err (Protocol fault)) = AnswersAll ⊎ AnswersAllButLast
-  AnswersRequests (Err (Read fault)) = AnswersAll
+  AnswersRequests (Ok end) = AnswersAll ReadsNoMore
+  AnswersRequests (Err (Protocol fault)) = AnswersAll ReadsNoMore ⊎ AnswersAllButLast
+  AnswersRequests (Err (Read fault)) = AnswersAll (λ at. FailedAfter fault at left)
   AnswersRequests (Err (Write fault)) = Unit {0}
   AnswersRequests (Err Memory) = Unit {0}

@@ -11,8 +11,9 @@ use std::io::{BufRead, Write};
 /// 2.0, section 5).
 ///
 /// It is `session` with a contract of its own, which speaks of all requests that the session read: those that came too
-/// early, `initialize`, those that the handler answered, and `shutdown`. Where the lifecycle does not allow what came, and
-/// that is a request, this last one has no reply.
+/// early, `initialize`, those that the handler answered, and `shutdown`. Where the message that ended the session was a
+/// request that the lifecycle does not allow, this one has no reply. Where a write failed or memory ran out, the contract
+/// says nothing.
 pub fn each_request_is_answered_once<R: BufRead, W: Write, H: Handler>(
     alloc: Global,
     reader: &mut R,
@@ -21,7 +22,7 @@ pub fn each_request_is_answered_once<R: BufRead, W: Write, H: Handler>(
     handler: &mut H,
 ) -> Result<SessionEnd, SessionFault>
     ensures { IfSome (R.remaining reader.old) (λ text.
-        AnswersRequests text (W.contents writer.old) (W.contents writer.new) result) }
+        AnswersRequests text (R.remaining reader.new) (W.contents writer.old) (W.contents writer.new) result) }
 {
     session(alloc, reader, writer, capabilities, handler)
 }

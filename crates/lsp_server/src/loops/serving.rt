@@ -19,7 +19,7 @@ use std::alloc::{AllocError, Global};
 pub enum SessionEnd {
     /// The client asked for `shutdown`, and then sent `exit`.
     ShutDown,
-    /// The client sent `exit` without a `shutdown`, or no more messages came.
+    /// From `initialized` on, the client sent `exit` without a `shutdown`, or no more messages came.
     Closed,
 }
 
@@ -52,9 +52,11 @@ pub trait Handler {
 ///
 /// `initialize` is answered with `{"capabilities":<capabilities>}`. From `initialized` on each request is answered, in
 /// order, with what the handler gives, and each notification is told to it; a response is dropped. `shutdown` is answered
-/// with null. What comes at the wrong time is in the table of `lifecycle`. The session ends with `Closed` where `exit`
-/// comes without a `shutdown`, or where no more messages come from `initialized` on, or after 2^64 - 1 messages. An outbox that refuses a
-/// reply ends it with `disconnected channel`, and a growth that is refused with `out of memory`.
+/// with null, and `exit` then gives `ShutDown`. `Closed` comes where, from `initialized` on, `exit` comes without a
+/// `shutdown` or no more messages come. What comes at the wrong time is in the table of `lifecycle`.
+///
+/// An outbox that is closed to a reply ends the session with `disconnected channel`, and a growth that is refused with
+/// `out of memory`; that the null could not be sent is ignored. After 2^64 - 1 events it ends as if no more messages came.
 pub fn serve<I: Inbox, O: Outbox, H: Handler>(
     alloc: Global,
     inbox: &mut I,

@@ -18,7 +18,7 @@ use std::io::{BufRead, ErrorKind, Write};
 /// `Protocol`.
 #[derive(Debug, Drop)]
 pub enum SessionFault {
-    /// 1: the lifecycle does not allow what came, or no more came too early.
+    /// 1: the lifecycle does not allow what came, or the messages ended too early.
     Protocol(ProtocolError),
     /// 2: a message was not read, and all output for those before it was written. After 2^64 - 1 messages it is `Input`
     /// of kind `Other`.
@@ -50,7 +50,9 @@ impl Error for SessionFault {}
 /// (LSP 3.17, "Base Protocol" and "Server lifecycle").
 ///
 /// What follows the last message that the session used is left in the reader: what comes after the `exit` of a session
-/// that was shut down, for one. Each reply is written, and the writer flushed, before the next message is read.
+/// that was shut down, for one. Each reply is written, and the writer flushed, before the next message is read. Where a
+/// write failed or memory ran out, no byte after the message that was being read was taken; the output's first messages
+/// were written, each whole, and after a failed write a beginning of the next one.
 pub fn session<R: BufRead, W: Write, H: Handler>(
     alloc: Global,
     reader: &mut R,
