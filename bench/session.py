@@ -1,5 +1,5 @@
 #!/usr/bin/env python3
-"""Measures a whole session beside `pump` on the same bytes: requests that are answered with their params.
+"""Measures a whole session beside `pump` on the same bytes: requests that are answered with their params, or with null.
 
 Build both programs first: README.md beside this file says how. The streams lie in a temporary folder that is removed.
 """
@@ -85,7 +85,11 @@ def parse_arguments():
 
 def main():
     arguments = parse_arguments()
-    programs = [Program("lsp_demo pump", [arguments.pump, "pump"]), Program("session_echo", [arguments.session])]
+    programs = [
+        Program("lsp_demo pump", [arguments.pump, "pump"]),
+        Program("session, echo", [arguments.session]),
+        Program("session, null", [arguments.session, "null"]),
+    ]
     for program in programs:
         if not os.access(program.command[0], os.X_OK):
             print(f"session.py: no program {program.command[0]}: README.md says how it is built", file=sys.stderr)
@@ -103,7 +107,7 @@ def main():
                 base = best[programs[0].name].seconds
                 for program in programs:
                     timing = best[program.name]
-                    share = f"{100 * (timing.seconds - base) / timing.seconds:.0f}%" if program is programs[1] else "-"
+                    share = f"{100 * (timing.seconds - base) / timing.seconds:.0f}%" if program is not programs[0] else "-"
                     print(row.format(
                         stream.name, program.name, f"{stream.size / MEGABYTE / timing.seconds:,.0f}",
                         f"{stream.requests / timing.seconds:,.0f}",
