@@ -44,16 +44,25 @@ fn rising(alloc: Global) -> Result<Vec<(RequestId, &'static str)>, AllocError> {
     Ok(ids)
 }
 
+// The ids compare as their places do.
+fn compare(rt: &impl Abort, a: &RequestId, b: &RequestId, i: usize, j: usize) {
+    assert_eq!(rt; a.cmp(b), i.cmp(&j), "{a} and {b}");
+    assert_eq!(rt; a == b, i == j, "{a} and {b}");
+    assert_eq!(rt; a < b, i < j, "{a} and {b}");
+}
+
+fn are_in_order(rt: &impl Abort, ids: &[(RequestId, &'static str)]) {
+    for (i, (a, _)) in ids.iter().enumerate() {
+        for (j, (b, _)) in ids.iter().enumerate() {
+            compare(rt, a, b, i, j);
+        }
+    }
+}
+
 #[test]
 fn ids_are_in_order(rt: HostRuntime) -> Result<(), Fail> {
     let ids = rising(rt.alloc())?;
-    for (i, (a, _)) in ids.iter().enumerate() {
-        for (j, (b, _)) in ids.iter().enumerate() {
-            assert_eq!(rt; a.cmp(b), i.cmp(&j), "{a} and {b}");
-            assert_eq!(rt; a == b, i == j, "{a} and {b}");
-            assert_eq!(rt; a < b, i < j, "{a} and {b}");
-        }
-    }
+    are_in_order(&rt, ids.as_slice());
     Ok(())
 }
 
@@ -136,14 +145,13 @@ fn ids_are_cloned(rt: HostRuntime) -> Result<(), Fail> {
 
 type Names = BTreeMap<RequestId, &'static str>;
 
-// The ids and what they print, put in from the last to the first.
-fn ordered(rt: &impl Abort, alloc: Global) -> Result<Names, AllocError> {
-    let mut names = BTreeMap::new(alloc);
+// Puts the ids and what they print in, from the last to the first.
+fn put_in(rt: &impl Abort, alloc: Global, names: &mut Names) -> Result<(), AllocError> {
     for (name, text) in RISING.iter().rev() {
         let id = id_of(alloc, *name)?;
         assert_eq!(rt; names.insert(id, *text)?, None);
     }
-    Ok(names)
+    Ok(())
 }
 
 fn found(alloc: Global, names: &Names, name: Name) -> Result<Option<&'static str>, AllocError> {
@@ -160,17 +168,23 @@ fn removed(
     Ok(names.remove(&id))
 }
 
-#[test]
-fn ids_are_keys_of_an_ordered_map(rt: HostRuntime) -> Result<(), Fail> {
-    let alloc = rt.alloc();
-    let mut names = ordered(&rt, alloc)?;
+fn are_found(rt: &impl Abort, alloc: Global, names: &Names) -> Result<(), AllocError> {
     for (name, wanted) in [
         (Name::Number(10), Some("10")),
         (Name::Text("10"), Some("\"10\"")),
         (Name::Number(11), None),
     ] {
-        assert_eq!(rt; found(alloc, &names, name)?, wanted);
+        assert_eq!(rt; found(alloc, names, name)?, wanted);
     }
+    Ok(())
+}
+
+#[test]
+fn ids_are_keys_of_an_ordered_map(rt: HostRuntime) -> Result<(), Fail> {
+    let alloc = rt.alloc();
+    let mut names = Names::new(alloc);
+    put_in(&rt, alloc, &mut names)?;
+    are_found(&rt, alloc, &names)?;
     assert_eq!(rt; removed(alloc, &mut names, Name::Text("1"))?, Some("\"1\""));
     assert_eq!(rt; names.len(), 9);
     assert!(rt; names.keys().next() == Some(&RequestId::from(i32::MIN)));
@@ -203,18 +217,30 @@ fn unordered(
 }
 
 #[test]
-fn equal_ids_have_one_hash(rt: HostRuntime) -> Result<(), Fail> {
-    let alloc = rt.alloc();
-    let state = State::default();
-    let names = unordered(&rt, alloc)?;
-    let ids = rising(alloc)?;
+fn ids_are_keys_of_a_hashed_map(rt: HostRuntime) -> Result<(), Fail> {
+    let names = unordered(&rt, rt.alloc())?;
+    let ids = rising(rt.alloc())?;
     for (id, text) in &ids {
         assert_eq!(rt; names.get(id).copied(), Some(*text));
+    }
+    Ok(())
+}
+
+#[test]
+fn equal_ids_have_one_hash(rt: HostRuntime) -> Result<(), Fail> {
+    let state = State::default();
+    let ids = rising(rt.alloc())?;
+    for (id, text) in &ids {
         assert_eq!(rt; state.hash_one(id), hash_of_clone(&state, id)?, "{text}");
     }
-    assert_ne!(rt;
-        hash_of(alloc, &state, Name::Number(1))?,
-        hash_of(alloc, &state, Name::Text("1"))?
-    );
+    Ok(())
+}
+
+#[test]
+fn a_number_and_its_digits_hash_apart(rt: HostRuntime) -> Result<(), Fail> {
+    let state = State::default();
+    let number = hash_of(rt.alloc(), &state, Name::Number(1))?;
+    let digits = hash_of(rt.alloc(), &state, Name::Text("1"))?;
+    assert_ne!(rt; number, digits);
     Ok(())
 }

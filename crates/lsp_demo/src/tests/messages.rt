@@ -216,11 +216,17 @@ fn begins<D: Display + Drop>(
 }
 
 #[test]
-fn params_of_another_type_are_refused(rt: HostRuntime) -> Result<(), Fail> {
+fn request_params_of_another_type_are_refused(rt: HostRuntime) -> Result<(), Fail> {
     let alloc = rt.alloc();
     let error = refusal(request(alloc)?.extract::<String>(alloc, "a"))?;
     let error = begins(&rt, alloc, error, "Invalid request\nMethod: a\n error: ")?;
     assert_eq!(rt; unconverted(error)?.as_str(), "a");
+    Ok(())
+}
+
+#[test]
+fn notification_params_of_another_type_are_refused(rt: HostRuntime) -> Result<(), Fail> {
+    let alloc = rt.alloc();
     let error = refusal(notification(alloc)?.extract::<String>(alloc, "a"))?;
     let error = begins(
         &rt,
