@@ -4,13 +4,13 @@
 #![tactic(auto)]
 
 pub mod example;
-pub mod server;
 #[cfg(test)]
 mod fronts;
 #[cfg(test)]
 mod lifecycle;
 #[cfg(test)]
 mod queues;
+pub mod server;
 #[cfg(test)]
 mod session;
 #[cfg(test)]
