@@ -13,10 +13,12 @@ pub struct Documents {
 }
 
 impl Handler for Documents {
-    ghost use Rattle.std.specs.Prelude.{◌≡◌, ◌+◌, ◌≤◌};
+    ghost use Rattle.serde_json.specs.Data.{number, unsigned};
+    ghost use Rattle.std.specs.Prelude.{◌≡◌, ◌+◌, ◌≤◌, Ok, codes};
 
-    // A request changes nothing, and a notification opens at most one document.
-    ghost answers = { λ old _ _ _ _ new. new ≡ old };
+    // A request changes nothing, and the count is told who asks for it. A notification opens at most one document.
+    ghost answers = { λ old _ method _ outcome new.
+        (new ≡ old) × (method ≡ codes "demo/openDocuments" → outcome ≡ Ok (number (unsigned old.open_count))) };
 
     ghost notes = { λ old _ _ new. new.open_count ≤ old.open_count + 1 };
 

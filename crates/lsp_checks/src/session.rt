@@ -97,45 +97,18 @@ impl Handler for Echo {
     }
 }
 
-// Shows its bytes, at most so many at a time.
+// A client that shows its bytes, at most so many at a time. `initialized` and `shutdown` come once it got the first reply,
+// and `exit` once it got the second: to read on before is a fault.
 #[derive(Drop)]
-struct StepReader<'a> {
+struct Client<'a> {
     left: &'a [u8],
     step: usize,
-}
-
-impl Read for StepReader<'_> {
-    fn read(&mut self, buf: &mut [u8]) -> io::Result<usize> {
-        let shown = self.fill_buf()?;
-        let count = shown.len().min(buf.len());
-        buf[..count].copy_from_slice(&shown[..count]);
-        self.consume(count);
-        Ok(count)
-    }
-}
-
-impl BufRead for StepReader<'_> {
-    fn fill_buf(&mut self) -> io::Result<&[u8]> {
-        let count = self.left.len().min(self.step);
-        Ok(&self.left[..count])
-    }
-
-    fn consume(&mut self, amount: usize) {
-        self.left = &self.left[amount.min(self.left.len())..];
-    }
-}
-
-// A client that sends `initialized` and `shutdown` once it got one reply, and `exit` once it got two. To read on before is
-// a fault.
-#[derive(Drop)]
-struct WaitingClient<'a> {
-    left: &'a [u8],
     got: &'a Cell<usize>,
 }
 
-impl WaitingClient<'_> {
-    // How many bytes are unsent while the client waits.
-    fn held_back(&self) -> usize {
+impl Client<'_> {
+    // How many of the bytes are kept back.
+    fn unsent(&self) -> usize {
         if self.got.get() < 75 {
             return 183;
         }
@@ -146,23 +119,23 @@ impl WaitingClient<'_> {
     }
 }
 
-impl Read for WaitingClient<'_> {
+impl Read for Client<'_> {
     fn read(&mut self, buf: &mut [u8]) -> io::Result<usize> {
-        let shown = self.fill_buf()?;
-        let count = shown.len().min(buf.len());
-        buf[..count].copy_from_slice(&shown[..count]);
+        let mut shown = self.fill_buf()?;
+        let count = shown.read(buf)?;
         self.consume(count);
         Ok(count)
     }
 }
 
-impl BufRead for WaitingClient<'_> {
+impl BufRead for Client<'_> {
     fn fill_buf(&mut self) -> io::Result<&[u8]> {
-        let count = self.left.len().saturating_sub(self.held_back());
-        if count == 0 {
+        let unsent = self.unsent();
+        let sent = self.left.len().saturating_sub(unsent);
+        if sent == 0 && unsent != 0 {
             return Err(io::Error::from(ErrorKind::WouldBlock));
         }
-        Ok(&self.left[..count])
+        Ok(&self.left[..sent.min(self.step)])
     }
 
     fn consume(&mut self, amount: usize) {
@@ -233,7 +206,12 @@ fn run<H: Handler>(
     step: usize,
     handler: &mut H,
 ) -> Result<Outcome, AllocError> {
-    let mut reader = StepReader { left: text, step };
+    let got = Cell::new(REPLIES.len());
+    let mut reader = Client {
+        left: text,
+        step,
+        got: &got,
+    };
     let mut written = Vec::new(alloc);
     let end = end_of(alloc, &mut reader, &mut written, handler)?;
     Ok(Outcome {
@@ -471,8 +449,9 @@ fn sessions_that_are_cut_off(rt: HostRuntime) -> Result<(), Fail> {
 fn replies_go_out_before_the_next_read(rt: HostRuntime) -> Result<(), Fail> {
     let alloc = rt.alloc();
     let got = Cell::new(0);
-    let mut client = WaitingClient {
+    let mut client = Client {
         left: SESSION.as_bytes(),
+        step: 1000,
         got: &got,
     };
     let mut line = Line {
