@@ -8,6 +8,7 @@ pub mod ListSteps
 pub mod Pumping
 pub mod QueueRuns
 pub mod SameTexts
+pub mod Sendable
 pub mod Sending
 pub mod SessionFacts
 pub mod SessionGives

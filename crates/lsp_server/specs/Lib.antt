@@ -27,6 +27,7 @@ pub mod Boxes
 pub mod Event
 pub mod Finish
 pub mod FrameBoxes
+pub mod IoFault
 pub mod Lists
 pub mod ProtocolError
 pub mod ProtocolErrorLaws

@@ -1,13 +1,16 @@
 //! The scaffold under language servers (LSP 3.17, JSON-RPC 2.0): it carries messages between an editor and a server.
 #![tactic(auto)]
 
+mod channels;
 mod error;
 pub mod laws;
 mod lifecycle;
 mod loops;
 mod relay;
 mod req_queue;
+mod stdio;
 
+pub use channels::Connection;
 pub use error::{ProtocolError, RegisterFault};
 pub use lifecycle::{
     CallGate, Event, Gate, Inbox, ListGate, ListInbox, ListOutbox, OpenGate, Outbox, SendFault,
@@ -23,3 +26,4 @@ pub use lsp_message::{
 };
 pub use relay::{PumpFault, StartFault, pump};
 pub use req_queue::{Incoming, Outgoing, ReqQueue};
+pub use stdio::{IoFault, IoThreads};

@@ -96,7 +96,7 @@ fn serve_started<I: Inbox, O: Outbox, H: Handler>(
 }
 
 /// The result of `initialize`.
-fn initialize_result(alloc: Global, capabilities: Value) -> Result<Value, AllocError>
+pub(crate) fn initialize_result(alloc: Global, capabilities: Value) -> Result<Value, AllocError>
     ensures { IfOk result (λ value. view value ≡ initialize_result_spec (view capabilities)) }
 {
     let mut members = Map::new(alloc);

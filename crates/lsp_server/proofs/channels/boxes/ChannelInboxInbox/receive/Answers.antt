@@ -1,0 +1,8 @@
+use Rattle.lsp_server.proofs.Waiting.{waits_none}
+use Rattle.lsp_server.proofs.channels.boxes.ChannelInboxInbox.receive.Goals as goal
+
+pub returns-in-Ok-clause-receives : goal.returns-in-Ok-clause-receives
+returns-in-Ok-clause-receives g c = waits_none _ _ _ _ tt
+
+pub returns-in-Err-clause-receives : goal.returns-in-Err-clause-receives
+returns-in-Err-clause-receives g c = waits_none _ _ _ _ tt
