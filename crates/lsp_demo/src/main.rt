@@ -1,4 +1,4 @@
-//! Passes the messages of standard input on to standard output.
+//! A server over standard input and output, and a program that passes messages on.
 #![tactic(auto)]
 
 ghost use Rattle.std.specs.Prelude.{◌≡◌};
@@ -7,14 +7,19 @@ ghost use Rattle.std.specs.Prelude.{◌≡◌};
 mod devices;
 mod pump;
 mod report;
+mod serve;
 #[cfg(test)]
 mod tests;
 
 use pump::pump_words;
 use report::{report, report_usage};
+use serve::serve_stdio;
 use std::io::{BufReader, ErrorKind, Write};
 use std::process::ExitCode;
 use std::rt::Env;
+use std::sync::Wait;
+use std::thread::Threads;
+use std::time::Clock;
 use std::{env, io};
 
 /// How many bytes of standard input are asked for at once.
@@ -28,12 +33,16 @@ fn main(rt: HostRuntime) -> ExitCode {
     })
 }
 
-/// The exit status of the program, or why it was not begun.
-fn status<R: Env + Input + Print + AllocGlobal, E: Write>(
-    rt: &R,
-    errors: &mut E,
-) -> io::Result<u8> {
+/// The exit status of the program, or why it was not begun. No word at all means `serve`.
+fn status<R, E: Write>(rt: &R, errors: &mut E) -> io::Result<u8>
+where
+    R: Env + Input + Print + AllocGlobal + Threads + Wait + Clock + Copy + Drop + Send + 'static,
+    R::Reader: Send + 'static,
+{
     let words: Vec<String> = env::args(rt)?.skip(1).collect(rt.alloc())?;
+    if asks_serve(words.as_slice()) {
+        return Ok(serve_stdio(rt, errors));
+    }
     let reader = BufReader::with_capacity(rt.alloc(), READ_AHEAD, rt.reader())?;
     Ok(pump_words(
         rt,
@@ -43,6 +52,15 @@ fn status<R: Env + Input + Print + AllocGlobal, E: Write>(
         &mut io::writer(rt),
         errors,
     ))
+}
+
+/// Whether the words ask for the server.
+fn asks_serve(words: &[String]) -> bool {
+    match words {
+        [] => true,
+        [word] => word.as_str() == "serve",
+        _ => false,
+    }
 }
 
 /// Says why the program was not begun: a word that is no text is a wrong one, and all else is want of memory.
