@@ -1,8 +1,10 @@
 //! Tests of the public surface of `lsp_server` that the program `lsp_demo` has no part in: how much of a message has come,
-//! the queues, the handshake and end of a session, whole sessions, and the loop that writes; and the examples of the README.
-//! They stand in a crate of their own, beside the other tests.
+//! the queues, the handshake and end of a session, whole sessions, the loop that writes, and connections in memory; and the
+//! examples of the README. They stand in a crate of their own, beside the other tests.
 #![tactic(auto)]
 
+#[cfg(test)]
+mod connection;
 pub mod example;
 #[cfg(test)]
 mod fronts;

@@ -2,6 +2,7 @@ mod ids;
 mod loops;
 mod messages;
 mod reading;
+mod serve;
 mod trees;
 mod words;
 mod writing;

@@ -1,0 +1,166 @@
+// The server over a connection in memory: replies, exit statuses, and what is said on standard error.
+use crate::serve::serve_on;
+use lsp_server::{Connection, Message};
+use serde_json::Value;
+use std::alloc::{AllocError, Global};
+use std::process::Abort;
+use std::sync::Wait;
+use std::test::Fail;
+use std::thread;
+use std::thread::Threads;
+use std::time::Clock;
+
+const INITIALIZE: &str = "{\"id\":1,\"method\":\"initialize\"}";
+
+const INITIALIZED: &str = "{\"method\":\"initialized\"}";
+
+const ECHO: &str = "{\"id\":5,\"method\":\"demo/echo\",\"params\":[1]}";
+
+const OTHER: &str = "{\"id\":\"x\",\"method\":\"foo\"}";
+
+const SHUTDOWN: &str = "{\"id\":2,\"method\":\"shutdown\"}";
+
+const EXIT: &str = "{\"method\":\"exit\"}";
+
+const RESULT_FRAME: &str =
+    "Content-Length: 53\r\n\r\n{\"jsonrpc\":\"2.0\",\"id\":1,\"result\":{\"capabilities\":{}}}";
+
+const ALL_FRAMES: &str =
+    "Content-Length: 53\r\n\r\n{\"jsonrpc\":\"2.0\",\"id\":1,\"result\":{\"capabilities\":{}}}Content-Length: 37\r\n\r\n{\"jsonrpc\":\"2.0\",\"id\":5,\"result\":[1]}Content-Length: 79\r\n\r\n{\"jsonrpc\":\"2.0\",\"id\":\"x\",\"error\":{\"code\":-32601,\"message\":\"method not found\"}}Content-Length: 38\r\n\r\n{\"jsonrpc\":\"2.0\",\"id\":2,\"result\":null}";
+
+// The message with this member text.
+fn message(alloc: Global, text: &str) -> Option<Message> {
+    let Ok(tree) = Value::from_str(alloc, text) else {
+        return None;
+    };
+    Message::from_value(alloc, &tree).unwrap_or(None)
+}
+
+fn sends_all<R: Wait + AllocGlobal + Abort>(rt: &R, client: &Connection, texts: &[&str]) {
+    for text in texts {
+        let Some(message) = message(rt.alloc(), text) else {
+            panic!(rt; "no message: {text}");
+        };
+        assert!(rt; client.sender.send(rt, message).is_ok());
+    }
+}
+
+// Serves a client that sends these messages and then lets its sender go, and compares the frames of the replies, what is
+// said and the status.
+fn serves<R: Threads + Wait + Clock + AllocGlobal + Abort>(
+    rt: &R,
+    texts: &[&str],
+    frames: &str,
+    said: &str,
+    status: u8,
+) -> Result<(), AllocError> {
+    let alloc = rt.alloc();
+    let (server, client) = Connection::memory(alloc)?;
+    sends_all(rt, &client, texts);
+    let Connection { sender, receiver } = client;
+    drop(sender);
+    let mut errors = Vec::new(alloc);
+    let found = serve_on(rt, server, None, &mut errors);
+    assert_eq!(rt; errors.as_slice(), said.as_bytes());
+    assert_eq!(rt; found, status, "{said}");
+    let mut written = Vec::new(alloc);
+    for reply in receiver.try_iter(rt) {
+        assert!(rt; reply.write(alloc, &mut written).is_ok());
+    }
+    assert_eq!(rt; written.as_slice(), frames.as_bytes(), "{said}");
+    Ok(())
+}
+
+#[test]
+fn each_request_is_answered(rt: HostRuntime) -> Result<(), Fail> {
+    let texts = [INITIALIZE, INITIALIZED, ECHO, OTHER, SHUTDOWN, EXIT];
+    serves(&rt, &texts, ALL_FRAMES, "", 0)?;
+    Ok(())
+}
+
+#[test]
+fn notes_and_replies_are_dropped(rt: HostRuntime) -> Result<(), Fail> {
+    let note = "{\"method\":\"x\"}";
+    let reply = "{\"id\":9,\"result\":null}";
+    let texts = [
+        note,
+        INITIALIZE,
+        INITIALIZED,
+        reply,
+        ECHO,
+        note,
+        OTHER,
+        reply,
+        SHUTDOWN,
+        EXIT,
+    ];
+    serves(&rt, &texts, ALL_FRAMES, "", 0)?;
+    Ok(())
+}
+
+#[test]
+fn sessions_without_shutdown(rt: HostRuntime) -> Result<(), Fail> {
+    let said = "lsp_demo: ended without shutdown\n";
+    serves(&rt, &[INITIALIZE, INITIALIZED], RESULT_FRAME, said, 1)?;
+    serves(
+        &rt,
+        &[INITIALIZE, INITIALIZED, EXIT, ECHO],
+        RESULT_FRAME,
+        said,
+        1,
+    )?;
+    Ok(())
+}
+
+#[test]
+fn sessions_that_fail(rt: HostRuntime) -> Result<(), Fail> {
+    let said = "lsp_demo: disconnected channel\n";
+    serves(&rt, &[], "", said, 1)?;
+    serves(&rt, &[INITIALIZE], RESULT_FRAME, said, 1)?;
+    let texts = [INITIALIZE, INITIALIZED, SHUTDOWN];
+    let frames =
+        "Content-Length: 53\r\n\r\n{\"jsonrpc\":\"2.0\",\"id\":1,\"result\":{\"capabilities\":{}}}Content-Length: 38\r\n\r\n{\"jsonrpc\":\"2.0\",\"id\":2,\"result\":null}";
+    let said = "lsp_demo: channel disconnected waiting for exit notification\n";
+    serves(&rt, &texts, frames, said, 1)?;
+    Ok(())
+}
+
+#[test]
+fn a_result_that_is_not_sent(rt: HostRuntime) -> Result<(), Fail> {
+    let alloc = rt.alloc();
+    let (server, client) = Connection::memory(alloc)?;
+    sends_all(&rt, &client, &[INITIALIZE, INITIALIZED, ECHO]);
+    drop(client);
+    let mut errors = Vec::new(alloc);
+    assert_eq!(rt; serve_on(&rt, server, None, &mut errors), 1);
+    let said = b"lsp_demo: disconnected channel\n".as_slice();
+    assert_eq!(rt; errors.as_slice(), said);
+    Ok(())
+}
+
+// A client that takes the result, and no other reply.
+fn takes_the_result<R: Wait + AllocGlobal + Abort>(rt: &R, client: Connection) {
+    sends_all(rt, &client, &[INITIALIZE]);
+    assert!(rt; client.receiver.recv(rt).is_ok());
+    let Ok((spare, _)) = Connection::memory(rt.alloc()) else {
+        panic!(rt; "no memory");
+    };
+    let mut deaf = client;
+    deaf.receiver = spare.receiver;
+    sends_all(rt, &deaf, &[INITIALIZED, ECHO]);
+}
+
+#[test]
+fn a_reply_that_is_not_sent(rt: HostRuntime) -> Result<(), Fail> {
+    let alloc = rt.alloc();
+    let (server, client) = Connection::memory(alloc)?;
+    let Ok(other) = thread::spawn(&rt, move || takes_the_result(&rt, client)) else {
+        return Err(Fail::from("no thread"));
+    };
+    let mut errors = Vec::new(alloc);
+    assert_eq!(rt; serve_on(&rt, server, None, &mut errors), 1);
+    other.join(&rt);
+    let said = b"lsp_demo: ended without shutdown\n".as_slice();
+    assert_eq!(rt; errors.as_slice(), said);
+    Ok(())
+}
