@@ -1,4 +1,5 @@
 // The handshake and the end of a session over a connection in memory, whose other side is a thread or was ready before.
+use crate::client::{Part, client_thread};
 use lsp_server::{Connection, IoFault, Message, ProtocolError, ReadFault, RequestId, WriteFault};
 use serde_json::{Map, Value};
 use std::alloc::{AllocError, Global};
@@ -60,14 +61,17 @@ fn has_text(alloc: Global, message: &Message, text: &str) -> bool {
 }
 
 // A client's side of the handshake.
-fn shakes_hands<R: Wait + Clock + AllocGlobal>(rt: &R, connection: &Connection) -> bool {
+pub(crate) fn shakes_hands<R: Wait + Clock + AllocGlobal>(rt: &R, connection: &Connection) -> bool {
     sends(rt, connection, INITIALIZE)
         && receives(rt, connection, RESULT)
         && sends(rt, connection, INITIALIZED)
 }
 
 // The same, which waits for longer than one turn before it ends the handshake, and then finds no second result.
-fn shakes_hands_slowly<R: Wait + Clock + AllocGlobal>(rt: &R, connection: &Connection) -> bool {
+pub(crate) fn shakes_hands_slowly<R: Wait + Clock + AllocGlobal>(
+    rt: &R,
+    connection: &Connection,
+) -> bool {
     if !sends(rt, connection, INITIALIZE) || !receives(rt, connection, RESULT) {
         return false;
     }
@@ -80,7 +84,10 @@ fn shakes_hands_slowly<R: Wait + Clock + AllocGlobal>(rt: &R, connection: &Conne
 }
 
 // A client's side of the end: it sends `exit` only after the null came.
-fn ends_after_null<R: Wait + Clock + AllocGlobal>(rt: &R, connection: &Connection) -> bool {
+pub(crate) fn ends_after_null<R: Wait + Clock + AllocGlobal>(
+    rt: &R,
+    connection: &Connection,
+) -> bool {
     receives(rt, connection, NULL) && sends(rt, connection, EXIT)
 }
 
@@ -142,7 +149,7 @@ fn exit_ends_the_handshake(rt: HostRuntime) -> Result<(), Fail> {
 fn a_client_shakes_hands(rt: HostRuntime) -> Result<(), Fail> {
     let alloc = rt.alloc();
     let (server, client) = Connection::memory(alloc)?;
-    let Ok(other) = thread::spawn(&rt, move || shakes_hands(&rt, &client)) else {
+    let Some(other) = client_thread(&rt, Part::Handshake, client) else {
         return Err(Fail::from("no thread"));
     };
     let Ok(params) = server.initialize(&rt, no_capabilities(alloc)) else {
@@ -157,7 +164,7 @@ fn a_client_shakes_hands(rt: HostRuntime) -> Result<(), Fail> {
 fn a_slow_client_gets_one_result(rt: HostRuntime) -> Result<(), Fail> {
     let alloc = rt.alloc();
     let (server, client) = Connection::memory(alloc)?;
-    let Ok(other) = thread::spawn(&rt, move || shakes_hands_slowly(&rt, &client)) else {
+    let Some(other) = client_thread(&rt, Part::SlowHandshake, client) else {
         return Err(Fail::from("no thread"));
     };
     let Ok(params) = server.initialize_while(&rt, no_capabilities(alloc), || true) else {
@@ -232,7 +239,7 @@ fn exit_follows_the_null(rt: HostRuntime) -> Result<(), Fail> {
     let Some(Message::Request(request)) = message(alloc, SHUTDOWN) else {
         return Err(Fail::from("no request"));
     };
-    let Ok(other) = thread::spawn(&rt, move || ends_after_null(&rt, &client)) else {
+    let Some(other) = client_thread(&rt, Part::End, client) else {
         return Err(Fail::from("no thread"));
     };
     let answer = server.handle_shutdown(&rt, &request);
