@@ -61,7 +61,7 @@ class Timing:
 
 
 def small_request(method):
-    return b'{"jsonrpc":"2.0","id":%d,"method":"%s","params":{"line":17,"character":4}}' % (FIRST_ID, method)
+    return b'{"jsonrpc":"2.0","id":%d,"method":"%s","params":{"character":4,"line":17}}' % (FIRST_ID, method)
 
 
 def echo_loads(divisor):
