@@ -11,7 +11,8 @@ use std::io::{BufRead, Write};
 ///
 /// No word at all, or `pump` alone, writes each message of the reader again, as a frame. The status is 0 where all
 /// were passed on, and 1 after a fault, whose text goes to `errors`. Other words are answered by how the program is
-/// called, and status 1. A fault of `errors` is ignored.
+/// called, and status 1. A fault of `errors` is ignored. `main` comes here with other words than `serve` alone, and never
+/// with none, which means `serve` there.
 pub fn pump_words<T, R: BufRead + Drop, W: Write, E: Write>(
     rt: &T,
     alloc: Global,
