@@ -1,7 +1,7 @@
 -- Each request of a session is answered once, under its id, in order.
-use Rattle.std.proofs.Common.{◌≡◌, refl, sym, ap, subst, inl, inr, ◌⊎◌, ℕ, Bool, true, false, List, [], ◌∷◌, ◌++◌, append_assoc, append-nil, Some, None, Option, IfSome}
+use Rattle.std.proofs.Common.{◌≡◌, refl, subst, inl, inr, ◌⊎◌, ℕ, Bool, true, false, List, [], ◌∷◌, ◌++◌, append_assoc, append-nil, Some, None, Option, IfSome}
 use Rattle.std.specs.Bool.{MatchBool}
-use Rattle.std.specs.List.{AllZip, filter_map}
+use Rattle.std.specs.List.{AllZip}
 use Rattle.std.specs.Prelude.{Result, Ok, Err, IsErr, IsErrAnd}
 use Rattle.std.proofs.lemmas.List.Elements.{filter_map-append}
 use Rattle.serde_json.specs.Data.{Data, null as null_tree}
@@ -14,10 +14,10 @@ use Rattle.lsp_server.specs.Answered.{RepliesTo, RepliesToEach, requests_of, Ans
 use Rattle.lsp_server.specs.Finish.{is_initialized}
 use Rattle.lsp_server.specs.ProtocolError.{ProtocolFault, expected_initialized, unexpected_in_shutdown, Shows}
 use Rattle.lsp_server.specs.Session.{SessionAnswer, Stop, decided, no_more, timed_out, refused, exhausted, request_id, IsLast, IsSilent, Handles, HandlesAll, AfterShutdown, AfterServed, Serves, AfterInitialize, AfterEarly, SessionOut}
-use Rattle.lsp_server.specs.SessionBytes.{BeginsWith, all_of, LeftAfter, FailedAfter, Comes, Fails, Gives}
+use Rattle.lsp_server.specs.SessionBytes.{BeginsWith, all_of, LeftAfter, FailedAfter, Comes, Gives}
 use Rattle.lsp_server.specs.Start.{IsEarlyReply}
 use Rattle.lsp_server.specs.declared.loops.serving.SessionEnd.{SessionEnd}
-use Rattle.lsp_server.specs.declared.loops.serving.SessionEnd.TheVariants.{ShutDown, Closed}
+use Rattle.lsp_server.specs.declared.loops.serving.SessionEnd.TheVariants.{ShutDown}
 use Rattle.lsp_server.specs.declared.loops.stream_session.SessionFault.{SessionFault}
 use Rattle.lsp_server.specs.declared.loops.stream_session.SessionFault.TheVariants.{Protocol, Read, Write, Memory}
 

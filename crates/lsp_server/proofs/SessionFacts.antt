@@ -1,9 +1,8 @@
 -- What the definition of a session says of its answer, and of an `exit` among its letters.
-use Rattle.std.proofs.Common.{◌≡◌, refl, sym, ◌∙◌, ap, ℕ, Bool, true, false, true≢false, not, ◌&&◌, List, [], ◌∷◌, ◌++◌, Some, None, Option, codes}
+use Rattle.std.proofs.Common.{◌≡◌, refl, sym, ◌∙◌, ℕ, Bool, true, false, true≢false, not, List, [], ◌∷◌, ◌++◌, Option, codes}
 use Rattle.std.specs.Bool.{MatchBool}
 use Rattle.std.specs.List.{list_all}
 use Rattle.std.specs.Prelude.{Result, Ok, Err, IsErrAnd}
-use Rattle.std.specs.Str.{bytes_eq}
 use Rattle.std.proofs.lemmas.List.Folds.{list_all-append}
 use Rattle.std.proofs.lemmas.Slice.Eq.{bytes_eq-Decides}
 use Rattle.serde_json.specs.Data.{Data}
@@ -16,7 +15,7 @@ use Rattle.lsp_server.specs.ProtocolError.{ProtocolFault, expected_initialize, e
 use Rattle.lsp_server.specs.Session.{SessionAnswer, Stop, decided, no_more, timed_out, refused, exhausted, is_served, is_shutdown, IsLast, IsSilent, AfterShutdown, AfterServed, Serves, AfterInitialize, AfterEarly, SessionOut}
 use Rattle.lsp_server.specs.SessionFault.{ran_out, came_to_no_more}
 use Rattle.lsp_server.specs.Start.{is_early}
-use Rattle.lsp_server.specs.declared.loops.serving.SessionEnd.TheVariants.{ShutDown, Closed}
+use Rattle.lsp_server.specs.declared.loops.serving.SessionEnd.TheVariants.{ShutDown}
 
 abbrev pub is_no_exit : Message → Bool
 is_no_exit m = not (is_exit m)

@@ -1,11 +1,8 @@
 -- A session over a reader and a writer, as its contract says it.
-use Rattle.std.proofs.Common.{◌≡◌, refl, sym, ◌∙◌, ap, inl, inr, ◌⊎◌, ℕ, Bool, true, false, true≢false, List, [], ◌∷◌, ◌++◌, append-nil, Some, None, Option, IfSome}
+use Rattle.std.proofs.Common.{◌≡◌, refl, sym, ◌∙◌, ap, inl, inr, ℕ, Bool, true, false, true≢false, List, [], ◌∷◌, ◌++◌, append-nil, Some, None, Option, IfSome}
 use Rattle.std.proofs.lemmas.List.Elements.{filter_map-append}
-use Rattle.std.specs.Io.KnownBytes.{Keeps}
 use Rattle.std.specs.List.{FoldsTo, list_all, filter_map}
-use Rattle.std.specs.Prelude.{Result, Ok, Err, MatchOption, if◌then◌else◌}
-use Rattle.std.specs.declared.io.ErrorKind.TheVariants.{Other}
-use Rattle.serde_json.specs.Data.{Data}
+use Rattle.std.specs.Prelude.{Ok, Err, MatchOption}
 use Rattle.lsp_message.proofs.Contents.{frame_unread}
 use Rattle.lsp_message.specs.Body.{body_means, reading_of}
 use Rattle.lsp_message.specs.HeaderPart.{Reading}
@@ -14,16 +11,16 @@ use Rattle.lsp_message.specs.Letters.{Begins}
 use Rattle.lsp_message.specs.Message.{Message}
 use Rattle.lsp_message.specs.Written.{GetsFrames}
 use Rattle.lsp_message.specs.declared.frame.ReadFault.{ReadFault}
-use Rattle.lsp_message.specs.declared.frame.ReadFault.TheVariants.{Input, LineNotText, LineEnd, NoSeparator, BadLength, NoLength, ShortBody, BodyNotText, NoJson, NoMessage, Memory as NoMemoryToRead}
+use Rattle.lsp_message.specs.declared.frame.ReadFault.TheVariants.{Input, Memory as NoMemoryToRead}
 use Rattle.lsp_message.specs.declared.frame.WriteFault.{WriteFault}
 use Rattle.lsp_message.specs.declared.frame.WriteFault.TheVariants.{Output, Memory as NoMemory}
-use Rattle.lsp_server.proofs.SessionFacts.{is_no_exit, Facts, session_facts}
+use Rattle.lsp_server.proofs.SessionFacts.{is_no_exit, Facts}
 use Rattle.lsp_server.proofs.SessionStarts.{FoldsTo-split}
 use Rattle.lsp_server.proofs.SessionStreams.{Brought, brought_open, no_timeout, whole_first, GetsPart, NotRefused, gets_written, gets_keeps}
 use Rattle.lsp_server.proofs.Streaming.{streams_of}
-use Rattle.lsp_server.specs.Event.{Event, message, timeout, closed}
+use Rattle.lsp_server.specs.Event.{Event, closed}
 use Rattle.lsp_server.specs.FrameBoxes.{FrameOutboxSends}
-use Rattle.lsp_server.specs.ProtocolError.{ProtocolFault, out_of_memory, is_disconnected, is_memory}
+use Rattle.lsp_server.specs.ProtocolError.{out_of_memory}
 use Rattle.lsp_server.specs.Session.{SessionAnswer, Stop, decided, no_more, timed_out, refused, exhausted}
 use Rattle.lsp_server.specs.SessionBytes.{BeginsWith, all_of, BreaksOffLast, GetsFirst, IsUnsent, FailedAfter, Comes, Fails, WriteFails, RunsOut, Gives}
 use Rattle.lsp_server.specs.SessionFault.{ran_out, came_to_no_more, plain_answer, read_fault, read_answer, session_answer}
@@ -31,11 +28,9 @@ use Rattle.lsp_server.specs.SessionRun.{message_in, is_open, Brings, Runs}
 use Rattle.lsp_server.specs.StreamBoxes.{stream_of, StreamInboxGives}
 use Rattle.lsp_server.specs.Streams.{Stream, StreamGives, StreamReads}
 use Rattle.lsp_server.specs.declared.loops.ReadEnd.{ReadEnd}
-use Rattle.lsp_server.specs.declared.loops.ReadEnd.TheVariants.{Exit, End, Fault, Closed as Shut, Memory as Full}
-use Rattle.lsp_server.specs.declared.loops.serving.SessionEnd.TheVariants.{ShutDown, Closed}
+use Rattle.lsp_server.specs.declared.loops.ReadEnd.TheVariants.{End, Fault}
 use Rattle.lsp_server.specs.declared.loops.frame_outbox.FrameOutbox.{FrameOutbox}
 use Rattle.lsp_server.specs.declared.loops.stream_inbox.StreamInbox.{StreamInbox}
-use Rattle.lsp_server.specs.declared.loops.stream_session.SessionFault.{SessionFault}
 use Rattle.lsp_server.specs.declared.loops.stream_session.SessionFault.TheVariants.{Memory}
 
 -- a reading that failed

@@ -1,5 +1,5 @@
 -- Laws of a session over boxes: its parts one after another, and what the handler serves.
-use Rattle.std.proofs.Common.{◌≡◌, refl, sym, ◌∙◌, ap, inl, inr, ◌⊎◌, ℕ, ◌+◌, ◌-◌, ◌^◌, ◌≤◌, ◌<◌, Bool, true, false, List, [], ◌∷◌, ◌++◌, length, length-append, append_assoc, append-nil, arith, Some, None, Option}
+use Rattle.std.proofs.Common.{◌≡◌, refl, sym, ◌∙◌, ap, inl, inr, ◌⊎◌, ℕ, ◌+◌, ◌-◌, ◌^◌, ◌≤◌, Bool, true, false, List, [], ◌∷◌, ◌++◌, length, length-append, append_assoc, append-nil, arith, Some, None, Option}
 use Rattle.std.specs.Bool.{MatchBool}
 use Rattle.std.specs.List.{FoldsTo, list_all, filter_map}
 use Rattle.std.specs.Prelude.{Result, Ok, Err, IsErrAnd, codes}
@@ -9,17 +9,16 @@ use Rattle.std.proofs.lemmas.List.Folds.{list_all-append}
 use Rattle.serde_json.specs.Data.{Data}
 use Rattle.lsp_message.specs.Id.{Id}
 use Rattle.lsp_message.specs.Letters.{is_exit}
-use Rattle.lsp_message.specs.Message.{Message, ErrorObject, request, notification, response}
+use Rattle.lsp_message.specs.Message.{Message, ErrorObject, request, notification}
 use Rattle.lsp_server.proofs.Waiting.{FoldsTo-append, list_all-push}
 use Rattle.lsp_server.specs.Boxes.{Offers, Takes, WaitsFor, is_timeout}
 use Rattle.lsp_server.specs.Event.{Event, message, timeout, closed}
 use Rattle.lsp_server.specs.ProtocolError.{ProtocolFault, unexpected_in_shutdown, out_of_memory, Shows}
 use Rattle.lsp_server.specs.Replies.{null_reply}
-use Rattle.lsp_server.specs.Session.{SessionAnswer, Stop, decided, no_more, timed_out, refused, exhausted, is_served, is_shutdown, Handles, HandlesAll, IsLeft, AfterShutdown, AfterServed, Serves}
-use Rattle.lsp_server.specs.SessionRun.{message_in, is_open, Brings, OffersLast, RefusesLast, Gets, AwaitsExit, RunsAwaiting, Runs}
+use Rattle.lsp_server.specs.Session.{SessionAnswer, Stop, decided, no_more, timed_out, refused, exhausted, is_served, Handles, HandlesAll, IsLeft, AfterShutdown, AfterServed, Serves}
+use Rattle.lsp_server.specs.SessionRun.{message_in, is_open, Brings, Gets, AwaitsExit, RunsAwaiting, Runs}
 use Rattle.lsp_server.specs.SessionSteps.{AwaitsLast, ServesMessage, EndsAt, Replies}
 use Rattle.lsp_server.specs.Shutdown.{ShutdownAnswer, IsNoExit, EventShutsDown, OffersNull, ShutsDown}
-use Rattle.lsp_server.specs.Start.{fault_of_refusal}
 use Rattle.lsp_server.specs.declared.lifecycle.SendFault.{SendFault}
 use Rattle.lsp_server.specs.declared.loops.serving.SessionEnd.TheVariants.{ShutDown, Closed}
 

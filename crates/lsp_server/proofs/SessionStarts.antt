@@ -1,10 +1,9 @@
 -- Laws of the handshake as the beginning of a session.
-use Rattle.std.proofs.Common.{◌≡◌, refl, sym, ◌∙◌, ap, inl, inr, ◌⊎◌, ℕ, ◌+◌, ◌-◌, ◌^◌, ◌≤◌, ◌<◌, Bool, true, false, ◌&&◌, List, [], ◌∷◌, ◌++◌, length, suc, length-append, append_assoc, append-nil, arith, Some, None, Option}
+use Rattle.std.proofs.Common.{◌≡◌, refl, sym, ap, inl, inr, ℕ, ◌-◌, ◌^◌, Bool, true, false, ◌&&◌, List, [], ◌∷◌, ◌++◌, length, suc, append-nil, arith, Some, None, Option}
 use Rattle.std.specs.Bool.{MatchBool}
 use Rattle.std.specs.List.{FoldsTo, AllZip, list_all, filter_map}
-use Rattle.std.specs.Prelude.{Result, Ok, Err, IsErrAnd, MatchOption}
+use Rattle.std.specs.Prelude.{Result, Ok, Err}
 use Rattle.std.proofs.lemmas.List.Elements.{filter_map-append}
-use Rattle.std.proofs.lemmas.List.Folds.{list_all-append}
 use Rattle.serde_json.specs.Data.{Data}
 use Rattle.lsp_message.specs.Id.{Id}
 use Rattle.lsp_message.specs.Message.{Message, ErrorObject, request, notification, response}
@@ -14,12 +13,12 @@ use Rattle.lsp_server.proofs.Waiting.{list_all-push}
 use Rattle.lsp_server.specs.Boxes.{Takes, WaitsFor}
 use Rattle.lsp_server.specs.Event.{Event, message, timeout, closed}
 use Rattle.lsp_server.specs.Finish.{FinishAnswer, IsUninvited, EventFinishes, FinishesAt, is_initialized}
-use Rattle.lsp_server.specs.ProtocolError.{ProtocolFault, disconnected, expected_initialized, out_of_memory, Shows}
+use Rattle.lsp_server.specs.ProtocolError.{ProtocolFault, disconnected, out_of_memory}
 use Rattle.lsp_server.specs.Replies.{ok_reply}
-use Rattle.lsp_server.specs.Session.{SessionAnswer, Stop, decided, no_more, timed_out, refused, exhausted, request_id, initialize_result, is_initialize, Serves, AfterInitialize, AfterEarly, SessionOut}
-use Rattle.lsp_server.specs.SessionRun.{message_in, is_open, Brings, Runs}
+use Rattle.lsp_server.specs.Session.{SessionAnswer, no_more, refused, request_id, initialize_result, is_initialize, Serves, AfterInitialize, AfterEarly, SessionOut}
+use Rattle.lsp_server.specs.SessionRun.{message_in, is_open, Runs}
 use Rattle.lsp_server.specs.SessionSteps.{RunsFrom}
-use Rattle.lsp_server.specs.Start.{StartAnswer, is_early, is_undecided, request_of, IsEarlyReply, fault_of_refusal, PassesOver, RefusesReply, Ends, Decides, MessageDecides, StartsWithin}
+use Rattle.lsp_server.specs.Start.{StartAnswer, is_early, is_undecided, request_of, IsEarlyReply, fault_of_refusal, PassesOver, RefusesReply, Decides, MessageDecides, StartsWithin}
 use Rattle.lsp_server.specs.Turns.{Turn, stopped, got, TakesTurn}
 use Rattle.lsp_server.specs.declared.lifecycle.SendFault.{SendFault}
 use Rattle.lsp_server.specs.declared.loops.serving.SessionEnd.TheVariants.{Closed}

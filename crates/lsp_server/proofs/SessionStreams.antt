@@ -1,7 +1,7 @@
 -- A session over an inbox that reads and an outbox that writes, in bytes.
-use Rattle.std.proofs.Common.{◌≡◌, refl, sym, ◌∙◌, ap, subst, inl, inr, ◌⊎◌, ℕ, Bool, true, false, true≢false, not, cond, List, [], ◌∷◌, ◌++◌, append_assoc, append-nil, Some, None, Option, IfSome}
-use Rattle.std.proofs.KnownBytes.{Appends-nil, Appends-trans}
-use Rattle.std.specs.Io.KnownBytes.{Keeps, Appends}
+use Rattle.std.proofs.Common.{◌≡◌, refl, sym, ◌∙◌, ap, ℕ, Bool, true, false, List, [], ◌∷◌, ◌++◌, append_assoc, append-nil, Some, None, Option}
+use Rattle.std.proofs.KnownBytes.{Appends-trans}
+use Rattle.std.specs.Io.KnownBytes.{Keeps}
 use Rattle.std.specs.List.{FoldsTo, list_all, filter_map}
 use Rattle.std.specs.Prelude.{Result, Ok, Err, MatchOption, if◌then◌else◌}
 use Rattle.lsp_message.specs.Body.{reading_of}
@@ -15,7 +15,7 @@ use Rattle.lsp_server.proofs.Pumping.{taken_frames, taken_keeps, Appends-Keeps}
 use Rattle.lsp_server.proofs.SessionFacts.{is_no_exit}
 use Rattle.lsp_server.specs.Boxes.{Takes}
 use Rattle.lsp_server.specs.Event.{Event, message, timeout, closed}
-use Rattle.lsp_server.specs.FrameBoxes.{FrameOutboxSends, IsClosed, Told, kept_write}
+use Rattle.lsp_server.specs.FrameBoxes.{FrameOutboxSends, Told, kept_write}
 use Rattle.lsp_server.specs.Session.{Stop, decided, no_more, timed_out, refused, exhausted}
 use Rattle.lsp_server.specs.SessionBytes.{BeginsWith, all_of, BreaksOffLast, GetsFirst, IsUnsent}
 use Rattle.lsp_server.specs.SessionRun.{message_in, is_open, OffersLast, RefusesLast, Gets}
@@ -23,7 +23,7 @@ use Rattle.lsp_server.specs.Streams.{Stream, StreamGives, StreamReads, Reads}
 use Rattle.lsp_server.specs.declared.lifecycle.SendFault.{SendFault}
 use Rattle.lsp_server.specs.declared.lifecycle.SendFault.TheVariants.{Closed as Shut, Memory as Full}
 use Rattle.lsp_server.specs.declared.loops.ReadEnd.{ReadEnd}
-use Rattle.lsp_server.specs.declared.loops.ReadEnd.TheVariants.{Exit, End, Fault}
+use Rattle.lsp_server.specs.declared.loops.ReadEnd.TheVariants.{Exit}
 use Rattle.lsp_server.specs.declared.loops.frame_outbox.FrameOutbox.{FrameOutbox}
 
 -- an inbox that has ended brings nothing more

@@ -4,7 +4,7 @@ use Rattle.std.specs.Prelude.{◌≡◌, ◌⊎◌, ℕ, List, ◌++◌, Option,
 use Rattle.lsp_message.specs.Faults.{read_fault_text, write_fault_text}
 use Rattle.lsp_message.specs.Letters.{Begins, PassesAll, Ending, exited, ended, failed, Letters}
 use Rattle.lsp_message.specs.Message.{Message}
-use Rattle.lsp_message.specs.Written.{IsFrameOf, AreFramesOf, AppendsBeginning, GetsFrames}
+use Rattle.lsp_message.specs.Written.{IsFrameOf, AreFramesOf, GetsFrames}
 use Rattle.lsp_message.specs.declared.frame.ReadFault.TheVariants.{Input, Memory}
 use Rattle.lsp_message.specs.declared.frame.WriteFault.TheVariants.{Output, Memory as NoMemory}
 use Rattle.lsp_message.specs.declared.frame.WriteFault.{WriteFault}

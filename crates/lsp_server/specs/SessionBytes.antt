@@ -11,7 +11,7 @@ use Rattle.lsp_message.specs.Written.{IsFrameOf, AreFramesOf, GetsFrames, IsOutp
 use Rattle.lsp_message.specs.declared.frame.ReadFault.{ReadFault}
 use Rattle.lsp_message.specs.declared.frame.ReadFault.TheVariants.{Input, Memory as NoMemoryToRead}
 use Rattle.lsp_server.specs.ProtocolError.{fault_text}
-use Rattle.lsp_server.specs.Session.{SessionAnswer, Stop, decided, no_more, timed_out, refused, exhausted}
+use Rattle.lsp_server.specs.Session.{SessionAnswer, Stop, decided, no_more, refused}
 use Rattle.lsp_server.specs.declared.loops.serving.SessionEnd.{SessionEnd}
 use Rattle.lsp_server.specs.declared.loops.stream_session.SessionFault.{SessionFault}
 use Rattle.lsp_server.specs.declared.loops.stream_session.SessionFault.TheVariants.{Protocol, Read, Write, Memory}

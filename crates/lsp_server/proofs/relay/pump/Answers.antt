@@ -1,5 +1,5 @@
-use Rattle.std.proofs.Common.{IfSome, sym, ap, subst, ◌∙◌}
-use Rattle.lsp_server.specs.Pump.{Pumps, pump_answer}
+use Rattle.std.proofs.Common.{sym, ap, ◌∙◌}
+use Rattle.lsp_server.specs.Pump.{pump_answer}
 use Rattle.lsp_server.proofs.Pumping.{pumped_from}
 use Rattle.lsp_server.proofs.relay.pump.Goals as goal
 

@@ -1,7 +1,5 @@
-use Rattle.std.proofs.Common.{Option, List}
 use Rattle.serde_json.specs.View.{view}
-use Rattle.lsp_message.specs.Message.{Message}
-use Rattle.lsp_server.specs.Session.{SessionAnswer, Stop, SessionOut}
+use Rattle.lsp_server.specs.Session.{SessionOut}
 use Rattle.lsp_server.proofs.Answering.{session_replied, answers_known}
 use Rattle.lsp_server.proofs.laws.sessions.each_request_is_answered_once.Goals as goal
 

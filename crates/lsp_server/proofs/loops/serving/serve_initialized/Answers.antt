@@ -1,5 +1,5 @@
-use Rattle.std.proofs.Common.{rules, arith, ◌≡◌, ◌-◌, ◌^◌}
-use Rattle.lsp_server.proofs.SessionRuns.{served_none, served_more, serves_run, serves_count, serves_closed, ends_waited}
+use Rattle.std.proofs.Common.{arith, ◌≡◌, ◌-◌, ◌^◌}
+use Rattle.lsp_server.proofs.SessionRuns.{served_more, serves_run, serves_count, serves_closed, ends_waited}
 use Rattle.lsp_server.proofs.loops.serving.serve_initialized.Goals as goal
 
 pub returns-in-Closed : goal.returns-in-Closed

@@ -1,7 +1,6 @@
-use Rattle.std.proofs.Common.{sym, ap, ◌∙◌}
+use Rattle.std.proofs.Common.{sym, ◌∙◌}
 use Rattle.serde_json.specs.View.{view}
 use Rattle.lsp_server.specs.Session.{SessionOut}
-use Rattle.lsp_server.specs.SessionFault.{session_answer}
 use Rattle.lsp_server.proofs.SessionFacts.{session_facts}
 use Rattle.lsp_server.proofs.SessionGives.{session_gives}
 use Rattle.lsp_server.proofs.loops.stream_session.session.Goals as goal

@@ -1,4 +1,4 @@
-use Rattle.std.proofs.Common.{◌≡◌, ◌∙◌, sym, ap, is_some, not}
+use Rattle.std.proofs.Common.{◌∙◌, sym, ap, is_some, not}
 use Rattle.std.specs.FinMap as map
 use Rattle.lsp_message.specs.IdLaws.{id_total}
 use Rattle.lsp_message.specs.IdKeys.{id_antisymmetric}
