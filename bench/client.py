@@ -30,6 +30,8 @@ SHUTDOWN = b'{"jsonrpc":"2.0","id":2,"method":"shutdown"}'
 SHUTDOWN_REPLY = b'{"jsonrpc":"2.0","id":2,"result":null}'
 EXIT = b'{"jsonrpc":"2.0","method":"exit"}'
 
+USAGE = "usage: lsp_demo pump | serve | tcp ADDR\n"
+
 NESTED = {
     "emoji": "\U0001f600",
     "empty": [[], {}, "", [[]]],
@@ -77,6 +79,10 @@ class Server:
         except BrokenPipeError:
             pass
 
+    def close_input(self):
+        """Tells the program that nothing more comes."""
+        self.process.stdin.close()
+
     def receive(self):
         """The body of the next frame, whose header is laid out as the program writes it."""
         return self.receive_frame(HEADER)[1]
@@ -96,8 +102,16 @@ class Server:
         del self.received[:end]
         return whole[:body_start], whole[body_start:]
 
+    def input(self):
+        """The descriptor that the program's requests go to."""
+        return self.process.stdin.fileno()
+
+    def output(self):
+        """The descriptor that the program's replies come from."""
+        return self.process.stdout.fileno()
+
     def read_more(self, deadline):
-        output = self.process.stdout.fileno()
+        output = self.output()
         if not select.select([output], [], [], max(0, deadline - time.monotonic()))[0]:
             raise Difference(f"no reply within {PATIENCE} seconds")
         piece = os.read(output, 1 << 20)
@@ -119,9 +133,12 @@ class Server:
             status = self.process.wait(PATIENCE)
         except subprocess.TimeoutExpired:
             raise Difference(f"it still runs after {PATIENCE} seconds") from None
-        rest = b"" if self.process.stdout.closed else self.process.stdout.read()
         self.errors.seek(0)
-        return status, bytes(self.received) + rest, self.errors.read().decode(errors="replace")
+        return status, bytes(self.received) + self.read_rest(), self.errors.read().decode(errors="replace")
+
+    def read_rest(self):
+        """What an ended program has written and nobody has taken."""
+        return b"" if self.process.stdout.closed else self.process.stdout.read()
 
 
 def expect(what, seen, wanted):
@@ -163,8 +180,8 @@ WHOLE_SESSION = [
 ]
 
 
-def check_session(command):
-    with Server(command) as server:
+def check_session(start):
+    with start() as server:
         for sent, wanted in WHOLE_SESSION:
             print("->", sent.decode())
             server.send_bytes(frame(sent))
@@ -238,12 +255,12 @@ def exchange(server, exchanges):
             expect("a reply", server.receive(), wanted)
 
 
-def check_bad_end(command, case):
+def check_bad_end(start, case):
     print(case.name)
-    with Server(command) as server:
+    with start() as server:
         exchange(server, case.exchanges)
         if case.closes:
-            server.process.stdin.close()
+            server.close_input()
         expect_failure(server, case.text)
 
 
@@ -270,12 +287,12 @@ def check_output_closed_midway(command):
         expect_failure(server, "channel closed")
 
 
-def check_usage(program):
-    print("wrong arguments")
-    with Server([program, "serve", "twice"]) as server:
+def check_words(program, words, said):
+    print(f"arguments: {' '.join(words)}")
+    with Server([program, *words]) as server:
         status, rest, errors = server.finish()
     print(f"    status {status}, {errors!r}")
-    expect("standard error", errors, "usage: lsp_demo pump | serve | tcp ADDR\n")
+    expect("standard error", errors, said)
     expect("the status", status, 1)
     expect("standard output", rest, b"")
 
@@ -289,12 +306,12 @@ def main():
         return 2
     command = [program, "serve"]
     try:
-        check_session(command)
+        check_session(lambda: Server(command))
         for case in BAD_ENDS:
-            check_bad_end(command, case)
+            check_bad_end(lambda: Server(command), case)
         check_closed_output(command)
         check_output_closed_midway(command)
-        check_usage(program)
+        check_words(program, ["serve", "twice"], USAGE)
     except Difference as difference:
         print(f"client.py: DIFFERENCE: {difference}", file=sys.stderr)
         return 1

@@ -1,14 +1,21 @@
 " Starts a server through Vim's own LSP channel, sends it requests, prints the replies, and ends the session.
 "   vim -u NONE -i NONE -N -es -S bench/editor.vim | cat
-" LSP_SERVER="program argument .." names another server than `crates/lsp_demo/out/lsp_demo serve`.
+" LSP_SERVER="program argument .." names another server than `crates/lsp_demo/out/lsp_demo serve`. LSP_ADDRESS=127.0.0.1:9257
+" starts `crates/lsp_demo/out/lsp_demo tcp` at that address, and speaks to it through a socket.
 set encoding=utf-8
 scriptencoding utf-8
 
-let s:server = empty($LSP_SERVER) ? 'crates/lsp_demo/out/lsp_demo serve' : $LSP_SERVER
+let s:place = empty($LSP_ADDRESS) ? 'serve' : 'tcp ' .. $LSP_ADDRESS
+let s:server = empty($LSP_SERVER) ? 'crates/lsp_demo/out/lsp_demo ' .. s:place : $LSP_SERVER
 let s:patience = 10000
 let s:ended = []
 let s:options = #{in_mode: 'lsp', out_mode: 'lsp', err_mode: 'nl', exit_cb: {_, status -> add(s:ended, status)}}
-let s:channel = job_getchannel(job_start(split(s:server), s:options))
+let s:job = job_start(split(s:server), s:options)
+if empty($LSP_ADDRESS)
+  let s:channel = job_getchannel(s:job)
+else
+  let s:channel = ch_open($LSP_ADDRESS, #{mode: 'lsp', waittime: s:patience})
+endif
 
 func s:Say(text)
   call writefile([a:text], '/dev/stdout', 'a')

@@ -1,7 +1,8 @@
 #!/usr/bin/env python3
-"""Measures round trips with `lsp_demo serve` through pipes, one at a time and with more in flight.
+"""Measures round trips with `lsp_demo serve` through pipes and `lsp_demo tcp` through a socket, one at a time and with more in
+flight.
 
-`cat` stands beside it, which sends each request back as it is: what this client and the pipes need. Other servers
+`cat` stands beside them, which sends each request back as it is: what this client and the pipes need. Other servers
 answer a method that they don't know with an error; in the rows "unknown method" `serve` does the same.
 """
 import argparse
@@ -13,6 +14,7 @@ import sys
 import tempfile
 import time
 from dataclasses import dataclass
+from functools import partial
 from pathlib import Path
 
 sys.dont_write_bytecode = True
@@ -20,6 +22,7 @@ sys.dont_write_bytecode = True
 from client import EXIT, INITIALIZE, INITIALIZED, PATIENCE, SERVE, SHUTDOWN, Difference, Server, frame
 from pump import MEGABYTE, machine
 from session import long_request
+from tcp_client import TcpServer
 
 FIRST_ID = 100_000
 PIECE = 1 << 20
@@ -48,8 +51,10 @@ class Load:
 
 @dataclass
 class Peer:
+    """A program, and the call that starts it."""
+
     name: str
-    command: list
+    start: partial
     has_handshake: bool = True
 
 
@@ -80,8 +85,8 @@ def other_servers(folder):
     """Those that are installed. They are kept from writing a line of their log about each request."""
     silence = Path(folder) / "silence.json"
     silence.write_text('{"version": 1, "root": {"level": "CRITICAL"}, "disable_existing_loggers": true}')
-    peers = [Peer("clangd", ["clangd", "--log=error"]), Peer("pylsp", ["pylsp", "--log-config", silence])]
-    return [peer for peer in peers if shutil.which(peer.command[0])]
+    commands = [["clangd", "--log=error"], ["pylsp", "--log-config", silence]]
+    return [Peer(command[0], partial(Server, command)) for command in commands if shutil.which(command[0])]
 
 
 def handshake(server):
@@ -95,7 +100,7 @@ def end(server, peer):
         server.send_bytes(frame(SHUTDOWN))
         server.receive_frame(ANY_HEADER)
         server.send_bytes(frame(EXIT))
-    server.process.stdin.close()
+    server.close_input()
     status, _, errors = server.finish()
     if status != 0:
         raise Difference(f"{peer.name} ended with status {status}, {errors!r}")
@@ -110,7 +115,7 @@ def read_some(source):
 
 def exchange(server, requests, reply_size, window):
     """Sends the requests, at most `window` of them unanswered at any time. It gives all that came back."""
-    source, sink = server.process.stdout.fileno(), server.process.stdin.fileno()
+    source, sink = server.output(), server.input()
     pending, sent, size, pieces = b"", 0, 0, []
     while size < reply_size * len(requests):
         allowed = min(len(requests), window + size // reply_size)
@@ -160,15 +165,15 @@ def run_timed(peer, load, window):
     """One run, from the first request until the last reply. The replies are compared afterwards."""
     numbers = range(FIRST_ID + 1, FIRST_ID + 1 + load.count)
     requests = [load.request(number) for number in numbers]
-    with Server(peer.command) as server:
+    with peer.start() as server:
         model = model_reply(server, peer, load)
-        os.set_blocking(server.process.stdin.fileno(), False)
+        os.set_blocking(server.input(), False)
         processor_before, switches_before = used_by(server.process)
         start = time.perf_counter()
         received = exchange(server, requests, len(model), window)
         seconds = time.perf_counter() - start
         processor_after, switches_after = used_by(server.process)
-        os.set_blocking(server.process.stdin.fileno(), True)
+        os.set_blocking(server.input(), True)
         if received != b"".join(with_id(model, number) for number in numbers):
             raise Difference(f"{peer.name}, {load.name}: a reply is not that of its request")
         end(server, peer)
@@ -203,7 +208,7 @@ def parse_arguments():
     parser = argparse.ArgumentParser(description=__doc__, formatter_class=argparse.RawDescriptionHelpFormatter)
     parser.add_argument("--quick", action="store_true", help="a twentieth of the requests")
     parser.add_argument("--repetitions", type=int, default=3, help="how many times each program is timed")
-    parser.add_argument("--program", type=Path, default=SERVE, help="the program that is run with the argument `serve`")
+    parser.add_argument("--program", type=Path, default=SERVE, help="the program that is run with `serve`, and with `tcp`")
     parser.add_argument("--alone", action="store_true", help="without the other servers")
     return parser.parse_args()
 
@@ -214,15 +219,17 @@ def main():
         print(f"round_trips.py: no program {arguments.program}: README.md says how it is built", file=sys.stderr)
         return 2
     divisor = 20 if arguments.quick else 1
-    serve = Peer("serve", [arguments.program, "serve"])
+    serve = Peer("serve", partial(Server, [arguments.program, "serve"]))
+    tcp = Peer("tcp", partial(TcpServer, arguments.program))
     print(f"{machine()}; best of {arguments.repetitions} runs")
     print(ROW.format("requests", "in flight", "program", "requests/s", "us each", "MB/s", "processor us each", "waits each"))
     try:
         for load in echo_loads(divisor):
-            measure(load, [Peer("cat", ["cat"], has_handshake=False), serve], arguments.repetitions)
+            cat = Peer("cat", partial(Server, ["cat"]), has_handshake=False)
+            measure(load, [cat, serve, tcp], arguments.repetitions)
         with tempfile.TemporaryDirectory() as folder:
             others = [] if arguments.alone else other_servers(folder)
-            measure(unknown_load(divisor), [serve, *others], arguments.repetitions)
+            measure(unknown_load(divisor), [serve, tcp, *others], arguments.repetitions)
     except Difference as difference:
         print(f"round_trips.py: FAILED: {difference}", file=sys.stderr)
         return 1

@@ -27,7 +27,7 @@ const EXIT: &str = "{\"method\":\"exit\"}";
 const PATIENCE: u64 = 20;
 
 // The message with this member text.
-fn message(alloc: Global, text: &str) -> Option<Message> {
+pub(crate) fn message(alloc: Global, text: &str) -> Option<Message> {
     let Ok(tree) = Value::from_str(alloc, text) else {
         return None;
     };
@@ -35,7 +35,7 @@ fn message(alloc: Global, text: &str) -> Option<Message> {
 }
 
 // Sends the message with this member text.
-fn sends<R: Wait + AllocGlobal>(rt: &R, connection: &Connection, text: &str) -> bool {
+pub(crate) fn sends<R: Wait + AllocGlobal>(rt: &R, connection: &Connection, text: &str) -> bool {
     match message(rt.alloc(), text) {
         Some(message) => connection.sender.send(rt, message).is_ok(),
         None => false,
@@ -43,7 +43,11 @@ fn sends<R: Wait + AllocGlobal>(rt: &R, connection: &Connection, text: &str) -> 
 }
 
 // The next message has this member text.
-fn receives<R: Wait + Clock + AllocGlobal>(rt: &R, connection: &Connection, text: &str) -> bool {
+pub(crate) fn receives<R: Wait + Clock + AllocGlobal>(
+    rt: &R,
+    connection: &Connection,
+    text: &str,
+) -> bool {
     match connection
         .receiver
         .recv_timeout(rt, Duration::from_secs(PATIENCE))

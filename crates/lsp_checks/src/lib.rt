@@ -1,5 +1,5 @@
 //! Tests of the public surface of `lsp_server` that the program `lsp_demo` has no part in: how much of a message has come,
-//! the queues, the handshake and end of a session, whole sessions, the loop that writes, and connections in memory; and the
+//! the queues, the handshake and end of a session, whole sessions, the loop that writes, and connections in memory and over TCP; and the
 //! examples of the README. They stand in a crate of their own, beside the other tests.
 #![tactic(auto)]
 
@@ -13,9 +13,13 @@ mod fronts;
 #[cfg(test)]
 mod lifecycle;
 #[cfg(test)]
+mod peer;
+#[cfg(test)]
 mod queues;
 pub mod server;
 #[cfg(test)]
 mod session;
+#[cfg(test)]
+mod tcp;
 #[cfg(test)]
 mod write_loop;

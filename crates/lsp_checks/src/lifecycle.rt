@@ -304,6 +304,18 @@ fn a_call_is_asked_whether_to_go_on(rt: HostRuntime) -> Result<(), Fail> {
 }
 
 #[test]
+fn a_gate_goes_on_after_an_undecided_call(rt: HostRuntime) -> Result<(), Fail> {
+    let alloc = rt.alloc();
+    let mut inbox = list(alloc, &[Step::Timeout, Step::Note("initialized")])?;
+    let mut gate = CallGate { running: || true };
+    let answer = wait_within(alloc, &mut inbox, &mut gate, 1);
+    assert_eq!(rt; ended(answer), None);
+    let answer = wait_within(alloc, &mut inbox, &mut gate, 1);
+    assert_eq!(rt; ended(answer), Some(true));
+    Ok(())
+}
+
+#[test]
 fn a_refused_result_leaves_gate_and_inbox(rt: HostRuntime) -> Result<(), Fail> {
     let alloc = rt.alloc();
     let mut inbox = list(alloc, &[Step::Timeout])?;

@@ -56,14 +56,14 @@ const NO_EXIT: &str = "channel disconnected waiting for exit notification";
 
 // Echoes the params of `demo/echo`, knows no other method, and counts what comes.
 #[derive(Drop)]
-struct Echo {
+pub(crate) struct Echo {
     alloc: Global,
     asked: u32,
     told: u32,
 }
 
 impl Echo {
-    fn new(alloc: Global) -> Echo {
+    pub(crate) fn new(alloc: Global) -> Echo {
         Echo {
             alloc,
             asked: 0,

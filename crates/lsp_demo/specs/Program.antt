@@ -5,9 +5,9 @@ use Rattle.std.specs.declared.alloc.Global.{Global}
 use Rattle.lsp_server.specs.Pump.{Pumps}
 use Rattle.lsp_server.specs.declared.relay.PumpFault.{PumpFault}
 
--- no word, or the one word `pump`
+-- the one word `pump`
 abbrev pub asks_pump : List (String Global) → Bool
-asks_pump [] = true
+asks_pump [] = false
 asks_pump (word ∷ []) = bytes_eq (string_bytes word) (codes "pump")
 asks_pump (word ∷ next ∷ more) = false
 

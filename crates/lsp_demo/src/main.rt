@@ -1,4 +1,4 @@
-//! A server over standard input and output, and a program that passes messages on.
+//! A server over standard input and output or a socket, and a program that passes messages on.
 #![tactic(auto)]
 
 ghost use Rattle.std.specs.Prelude.{◌≡◌};
@@ -13,8 +13,9 @@ mod tests;
 
 use pump::pump_words;
 use report::{report, report_usage};
-use serve::serve_stdio;
+use serve::{serve_stdio, tcp_on};
 use std::io::{BufReader, ErrorKind, Write};
+use std::net::Net;
 use std::process::ExitCode;
 use std::rt::Env;
 use std::sync::Wait;
@@ -24,6 +25,14 @@ use std::{env, io};
 
 /// How many bytes of standard input are asked for at once.
 const READ_AHEAD: usize = 65536;
+
+/// Where the server meets its client.
+enum Place<'a> {
+    /// On standard input and output.
+    Stdio,
+    /// At an address that it listens at.
+    Tcp(&'a str),
+}
 
 fn main(rt: HostRuntime) -> ExitCode {
     let mut errors = rt.stderr();
@@ -36,12 +45,27 @@ fn main(rt: HostRuntime) -> ExitCode {
 /// The exit status of the program, or why it was not begun. No word at all means `serve`.
 fn status<R, E: Write>(rt: &R, errors: &mut E) -> io::Result<u8>
 where
-    R: Env + Input + Print + AllocGlobal + Threads + Wait + Clock + Copy + Drop + Send + 'static,
+    R: Env
+        + Input
+        + Print
+        + Net
+        + AllocGlobal
+        + Threads
+        + Wait
+        + Clock
+        + Copy
+        + Drop
+        + Send
+        + 'static,
     R::Reader: Send + 'static,
+    R::Stream: Send + 'static,
 {
     let words: Vec<String> = env::args(rt)?.skip(1).collect(rt.alloc())?;
-    if asks_serve(words.as_slice()) {
-        return Ok(serve_stdio(rt, errors));
+    if let Some(place) = place_of(words.as_slice()) {
+        return Ok(match place {
+            Place::Stdio => serve_stdio(rt, errors),
+            Place::Tcp(addr) => tcp_on(rt, addr, errors),
+        });
     }
     let reader = BufReader::with_capacity(rt.alloc(), READ_AHEAD, rt.reader())?;
     Ok(pump_words(
@@ -54,12 +78,13 @@ where
     ))
 }
 
-/// Whether the words ask for the server.
-fn asks_serve(words: &[String]) -> bool {
+/// Where the words ask for the server, if they do.
+fn place_of(words: &[String]) -> Option<Place<'_>> {
     match words {
-        [] => true,
-        [word] => word.as_str() == "serve",
-        _ => false,
+        [] => Some(Place::Stdio),
+        [word] if word.as_str() == "serve" => Some(Place::Stdio),
+        [word, addr] if word.as_str() == "tcp" => Some(Place::Tcp(addr.as_str())),
+        _ => None,
     }
 }
 

@@ -9,10 +9,9 @@ use std::io::{BufRead, Write};
 
 /// Runs the program on its words, and gives the exit status.
 ///
-/// No word at all, or `pump` alone, writes each message of the reader again, as a frame. The status is 0 where all
-/// were passed on, and 1 after a fault, whose text goes to `errors`. Other words are answered by how the program is
-/// called, and status 1. A fault of `errors` is ignored. `main` comes here with other words than `serve` alone, and never
-/// with none, which means `serve` there.
+/// `pump` alone writes each message of the reader again, as a frame. The status is 0 where all were passed on, and 1 after
+/// a fault, whose text goes to `errors`. Other words, and none, are answered by how the program is called, and status 1.
+/// A fault of `errors` is ignored. `main` comes here with all words that do not ask for the server.
 pub fn pump_words<T, R: BufRead + Drop, W: Write, E: Write>(
     rt: &T,
     alloc: Global,
@@ -41,7 +40,6 @@ fn is_pump(words: &[String]) -> bool
     ensures { result ≡ asks_pump words.now }
 {
     match words {
-        [] => true,
         [word] => word.as_str() == "pump",
         _ => false,
     }

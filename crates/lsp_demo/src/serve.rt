@@ -11,6 +11,7 @@ use lsp_server::{
 use serde_json::{Map, Value};
 use std::alloc::{AllocError, Global};
 use std::io::Write;
+use std::net::{Net, ToSocketAddrs};
 use std::sync::Wait;
 use std::thread::Threads;
 use std::time::Clock;
@@ -161,6 +162,19 @@ where
     ensures { result ≤ 1 }
 {
     match Connection::stdio(rt) {
+        Ok((connection, threads)) => serve_on(rt, connection, Some(threads), errors),
+        Err(fault) => report(errors, fault),
+    }
+}
+
+/// Waits at the address for one client, serves it, and gives the exit status, as `serve_on`.
+pub fn tcp_on<R, A: ToSocketAddrs, E: Write>(rt: &R, addr: A, errors: &mut E) -> u8
+where
+    R: Net + Threads + Wait + Clock + AllocGlobal + Copy + Drop + Send + 'static,
+    R::Stream: Send + 'static,
+    ensures { result ≤ 1 }
+{
+    match Connection::listen(rt, addr) {
         Ok((connection, threads)) => serve_on(rt, connection, Some(threads), errors),
         Err(fault) => report(errors, fault),
     }

@@ -3,6 +3,7 @@ mod loops;
 mod messages;
 mod reading;
 mod serve;
+mod tcp;
 mod trees;
 mod words;
 mod writing;

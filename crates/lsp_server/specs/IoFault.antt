@@ -1,5 +1,5 @@
 -- The numbers and texts of the faults of a connection's worker threads.
-use Rattle.std.specs.Prelude.{ℕ, List, Option, Some, Result, Ok, Err, codes}
+use Rattle.std.specs.Prelude.{ℕ, List, Bool, true, false, Option, Some, Result, Ok, Err, codes}
 use Rattle.lsp_message.specs.Faults.{read_fault_text, write_fault_text}
 use Rattle.lsp_server.specs.declared.loops.ReadEnd.{ReadEnd}
 use Rattle.lsp_server.specs.declared.loops.ReadEnd.TheVariants.{Exit, End, Fault, Closed as OutboxClosed, Memory as OutboxMemory}
@@ -24,6 +24,24 @@ io_fault_text Closed = Some (codes "channel closed")
 io_fault_text Start = Some (codes "thread not started")
 io_fault_text (Socket kind) = Some (codes "socket fault")
 io_fault_text Memory = Some (codes "out of memory")
+
+-- the faults of threads that are started: a thread, or memory for a channel or a buffer
+abbrev pub is_of_start : IoFault → Bool
+is_of_start (Read fault) = false
+is_of_start (Write fault) = false
+is_of_start Closed = false
+is_of_start Start = true
+is_of_start (Socket kind) = false
+is_of_start Memory = true
+
+-- the faults of a socket that is opened: these, or the socket's own
+abbrev pub is_of_opening : IoFault → Bool
+is_of_opening (Read fault) = false
+is_of_opening (Write fault) = false
+is_of_opening Closed = false
+is_of_opening Start = true
+is_of_opening (Socket kind) = true
+is_of_opening Memory = true
 
 -- what the thread that reads answers. For private clauses.
 abbrev pub reader_answer : ReadEnd → Result (Unit {0}) IoFault

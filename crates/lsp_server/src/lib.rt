@@ -8,6 +8,7 @@ mod lifecycle;
 mod loops;
 mod relay;
 mod req_queue;
+mod socket;
 mod stdio;
 
 pub use channels::Connection;

@@ -1,6 +1,6 @@
 //! A connection over standard input and output, and the threads that serve a connection.
-ghost use Rattle.std.specs.Prelude.{◌≡◌};
-ghost use Rattle.lsp_server.specs.IoFault.{reader_answer, writer_answer};
+ghost use Rattle.std.specs.Prelude.{◌≡◌, true, IfErr};
+ghost use Rattle.lsp_server.specs.IoFault.{is_of_start, reader_answer, writer_answer};
 
 use crate::channels::{ChannelInbox, ChannelOutbox, Connection};
 use crate::loops::{ReadEnd, WriteEnd, read_loop, write_loop};
@@ -8,11 +8,14 @@ use crossbeam_channel::{Receiver, Sender, bounded};
 use lsp_message::{Message, ReadFault, WriteFault};
 use std::alloc::{AllocError, Global};
 use std::error::Error;
-use std::io::{BufRead, BufReader, ErrorKind, Write};
+use std::io::{BufRead, BufReader, ErrorKind, Read, Write};
 use std::sync::Wait;
 use std::thread::{JoinHandle, Threads};
 use std::time::Clock;
 use std::{fmt, io, thread};
+
+/// How many bytes a reader is asked for at once: as many as a pipe holds.
+const READ_AHEAD: usize = 65536;
 
 /// Why a connection was not made, or why its threads did not end as they should.
 #[derive(Clone, Copy, Debug, PartialEq, Eq)]
@@ -106,15 +109,15 @@ impl IoThreads {
 
 impl Connection {
     /// A connection over standard input and output.
+    ///
+    /// The faults are 4 and 6: a thread was not started, a growth was refused.
     pub fn stdio<R>(rt: &R) -> Result<(Connection, IoThreads), IoFault>
     where
         R: Threads + Wait + Clock + AllocGlobal + Input + Print + Copy + Drop + Send + 'static,
         R::Reader: Send + 'static,
+        ensures { IfErr result (λ fault. is_of_start fault ≡ true) }
     {
-        let Ok(reader) = BufReader::new(rt.alloc(), rt.reader()) else {
-            return Err(IoFault::Memory);
-        };
-        start(rt, rt.alloc(), reader, Output(*rt))
+        start(rt, rt.alloc(), rt.reader(), Output(*rt))
     }
 }
 
@@ -132,19 +135,23 @@ impl<R: Print> Write for Output<R> {
     }
 }
 
-/// A connection over a reader and a writer.
-pub(crate) fn start<R, B, W>(
+/// A connection over a reader and a writer, of which only the reader gets a buffer: a frame is one write.
+pub(crate) fn start<R, S, W>(
     rt: &R,
     alloc: Global,
-    reader: B,
+    reader: S,
     writer: W,
 ) -> Result<(Connection, IoThreads), IoFault>
 where
     R: Threads + Wait + Clock + Copy + Drop + Send + 'static,
-    B: BufRead + Drop + Send + 'static,
+    S: Read + Drop + Send + 'static,
     W: Write + Drop + Send + 'static,
+    ensures { IfErr result (λ fault. is_of_start fault ≡ true) }
 {
-    let ((sender, receiver), threads) = start_threads::<Message, R, B, W>(
+    let Ok(reader) = BufReader::with_capacity(alloc, READ_AHEAD, reader) else {
+        return Err(IoFault::Memory);
+    };
+    let ((sender, receiver), threads) = start_threads::<Message, R, BufReader<S>, W>(
         rt, alloc, reader, writer,
     )?;
     Ok((Connection { sender, receiver }, threads))
@@ -186,6 +193,7 @@ where
     R: Threads + Wait + Clock + Copy + Drop + Send + 'static,
     B: BufRead + Drop + Send + 'static,
     W: Write + Drop + Send + 'static,
+    ensures { IfErr result (λ fault. is_of_start fault ≡ true) }
 {
     let (incoming, receiver) = bounded(alloc, 1)?;
     let (sender, outgoing) = bounded(alloc, 1)?;

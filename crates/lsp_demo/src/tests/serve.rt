@@ -23,10 +23,10 @@ const SHUTDOWN: &str = "{\"id\":2,\"method\":\"shutdown\"}";
 
 const EXIT: &str = "{\"method\":\"exit\"}";
 
-const RESULT_FRAME: &str =
+pub(super) const RESULT_FRAME: &str =
     "Content-Length: 53\r\n\r\n{\"jsonrpc\":\"2.0\",\"id\":1,\"result\":{\"capabilities\":{}}}";
 
-const ALL_FRAMES: &str =
+pub(super) const ALL_FRAMES: &str =
     "Content-Length: 53\r\n\r\n{\"jsonrpc\":\"2.0\",\"id\":1,\"result\":{\"capabilities\":{}}}Content-Length: 37\r\n\r\n{\"jsonrpc\":\"2.0\",\"id\":5,\"result\":[1]}Content-Length: 79\r\n\r\n{\"jsonrpc\":\"2.0\",\"id\":\"x\",\"error\":{\"code\":-32601,\"message\":\"method not found\"}}Content-Length: 38\r\n\r\n{\"jsonrpc\":\"2.0\",\"id\":2,\"result\":null}";
 
 // The message with this member text.

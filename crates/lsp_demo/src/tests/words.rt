@@ -50,7 +50,7 @@ fn runs(
     );
 }
 
-// Runs `pump`, by its name and without, on the input as a whole and in pieces.
+// Runs `pump` on the input as a whole and in pieces.
 fn pumps(
     rt: &impl Abort,
     alloc: Global,
@@ -61,8 +61,6 @@ fn pumps(
 ) -> Result<(), Fail> {
     let pump_word = words_of(alloc, "pump")?;
     for step in [1, 1000] {
-        let reader = StepReader::new(input, step);
-        runs(rt, alloc, &[], reader, output, said, status);
         let reader = StepReader::new(input, step);
         runs(
             rt,
@@ -119,23 +117,25 @@ fn faults_are_told(rt: HostRuntime) -> Result<(), Fail> {
 const NOTES_AND_FAULT: &[u8] =
     b"Content-Length: 14\r\n\r\n{\"method\":\"a\"}Content-Length: 14\r\n\r\n{\"method\":\"b\"}Content-Length:2\r\n\r\n{}";
 
-// The program without words says this, and ends with status 1.
+// The program `pump` says this, and ends with status 1.
 fn fails<R: BufRead + Drop, W: Write>(
     rt: &impl Abort,
     alloc: Global,
     reader: R,
     writer: &mut W,
     said: &str,
-) {
+) -> Result<(), AllocError> {
+    let words = words_of(alloc, "pump")?;
     let mut errors = Vec::new(alloc);
-    let status = pump_words(rt, alloc, &[], reader, writer, &mut errors);
+    let status = pump_words(rt, alloc, words.as_slice(), reader, writer, &mut errors);
     assert_eq!(rt; errors.as_slice(), said.as_bytes());
     assert_eq!(rt; status, 1);
+    Ok(())
 }
 
 // The writer would take the second message, and the failure is told before the fault of reading.
 #[test]
-fn a_failing_writer(rt: HostRuntime) {
+fn a_failing_writer(rt: HostRuntime) -> Result<(), Fail> {
     let alloc = rt.alloc();
     for room in 0..NOTE_FRAME.len() {
         let mut writer = LimitedWriter::new(alloc, room, AtLimit::FailsOnce(ErrorKind::BrokenPipe));
@@ -145,31 +145,33 @@ fn a_failing_writer(rt: HostRuntime) {
             NOTES_AND_FAULT,
             &mut writer,
             "lsp_demo: write fault 1\n",
-        );
+        )?;
         assert_eq!(rt;
             Some(writer.taken.as_slice()),
             NOTE_FRAME.get(..room),
             "{room}"
         );
     }
+    Ok(())
 }
 
 #[test]
-fn a_failing_flush(rt: HostRuntime) {
+fn a_failing_flush(rt: HostRuntime) -> Result<(), Fail> {
     let alloc = rt.alloc();
     let mut writer = LimitedWriter::unlimited(alloc);
     writer.bad_flush = 1;
-    fails(&rt, alloc, NOTE, &mut writer, "lsp_demo: write fault 1\n");
+    fails(&rt, alloc, NOTE, &mut writer, "lsp_demo: write fault 1\n")?;
     assert_eq!(rt; writer.taken.as_slice(), NOTE_FRAME);
+    Ok(())
 }
 
 #[test]
-fn a_failing_reader(rt: HostRuntime) {
+fn a_failing_reader(rt: HostRuntime) -> Result<(), Fail> {
     let alloc = rt.alloc();
     for before in 0..=NOTE.len() {
         let reader = StepReader::failing(NOTE, 1000, before, ErrorKind::BrokenPipe);
         let mut writer = Vec::new(alloc);
-        fails(&rt, alloc, reader, &mut writer, "lsp_demo: read fault 1\n");
+        fails(&rt, alloc, reader, &mut writer, "lsp_demo: read fault 1\n")?;
         let output = if before < NOTE.len() {
             b"".as_slice()
         } else {
@@ -177,6 +179,7 @@ fn a_failing_reader(rt: HostRuntime) {
         };
         assert_eq!(rt; writer.as_slice(), output, "{before}");
     }
+    Ok(())
 }
 
 #[test]
@@ -231,6 +234,7 @@ fn wrong_words(rt: HostRuntime) -> Result<(), Fail> {
         let words = words_of(alloc, words)?;
         refuses(&rt, alloc, words.as_slice());
     }
+    refuses(&rt, alloc, &[]);
     let empty_word = vec![in alloc; String::new(alloc)]?;
     refuses(&rt, alloc, empty_word.as_slice());
     Ok(())

@@ -30,8 +30,9 @@ pub fn start_within<I: Inbox, O: Outbox, G: Gate>(
     turns: u64,
 ) -> Option<Result<(RequestId, Value), ProtocolError>>
     requires { G.can_ask gate.old }
-    ensures { StartsWithin G.asks I.receives O.sends turns (gate.old, inbox.old, outbox.old)
+    ensures starts { StartsWithin G.asks I.receives O.sends turns (gate.old, inbox.old, outbox.old)
         (option_map start_view result) (gate.new, inbox.new, outbox.new) }
+    ensures again { G.can_ask gate.new }
 {
     for _turn in 0..turns {
         if !gate.ask() {

@@ -7,12 +7,12 @@ use Rattle.lsp_server.proofs.lifecycle.initialize.start_within.Goals as goal
 pub loop-turn-init : goal.loop-turn-init
 loop-turn-init g c = (c.requires, undecided_none _ _ _ _)
 
-pub returns-then-not-ask : goal.returns-then-not-ask
-returns-then-not-ask g c =
+pub returns-then-not-ask-clause-starts : goal.returns-then-not-ask-clause-starts
+returns-then-not-ask-clause-starts g c =
     rw c.aborted.ensures (starts_answered _ _ _ _ _ _ _ _ stopped _ c.loop-turn.invariant.1 c.loop-turn-test.true (c.if-not-ask.ensures.asks, refl) (inl (refl, refl)))
 
-pub returns-in-Some : goal.returns-in-Some
-returns-in-Some g c =
+pub returns-in-Some-clause-starts : goal.returns-in-Some-clause-starts
+returns-in-Some-clause-starts g c =
     starts_answered _ _ _ _ _ _ _ _ (got (event_view c.receive_for-event.result)) _ c.loop-turn.invariant.1 c.loop-turn-test.true
     (c.if-not-ask.ensures.asks, c.receive_for-event.ensures) c.in-Some.ensures
 

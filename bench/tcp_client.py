@@ -1,0 +1,213 @@
+#!/usr/bin/env python3
+"""A client of `lsp_demo tcp` on 127.0.0.1: the sessions of client.py through a socket, and what only a socket can do.
+
+Each reply is compared byte for byte, and so are the exit status and what is printed on standard error. It ends in
+status 1 at the first difference.
+"""
+import argparse
+import os
+import socket
+import struct
+import sys
+import time
+from pathlib import Path
+
+sys.dont_write_bytecode = True
+
+from client import (
+    ASKED,
+    BAD_ENDS,
+    BEGUN,
+    ECHO,
+    ECHOED,
+    INITIALIZE,
+    INITIALIZED,
+    PATIENCE,
+    SERVE,
+    USAGE,
+    WHOLE_SESSION,
+    Difference,
+    Server,
+    check_bad_end,
+    check_session,
+    check_words,
+    exchange,
+    expect,
+    expect_failure,
+    frame,
+)
+
+HOST = "127.0.0.1"
+BLOCKED_AFTER = 1
+LONG_ECHO = frame(b'{"jsonrpc":"2.0","id":6,"method":"demo/echo","params":["%s"]}' % (b"x" * 1_000_000))
+
+
+def free_port():
+    with socket.socket() as listener:
+        listener.bind((HOST, 0))
+        return listener.getsockname()[1]
+
+
+class TcpServer(Server):
+    """The program, spoken to through a socket. Its own standard output has to stay empty."""
+
+    def __init__(self, program):
+        self.port = free_port()
+        super().__init__([program, "tcp", f"{HOST}:{self.port}"])
+        self.socket = self.connect()
+
+    def connect(self):
+        """A connection to the program, as soon as it listens."""
+        deadline = time.monotonic() + PATIENCE
+        while True:
+            try:
+                found = socket.create_connection((HOST, self.port), timeout=PATIENCE)
+                found.setsockopt(socket.IPPROTO_TCP, socket.TCP_NODELAY, 1)
+                return found
+            except ConnectionRefusedError:
+                if self.process.poll() is not None or time.monotonic() > deadline:
+                    raise Difference("nobody listens") from None
+                time.sleep(0.001)
+
+    def __exit__(self, *details):
+        self.socket.close()
+        super().__exit__(*details)
+
+    def send_bytes(self, data):
+        try:
+            self.socket.sendall(data)
+        except (BrokenPipeError, ConnectionResetError):
+            pass
+
+    def close_input(self):
+        self.socket.shutdown(socket.SHUT_WR)
+
+    def input(self):
+        return self.socket.fileno()
+
+    def output(self):
+        return self.socket.fileno()
+
+    def read_rest(self):
+        expect("standard output", super().read_rest(), b"")
+        if self.socket.fileno() < 0:
+            return b""
+        rest = b""
+        try:
+            while piece := self.socket.recv(1 << 20):
+                rest += piece
+        except ConnectionResetError:
+            pass
+        return rest
+
+
+def replies(received):
+    """The bodies of the frames that these bytes consist of."""
+    bodies = []
+    while received:
+        header, _, rest = received.partition(b"\r\n\r\n")
+        length = int(header.removeprefix(b"Content-Length: "))
+        bodies.append(rest[:length])
+        received = rest[length:]
+    return bodies
+
+
+def check_pieces(program):
+    """A whole session, a byte at a time, by a client that says at once that nothing more comes."""
+    print("a session that comes byte by byte, with no wait for a reply")
+    with TcpServer(program) as server:
+        for byte in b"".join(frame(sent) for sent, _ in WHOLE_SESSION):
+            server.send_bytes(bytes([byte]))
+        server.close_input()
+        status, rest, errors = server.finish()
+    wanted = [reply for _, reply in WHOLE_SESSION if reply is not None]
+    bodies = replies(rest)
+    expect("the number of replies", len(bodies), len(wanted))
+    for body, reply in zip(bodies, wanted):
+        expect("a reply", body, reply)
+    expect("standard error", errors, "")
+    expect("the status", status, 0)
+
+
+def check_one_client(program):
+    """While a client is served no other is taken."""
+    print("a second client")
+    with TcpServer(program) as server:
+        exchange(server, BEGUN)
+        try:
+            socket.create_connection((HOST, server.port), timeout=PATIENCE).close()
+        except ConnectionRefusedError:
+            print("    refused")
+        else:
+            raise Difference("a second client was taken")
+        exchange(server, ECHOED[len(BEGUN):])
+
+
+def check_gone(program, name, sent, text, resets=False):
+    """The client is gone as a whole, by a reset or not."""
+    print(name)
+    with TcpServer(program) as server:
+        exchange(server, sent)
+        if resets:
+            linger = struct.pack("ii", 1, 0)
+            server.socket.setsockopt(socket.SOL_SOCKET, socket.SO_LINGER, linger)
+        server.socket.close()
+        expect_failure(server, text)
+
+
+def check_never_reads(program):
+    """The client sends until nothing more is taken, reads nothing, and is gone."""
+    print("a client that never reads")
+    with TcpServer(program) as server:
+        server.socket.settimeout(BLOCKED_AFTER)
+        server.send_bytes(frame(INITIALIZE) + frame(INITIALIZED))
+        sent = 0
+        try:
+            while sent < 100:
+                server.socket.sendall(LONG_ECHO)
+                sent += 1
+        except TimeoutError:
+            print(f"    held back after {sent} requests of a megabyte")
+        else:
+            raise Difference("all of it was taken")
+        server.socket.close()
+        expect_failure(server, "channel closed")
+
+
+def check_address_in_use(program):
+    with socket.socket() as listener:
+        listener.bind((HOST, 0))
+        listener.listen()
+        check_words(program, ["tcp", f"{HOST}:{listener.getsockname()[1]}"], "lsp_demo: socket fault\n")
+
+
+def main():
+    parser = argparse.ArgumentParser(description=__doc__, formatter_class=argparse.RawDescriptionHelpFormatter)
+    parser.add_argument("--program", type=Path, default=SERVE, help="the program that is run with `tcp` and an address")
+    program = parser.parse_args().program
+    if not os.access(program, os.X_OK):
+        print(f"tcp_client.py: no program {program}: README.md says how it is built", file=sys.stderr)
+        return 2
+    try:
+        check_session(lambda: TcpServer(program))
+        for case in BAD_ENDS:
+            check_bad_end(lambda: TcpServer(program), case)
+        check_pieces(program)
+        check_one_client(program)
+        check_gone(program, "a client that is gone in the middle of a message", ECHOED + [(frame(ECHO)[:-1], None)], "read fault 7")
+        check_gone(program, "a client that is gone in the middle of a header", ASKED + [(b"Content-", None)], "read fault 3")
+        check_gone(program, "a client that resets its connection", ECHOED, "read fault 1", resets=True)
+        check_never_reads(program)
+        check_words(program, ["tcp"], USAGE)
+        check_words(program, ["tcp", HOST, "1"], USAGE)
+        check_words(program, ["tcp", HOST], "lsp_demo: socket fault\n")
+        check_address_in_use(program)
+    except Difference as difference:
+        print(f"tcp_client.py: DIFFERENCE: {difference}", file=sys.stderr)
+        return 1
+    print("no difference")
+    return 0
+
+
+if __name__ == "__main__":
+    sys.exit(main())
