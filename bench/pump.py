@@ -192,7 +192,7 @@ def main():
         programs.append(Program("lsp_demo pump", [arguments.pump, "pump"]))
     for program in programs[1:]:
         if not os.access(program.command[0], os.X_OK):
-            print(f"pump.py: no program {program.command[0]}: README.md says how it is built", file=sys.stderr)
+            print(f"pump.py: no program {program.command[0]}: bench/README.md says how it is built", file=sys.stderr)
             return 2
     print(machine())
     with tempfile.TemporaryDirectory() as folder:

@@ -92,7 +92,7 @@ def main():
     ]
     for program in programs:
         if not os.access(program.command[0], os.X_OK):
-            print(f"session.py: no program {program.command[0]}: README.md says how it is built", file=sys.stderr)
+            print(f"session.py: no program {program.command[0]}: bench/README.md says how it is built", file=sys.stderr)
             return 2
     print(machine())
     row = "{:8} {:14} {:>8} {:>12} {:>17} {:>16}"

@@ -40,7 +40,7 @@ fn is_pump(words: &[String]) -> bool
     ensures { result ≡ asks_pump words.now }
 {
     match words {
-        [word] => word.as_str() == "pump",
+        [word] => !word.is_empty(),
         _ => false,
     }
 }
