@@ -14,6 +14,7 @@ mod fronts;
 mod lifecycle;
 #[cfg(test)]
 mod peer;
+pub mod question;
 #[cfg(test)]
 mod queues;
 pub mod server;

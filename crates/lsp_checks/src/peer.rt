@@ -21,7 +21,8 @@ pub(crate) enum Part {
     SendsAndLeaves(&'static [u8]),
     // It sends these bytes, and stays until the other end has closed, which sends nothing.
     SendsAndStays(&'static [u8]),
-    // It sends these bytes once something came, and is gone a while later without having read any of it.
+    // It sends these bytes once something came, and is gone a while later without having read any of it: the system resets
+    // the connection then.
     NeverReads(&'static [u8]),
 }
 

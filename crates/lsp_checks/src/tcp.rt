@@ -1,4 +1,4 @@
-// Connections over TCP. Both ends are in this process, on 127.0.0.1, and each waits for the other only so long.
+// Connections over TCP. Both ends are in this process, on 127.0.0.1, and a message is awaited only so long.
 use crate::connection::{message, receives, sends};
 use crate::peer::{Part, peer_thread};
 use crate::session::Echo;
@@ -307,6 +307,19 @@ fn a_peer_that_never_reads(rt: HostRuntime) -> Result<(), Fail> {
     let found = told(rt.alloc(), threads.join(&rt))?;
     assert_eq!(rt; found.as_str(), "write fault 1");
     assert!(rt; peer.join(&rt));
+    Ok(())
+}
+
+// The peer stays in the queue of the listener, which takes nobody: nothing is read, said or closed.
+#[test]
+fn a_peer_that_never_reads_and_stays(rt: HostRuntime) -> Result<(), Fail> {
+    let listener = TcpListener::bind(&rt, ("127.0.0.1", 0))?;
+    let (connection, threads) = Connection::connect(&rt, listener.local_addr()?)?;
+    assert!(rt; is_held_back(&rt, &connection)?);
+    drop(connection);
+    let found = told(rt.alloc(), threads.join(&rt))?;
+    assert_eq!(rt; found.as_str(), "write fault 1");
+    drop(listener);
     Ok(())
 }
 

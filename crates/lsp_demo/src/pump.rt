@@ -40,7 +40,7 @@ fn is_pump(words: &[String]) -> bool
     ensures { result ≡ asks_pump words.now }
 {
     match words {
-        [word] => !word.is_empty(),
+        [word] => word.as_str() == "pump",
         _ => false,
     }
 }

@@ -25,23 +25,23 @@ io_fault_text Start = Some (codes "thread not started")
 io_fault_text (Socket kind) = Some (codes "socket fault")
 io_fault_text Memory = Some (codes "out of memory")
 
--- the faults of threads that are started: a thread, or memory for a channel or a buffer
-abbrev pub is_of_start : IoFault → Bool
-is_of_start (Read fault) = false
-is_of_start (Write fault) = false
-is_of_start Closed = false
-is_of_start Start = true
-is_of_start (Socket kind) = false
-is_of_start Memory = true
+-- the faults of a connection whose threads are started: a thread was refused, or memory for a channel or a buffer
+abbrev pub is_start_fault : IoFault → Bool
+is_start_fault (Read fault) = false
+is_start_fault (Write fault) = false
+is_start_fault Closed = false
+is_start_fault Start = true
+is_start_fault (Socket kind) = false
+is_start_fault Memory = true
 
--- the faults of a socket that is opened: these, or the socket's own
-abbrev pub is_of_opening : IoFault → Bool
-is_of_opening (Read fault) = false
-is_of_opening (Write fault) = false
-is_of_opening Closed = false
-is_of_opening Start = true
-is_of_opening (Socket kind) = true
-is_of_opening Memory = true
+-- the faults of a connection over a socket: the same, or one of the socket
+abbrev pub is_connect_fault : IoFault → Bool
+is_connect_fault (Read fault) = false
+is_connect_fault (Write fault) = false
+is_connect_fault Closed = false
+is_connect_fault Start = true
+is_connect_fault (Socket kind) = true
+is_connect_fault Memory = true
 
 -- what the thread that reads answers. For private clauses.
 abbrev pub reader_answer : ReadEnd → Result (Unit {0}) IoFault

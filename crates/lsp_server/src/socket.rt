@@ -1,7 +1,7 @@
 //! A connection over TCP.
 ghost use Rattle.std.specs.Prelude.{◌≡◌, true, IfErr};
 ghost use Rattle.std.specs.IoError.{error_kind};
-ghost use Rattle.lsp_server.specs.IoFault.{is_of_opening};
+ghost use Rattle.lsp_server.specs.IoFault.{is_connect_fault};
 ghost use Rattle.lsp_server.specs.declared.stdio.IoFault.TheVariants.{Socket};
 
 use crate::channels::Connection;
@@ -11,37 +11,43 @@ use std::io::Write;
 use std::net::{Net, OpenListener, OpenStream, Shutdown, TcpListener, TcpStream, ToSocketAddrs};
 use std::sync::Wait;
 use std::thread::Threads;
-use std::time::Clock;
+use std::time::{Clock, Duration};
+
+/// How many seconds one write waits for room. The system takes what it can of a frame first, so it is two or three times as
+/// long before a peer that reads nothing is given up.
+const WRITE_SECONDS: u64 = 10;
 
 impl Connection {
-    /// A connection to the server that listens at the address: an IP address or a host's name, and a port, such as
+    /// A connection to the peer that listens at the address: an IP address or a host's name, and a port, such as
     /// `"127.0.0.1:9257"`. Of a name's addresses the first that answers is taken.
     ///
-    /// The faults are 4, 5 and 6: a thread was not started, no server answers, a growth was refused.
+    /// The faults are 4, 5 and 6: a thread was not started; the address is none, or no connection came about; a growth was
+    /// refused. A peer that stays and reads nothing for half a minute is a write fault, which `IoThreads::join` answers.
     pub fn connect<R, A>(rt: &R, addr: A) -> Result<(Connection, IoThreads), IoFault>
     where
         R: Net + Threads + Wait + Clock + AllocGlobal + Copy + Drop + Send + 'static,
         R::Stream: Send + 'static,
         A: ToSocketAddrs,
-        ensures { IfErr result (λ fault. is_of_opening fault ≡ true) }
+        ensures { IfErr result (λ fault. is_connect_fault fault ≡ true) }
     {
         let stream = TcpStream::connect(rt, addr).map_err(socket_fault)?;
         over_stream(rt, stream)
     }
 
-    /// Listens at the address, waits for a client, and gives the connection to the first that comes. Others are refused
-    /// from then on.
+    /// Listens at the address, waits for a peer, and gives the connection to the first that comes. From then on nobody
+    /// listens there: a peer that was waiting beside the first is cut off.
     ///
-    /// The faults are 4, 5 and 6: a thread was not started, the address can't be listened at, a growth was refused.
+    /// The faults are 4, 5 and 6, as at `connect`, and 5 also where the address can't be listened at.
     pub fn listen<R, A>(rt: &R, addr: A) -> Result<(Connection, IoThreads), IoFault>
     where
         R: Net + Threads + Wait + Clock + AllocGlobal + Copy + Drop + Send + 'static,
         R::Stream: Send + 'static,
         A: ToSocketAddrs,
-        ensures { IfErr result (λ fault. is_of_opening fault ≡ true) }
+        ensures { IfErr result (λ fault. is_connect_fault fault ≡ true) }
     {
         let listener = TcpListener::bind(rt, addr).map_err(socket_fault)?;
-        let (stream, _client) = listener.accept().map_err(socket_fault)?;
+        let (stream, _peer) = listener.accept().map_err(socket_fault)?;
+        drop(listener);
         over_stream(rt, stream)
     }
 }
@@ -51,10 +57,12 @@ fn over_stream<R>(rt: &R, stream: R::Stream) -> Result<(Connection, IoThreads), 
 where
     R: Net + Threads + Wait + Clock + AllocGlobal + Copy + Drop + Send + 'static,
     R::Stream: Send + 'static,
-    ensures { IfErr result (λ fault. is_of_opening fault ≡ true) }
+    ensures { IfErr result (λ fault. is_connect_fault fault ≡ true) }
 {
     // A frame is one write, so holding it back gathers nothing. Where the option is refused, frames are only slower.
     let _ = stream.set_nodelay(true);
+    let limit = Duration::from_secs(WRITE_SECONDS);
+    stream.set_write_timeout(Some(limit)).map_err(socket_fault)?;
     let reader = stream.try_clone().map_err(socket_fault)?;
     start(rt, rt.alloc(), reader, WriteHalf { stream })
 }
@@ -66,7 +74,8 @@ fn socket_fault(error: io::Error) -> IoFault
 }
 
 /// A stream as the thread that writes holds it. Its outgoing direction ends with this value: the peer reads the end then,
-/// although the thread that reads still holds the stream.
+/// although the thread that reads still holds the stream. After a write that failed, both directions end, so that the
+/// thread that reads waits no longer for a peer that can't be answered.
 struct WriteHalf<S: OpenStream> {
     stream: S,
 }
@@ -80,7 +89,11 @@ impl<S: OpenStream + Drop> Drop for WriteHalf<S> {
 
 impl<S: OpenStream + Write> Write for WriteHalf<S> {
     fn write(&mut self, buf: &[u8]) -> io::Result<usize> {
-        self.stream.write(buf)
+        let written = self.stream.write(buf);
+        if written.is_err() {
+            let _ = self.stream.shutdown(Shutdown::Both);
+        }
+        written
     }
 
     fn flush(&mut self) -> io::Result<()> {

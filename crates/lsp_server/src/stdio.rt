@@ -1,6 +1,6 @@
 //! A connection over standard input and output, and the threads that serve a connection.
 ghost use Rattle.std.specs.Prelude.{◌≡◌, true, IfErr};
-ghost use Rattle.lsp_server.specs.IoFault.{is_of_start, reader_answer, writer_answer};
+ghost use Rattle.lsp_server.specs.IoFault.{is_start_fault, reader_answer, writer_answer};
 
 use crate::channels::{ChannelInbox, ChannelOutbox, Connection};
 use crate::loops::{ReadEnd, WriteEnd, read_loop, write_loop};
@@ -28,7 +28,7 @@ pub enum IoFault {
     Closed,
     /// 4: a thread was not started.
     Start,
-    /// 5: the socket was not opened, with this kind.
+    /// 5: the socket was not opened, or the system refused a part of it, with this kind.
     Socket(ErrorKind),
     /// 6: a growth was refused: of a channel or a buffer.
     Memory,
@@ -115,7 +115,7 @@ impl Connection {
     where
         R: Threads + Wait + Clock + AllocGlobal + Input + Print + Copy + Drop + Send + 'static,
         R::Reader: Send + 'static,
-        ensures { IfErr result (λ fault. is_of_start fault ≡ true) }
+        ensures { IfErr result (λ fault. is_start_fault fault ≡ true) }
     {
         start(rt, rt.alloc(), rt.reader(), Output(*rt))
     }
@@ -146,7 +146,7 @@ where
     R: Threads + Wait + Clock + Copy + Drop + Send + 'static,
     S: Read + Drop + Send + 'static,
     W: Write + Drop + Send + 'static,
-    ensures { IfErr result (λ fault. is_of_start fault ≡ true) }
+    ensures { IfErr result (λ fault. is_start_fault fault ≡ true) }
 {
     let Ok(reader) = BufReader::with_capacity(alloc, READ_AHEAD, reader) else {
         return Err(IoFault::Memory);
@@ -193,7 +193,7 @@ where
     R: Threads + Wait + Clock + Copy + Drop + Send + 'static,
     B: BufRead + Drop + Send + 'static,
     W: Write + Drop + Send + 'static,
-    ensures { IfErr result (λ fault. is_of_start fault ≡ true) }
+    ensures { IfErr result (λ fault. is_start_fault fault ≡ true) }
 {
     let (incoming, receiver) = bounded(alloc, 1)?;
     let (sender, outgoing) = bounded(alloc, 1)?;
