@@ -129,12 +129,17 @@ class Server:
 
     def finish(self):
         """The exit status, the output that was not taken, and the text on standard error. Its input is left as it is."""
+        status, errors = self.wait_for_end(PATIENCE)
+        return status, bytes(self.received) + self.read_rest(), errors
+
+    def wait_for_end(self, patience):
+        """The exit status and the text on standard error."""
         try:
-            status = self.process.wait(PATIENCE)
+            status = self.process.wait(patience)
         except subprocess.TimeoutExpired:
-            raise Difference(f"it still runs after {PATIENCE} seconds") from None
+            raise Difference(f"it still runs after {patience} seconds") from None
         self.errors.seek(0)
-        return status, bytes(self.received) + self.read_rest(), self.errors.read().decode(errors="replace")
+        return status, self.errors.read().decode(errors="replace")
 
     def read_rest(self):
         """What an ended program has written and nobody has taken."""

@@ -6,7 +6,9 @@ status 1 at the first difference.
 """
 import argparse
 import os
+import select
 import socket
+import statistics
 import struct
 import sys
 import time
@@ -19,11 +21,14 @@ from client import (
     BAD_ENDS,
     BEGUN,
     ECHO,
+    ECHO_REPLY,
     ECHOED,
+    EXIT,
     INITIALIZE,
     INITIALIZED,
     PATIENCE,
     SERVE,
+    SHUTDOWN,
     USAGE,
     WHOLE_SESSION,
     Difference,
@@ -38,8 +43,10 @@ from client import (
 )
 
 HOST = "127.0.0.1"
+MEGABYTE = 1_000_000
 BLOCKED_AFTER = 1
-LONG_ECHO = frame(b'{"jsonrpc":"2.0","id":6,"method":"demo/echo","params":["%s"]}' % (b"x" * 1_000_000))
+GIVEN_UP_AFTER = 40
+LONGEST_BURST = 0.02
 
 
 def free_port():
@@ -48,30 +55,41 @@ def free_port():
         return listener.getsockname()[1]
 
 
+def long_echo(size):
+    return frame(b'{"jsonrpc":"2.0","id":6,"method":"demo/echo","params":["%s"]}' % (b"x" * size))
+
+
 class TcpServer(Server):
     """The program, spoken to through a socket. Its own standard output has to stay empty."""
 
     def __init__(self, program):
         self.port = free_port()
         super().__init__([program, "tcp", f"{HOST}:{self.port}"])
-        self.socket = self.connect()
+        self.socket = None
+
+    def __enter__(self):
+        try:
+            self.socket = self.connect()
+        except BaseException:
+            super().__exit__()
+            raise
+        self.socket.setsockopt(socket.IPPROTO_TCP, socket.TCP_NODELAY, 1)
+        return self
+
+    def __exit__(self, *details):
+        self.socket.close()
+        super().__exit__(*details)
 
     def connect(self):
         """A connection to the program, as soon as it listens."""
         deadline = time.monotonic() + PATIENCE
         while True:
             try:
-                found = socket.create_connection((HOST, self.port), timeout=PATIENCE)
-                found.setsockopt(socket.IPPROTO_TCP, socket.TCP_NODELAY, 1)
-                return found
+                return socket.create_connection((HOST, self.port), timeout=PATIENCE)
             except ConnectionRefusedError:
                 if self.process.poll() is not None or time.monotonic() > deadline:
-                    raise Difference("nobody listens") from None
+                    raise Difference("nobody listens" + self.last_words()) from None
                 time.sleep(0.001)
-
-    def __exit__(self, *details):
-        self.socket.close()
-        super().__exit__(*details)
 
     def send_bytes(self, data):
         try:
@@ -90,7 +108,7 @@ class TcpServer(Server):
 
     def read_rest(self):
         expect("standard output", super().read_rest(), b"")
-        if self.socket.fileno() < 0:
+        if self.socket is None or self.socket.fileno() < 0:
             return b""
         rest = b""
         try:
@@ -155,23 +173,55 @@ def check_gone(program, name, sent, text, resets=False):
         expect_failure(server, text)
 
 
+def send_until_held_back(sink, data):
+    """Sends the data again and again, until nothing was taken for a while. It gives how many bytes were taken."""
+    sink.setblocking(False)
+    taken = 0
+    while taken < 100 * MEGABYTE:
+        if not select.select([], [sink], [], BLOCKED_AFTER)[1]:
+            return taken
+        taken += sink.send(data[taken % len(data):])
+    raise Difference("all of it was taken")
+
+
 def check_never_reads(program):
     """The client sends until nothing more is taken, reads nothing, and is gone."""
     print("a client that never reads")
     with TcpServer(program) as server:
-        server.socket.settimeout(BLOCKED_AFTER)
         server.send_bytes(frame(INITIALIZE) + frame(INITIALIZED))
-        sent = 0
-        try:
-            while sent < 100:
-                server.socket.sendall(LONG_ECHO)
-                sent += 1
-        except TimeoutError:
-            print(f"    held back after {sent} requests of a megabyte")
-        else:
-            raise Difference("all of it was taken")
+        taken = send_until_held_back(server.socket, long_echo(MEGABYTE))
+        print(f"    held back after {taken / MEGABYTE:.1f} MB")
         server.socket.close()
         expect_failure(server, "channel closed")
+
+
+def check_never_reads_and_stays(program):
+    """The client ends its session, and stays without having read a long reply."""
+    print("a client that never reads, and stays")
+    with TcpServer(program) as server:
+        exchange(server, BEGUN)
+        server.send_bytes(long_echo(10 * MEGABYTE) + frame(SHUTDOWN) + frame(EXIT))
+        status, errors = server.wait_for_end(GIVEN_UP_AFTER)
+    print(f"    status {status}, {errors!r}")
+    expect("standard error", errors, "lsp_demo: write fault 1\n")
+    expect("the status", status, 1)
+
+
+def check_burst(program):
+    """Requests that come together are answered together: no reply waits until the one before was acknowledged."""
+    times = []
+    with TcpServer(program) as server:
+        exchange(server, BEGUN)
+        for _ in range(101):
+            start = time.perf_counter()
+            server.send_bytes(frame(ECHO) * 2)
+            for _ in range(2):
+                expect("a reply", server.receive(), ECHO_REPLY)
+            times.append(time.perf_counter() - start)
+    median = statistics.median(times)
+    print(f"two requests together: both replies after {median * 1e6:.0f} us, the median of {len(times)}")
+    if median > LONGEST_BURST:
+        raise Difference("the second reply was held back")
 
 
 def check_address_in_use(program):
@@ -198,6 +248,8 @@ def main():
         check_gone(program, "a client that is gone in the middle of a header", ASKED + [(b"Content-", None)], "read fault 3")
         check_gone(program, "a client that resets its connection", ECHOED, "read fault 1", resets=True)
         check_never_reads(program)
+        check_never_reads_and_stays(program)
+        check_burst(program)
         check_words(program, ["tcp"], USAGE)
         check_words(program, ["tcp", HOST, "1"], USAGE)
         check_words(program, ["tcp", HOST], "lsp_demo: socket fault\n")

@@ -1,5 +1,5 @@
 -- What the program does, apart from what it says on standard error.
-use Rattle.std.specs.Prelude.{◌≡◌, ℕ, List, [], ◌∷◌, Bool, true, false, Option, Result, Ok, Err, codes, string_bytes, String}
+use Rattle.std.specs.Prelude.{◌≡◌, ℕ, List, [], ◌∷◌, Bool, true, false, Option, Some, None, Result, Ok, Err, codes, string_bytes, String, if◌then◌else◌}
 use Rattle.std.specs.Str.{bytes_eq}
 use Rattle.std.specs.declared.alloc.Global.{Global}
 use Rattle.lsp_server.specs.Pump.{Pumps}
@@ -10,6 +10,19 @@ abbrev pub asks_pump : List (String Global) → Bool
 asks_pump [] = false
 asks_pump (word ∷ []) = bytes_eq (string_bytes word) (codes "pump")
 asks_pump (word ∷ next ∷ more) = false
+
+-- no word, or the one word `serve`
+abbrev pub asks_serve : List (String Global) → Bool
+asks_serve [] = true
+asks_serve (word ∷ []) = bytes_eq (string_bytes word) (codes "serve")
+asks_serve (word ∷ next ∷ more) = false
+
+-- the word `tcp` and an address
+abbrev pub asked_address : List (String Global) → Option (List ℕ)
+asked_address [] = None
+asked_address (word ∷ []) = None
+asked_address (word ∷ addr ∷ []) = if bytes_eq (string_bytes word) (codes "tcp") then Some (string_bytes addr) else None
+asked_address (word ∷ addr ∷ next ∷ more) = None
 
 -- 0 exactly where all messages were passed on
 abbrev pub status_of : Result (Unit {0}) PumpFault → ℕ

@@ -1,7 +1,8 @@
 //! A server over standard input and output or a socket, and a program that passes messages on.
 #![tactic(auto)]
 
-ghost use Rattle.std.specs.Prelude.{◌≡◌};
+ghost use Rattle.std.specs.Prelude.{◌≡◌, option_map};
+ghost use Rattle.lsp_demo.specs.Program.{asks_serve, asked_address};
 
 #[cfg(test)]
 mod devices;
@@ -25,14 +26,6 @@ use std::{env, io};
 
 /// How many bytes of standard input are asked for at once.
 const READ_AHEAD: usize = 65536;
-
-/// Where the server meets its client.
-enum Place<'a> {
-    /// On standard input and output.
-    Stdio,
-    /// At an address that it listens at.
-    Tcp(&'a str),
-}
 
 fn main(rt: HostRuntime) -> ExitCode {
     let mut errors = rt.stderr();
@@ -61,11 +54,11 @@ where
     R::Stream: Send + 'static,
 {
     let words: Vec<String> = env::args(rt)?.skip(1).collect(rt.alloc())?;
-    if let Some(place) = place_of(words.as_slice()) {
-        return Ok(match place {
-            Place::Stdio => serve_stdio(rt, errors),
-            Place::Tcp(addr) => tcp_on(rt, addr, errors),
-        });
+    if is_serve(words.as_slice()) {
+        return Ok(serve_stdio(rt, errors));
+    }
+    if let Some(addr) = tcp_address(words.as_slice()) {
+        return Ok(tcp_on(rt, addr, errors));
     }
     let reader = BufReader::with_capacity(rt.alloc(), READ_AHEAD, rt.reader())?;
     Ok(pump_words(
@@ -78,12 +71,23 @@ where
     ))
 }
 
-/// Where the words ask for the server, if they do.
-fn place_of(words: &[String]) -> Option<Place<'_>> {
+/// Whether the words ask for the server on standard input and output.
+fn is_serve(words: &[String]) -> bool
+    ensures { result ≡ asks_serve words.now }
+{
     match words {
-        [] => Some(Place::Stdio),
-        [word] if word.as_str() == "serve" => Some(Place::Stdio),
-        [word, addr] if word.as_str() == "tcp" => Some(Place::Tcp(addr.as_str())),
+        [] => true,
+        [word] => word.as_str() == "serve",
+        _ => false,
+    }
+}
+
+/// The address at which the words ask for the server.
+fn tcp_address(words: &[String]) -> Option<&str>
+    ensures { option_map (λ addr. addr.now) result ≡ asked_address words.now }
+{
+    match words {
+        [word, addr] if word.as_str() == "tcp" => Some(addr.as_str()),
         _ => None,
     }
 }

@@ -229,6 +229,7 @@ fn wrong_words(rt: HostRuntime) -> Result<(), Fail> {
         "pump pump",
         "pump serve",
         "tcp",
+        "tcp 127.0.0.1 9257",
         "serve now",
     ] {
         let words = words_of(alloc, words)?;
