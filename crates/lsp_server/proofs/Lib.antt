@@ -3,10 +3,8 @@ pub mod Carrying
 pub mod Deciding
 pub mod Finishing
 pub mod Handing
-pub mod Keys
 pub mod ListSteps
 pub mod Pumping
-pub mod QueueRuns
 pub mod SameTexts
 pub mod Sendable
 pub mod Sending

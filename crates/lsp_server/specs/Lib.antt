@@ -22,6 +22,9 @@ pub use Rattle.lsp_message.specs.Text
 pub use Rattle.lsp_message.specs.Tree
 pub use Rattle.lsp_message.specs.View
 pub use Rattle.lsp_message.specs.Written
+pub use Rattle.lsp_queue.specs.Queue
+pub use Rattle.lsp_queue.specs.QueueRun
+pub use Rattle.lsp_queue.specs.Registering
 pub mod Answered
 pub mod Boxes
 pub mod Event
@@ -32,10 +35,7 @@ pub mod Lists
 pub mod ProtocolError
 pub mod ProtocolErrorLaws
 pub mod Pump
-pub mod Queue
-pub mod QueueRun
 pub mod ReadLoop
-pub mod Registering
 pub mod Replies
 pub mod Session
 pub mod SessionBytes

@@ -1,43 +1,4 @@
 //! Why a call of the scaffold was refused.
-use std::fmt;
-
 mod protocol;
 
 pub use protocol::ProtocolError;
-
-/// Why a request was not registered. It hands the data back, and the queue is unchanged.
-#[derive(Debug, Drop)]
-pub enum RegisterFault<T> {
-    /// 1: a growth of the queue was refused.
-    Memory(T),
-    /// 2: `serde_json` did not convert the params, want of memory included.
-    Unwritable(T),
-    /// 3: every id was given out.
-    Spent(T),
-}
-
-impl<T> RegisterFault<T> {
-    ghost use Rattle.std.specs.Prelude.{◌≡◌};
-    ghost use Rattle.lsp_server.specs.Registering.{register_fault_number};
-
-    /// The fault's number, from 1 to 3.
-    pub fn number(&self) -> u8
-        ensures { result ≡ register_fault_number self.now }
-    {
-        match self {
-            RegisterFault::Memory(_) => 1,
-            RegisterFault::Unwritable(_) => 2,
-            RegisterFault::Spent(_) => 3,
-        }
-    }
-}
-
-impl<T> fmt::Display for RegisterFault<T> {
-    ghost use Rattle.lsp_server.specs.Registering.{register_fault_text};
-
-    ghost output = { register_fault_text };
-
-    fn fmt<W: fmt::Write>(&self, f: &mut fmt::Formatter<W>) -> fmt::Result {
-        write!(f, "register fault {}", self.number())
-    }
-}

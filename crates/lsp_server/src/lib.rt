@@ -7,12 +7,11 @@ pub mod laws;
 mod lifecycle;
 mod loops;
 mod relay;
-mod req_queue;
 mod socket;
 mod stdio;
 
 pub use channels::Connection;
-pub use error::{ProtocolError, RegisterFault};
+pub use error::ProtocolError;
 pub use lifecycle::{
     CallGate, Event, Gate, Inbox, ListGate, ListInbox, ListOutbox, OpenGate, Outbox, SendFault,
     finish, finish_within, shutdown, start_within, wait_within,
@@ -25,6 +24,6 @@ pub use lsp_message::{
     ErrorCode, ExtractError, Front, Message, Notification, ReadFault, Request, RequestId, Response,
     ResponseError, WriteFault, front,
 };
+pub use lsp_queue::{Incoming, Outgoing, RegisterFault, ReqQueue};
 pub use relay::{PumpFault, StartFault, pump};
-pub use req_queue::{Incoming, Outgoing, ReqQueue};
 pub use stdio::{IoFault, IoThreads};

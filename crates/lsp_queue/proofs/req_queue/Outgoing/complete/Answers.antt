@@ -2,9 +2,9 @@ use Rattle.std.proofs.Common.{◌∙◌, sym, ap}
 use Rattle.std.specs.FinMap as map
 use Rattle.lsp_message.specs.IdLaws.{id_total}
 use Rattle.lsp_message.specs.IdKeys.{id_antisymmetric}
-use Rattle.lsp_server.specs.Queue.{Asked, Pending}
-use Rattle.lsp_server.proofs.Keys.{get_at_key, one_key_removed}
-use Rattle.lsp_server.proofs.req_queue.Outgoing.complete.Goals as goal
+use Rattle.lsp_queue.specs.Queue.{Asked, Pending}
+use Rattle.lsp_queue.proofs.Keys.{get_at_key, one_key_removed}
+use Rattle.lsp_queue.proofs.req_queue.Outgoing.complete.Goals as goal
 
 pub returns-clause-value : goal.returns-clause-value
 returns-clause-value g c =

@@ -3,8 +3,8 @@ ghost use Rattle.std.specs.Prelude.{◌≡◌, ◌==◌, ◌+◌, ◌^◌, ◌<�
 ghost use Rattle.std.specs.FinMap as map;
 ghost use Rattle.lsp_message.specs.Id.{number, id_cmp};
 ghost use Rattle.lsp_message.specs.View.{response_view};
-ghost use Rattle.lsp_server.specs.Queue.{pending_of, count_of, all_ids, cancelled};
-ghost use Rattle.lsp_server.specs.Registering.{IsFaultOf};
+ghost use Rattle.lsp_queue.specs.Queue.{pending_of, count_of, all_ids, cancelled};
+ghost use Rattle.lsp_queue.specs.Registering.{IsFaultOf};
 
 use crate::error::RegisterFault;
 use lsp_message::{ErrorCode, Request, RequestId, Response};

@@ -1,8 +1,8 @@
 use Rattle.std.proofs.Common.{◌∙◌, ap, ◌+◌, pos}
 use Rattle.std.specs.FinMap as map
 use Rattle.lsp_message.specs.Id.{number}
-use Rattle.lsp_server.specs.Queue.{Asked, Pending}
-use Rattle.lsp_server.proofs.req_queue.Outgoing.register_value.Goals as goal
+use Rattle.lsp_queue.specs.Queue.{Asked, Pending}
+use Rattle.lsp_queue.proofs.req_queue.Outgoing.register_value.Goals as goal
 
 pub returns-in-Ok-clause-ok : goal.returns-in-Ok-clause-ok
 returns-in-Ok-clause-ok g c =

@@ -5,8 +5,8 @@ use Rattle.std.specs.FinMap.{get-insert, get-remove, get-empty}
 use Rattle.std.specs.Ordering.{eq_by_cmp}
 use Rattle.lsp_message.specs.Id.{Id, id_cmp}
 use Rattle.lsp_message.specs.IdLaws.{id_total}
-use Rattle.lsp_server.specs.Queue.{Pending}
-use Rattle.lsp_server.specs.QueueRun.{Call, registers, completes, after, after_all, leaves, later, last_leaves, or_nothing, last_registered}
+use Rattle.lsp_queue.specs.Queue.{Pending}
+use Rattle.lsp_queue.specs.QueueRun.{Call, registers, completes, after, after_all, leaves, later, last_leaves, or_nothing, last_registered}
 
 module _ {D : Type 0} where
   -- what is there, where nothing was left since

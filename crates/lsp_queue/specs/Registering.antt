@@ -1,8 +1,8 @@
 -- What a refused registration hands back.
 use Rattle.std.specs.Fmt.{decimal}
 use Rattle.std.specs.Prelude.{◌≡◌, ◌++◌, ℕ, List, Option, Some, codes}
-use Rattle.lsp_server.specs.declared.error.RegisterFault.{RegisterFault}
-use Rattle.lsp_server.specs.declared.error.RegisterFault.TheVariants.{Memory, Unwritable, Spent}
+use Rattle.lsp_queue.specs.declared.error.RegisterFault.{RegisterFault}
+use Rattle.lsp_queue.specs.declared.error.RegisterFault.TheVariants.{Memory, Unwritable, Spent}
 
 -- whatever the fault, it holds the data
 abbrev pub IsFaultOf : {D : Type 0} → D → RegisterFault D → Type 0

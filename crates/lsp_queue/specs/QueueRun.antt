@@ -3,7 +3,7 @@ use Rattle.std.specs.FinMap as map
 use Rattle.std.specs.Ordering.{eq_by_cmp}
 use Rattle.std.specs.Prelude.{List, [], ◌∷◌, fold, Option, Some, None, if◌then◌else◌}
 use Rattle.lsp_message.specs.Id.{Id, id_cmp}
-use Rattle.lsp_server.specs.Queue.{Pending}
+use Rattle.lsp_queue.specs.Queue.{Pending}
 
 pub data Call (D : Type 0) : Type 0 where
   -- a registration that was accepted

@@ -1,0 +1,10 @@
+//! The requests that have no reply yet (JSON-RPC 2.0, section 5): the queues of `lsp_server`, which gives all of it on under
+//! the same names.
+#![tactic(auto)]
+
+mod error;
+pub mod laws;
+mod req_queue;
+
+pub use error::RegisterFault;
+pub use req_queue::{Incoming, Outgoing, ReqQueue};
