@@ -62,8 +62,8 @@ impl Connection {
     {
         let mut inbox = self.inbox(rt);
         let mut outbox = self.outbox(rt);
+        let mut gate = CallGate { running: &running };
         for _round in 0..u64::MAX {
-            let mut gate = CallGate { running: &running };
             if let Some(answer) = start_within(
                 rt.alloc(),
                 &mut inbox,
@@ -127,8 +127,8 @@ impl Connection {
         requires { C.IsAlwaysCallable running.now }
     {
         let mut inbox = self.inbox(rt);
+        let mut gate = CallGate { running };
         for _round in 0..u64::MAX {
-            let mut gate = CallGate { running };
             if let Some(answer) = wait_within(rt.alloc(), &mut inbox, &mut gate, TURNS) {
                 return answer;
             }

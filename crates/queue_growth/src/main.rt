@@ -3,7 +3,8 @@
 #![tactic(auto)]
 
 use anyhow::{Context, Result};
-use lsp_server::{Outgoing, ReqQueue, RequestId};
+use lsp_message::RequestId;
+use lsp_queue::{Outgoing, ReqQueue};
 use serde_json::Value;
 use std::alloc::Global;
 use std::env;
