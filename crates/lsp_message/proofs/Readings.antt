@@ -1,5 +1,5 @@
 -- A message that is read back from its frame.
-use Rattle.std.proofs.Common.{◌≡◌, ◌≤◌, ◌<◌, ◌^◌, ℕ, List, ◌++◌, length, Option, Result, Ok, Err, OnOk, refl}
+use Rattle.std.proofs.Common.{◌≡◌, ◌≤◌, ◌<◌, ◌^◌, ℕ, List, length, Option, Result, Ok, Err, OnOk, refl}
 use Rattle.serde_json.specs.Read.{max_depth}
 use Rattle.std.specs.Io.KnownBytes.{Appends}
 use Rattle.lsp_message.specs.Body.{body_means}

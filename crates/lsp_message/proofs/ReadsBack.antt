@@ -1,8 +1,7 @@
 -- A message's content part is read back as that message.
-use Rattle.std.proofs.Common.{◌≡◌, ℕ, zero, suc, ◌+◌, ◌<◌, ◌≤◌, max, List, [], ◌∷◌, ◌++◌, Bool, true, false, cond, Option, Some, None, Result, Ok, Err, IfOk, OnOk, option_map, option_and_then, unwrap_or, codes, refl, sym, ap, ap₂, ◌∙◌, arith, lit≤, append_assoc, append-nil, rules}
-use Rattle.std.specs.Prelude.{fold, ◌&&◌}
+use Rattle.std.proofs.Common.{◌≡◌, ℕ, suc, ◌<◌, ◌≤◌, max, List, [], ◌++◌, Bool, true, false, Option, Some, None, Result, Ok, Err, IfOk, OnOk, option_map, option_and_then, codes, refl, sym, ap, ap₂, ◌∙◌, arith, lit≤, append_assoc, append-nil}
+use Rattle.std.specs.Prelude.{fold}
 use Rattle.std.proofs.lemmas.List.Sums.{fold-append}
-use Rattle.json.specs.Token as token
 use Rattle.json.specs.Token.{Token}
 use Rattle.json.specs.Lex.{tokens}
 use Rattle.json.specs.Print.{print, print_from, quoted, escape_byte, ends}
@@ -15,7 +14,6 @@ use Rattle.json.proofs.Printed.Trees.{value-json_tokens, ArePrintable-json_token
 use Rattle.serde_json.specs.Data.{Data, null, boolean, number, string, array, object, Items, no_items, item, Members, no_members, member, depth, items_depth, members_depth}
 use Rattle.serde_json.specs.Read.{read, max_depth, of_json}
 use Rattle.serde_json.specs.Written.{outline, items_outline, members_outline, blank, blank_items, blank_members, compact_text}
-use Rattle.serde_json.proofs.OnLiterals.{serde_json_on_literals}
 use Rattle.json.proofs.Printed.Decimals.{IsNumber-decimal, IsNumber-signed_decimal}
 use Rattle.serde_json.proofs.Numbers.{number_of-decimal, number_of-negative}
 use Rattle.std.specs.Fmt.{signed_decimal}

@@ -2,7 +2,7 @@
 use Rattle.std.specs.Prelude.{◌≡◌, ℕ, ℤ, pos, List, []}
 use Rattle.std.proofs.Common.{refl, ap, zero, suc}
 use Rattle.std.specs.Coded.{Coded, code_by, coded×, coded_ℕ, coded_ℤ, coded_list}
-use Rattle.std.specs.FinMap.{FinMap, IsAntisymmetric}
+use Rattle.std.specs.FinMap.{IsAntisymmetric}
 use Rattle.std.specs.Ordering.{is_eq}
 use Rattle.lsp_message.specs.Id.{Id, number, text, id_cmp}
 use Rattle.lsp_message.specs.IdLaws.{id_decides}

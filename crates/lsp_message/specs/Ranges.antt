@@ -1,5 +1,5 @@
 -- The numbers of a message have 32 signed bits (LSP 3.17, "Base Types"), and how deep its tree nests.
-use Rattle.std.specs.Prelude.{◌≡◌, ℕ, true, Result, Ok, Err}
+use Rattle.std.specs.Prelude.{◌≡◌, ℕ, true, Ok, Err}
 use Rattle.serde_json.specs.Data.{depth}
 use Rattle.lsp_message.specs.Id.{Id, number, text}
 use Rattle.lsp_message.specs.Meaning.{is_i32}

@@ -1,5 +1,5 @@
 -- The text of a message (JSON-RPC 2.0, sections 4 and 5), and the content part that carries it (LSP 3.17, base protocol).
-use Rattle.std.specs.Prelude.{◌≡◌, ◌≤◌, ℕ, ℤ, List, [], ◌∷◌, ◌++◌, false, Option, Some, None, Ok, Err, codes}
+use Rattle.std.specs.Prelude.{◌≡◌, ◌≤◌, ℕ, List, [], ◌++◌, false, Option, Some, None, Ok, Err, codes}
 use Rattle.json.specs.Lex.{tokens}
 use Rattle.json.specs.Print.{print}
 use Rattle.serde_json.specs.Data.{Data, number, string, depth}

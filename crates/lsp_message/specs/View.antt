@@ -1,5 +1,5 @@
 -- The plain data of the Rust types.
-use Rattle.std.specs.Prelude.{Option, option_map, Result, Ok, Err, string_bytes}
+use Rattle.std.specs.Prelude.{option_map, Result, Ok, Err, string_bytes}
 use Rattle.serde_json.specs.Data.{Data}
 use Rattle.serde_json.specs.View.{view}
 use Rattle.serde_json.specs.declared.value.Value.{Value}

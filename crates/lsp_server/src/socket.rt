@@ -88,6 +88,8 @@ impl<S: OpenStream + Drop> Drop for WriteHalf<S> {
 }
 
 impl<S: OpenStream + Write> Write for WriteHalf<S> {
+    ghost contents = { λ half. S.contents half.stream };
+
     fn write(&mut self, buf: &[u8]) -> io::Result<usize> {
         let written = self.stream.write(buf);
         if written.is_err() {

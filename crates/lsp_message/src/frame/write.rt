@@ -5,7 +5,11 @@ ghost use Rattle.lsp_message.specs.Written.{frame_text, AppendsBeginning, IsOutp
 
 use crate::frame::WriteFault;
 use std::alloc::{AllocError, Global};
+use std::fmt::Write as _;
 use std::io::{ErrorKind, Write};
+
+/// Room for the header part of a frame: the name, at most 20 digits and the ends of two lines.
+const HEADER_ROOM: usize = 40;
 
 /// Writes the frame of a body, and flushes once.
 pub(crate) fn write_body<W: Write>(
@@ -29,7 +33,9 @@ fn compose(alloc: Global, body: &str) -> Result<String, AllocError>
     ensures { IfOk result (λ frame. string_bytes frame ≡ frame_text body.now) }
 {
     let length = body.len();
-    format!(in alloc; "Content-Length: {length}\r\n\r\n{body}")
+    let mut frame = String::with_capacity(alloc, length.saturating_add(HEADER_ROOM))?;
+    write!(frame, "Content-Length: {length}\r\n\r\n{body}").map_err(|_| AllocError)?;
+    Ok(frame)
 }
 
 /// Writes all the bytes, or a beginning of them. An interrupted write is a fault, as every other.

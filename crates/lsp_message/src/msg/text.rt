@@ -17,6 +17,9 @@ use crate::msg::{Message, Notification, Request, RequestId, Response, ResponseEr
 use serde_json::Value;
 use std::alloc::{AllocError, Global};
 
+// Room for the text of a message with few params, which then grows in no step.
+const USUAL_LENGTH: usize = 256;
+
 fn value_text(alloc: Global, value: &Value) -> Result<String, AllocError>
     ensures { IfOk result (λ s. IsValueText (view value.now) (string_bytes s)) }
 {
@@ -226,7 +229,7 @@ impl Message {
         ensures text { IfOk result (λ s. IsTextFrom before.now (message_view self.now) (string_bytes s)) }
         ensures range { OnOk result (IsInRange (message_view self.now)) }
     {
-        let mut out = String::new(alloc);
+        let mut out = String::with_capacity(alloc, USUAL_LENGTH)?;
         self.push_to(&mut out, alloc, before)?;
         Ok(out)
     }

@@ -1,9 +1,9 @@
-use Rattle.std.proofs.Common.{◌≡◌, ◌++◌, Some, option_map, string_bytes, codes, refl, ap, ◌∙◌, rules}
+use Rattle.std.proofs.Common.{◌≡◌, ◌++◌, option_map, string_bytes, codes, refl, rules}
 use Rattle.serde_json.specs.Data.{number, string}
 use Rattle.serde_json.specs.Find.{of_integer}
 use Rattle.serde_json.specs.Written.{compact_text}
 use Rattle.serde_json.specs.View.{view}
-use Rattle.lsp_message.specs.Text.{named, Adds, IsErrorText, IsLaterMember}
+use Rattle.lsp_message.specs.Text.{named, Adds, IsLaterMember}
 use Rattle.lsp_message.proofs.Joined.{joined_four}
 use Rattle.lsp_message.proofs.msg.text.push_error.Goals as goal
 
