@@ -302,27 +302,32 @@ def check_words(program, words, said):
     expect("standard output", rest, b"")
 
 
-def main():
-    parser = argparse.ArgumentParser(description=__doc__, formatter_class=argparse.RawDescriptionHelpFormatter)
-    parser.add_argument("--program", type=Path, default=SERVE, help="the program that is run with the argument `serve`")
+def run_checks(script, description, checks):
+    """Runs the checks of a script on the program that it is called with, and gives its exit status."""
+    parser = argparse.ArgumentParser(description=description, formatter_class=argparse.RawDescriptionHelpFormatter)
+    parser.add_argument("--program", type=Path, default=SERVE, help="the program that is tried")
     program = parser.parse_args().program
     if not os.access(program, os.X_OK):
-        print(f"client.py: no program {program}: README.md says how it is built", file=sys.stderr)
+        print(f"{script}: no program {program}: docs/EDITORS.md says how it is built", file=sys.stderr)
         return 2
-    command = [program, "serve"]
     try:
-        check_session(lambda: Server(command))
-        for case in BAD_ENDS:
-            check_bad_end(lambda: Server(command), case)
-        check_closed_output(command)
-        check_output_closed_midway(command)
-        check_words(program, ["serve", "twice"], USAGE)
+        checks(program)
     except Difference as difference:
-        print(f"client.py: DIFFERENCE: {difference}", file=sys.stderr)
+        print(f"{script}: DIFFERENCE: {difference}", file=sys.stderr)
         return 1
     print("no difference")
     return 0
 
 
+def check_all(program):
+    command = [program, "serve"]
+    check_session(lambda: Server(command))
+    for case in BAD_ENDS:
+        check_bad_end(lambda: Server(command), case)
+    check_closed_output(command)
+    check_output_closed_midway(command)
+    check_words(program, ["serve", "twice"], USAGE)
+
+
 if __name__ == "__main__":
-    sys.exit(main())
+    sys.exit(run_checks("client.py", __doc__, check_all))

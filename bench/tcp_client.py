@@ -4,15 +4,12 @@
 Each reply is compared byte for byte, and so are the exit status and what is printed on standard error. It ends in
 status 1 at the first difference.
 """
-import argparse
-import os
 import select
 import socket
 import statistics
 import struct
 import sys
 import time
-from pathlib import Path
 
 sys.dont_write_bytecode = True
 
@@ -27,7 +24,6 @@ from client import (
     INITIALIZE,
     INITIALIZED,
     PATIENCE,
-    SERVE,
     SHUTDOWN,
     USAGE,
     WHOLE_SESSION,
@@ -40,6 +36,7 @@ from client import (
     expect,
     expect_failure,
     frame,
+    run_checks,
 )
 
 HOST = "127.0.0.1"
@@ -231,35 +228,23 @@ def check_address_in_use(program):
         check_words(program, ["tcp", f"{HOST}:{listener.getsockname()[1]}"], "lsp_demo: socket fault\n")
 
 
-def main():
-    parser = argparse.ArgumentParser(description=__doc__, formatter_class=argparse.RawDescriptionHelpFormatter)
-    parser.add_argument("--program", type=Path, default=SERVE, help="the program that is run with `tcp` and an address")
-    program = parser.parse_args().program
-    if not os.access(program, os.X_OK):
-        print(f"tcp_client.py: no program {program}: README.md says how it is built", file=sys.stderr)
-        return 2
-    try:
-        check_session(lambda: TcpServer(program))
-        for case in BAD_ENDS:
-            check_bad_end(lambda: TcpServer(program), case)
-        check_pieces(program)
-        check_one_client(program)
-        check_gone(program, "a client that is gone in the middle of a message", ECHOED + [(frame(ECHO)[:-1], None)], "read fault 7")
-        check_gone(program, "a client that is gone in the middle of a header", ASKED + [(b"Content-", None)], "read fault 3")
-        check_gone(program, "a client that resets its connection", ECHOED, "read fault 1", resets=True)
-        check_never_reads(program)
-        check_never_reads_and_stays(program)
-        check_burst(program)
-        check_words(program, ["tcp"], USAGE)
-        check_words(program, ["tcp", HOST, "1"], USAGE)
-        check_words(program, ["tcp", HOST], "lsp_demo: socket fault\n")
-        check_address_in_use(program)
-    except Difference as difference:
-        print(f"tcp_client.py: DIFFERENCE: {difference}", file=sys.stderr)
-        return 1
-    print("no difference")
-    return 0
+def check_all(program):
+    check_session(lambda: TcpServer(program))
+    for case in BAD_ENDS:
+        check_bad_end(lambda: TcpServer(program), case)
+    check_pieces(program)
+    check_one_client(program)
+    check_gone(program, "a client that is gone in the middle of a message", ECHOED + [(frame(ECHO)[:-1], None)], "read fault 7")
+    check_gone(program, "a client that is gone in the middle of a header", ASKED + [(b"Content-", None)], "read fault 3")
+    check_gone(program, "a client that resets its connection", ECHOED, "read fault 1", resets=True)
+    check_never_reads(program)
+    check_never_reads_and_stays(program)
+    check_burst(program)
+    check_words(program, ["tcp"], USAGE)
+    check_words(program, ["tcp", HOST, "1"], USAGE)
+    check_words(program, ["tcp", HOST], "lsp_demo: socket fault\n")
+    check_address_in_use(program)
 
 
 if __name__ == "__main__":
-    sys.exit(main())
+    sys.exit(run_checks("tcp_client.py", __doc__, check_all))

@@ -27,7 +27,7 @@ const EXIT: &str = "{\"method\":\"exit\"}";
 const PATIENCE: u64 = 20;
 
 // The message with this member text.
-pub(crate) fn message(alloc: Global, text: &str) -> Option<Message> {
+fn message(alloc: Global, text: &str) -> Option<Message> {
     let Ok(tree) = Value::from_str(alloc, text) else {
         return None;
     };

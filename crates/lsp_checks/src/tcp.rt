@@ -1,5 +1,5 @@
 // Connections over TCP. Both ends are in this process, on 127.0.0.1, and a message is awaited only so long.
-use crate::connection::{message, receives, sends};
+use crate::connection::{receives, sends};
 use crate::peer::{Part, peer_thread};
 use crate::session::Echo;
 use lsp_server::{
