@@ -11,6 +11,7 @@ mod ReadBack
 mod Readings
 mod ReadsBack
 mod Rows
+pub mod Sendable
 mod Separators
 mod Shown
 mod Suffixes

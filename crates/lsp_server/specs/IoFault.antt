@@ -1,10 +1,10 @@
 -- The numbers and texts of the faults of a connection's worker threads.
 use Rattle.std.specs.Prelude.{ℕ, List, Bool, true, false, Option, Some, Result, Ok, Err, codes}
 use Rattle.lsp_message.specs.Faults.{read_fault_text, write_fault_text}
-use Rattle.lsp_server.specs.declared.loops.ReadEnd.{ReadEnd}
-use Rattle.lsp_server.specs.declared.loops.ReadEnd.TheVariants.{Exit, End, Fault, Closed as OutboxClosed, Memory as OutboxMemory}
-use Rattle.lsp_server.specs.declared.loops.write.WriteEnd.{WriteEnd}
-use Rattle.lsp_server.specs.declared.loops.write.WriteEnd.TheVariants.{Closed as InboxClosed, Fault as Unwritten}
+use Rattle.lsp_session.specs.declared.loops.ReadEnd.{ReadEnd}
+use Rattle.lsp_session.specs.declared.loops.ReadEnd.TheVariants.{Exit, End, Fault, Closed as OutboxClosed, Memory as OutboxMemory}
+use Rattle.lsp_session.specs.declared.loops.write.WriteEnd.{WriteEnd}
+use Rattle.lsp_session.specs.declared.loops.write.WriteEnd.TheVariants.{Closed as InboxClosed, Fault as Unwritten}
 use Rattle.lsp_server.specs.declared.stdio.IoFault.{IoFault}
 use Rattle.lsp_server.specs.declared.stdio.IoFault.TheVariants.{Read, Write, Closed, Start, Socket, Memory}
 

@@ -1,7 +1,6 @@
 //! A connection of two channels, and the lifecycle of a session over them.
-use crate::error::ProtocolError;
-use crate::lifecycle::{CallGate, finish, finish_within, shutdown, start_within, wait_within};
-use crate::loops::initialize_result;
+use lsp_session::ProtocolError;
+use lsp_session::{CallGate, finish, finish_within, initialize_result, shutdown, start_within, wait_within};
 use crossbeam_channel::{Receiver, Sender, unbounded};
 use lsp_message::{Message, Request, RequestId};
 use serde_json::Value;

@@ -1,5 +1,5 @@
 // Boxes over plain channels. No clause says what a channel delivers, so their relations allow everything.
-use crate::lifecycle::{Event, Inbox, Outbox, SendFault};
+use lsp_session::{Event, Inbox, Outbox, SendFault};
 use crossbeam_channel::{Receiver, RecvTimeoutError, SendError, Sender};
 use lsp_message::Message;
 use std::sync::Wait;

@@ -1,6 +1,6 @@
 use denote.Exit.{yes}
 use denote.Param.Send.{param_send, arg_send}
-use Rattle.lsp_server.proofs.Sendable.{message_send}
+use Rattle.lsp_message.proofs.Sendable.{message_send}
 use Rattle.lsp_server.proofs.stdio.start.Goals as goal
 
 pub start_threads-requires-send-M : goal.start_threads-requires-send-M

@@ -1,6 +1,6 @@
 use denote.Exit.{yes}
 use denote.Param.Send.{param_send, arg_send}
-use Rattle.lsp_server.proofs.Sendable.{message_send}
+use Rattle.lsp_message.proofs.Sendable.{message_send}
 use Rattle.lsp_demo.proofs.tests.serve.client_thread.Goals as goal
 
 pub start-requires-send-M : goal.start-requires-send-M

@@ -1,4 +1,4 @@
-use Rattle.lsp_server.proofs.Waiting.{waits_none}
+use Rattle.lsp_session.proofs.Waiting.{waits_none}
 use Rattle.lsp_server.proofs.channels.boxes.ChannelInboxInbox.receive.Goals as goal
 
 pub returns-in-Ok-clause-receives : goal.returns-in-Ok-clause-receives

@@ -1,5 +1,0 @@
-use Rattle.lsp_server.proofs.Handing.{Handed}
-use Rattle.lsp_server.proofs.loops.read_loop.Given as goal
-
-abbrev pub invariant-loop : goal.invariant-loop
-invariant-loop g l = Handed g.O.Outbox.sends (g.R.Read.remaining l.initial.reader) (g.R.Read.remaining l.reader) l.initial.outbox l.outbox

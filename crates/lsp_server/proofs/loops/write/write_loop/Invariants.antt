@@ -1,7 +1,0 @@
-use Rattle.lsp_server.proofs.Carrying.{Carries}
-use Rattle.lsp_server.proofs.loops.write.write_loop.Given as goal
-
--- so many messages were written and offered so far
-abbrev pub invariant-loop-count : goal.invariant-loop-count
-invariant-loop-count g l =
-    Carries g.I.Inbox.receives g.O.Outbox.sends l._count (l.initial.inbox, g.W.Write.contents l.initial.writer, l.initial.spent) (l.inbox, g.W.Write.contents l.writer, l.spent)

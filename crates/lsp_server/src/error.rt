@@ -1,4 +1,0 @@
-//! Why a call of the scaffold was refused.
-mod protocol;
-
-pub use protocol::ProtocolError;

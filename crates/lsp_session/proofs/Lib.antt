@@ -1,0 +1,17 @@
+pub mod Answering
+pub mod Carrying
+pub mod Deciding
+pub mod Finishing
+pub mod Handing
+pub mod ListSteps
+pub mod Pumping
+pub mod SameTexts
+pub mod Sending
+pub mod SessionFacts
+pub mod SessionGives
+pub mod SessionRuns
+pub mod SessionStarts
+pub mod SessionStreams
+pub mod Starting
+pub mod Streaming
+pub mod Waiting

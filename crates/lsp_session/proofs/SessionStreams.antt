@@ -1,0 +1,209 @@
+-- A session over an inbox that reads and an outbox that writes, in bytes.
+use Rattle.std.proofs.Common.{◌≡◌, refl, sym, ◌∙◌, ap, ℕ, Bool, true, false, List, [], ◌∷◌, ◌++◌, append_assoc, append-nil, Some, None, Option}
+use Rattle.std.proofs.KnownBytes.{Appends-trans}
+use Rattle.std.specs.Io.KnownBytes.{Keeps}
+use Rattle.std.specs.List.{FoldsTo, list_all, filter_map}
+use Rattle.std.specs.Prelude.{Result, Ok, Err, MatchOption, if◌then◌else◌}
+use Rattle.lsp_message.specs.Body.{reading_of}
+use Rattle.lsp_message.specs.Letters.{is_exit}
+use Rattle.lsp_message.specs.Message.{Message}
+use Rattle.lsp_message.specs.Written.{IsFrameOf, AreFramesOf, GetsFrames, Writes}
+use Rattle.lsp_message.specs.declared.frame.WriteFault.{WriteFault}
+use Rattle.lsp_message.specs.declared.frame.WriteFault.TheVariants.{Output, Memory as NoMemory}
+use Rattle.lsp_session.proofs.Handing.{begins}
+use Rattle.lsp_session.proofs.Pumping.{taken_frames, taken_keeps, Appends-Keeps}
+use Rattle.lsp_session.proofs.SessionFacts.{is_no_exit}
+use Rattle.lsp_session.specs.Boxes.{Takes}
+use Rattle.lsp_session.specs.Event.{Event, message, timeout, closed}
+use Rattle.lsp_session.specs.FrameBoxes.{FrameOutboxSends, Told, kept_write}
+use Rattle.lsp_session.specs.Session.{Stop, decided, no_more, timed_out, refused, exhausted}
+use Rattle.lsp_session.specs.SessionBytes.{BeginsWith, all_of, BreaksOffLast, GetsFirst, IsUnsent}
+use Rattle.lsp_session.specs.SessionRun.{message_in, is_open, OffersLast, RefusesLast, Gets}
+use Rattle.lsp_session.specs.Streams.{Stream, StreamGives, StreamReads, Reads}
+use Rattle.lsp_session.specs.declared.lifecycle.SendFault.{SendFault}
+use Rattle.lsp_session.specs.declared.lifecycle.SendFault.TheVariants.{Closed as Shut, Memory as Full}
+use Rattle.lsp_session.specs.declared.loops.ReadEnd.{ReadEnd}
+use Rattle.lsp_session.specs.declared.loops.ReadEnd.TheVariants.{Exit}
+use Rattle.lsp_session.specs.declared.loops.frame_outbox.FrameOutbox.{FrameOutbox}
+
+-- an inbox that has ended brings nothing more
+ended_brings : (events : List Event) (end : ReadEnd) (old new : Stream) → old.end ≡ Some end → FoldsTo StreamGives old events new → filter_map message_in events ≡ []
+ended_brings [] end old new is run = refl
+ended_brings (event ∷ events) end old new is run =
+    let step = rw is at run.1 in
+    rw step.0 (ended_brings events end run.0 new step.1 run.2)
+
+-- and its next event is that no more come
+ended_closes : (events : List Event) (end : ReadEnd) (old new : Stream) → old.end ≡ Some end → FoldsTo StreamGives old events new → list_all is_open events ≡ true → old ≡ new
+ended_closes [] end old new is run still_open = run
+ended_closes (event ∷ events) end old new is run still_open = let step = rw is at run.1 in absurd (cc (rw step.0 at still_open))
+
+-- the letters that an inbox brought are the first messages of the text
+module _ (m : Message) (text : List ℕ) (mid new : Stream) (events : List Event) (run : FoldsTo StreamGives mid events new) where
+  -- one more letter before them
+  letter_then : (b : Bool) → mid.end ≡ (if b then Some Exit else None)
+      → Reads (Some text) (Ok (Some m)) mid.remaining
+      → ((rest : List ℕ) → mid.end ≡ None → mid.remaining ≡ Some rest → (at : List ℕ) × BeginsWith rest (filter_map message_in events) at)
+      → (at : List ℕ) × BeginsWith text (m ∷ filter_map message_in events) at
+  letter_then true is reads later =
+      rw (ended_brings events Exit mid new is run) ((reading_of text).rest, ((reading_of text).rest, begins text m reads.0.0, refl))
+  letter_then false is reads later =
+      let more = later (reading_of text).rest is reads.0.1 in
+      (more.0, ((reading_of text).rest, begins text m reads.0.0, more.1))
+
+pub brought_begins : (events : List Event) (text : List ℕ) (old new : Stream) → old.end ≡ None → old.remaining ≡ Some text → FoldsTo StreamGives old events new
+    → (at : List ℕ) × BeginsWith text (filter_map message_in events) at
+brought_begins [] text old new unended known run = (text, refl)
+brought_begins (timeout ∷ events) text old new unended known run = absurd (rw unended at run.1)
+brought_begins (closed ∷ events) text old new unended known run = at run.0.end refl (rw (unended, known) at run.1)
+  where
+    at : (end : Option ReadEnd) → run.0.end ≡ end → StreamReads (Some text) closed end run.0.remaining → (at : List ℕ) × BeginsWith text (filter_map message_in events) at
+    at None is reads = absurd reads
+    at (Some end) is reads = rw (ended_brings events end run.0 new is run.2) (text, refl)
+brought_begins (message m ∷ events) text old new unended known run =
+    let step = rw (unended, known) at run.1 in
+    letter_then m text run.0 new events run.2 (is_exit m) step.0 step.1
+    (λ rest still left. brought_begins events rest run.0 new still left run.2)
+
+-- what an inbox brought that may bring more, what it has left, and whether an `exit` came
+pub record Brought (text : List ℕ) (letters : List Message) (new : Stream) : Type 0 where
+  pub at : List ℕ
+  pub read : BeginsWith text letters at
+  pub left : new.remaining ≡ Some at
+  pub end : new.end ≡ (if list_all is_no_exit letters then None else Some Exit)
+
+module _ (m : Message) (text : List ℕ) (mid new : Stream) (events : List Event) (run : FoldsTo StreamGives mid events new) (still_open : list_all is_open events ≡ true) where
+  open_then : (b : Bool) → is_exit m ≡ b → mid.end ≡ (if b then Some Exit else None)
+      → Reads (Some text) (Ok (Some m)) mid.remaining
+      → ((rest : List ℕ) → mid.end ≡ None → mid.remaining ≡ Some rest → Brought rest (filter_map message_in events) new)
+      → Brought text (m ∷ filter_map message_in events) new
+  open_then true exits is reads later = rw (ended_brings events Exit mid new is run, sym (ended_closes events Exit mid new is run still_open)) (record {
+    at = (reading_of text).rest;
+    read = ((reading_of text).rest, begins text m reads.0.0, refl);
+    left = reads.0.1;
+    end = rw (exits, is) refl;
+  })
+  open_then false exits is reads later =
+      let more = later (reading_of text).rest is reads.0.1 in
+      record { at = more.at; read = ((reading_of text).rest, begins text m reads.0.0, more.read); left = more.left; end = rw exits more.end }
+
+pub brought_open : (events : List Event) (text : List ℕ) (old new : Stream) → old.end ≡ None → old.remaining ≡ Some text → FoldsTo StreamGives old events new
+    → list_all is_open events ≡ true → Brought text (filter_map message_in events) new
+brought_open [] text old new unended known run still_open = record { at = text; read = refl; left = rw (sym run) known; end = rw (sym run) unended }
+brought_open (timeout ∷ events) text old new unended known run still_open = absurd (rw unended at run.1)
+brought_open (closed ∷ events) text old new unended known run still_open = absurd (cc (still_open))
+brought_open (message m ∷ events) text old new unended known run still_open =
+    let step = rw (unended, known) at run.1 in
+    open_then m text run.0 new events run.2 still_open (is_exit m) refl step.0 step.1
+    (λ rest still left. brought_open events rest run.0 new still left run.2 still_open)
+
+-- an inbox that reads has no timeouts
+pub no_timeout : (earlier : List Event) (old new : Stream) → FoldsTo StreamGives old (earlier ++ timeout ∷ []) new → ⊥
+no_timeout [] old new run = at old.end run.1
+  where
+    at : (end : Option ReadEnd) → MatchOption end (StreamReads old.remaining timeout run.0.end run.0.remaining) (λ end. (timeout ≡ closed) × (run.0.end ≡ Some end) × Keeps old.remaining run.0.remaining) → ⊥
+    at None gives = gives
+    at (Some end) gives = cc (gives.0)
+no_timeout (event ∷ earlier) old new run = no_timeout earlier run.0 new run.2
+
+-- frames of one more message
+frames_push : (ms : List Message) (m : Message) (frames frame : List ℕ) → AreFramesOf ms frames → IsFrameOf m frame → AreFramesOf (ms ++ m ∷ []) (frames ++ frame)
+frames_push [] m frames frame none last = rw none (frame, [], last, refl, rw append-nil refl)
+frames_push (x ∷ xs) m frames frame some last =
+    (some.0, some.1 ++ frame, some.2, frames_push xs m some.1 frame some.3 last, rw (some.4, append_assoc) refl)
+
+-- all of it was written
+pub whole_first : (ms : List Message) (old new : Option (List ℕ)) → GetsFrames ms old new → GetsFirst ms old new
+whole_first ms old new got = (ms, [], rw append-nil refl, got)
+
+-- what is written of messages where the write of the last one failed
+abbrev pub GetsPart : WriteFault → List Message → Option (List ℕ) → Option (List ℕ) → Type 0
+GetsPart (Output kind) ms old new = BreaksOffLast ms old new
+GetsPart NoMemory ms old new = GetsFirst ms old new
+
+-- the outbox refused no reply
+abbrev pub NotRefused : Stop → Type 0
+NotRefused (refused fault) = ⊥
+NotRefused stop = Unit {0}
+
+module _ {W : Type 0} (contents : W → Option (List ℕ)) where
+  abbrev at : FrameOutbox W → Option (List ℕ)
+  at outbox = contents outbox.writer.now
+
+  -- a message offered after those whose frames were written
+  offered : (ms : List Message) (m : Message) (a b c : Option (List ℕ)) (outcome : Result (Unit {0}) SendFault) (fault : Option WriteFault) → GetsFrames ms a b
+      → Writes m b (kept_write fault) c → Told outcome fault
+      → MatchOption fault ((outcome ≡ Ok tt) × GetsFrames (ms ++ m ∷ []) a c) (λ f. GetsPart f (ms ++ m ∷ []) a c)
+  offered ms m a b c (Ok done) None got writes told =
+      (refl, (got.0 ++ writes.0, frames_push ms m got.0 writes.0 got.1 writes.1, Appends-trans a b c got.0 writes.0 got.2 writes.2))
+  offered ms m a b c (Err (Shut back)) None got writes told = absurd told
+  offered ms m a b c (Err (Full back)) None got writes told = absurd told
+  offered ms m a b c outcome (Some (Output kind)) got writes told =
+      let part = writes.2 in
+      (ms, m, got.0, writes.0, part.0, part.1, refl, got.1, writes.1, part.2, Appends-trans a b c got.0 part.0 got.2 part.3)
+  offered ms m a b c outcome (Some NoMemory) got writes told = (ms, m ∷ [], refl, (got.0, got.1, Appends-Keeps a b c got.0 got.2 writes))
+
+  -- the same, of an outbox that no write has failed in
+  sent_after : (ms : List Message) (m : Message) (a b : Option (List ℕ)) (mid new : FrameOutbox W) (outcome : Result (Unit {0}) SendFault) → mid.fault ≡ None
+      → b ≡ at mid → GetsFrames ms a b → FrameOutboxSends contents mid m outcome new
+      → MatchOption new.fault ((outcome ≡ Ok tt) × GetsFrames (ms ++ m ∷ []) a (at new)) (λ f. GetsPart f (ms ++ m ∷ []) a (at new))
+  sent_after ms m a b mid new outcome unfailed is got sends =
+      let writes = rw unfailed at sends.0 in
+      offered ms m a (at mid) (at new) outcome new.fault (rw is at got) writes.0 writes.1
+
+  -- nothing is left to offer, or the null
+  last_written : (stop : Stop) (output : List Message) (null : Option Message) (a : Option (List ℕ)) (mid new : FrameOutbox W) → mid.fault ≡ None → GetsFrames output a (at mid)
+      → OffersLast (FrameOutboxSends contents) mid null new
+      → MatchOption new.fault (Unit {0} × GetsFrames (all_of output null) a (at new)) (λ f. IsUnsent stop null × GetsPart f (all_of output null) a (at new))
+  last_written stop output None a mid new unfailed got same = rw (same, unfailed) (tt, got)
+  last_written stop output (Some null) a mid new unfailed got offers =
+      pick new.fault (sent_after output null a (at mid) mid new offers.outcome unfailed refl got offers.sent)
+    where
+      pick : (fault : Option WriteFault)
+          → MatchOption fault ((offers.outcome ≡ Ok tt) × GetsFrames (output ++ null ∷ []) a (at new)) (λ f. GetsPart f (output ++ null ∷ []) a (at new))
+          → MatchOption fault (Unit {0} × GetsFrames (output ++ null ∷ []) a (at new)) (λ f. Unit {0} × GetsPart f (output ++ null ∷ []) a (at new))
+      pick None both = (tt, both.1)
+      pick (Some f) part = (tt, part)
+
+  module _ (old new : FrameOutbox W) (output : List Message) (null : Option Message) (unfailed : old.fault ≡ None) where
+    -- the output is written, or a part of it where a write failed
+    abbrev pub IsWritten : Stop → Type 0
+    IsWritten stop =
+        MatchOption new.fault (NotRefused stop × GetsFrames (all_of output null) (at old) (at new)) (λ f. IsUnsent stop null × GetsPart f (all_of output null) (at old) (at new))
+
+    taken_written : (stop : Stop) (mid : FrameOutbox W) → FoldsTo (Takes (FrameOutboxSends contents)) old output mid → OffersLast (FrameOutboxSends contents) mid null new
+        → MatchOption new.fault (Unit {0} × GetsFrames (all_of output null) (at old) (at new)) (λ f. IsUnsent stop null × GetsPart f (all_of output null) (at old) (at new))
+    taken_written stop mid taken offers =
+        let frames = taken_frames contents old output mid unfailed taken in
+        last_written stop output null (at old) mid new frames.0 frames.1 offers
+
+    refused_written : (fault : SendFault) → RefusesLast (FrameOutboxSends contents) old output fault new → null ≡ None → IsWritten (refused fault)
+    refused_written fault last none =
+        let frames = taken_frames contents old last.0 last.2 unfailed last.4 in
+        rw (none, last.3) (pick new.fault (sent_after last.0 last.1 (at old) (at last.2) last.2 new (Err fault) frames.0 refl frames.1 last.5))
+      where
+        pick : (kept : Option WriteFault)
+            → MatchOption kept ((◌≡◌ {A = Result (Unit {0}) SendFault} (Err fault) (Ok tt)) × GetsFrames (last.0 ++ last.1 ∷ []) (at old) (at new)) (λ f. GetsPart f (last.0 ++ last.1 ∷ []) (at old) (at new))
+            → MatchOption kept (⊥ × GetsFrames (last.0 ++ last.1 ∷ []) (at old) (at new)) (λ f. Unit {0} × GetsPart f (last.0 ++ last.1 ∷ []) (at old) (at new))
+        pick None both = absurd (cc (both.0))
+        pick (Some f) part = (tt, part)
+
+    pub gets_written : (stop : Stop) → Gets (FrameOutboxSends contents) old output null stop new → IsWritten stop
+    gets_written decided got = taken_written decided got.0 got.1 got.2
+    gets_written no_more got = taken_written no_more got.0 got.1 got.2
+    gets_written timed_out got = taken_written timed_out got.0 got.1 got.2
+    gets_written (refused fault) got = refused_written fault got.0 got.1
+    gets_written exhausted got = taken_written exhausted got.0 got.1 got.2
+
+  last_keeps : (null : Option Message) (mid new : FrameOutbox W) → OffersLast (FrameOutboxSends contents) mid null new → new.writer.ghost_name ≡ mid.writer.ghost_name
+  last_keeps None mid new same = ap (λ (o : FrameOutbox W). o.writer.ghost_name) same
+  last_keeps (Some null) mid new offers = offers.sent.1
+
+  -- an outbox keeps the writer that it was lent
+  pub gets_keeps : (old new : FrameOutbox W) (output : List Message) (null : Option Message) (stop : Stop) → Gets (FrameOutboxSends contents) old output null stop new
+      → new.writer.ghost_name ≡ old.writer.ghost_name
+  gets_keeps old new output null decided got = last_keeps null got.0 new got.2 ∙ taken_keeps contents old output got.0 got.1
+  gets_keeps old new output null no_more got = last_keeps null got.0 new got.2 ∙ taken_keeps contents old output got.0 got.1
+  gets_keeps old new output null timed_out got = last_keeps null got.0 new got.2 ∙ taken_keeps contents old output got.0 got.1
+  gets_keeps old new output null (refused fault) got = got.0.5.1 ∙ taken_keeps contents old got.0.0 got.0.2 got.0.4
+  gets_keeps old new output null exhausted got = last_keeps null got.0 new got.2 ∙ taken_keeps contents old output got.0 got.1

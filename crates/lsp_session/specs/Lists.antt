@@ -1,0 +1,23 @@
+-- What one call does to a box whose contents are a list.
+use Rattle.std.specs.Prelude.{◌≡◌, ℕ, ◌<◌, ◌≤◌, Bool, false, List, [], ◌∷◌, ◌++◌, length, Result, Ok, Err}
+use Rattle.lsp_message.specs.Message.{Message}
+use Rattle.lsp_session.specs.Event.{Event, closed}
+use Rattle.lsp_session.specs.declared.lifecycle.SendFault.{SendFault}
+use Rattle.lsp_session.specs.declared.lifecycle.SendFault.TheVariants.{Closed, Memory}
+
+-- A message is taken while there is room, and refused as by a closed outbox from then on.
+-- Only a growth that was refused makes an exception.
+abbrev pub TakesUpToRoom : ℕ → ℕ → List Message → Message → Result (Unit {0}) SendFault → List Message → Type 0
+TakesUpToRoom room room' old message (Ok done) new = (length old < room) × (new ≡ old ++ message ∷ []) × (room' ≡ room)
+TakesUpToRoom room room' old message (Err (Closed back)) new = (room ≤ length old) × (new ≡ old) × (room' ≡ room)
+TakesUpToRoom room room' old message (Err (Memory back)) new = (length old < room) × (new ≡ old) × (room' ≡ room)
+
+-- the first event comes, and `closed` where none is left
+abbrev pub GivesNext : List Event → Event → List Event → Type 0
+GivesNext [] event new = (event ≡ closed) × (new ≡ [])
+GivesNext (first ∷ rest) event new = (event ≡ first) × (new ≡ rest)
+
+-- the first answer comes, and `false` where none is left
+abbrev pub AnswersNext : List Bool → Bool → List Bool → Type 0
+AnswersNext [] answer new = (answer ≡ false) × (new ≡ [])
+AnswersNext (first ∷ rest) answer new = (answer ≡ first) × (new ≡ rest)

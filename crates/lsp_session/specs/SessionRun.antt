@@ -1,0 +1,73 @@
+-- A session over boxes: what was received are its letters, and what the outbox got is its output.
+use Rattle.std.specs.List.{FoldsTo, list_all, filter_map}
+use Rattle.std.specs.Prelude.{◌≡◌, ◌≤◌, ◌-◌, ◌^◌, ◌⊎◌, Bool, true, false, List, [], ◌∷◌, ◌++◌, length, Option, Some, None, Result, Err}
+use Rattle.lsp_message.specs.Message.{Message}
+use Rattle.lsp_session.specs.Boxes.{Offers, Takes}
+use Rattle.lsp_session.specs.Event.{Event, message, timeout, closed}
+use Rattle.lsp_session.specs.Session.{SessionAnswer, is_shutdown, Stop, decided, no_more, timed_out, refused, exhausted}
+use Rattle.lsp_session.specs.declared.lifecycle.SendFault.{SendFault}
+
+-- the message that an event brings
+abbrev pub message_in : Event → Option Message
+message_in (message m) = Some m
+message_in timeout = None
+message_in closed = None
+
+-- more may come after the event
+abbrev pub is_open : Event → Bool
+is_open (message m) = true
+is_open timeout = true
+is_open closed = false
+
+-- The events brought these letters and no other message, and ended as the letters did. At a refused growth one more
+-- message came. After 2^64 - 1 events or more a session may end as if no more came.
+abbrev pub Brings : List Event → List Message → Stop → Type 0
+Brings events letters decided = (filter_map message_in events ≡ letters) × (list_all is_open events ≡ true)
+Brings events letters no_more =
+    (filter_map message_in events ≡ letters)
+    × (((earlier : List Event) × (events ≡ earlier ++ closed ∷ []) × (list_all is_open earlier ≡ true))
+    ⊎ ((2 ^ 64 - 1 ≤ length events) × (list_all is_open events ≡ true)))
+Brings events letters timed_out =
+    (filter_map message_in events ≡ letters) × ((earlier : List Event) × (events ≡ earlier ++ timeout ∷ []) × (list_all is_open earlier ≡ true))
+Brings events letters (refused fault) = (filter_map message_in events ≡ letters) × (list_all is_open events ≡ true)
+Brings events letters exhausted = (next : Message) × (filter_map message_in events ≡ letters ++ next ∷ []) × (list_all is_open events ≡ true)
+
+-- After the message `shutdown`, which is answered with null, exactly one event was awaited.
+abbrev pub AwaitsExit : List Event → Option Message → Type 0
+AwaitsExit events None = Unit {0}
+AwaitsExit events (Some null) = (earlier : List Event) × (m : Message) × (last : Event) × (events ≡ earlier ++ message m ∷ last ∷ []) × (is_shutdown m ≡ true)
+
+module _ {O : Type 0} (sends : O → Message → Result (Unit {0}) SendFault → O → Type 0) where
+  -- the null, where there is one, is offered, whatever the outbox answers
+  abbrev pub OffersLast : O → Option Message → O → Type 0
+  OffersLast old None new = new ≡ old
+  OffersLast old (Some null) new = Offers sends null old new
+
+  -- the outbox took all but the last message, and refused that one
+  abbrev pub RefusesLast : O → List Message → SendFault → O → Type 0
+  RefusesLast old output fault new =
+      (taken : List Message) × (reply : Message) × (mid : O)
+      × (output ≡ taken ++ reply ∷ []) × FoldsTo (Takes sends) old taken mid × sends mid reply (Err fault) new
+
+  -- the outbox got the output: it took all of it, but for a last reply that it refused
+  abbrev pub Gets : O → List Message → Option Message → Stop → O → Type 0
+  Gets old output null (refused fault) new = RefusesLast old output fault new × (null ≡ None)
+  Gets old output null stop new = (mid : O) × FoldsTo (Takes sends) old output mid × OffersLast mid null new
+
+module _ {I O : Type 0} (receives : I → Event → I → Type 0) (sends : O → Message → Result (Unit {0}) SendFault → O → Type 0) where
+  -- The boxes went from old to new in a part of a session that P describes, in which events were awaited so.
+  pub record RunsAwaiting (Awaits : List Event → Option Message → Type 0) (P : List Message → Stop → List Message → Option Message → SessionAnswer → Type 0) (old : I × O) (answer : SessionAnswer) (new : I × O) : Type 0 where
+    pub events : List Event
+    pub received : FoldsTo receives old.0 events new.0
+    pub letters : List Message
+    pub stop : Stop
+    pub brought : Brings events letters stop
+    pub output : List Message
+    pub null : Option Message
+    pub awaited : Awaits events null
+    pub got : Gets sends old.1 output null stop new.1
+    pub part : P letters stop output null answer
+
+  -- the same of a whole session, or of its part from some message on
+  abbrev pub Runs : (List Message → Stop → List Message → Option Message → SessionAnswer → Type 0) → I × O → SessionAnswer → I × O → Type 0
+  Runs = RunsAwaiting AwaitsExit

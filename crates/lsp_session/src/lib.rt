@@ -1,0 +1,20 @@
+//! A server's session (LSP 3.17, "Server lifecycle"): the handshake and the shutdown over boxes of any kind, and the loops
+//! between bytes and messages. `lsp_server` gives all of it on under the same names.
+#![tactic(auto)]
+
+mod error;
+pub mod laws;
+mod lifecycle;
+mod loops;
+mod relay;
+
+pub use error::ProtocolError;
+pub use lifecycle::{
+    CallGate, Event, Gate, Inbox, ListGate, ListInbox, ListOutbox, OpenGate, Outbox, SendFault,
+    finish, finish_within, is_exit, shutdown, start_within, wait_within,
+};
+pub use loops::{
+    FrameOutbox, Handler, ReadEnd, SessionEnd, SessionFault, StreamInbox, WriteEnd,
+    initialize_result, read_loop, serve, session, write_loop,
+};
+pub use relay::{PumpFault, StartFault, pump};

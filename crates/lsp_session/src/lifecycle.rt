@@ -1,0 +1,109 @@
+//! The lifecycle of a session (LSP 3.17, "Server lifecycle"), over any source of messages and any taker of them.
+//!
+//! What each call answers to what comes. An error is told by its text, which is in `ProtocolError`'s table.
+//!
+//! | What comes | `start_within` | `wait_within`, `finish_within`, `finish` | `shutdown` |
+//! |---|---|---|---|
+//! | the request `initialize` | its id and its params | `expected initialized notification, got: ..` | `unexpected message during shutdown: ..` |
+//! | another request | it is answered with code -32002, and the wait goes on | `expected initialized notification, got: ..` | `unexpected message during shutdown: ..` |
+//! | the notification `initialized` | it is dropped, and the wait goes on | `Ok(())` | `unexpected message during shutdown: ..` |
+//! | the notification `exit` | `expected initialize request, got ..` | `expected initialized notification, got: ..` | `Ok(true)` |
+//! | another notification | it is dropped, and the wait goes on | `expected initialized notification, got: ..` | `unexpected message during shutdown: ..` |
+//! | a response | `expected initialize request, got ..` | `expected initialized notification, got: ..` | `unexpected message during shutdown: ..` |
+//! | nothing in time | the wait goes on | the wait goes on | `timed out waiting for exit notification` |
+//! | the end of the messages | `disconnected channel` | `disconnected channel` | `channel disconnected waiting for exit notification` |
+//! | a gate that says no | `Initialization has been aborted during initialization` | the same | no gate is asked |
+//!
+//! A closed outbox ends the handshake with `disconnected channel`, and a growth that is refused with `out of memory`.
+//! `shutdown` takes no notice of a null that was not sent, and waits for `exit`.
+ghost use Rattle.std.specs.Prelude.{◌≡◌, ◌≢◌, IfErr};
+ghost use Rattle.lsp_message.specs.View.{message_view};
+ghost use Rattle.lsp_session.specs.Boxes.{handed_back, WaitsFor};
+ghost use Rattle.lsp_session.specs.Event.{event_view, timeout};
+
+use lsp_message::Message;
+
+mod exit;
+mod gates;
+mod initialize;
+mod initialized;
+mod kinds;
+mod lists;
+
+pub(crate) use exit::offer;
+pub use exit::shutdown;
+pub use gates::{CallGate, OpenGate};
+pub(crate) use initialize::refused;
+pub use initialize::start_within;
+pub use initialized::{finish, finish_within, wait_within};
+pub use kinds::is_exit;
+pub use lists::{ListGate, ListInbox, ListOutbox};
+
+/// What a receive gives.
+#[derive(Debug, Drop)]
+pub enum Event {
+    /// A message came.
+    Message(Message),
+    /// Nothing came in time.
+    Timeout,
+    /// Nothing will come any more.
+    Closed,
+}
+
+/// What gives messages one after another.
+pub trait Inbox {
+    ghost use Rattle.lsp_session.specs.Event.{Event};
+
+    /// One receive may give this event, and change the contents so.
+    ghost receives: { Self → Event → Self → Type 0 };
+
+    /// Waits for a message, and no longer than so many seconds.
+    fn receive_for(&mut self, seconds: u64) -> Event
+        ensures { receives self.old (event_view result) self.new };
+
+    /// Waits for a message without limit: it passes over the timeouts.
+    fn receive(&mut self) -> Event
+        ensures receives { WaitsFor receives self.old (event_view result) self.new }
+        ensures never_timeout { event_view result ≢ timeout };
+}
+
+/// Why a message was not taken. It comes back.
+#[derive(Debug, Drop)]
+pub enum SendFault {
+    /// The outbox is closed.
+    Closed(Message),
+    /// A growth was refused.
+    Memory(Message),
+}
+
+/// What takes messages one after another.
+pub trait Outbox {
+    ghost use Rattle.std.specs.Prelude.{Result};
+    ghost use Rattle.lsp_message.specs.Message.{Message};
+    ghost use Rattle.lsp_session.specs.declared.lifecycle.SendFault.{SendFault};
+
+    /// One send of this message may have this outcome, and change the contents so.
+    ghost sends: { Self → Message → Result Unit SendFault → Self → Type 0 };
+
+    /// Gives the outbox a message. A fault hands it back.
+    fn send(&mut self, message: Message) -> Result<(), SendFault>
+        ensures sends { sends self.old (message_view message) result self.new }
+        ensures handed_back { IfErr result (λ fault. handed_back fault ≡ message) };
+}
+
+/// Says whether a handshake is to go on.
+pub trait Gate {
+    ghost use Rattle.std.specs.Prelude.{Bool, ⊤};
+
+    /// The gate may be asked. One that calls a closure needs that it may be called.
+    ghost can_ask: { Self → Type 0 } = { λ _. ⊤ };
+
+    /// One question may have this answer, and change the contents so.
+    ghost asks: { Self → Bool → Self → Type 0 };
+
+    /// Whether to go on.
+    fn ask(&mut self) -> bool
+        requires { can_ask self.old }
+        ensures asks { asks self.old result self.new }
+        ensures again { can_ask self.new };
+}

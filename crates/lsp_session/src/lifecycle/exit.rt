@@ -1,0 +1,63 @@
+// The end of a session: `shutdown` and `exit` (LSP 3.17, "Server lifecycle").
+ghost use Rattle.std.specs.Prelude.{string_bytes};
+ghost use Rattle.lsp_message.specs.View.{message_view};
+ghost use Rattle.lsp_session.specs.Boxes.{Offers};
+ghost use Rattle.lsp_session.specs.Event.{event_view};
+ghost use Rattle.lsp_session.specs.Shutdown.{EventShutsDown, ShutsDown};
+
+use crate::error::ProtocolError;
+use crate::lifecycle::initialized::ok_reply;
+use crate::lifecycle::kinds::is_exit;
+use crate::lifecycle::{Event, Inbox, Outbox};
+use lsp_message::{Message, Request};
+use serde_json::Value;
+use std::alloc::Global;
+
+/// How long `shutdown` waits for `exit`.
+const EXIT_SECONDS: u64 = 30;
+
+/// Answers the request `shutdown` with null, and waits 30 seconds for the notification `exit`, which gives `Ok(true)`.
+/// Another request gives `Ok(false)`, and nothing is sent or received.
+///
+/// That the null could not be sent is ignored. Where the id finds no memory to be copied, nothing is sent or received.
+pub fn shutdown<I: Inbox, O: Outbox>(
+    alloc: Global,
+    inbox: &mut I,
+    outbox: &mut O,
+    request: &Request,
+) -> Result<bool, ProtocolError>
+    ensures { ShutsDown I.receives O.sends request.now.id (string_bytes request.now.method)
+        (inbox.old, outbox.old) result (inbox.new, outbox.new) }
+{
+    if request.method.as_str() != "shutdown" {
+        return Ok(false);
+    }
+    let Ok(id) = request.id.clone() else {
+        return Err(ProtocolError::out_of_memory());
+    };
+    offer(outbox, ok_reply(id, Value::Null));
+    shutdown_on(alloc, inbox.receive_for(EXIT_SECONDS))
+}
+
+/// Sends a message, and takes no notice of a refusal.
+pub(crate) fn offer<O: Outbox>(outbox: &mut O, message: Message)
+    ensures { Offers O.sends (message_view message) outbox.old outbox.new }
+{
+    let _ = outbox.send(message);
+}
+
+/// What an event gives in the place of `exit`.
+fn shutdown_on(alloc: Global, event: Event) -> Result<bool, ProtocolError>
+    ensures { EventShutsDown (event_view event) result }
+{
+    match event {
+        Event::Timeout => Err(ProtocolError::shutdown_timeout()),
+        Event::Closed => Err(ProtocolError::shutdown_disconnected()),
+        Event::Message(message) => {
+            if is_exit(&message) {
+                return Ok(true);
+            }
+            Err(ProtocolError::unexpected_in_shutdown(alloc, &message))
+        }
+    }
+}

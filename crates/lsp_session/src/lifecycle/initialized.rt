@@ -1,0 +1,103 @@
+// The end of the handshake: the result of `initialize`, and the wait for `initialized` (LSP 3.17, "Server lifecycle").
+ghost use Rattle.serde_json.specs.View.{view};
+ghost use Rattle.std.specs.Prelude.{◌≡◌};
+ghost use Rattle.lsp_message.specs.View.{message_view};
+ghost use Rattle.lsp_session.specs.Event.{message as message_event};
+ghost use Rattle.lsp_session.specs.Finish.{EventFinishes, AwaitsWithin, FinishesWithin, FinishesAt};
+ghost use Rattle.lsp_session.specs.Replies.{ok_reply as ok_reply_spec};
+
+use crate::error::ProtocolError;
+use crate::lifecycle::initialize::{TURN_SECONDS, refused};
+use crate::lifecycle::kinds::is_initialized;
+use crate::lifecycle::{Event, Gate, Inbox, Outbox};
+use lsp_message::{Message, RequestId, Response};
+use serde_json::Value;
+use std::alloc::Global;
+
+/// Waits for the notification `initialized`. `None` says that nothing came in so many turns; a second call goes on from
+/// there. A turn is as in `start_within`, and the table of the module has the answers.
+pub fn wait_within<I: Inbox, G: Gate>(
+    alloc: Global,
+    inbox: &mut I,
+    gate: &mut G,
+    turns: u64,
+) -> Option<Result<(), ProtocolError>>
+    requires { G.can_ask gate.old }
+    ensures awaits { AwaitsWithin G.asks I.receives turns (gate.old, inbox.old) result (gate.new, inbox.new) }
+    ensures again { G.can_ask gate.new }
+{
+    for _turn in 0..turns {
+        if !gate.ask() {
+            return Some(Err(ProtocolError::aborted()));
+        }
+        match inbox.receive_for(TURN_SECONDS) {
+            Event::Timeout => {}
+            Event::Closed => return Some(Err(ProtocolError::disconnected())),
+            Event::Message(message) => return Some(finish_on(alloc, &message)),
+        }
+    }
+    None
+}
+
+/// What a message gives in the place of `initialized`.
+fn finish_on(alloc: Global, message: &Message) -> Result<(), ProtocolError>
+    ensures { EventFinishes (message_event (message_view message.now)) result }
+{
+    if is_initialized(message) {
+        return Ok(());
+    }
+    Err(ProtocolError::expected_initialized(alloc, message))
+}
+
+/// Sends the result of `initialize`, and then waits as `wait_within`. Where the outbox refuses the result, no gate is
+/// asked and nothing is received. After a `None` only `wait_within` goes on, since the result is sent.
+pub fn finish_within<I: Inbox, O: Outbox, G: Gate>(
+    alloc: Global,
+    inbox: &mut I,
+    outbox: &mut O,
+    gate: &mut G,
+    id: RequestId,
+    initialize_result: Value,
+    turns: u64,
+) -> Option<Result<(), ProtocolError>>
+    requires { G.can_ask gate.old }
+    ensures finishes { FinishesWithin G.asks I.receives O.sends turns (ok_reply_spec id (view initialize_result))
+        (gate.old, inbox.old, outbox.old) result (gate.new, inbox.new, outbox.new) }
+    ensures again { G.can_ask gate.new }
+{
+    if let Err(fault) = outbox.send(ok_reply(id, initialize_result)) {
+        return Some(Err(refused(fault)));
+    }
+    wait_within(alloc, inbox, gate, turns)
+}
+
+/// Sends the result of `initialize`, and waits without limit for one message, which is to be `initialized`.
+pub fn finish<I: Inbox, O: Outbox>(
+    alloc: Global,
+    inbox: &mut I,
+    outbox: &mut O,
+    id: RequestId,
+    initialize_result: Value,
+) -> Result<(), ProtocolError>
+    ensures { FinishesAt I.receives O.sends (ok_reply_spec id (view initialize_result))
+        (inbox.old, outbox.old) result (inbox.new, outbox.new) }
+{
+    if let Err(fault) = outbox.send(ok_reply(id, initialize_result)) {
+        return Err(refused(fault));
+    }
+    match inbox.receive() {
+        Event::Message(message) => finish_on(alloc, &message),
+        Event::Timeout => unreachable!(),
+        Event::Closed => Err(ProtocolError::disconnected()),
+    }
+}
+
+/// The reply with this result.
+pub(crate) fn ok_reply(id: RequestId, value: Value) -> Message
+    ensures { message_view result ≡ ok_reply_spec id (view value) }
+{
+    Message::Response(Response {
+        id,
+        response_result: Ok(value),
+    })
+}

@@ -1,0 +1,125 @@
+// Boxes whose contents are lists.
+use crate::lifecycle::{Event, Gate, Inbox, Outbox, SendFault};
+use lsp_message::Message;
+use std::alloc::Global;
+use std::collections::VecDeque;
+
+/// Gives its events in order, and is closed once none is left.
+#[derive(Debug, Drop)]
+pub struct ListInbox {
+    /// What is still to come.
+    pub events: VecDeque<Event>,
+}
+
+impl ListInbox {
+    ghost use Rattle.std.specs.Prelude.{◌≡◌, []};
+
+    /// An inbox with no events. It takes no memory.
+    pub fn new(alloc: Global) -> ListInbox
+        ensures { result.events.items ≡ [] }
+    {
+        ListInbox {
+            events: VecDeque::new(alloc),
+        }
+    }
+}
+
+impl Inbox for ListInbox {
+    ghost use Rattle.std.specs.Prelude.{map};
+    ghost use Rattle.lsp_session.specs.Event.{event_view};
+    ghost use Rattle.lsp_session.specs.Lists.{GivesNext};
+
+    ghost receives = { λ old event new. GivesNext (map event_view old.events.items) event (map event_view new.events.items) };
+
+    fn receive_for(&mut self, _seconds: u64) -> Event {
+        match self.events.pop_front() {
+            Some(event) => event,
+            None => Event::Closed,
+        }
+    }
+
+    #[tactic(auto, using(crate::proofs::Waiting::box_runs))]
+    fn receive(&mut self) -> Event {
+        while let Some(event) = self.events.pop_front() {
+            match event {
+                Event::Timeout => {}
+                Event::Message(message) => return Event::Message(message),
+                Event::Closed => return Event::Closed,
+            }
+        }
+        Event::Closed
+    }
+}
+
+/// Takes up to `room` messages, and is closed from then on.
+#[derive(Debug, Drop)]
+pub struct ListOutbox {
+    /// What was sent, in order.
+    pub sent: Vec<Message>,
+    /// How many messages there is room for.
+    pub room: usize,
+}
+
+impl ListOutbox {
+    ghost use Rattle.std.specs.Prelude.{◌≡◌, []};
+
+    /// An empty outbox with room for so many messages. It takes no memory.
+    pub fn new(alloc: Global, room: usize) -> ListOutbox
+        ensures empty { result.sent.items ≡ [] }
+        ensures room { result.room ≡ room }
+    {
+        ListOutbox {
+            sent: Vec::new(alloc),
+            room,
+        }
+    }
+}
+
+impl Outbox for ListOutbox {
+    ghost use Rattle.std.specs.Prelude.{map};
+    ghost use Rattle.lsp_message.specs.View.{message_view};
+    ghost use Rattle.lsp_session.specs.Lists.{TakesUpToRoom};
+
+    ghost sends = { λ old message outcome new.
+        TakesUpToRoom old.room new.room (map message_view old.sent.items) message outcome (map message_view new.sent.items) };
+
+    fn send(&mut self, message: Message) -> Result<(), SendFault> {
+        if self.sent.len() >= self.room {
+            return Err(SendFault::Closed(message));
+        }
+        match self.sent.push(message) {
+            Ok(()) => Ok(()),
+            Err(refused) => Err(SendFault::Memory(refused.value)),
+        }
+    }
+}
+
+/// Gives its answers in order, and says no once none is left.
+#[derive(Debug, Drop)]
+pub struct ListGate {
+    /// What is still to be answered.
+    pub answers: VecDeque<bool>,
+}
+
+impl ListGate {
+    ghost use Rattle.std.specs.Prelude.{◌≡◌, []};
+
+    /// A gate that says no. It takes no memory.
+    pub fn new(alloc: Global) -> ListGate
+        ensures { result.answers.items ≡ [] }
+    {
+        ListGate {
+            answers: VecDeque::new(alloc),
+        }
+    }
+}
+
+impl Gate for ListGate {
+    ghost use Rattle.lsp_session.specs.Lists.{AnswersNext};
+
+    ghost asks = { λ old answer new. AnswersNext old.answers.items answer new.answers.items };
+
+    fn ask(&mut self) -> bool {
+        self.answers.pop_front().unwrap_or(false)
+    }
+}

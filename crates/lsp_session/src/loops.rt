@@ -1,0 +1,69 @@
+//! Loops over messages: from a reader to an outbox, and from an inbox to a writer (LSP 3.17, "Base Protocol").
+ghost use Rattle.std.specs.Prelude.{◌≡◌, IfSome};
+ghost use Rattle.lsp_session.specs.ReadLoop.{Hands, refused_end};
+
+use crate::lifecycle::{Outbox, SendFault, is_exit};
+use lsp_message::{Message, ReadFault};
+use std::alloc::Global;
+use std::io::{BufRead, ErrorKind};
+
+mod frame_outbox;
+mod serving;
+mod stream_inbox;
+mod stream_session;
+mod write;
+
+pub use frame_outbox::FrameOutbox;
+
+pub use serving::{Handler, SessionEnd, initialize_result, serve};
+pub use stream_inbox::StreamInbox;
+pub use stream_session::{SessionFault, session};
+pub use write::{WriteEnd, write_loop};
+
+/// How a loop over a reader's messages ended.
+#[derive(Clone, Copy, Debug, PartialEq, Eq)]
+pub enum ReadEnd {
+    /// With the notification `exit`, which was handed on.
+    Exit,
+    /// At the end of the input.
+    End,
+    /// With a fault of reading, or after 2^64 - 1 messages (`Input` of kind `Other`).
+    Fault(ReadFault),
+    /// The outbox is closed. The message that it refused is dropped.
+    Closed,
+    /// The outbox was refused a growth. The message is dropped.
+    Memory,
+}
+
+/// Hands on a reader's messages, up to and with the first `exit`.
+pub fn read_loop<R: BufRead, O: Outbox>(alloc: Global, reader: &mut R, outbox: &mut O) -> ReadEnd
+    ensures { IfSome (R.remaining reader.old) (λ text.
+        Hands O.sends text outbox.old outbox.new (R.remaining reader.new) result) }
+{
+    for _ in 0..u64::MAX {
+        let message = match Message::read(alloc, reader) {
+            Ok(Some(message)) => message,
+            Ok(None) => return ReadEnd::End,
+            Err(fault) => return ReadEnd::Fault(fault),
+        };
+        let is_last = is_exit(&message);
+        match outbox.send(message) {
+            Ok(()) => {}
+            Err(fault) => return end_at(fault),
+        }
+        if is_last {
+            return ReadEnd::Exit;
+        }
+    }
+    ReadEnd::Fault(ReadFault::Input(ErrorKind::Other))
+}
+
+/// How reading ends where a message is refused.
+fn end_at(fault: SendFault) -> ReadEnd
+    ensures { result ≡ refused_end fault }
+{
+    match fault {
+        SendFault::Closed(_) => ReadEnd::Closed,
+        SendFault::Memory(_) => ReadEnd::Memory,
+    }
+}

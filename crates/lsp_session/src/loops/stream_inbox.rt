@@ -1,0 +1,79 @@
+// An inbox that reads messages.
+ghost use Rattle.std.specs.Prelude.{◌≡◌, None};
+ghost use Rattle.lsp_session.specs.Event.{event_view};
+ghost use Rattle.lsp_session.specs.StreamBoxes.{StreamInboxGives};
+
+use crate::lifecycle::{Event, Inbox, is_exit};
+use crate::loops::ReadEnd;
+use lsp_message::Message;
+use std::alloc::Global;
+use std::io::BufRead;
+
+/// Gives a reader's messages (LSP 3.17, "Base Protocol"). It is closed after an `exit`, at the end of the input and after
+/// a fault, keeps which of them it was, and reads nothing more. It has no timeouts: a receive waits as the reader does.
+#[derive(Drop)]
+pub struct StreamInbox<'a, R> {
+    alloc: Global,
+    reader: &'a mut R,
+    end: Option<ReadEnd>,
+}
+
+impl<'a, R: BufRead> StreamInbox<'a, R> {
+    /// An inbox over a reader. It takes no memory.
+    pub fn new(alloc: Global, reader: &'a mut R) -> Self
+        ensures same_reader { result.reader.ghost_name ≡ reader.entry.ghost_name }
+        ensures unread { result.reader.now ≡ reader.old }
+        ensures unended { result.end ≡ None }
+    {
+        StreamInbox {
+            alloc,
+            reader,
+            end: None,
+        }
+    }
+
+    /// What ended the messages: `Exit`, `End` or `Fault`.
+    pub fn end(&self) -> Option<ReadEnd>
+        ensures { result ≡ self.now.end }
+    {
+        self.end
+    }
+
+    fn next_event(&mut self) -> Event
+        ensures { StreamInboxGives R.remaining self.old (event_view result) self.new }
+    {
+        if self.end.is_some() {
+            return Event::Closed;
+        }
+        match Message::read(self.alloc, self.reader) {
+            Ok(Some(message)) => {
+                if is_exit(&message) {
+                    self.end = Some(ReadEnd::Exit);
+                }
+                Event::Message(message)
+            }
+            Ok(None) => {
+                self.end = Some(ReadEnd::End);
+                Event::Closed
+            }
+            Err(fault) => {
+                self.end = Some(ReadEnd::Fault(fault));
+                Event::Closed
+            }
+        }
+    }
+}
+
+impl<'a, R: BufRead> Inbox for StreamInbox<'a, R> {
+    ghost use Rattle.lsp_session.specs.StreamBoxes.{StreamInboxGives};
+
+    ghost receives = { StreamInboxGives R.remaining };
+
+    fn receive_for(&mut self, _seconds: u64) -> Event {
+        self.next_event()
+    }
+
+    fn receive(&mut self) -> Event {
+        self.next_event()
+    }
+}

@@ -1,0 +1,163 @@
+// A session over a reader and a writer.
+ghost use Rattle.serde_json.specs.View.{view};
+ghost use Rattle.std.specs.Prelude.{◌≡◌, IfSome};
+ghost use Rattle.lsp_session.specs.Session.{SessionOut};
+ghost use Rattle.lsp_session.specs.SessionBytes.{Gives};
+ghost use Rattle.lsp_session.specs.SessionFault.{ran_out as ran_out_spec, came_to_no_more as came_to_no_more_spec, protocol_fault as protocol_fault_spec, read_fault as read_fault_spec, plain_answer as plain_answer_spec, read_answer as read_answer_spec, session_answer as session_answer_spec};
+
+use crate::error::ProtocolError;
+use crate::loops::{FrameOutbox, Handler, ReadEnd, SessionEnd, StreamInbox, serve};
+use lsp_message::{ReadFault, WriteFault};
+use serde_json::Value;
+use std::alloc::Global;
+use std::error::Error;
+use std::fmt;
+use std::io::{BufRead, ErrorKind, Write};
+
+/// Why a session over a reader and a writer failed. Of several that fit it is the first of `Write`, `Memory`, `Read` and
+/// `Protocol`.
+#[derive(Debug, Drop)]
+pub enum SessionFault {
+    /// 1: the lifecycle does not allow what came, or the messages ended too early.
+    Protocol(ProtocolError),
+    /// 2: a message was not read, and all output for those before it was written. After 2^64 - 1 messages it is `Input`
+    /// of kind `Other`.
+    Read(ReadFault),
+    /// 3: the writer failed.
+    Write(WriteFault),
+    /// 4: a growth was refused: in reading, in writing, in the handler or in the session itself.
+    Memory,
+}
+
+impl fmt::Display for SessionFault {
+    ghost use Rattle.lsp_session.specs.SessionBytes.{session_fault_text};
+
+    ghost output = { session_fault_text };
+
+    fn fmt<W: fmt::Write>(&self, f: &mut fmt::Formatter<W>) -> fmt::Result {
+        match self {
+            SessionFault::Protocol(error) => write!(f, "{error}"),
+            SessionFault::Read(fault) => write!(f, "{fault}"),
+            SessionFault::Write(fault) => write!(f, "{fault}"),
+            SessionFault::Memory => write!(f, "out of memory"),
+        }
+    }
+}
+
+impl Error for SessionFault {}
+
+/// Runs a session of a server over a reader's messages, and writes its output as frames: `serve` from bytes to bytes
+/// (LSP 3.17, "Base Protocol" and "Server lifecycle").
+///
+/// What follows the last message that the session used is left in the reader: what comes after the `exit` of a session
+/// that was shut down, for one. Each reply is written, and the writer flushed, before the next message is read. Where a
+/// write failed or memory ran out, no byte after the message that was being read was taken; the output's first messages
+/// were written, each whole, and after a failed write a beginning of the next one.
+pub fn session<R: BufRead, W: Write, H: Handler>(
+    alloc: Global,
+    reader: &mut R,
+    writer: &mut W,
+    capabilities: Value,
+    handler: &mut H,
+) -> Result<SessionEnd, SessionFault>
+    ensures { IfSome (R.remaining reader.old) (λ text.
+        Gives (SessionOut H.answers H.notes (view capabilities) handler.old handler.new)
+        text (R.remaining reader.new) (W.contents writer.old) (W.contents writer.new) result) }
+{
+    let mut inbox = StreamInbox::new(alloc, reader);
+    let mut outbox = FrameOutbox::new(alloc, writer);
+    let answer = serve(alloc, &mut inbox, &mut outbox, capabilities, handler);
+    session_answer(answer, inbox.end(), outbox.fault())
+}
+
+/// The answer of a session whose messages ended so, and whose outbox kept this fault.
+fn session_answer(
+    answer: Result<SessionEnd, ProtocolError>,
+    end: Option<ReadEnd>,
+    unwritten: Option<WriteFault>,
+) -> Result<SessionEnd, SessionFault>
+    ensures { result ≡ session_answer_spec answer end unwritten }
+{
+    match unwritten {
+        Some(WriteFault::Output(kind)) => Err(SessionFault::Write(WriteFault::Output(kind))),
+        Some(WriteFault::Memory) => Err(SessionFault::Memory),
+        None => read_answer(answer, end),
+    }
+}
+
+/// The answer where writing did not fail. Where nothing ended the messages, a session that says that no more came had
+/// taken as many as it can count.
+fn read_answer(
+    answer: Result<SessionEnd, ProtocolError>,
+    end: Option<ReadEnd>,
+) -> Result<SessionEnd, SessionFault>
+    ensures { result ≡ read_answer_spec answer end }
+{
+    match end {
+        Some(ReadEnd::Fault(fault)) => {
+            if ran_out(&answer) {
+                return Err(SessionFault::Memory);
+            }
+            Err(read_fault(fault))
+        }
+        Some(ReadEnd::Exit | ReadEnd::End | ReadEnd::Closed | ReadEnd::Memory) => plain_answer(
+            answer,
+        ),
+        None => {
+            if came_to_no_more(&answer) {
+                return Err(SessionFault::Read(ReadFault::Input(ErrorKind::Other)));
+            }
+            plain_answer(answer)
+        }
+    }
+}
+
+/// Whether a growth was refused.
+fn ran_out(answer: &Result<SessionEnd, ProtocolError>) -> bool
+    ensures { result ≡ ran_out_spec answer.now }
+{
+    match answer {
+        Ok(_) => false,
+        Err(error) => error.is_out_of_memory(),
+    }
+}
+
+/// Whether the session ended as if no more messages came.
+fn came_to_no_more(answer: &Result<SessionEnd, ProtocolError>) -> bool
+    ensures { result ≡ came_to_no_more_spec answer.now }
+{
+    match answer {
+        Ok(SessionEnd::ShutDown) => false,
+        Ok(SessionEnd::Closed) => true,
+        Err(error) => error.channel_is_disconnected(),
+    }
+}
+
+/// The fault where a message was not read.
+fn read_fault(fault: ReadFault) -> SessionFault
+    ensures { result ≡ read_fault_spec fault }
+{
+    match fault {
+        ReadFault::Memory => SessionFault::Memory,
+        fault => SessionFault::Read(fault),
+    }
+}
+
+/// The answer where neither reading nor writing failed.
+fn plain_answer(answer: Result<SessionEnd, ProtocolError>) -> Result<SessionEnd, SessionFault>
+    ensures { result ≡ plain_answer_spec answer }
+{
+    match answer {
+        Ok(end) => Ok(end),
+        Err(error) => Err(protocol_fault(error)),
+    }
+}
+
+fn protocol_fault(error: ProtocolError) -> SessionFault
+    ensures { result ≡ protocol_fault_spec error }
+{
+    if error.is_out_of_memory() {
+        return SessionFault::Memory;
+    }
+    SessionFault::Protocol(error)
+}
