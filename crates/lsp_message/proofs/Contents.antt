@@ -1,22 +1,30 @@
 -- A frame, from its header part and its content part.
-use Rattle.std.proofs.Common.{◌≡◌, ℕ, Bool, true, false, cond, List, [], length, take, drop, Option, Some, None, IfSome, IsSomeAnd, inl, inr, Result, Ok, Err, refl, sym, ap, subst, ◌∙◌, nat_lt}
+use Rattle.std.proofs.Common.{◌≡◌, ◌≢◌, ℕ, ◌<◌, ◌≤◌, Bool, true, false, cond, List, [], length, take, drop, Option, Some, None, IfSome, IsSomeAnd, inl, inr, Result, Ok, Err, refl, sym, ap, subst, ◌∙◌, nat_lt}
+use Rattle.std.specs.Option.{ok_or}
 use Rattle.std.specs.Result.{result_map_both}
+use Rattle.std.proofs.lemmas.Bool.{lt-ltb, le-ltb}
 use Rattle.std.proofs.lemmas.Str.{is_utf8-from_IsUtf8}
-use Rattle.std.specs.Str.{IsUtf8}
+use Rattle.std.specs.Str.{IsUtf8, is_utf8}
+use Rattle.serde_json.specs.Data.{Data, null, boolean, number, string, array, object}
 use Rattle.serde_json.specs.Read.{read}
-use Rattle.lsp_message.specs.Body.{ContentUnreadOrTaken, body_means, tree_means}
-use Rattle.lsp_message.specs.Frame.{Answers, Decodes, StopsWithin, body_of, content_of, frame_of}
-use Rattle.lsp_message.specs.HeaderPart.{Reading, header_of}
+use Rattle.lsp_message.specs.Body.{body_means, tree_means, no_message}
+use Rattle.lsp_message.specs.Frame.{RunsOut, body_of, content_of, frame_of, no_limit, reading_of}
+use Rattle.lsp_message.specs.HeaderPart.{header_of}
+use Rattle.lsp_message.specs.Meaning.{meaning}
+use Rattle.lsp_message.specs.Message.{Message}
+use Rattle.lsp_message.specs.Reading.{Reading, Answers, StopsWithin}
+use Rattle.lsp_message.specs.ReadingSteps.{AnswersHeader, Decodes}
 use Rattle.lsp_message.specs.declared.frame.ReadFault.{ReadFault}
-use Rattle.lsp_message.specs.declared.frame.ReadFault.TheVariants.{Input, ShortBody, Memory}
-use Rattle.lsp_message.proofs.Suffixes.{EndsIn, EndsIn-trans, StopsWithin-less, StopsWithin-start, content_of-rest}
+use Rattle.lsp_message.specs.declared.frame.ReadFault.TheVariants.{Input, ShortBody, BodyNotText, NoJson, NoMessage, Memory, TooLong, Batch}
+use Rattle.lsp_message.proofs.KnownLines.{IsKnownHeader, header_known}
+use Rattle.lsp_message.proofs.Suffixes.{EndsIn, EndsIn-trans, StopsWithin-less, StopsWithin-start, StopsBefore-within, content_of-rest}
 use Rattle.lsp_message.proofs.HeaderSteps.{header_after-none, header_after-rest}
 
 -- text means what its tree means
 pub body_means-text : (bytes : List ℕ) → IsUtf8 bytes → body_means bytes ≡ tree_means (read bytes)
 body_means-text bytes text = rw (is_utf8-from_IsUtf8 bytes text) refl
 
-module _ {M : Type 0} (means : List ℕ → Result M ReadFault) where
+module _ {M : Type 0} (means : List ℕ → Result M ReadFault) (limit : ℕ) where
   abbrev whole : ℕ → List ℕ → Reading M
   whole n left = record { outcome = result_map_both Some (λ fault. fault) (means (take n left)); rest = drop n left }
 
@@ -50,37 +58,46 @@ module _ {M : Type 0} (means : List ℕ → Result M ReadFault) where
       at false = refl
 
   -- the header part was not read
-  pub header_refused : {X : Type 0} (view : X → M) (fault : ReadFault) (a b : Option (List ℕ)) → IfSome a (λ text. Answers (λ n. n) (Err fault) b (header_of text))
-      → IfSome a (λ text. Answers view (Err fault) b (frame_of means text))
+  pub header_refused : {X : Type 0} (view : X → M) (fault : ReadFault) (a b : Option (List ℕ)) → IfSome a (λ text. AnswersHeader (λ n. n) (Err fault) b (header_of text))
+      → IfSome a (λ text. Answers view (Err fault) b (frame_of means limit text))
   header_refused view fault None b header = tt
-  header_refused view (Input kind) (Some text) b header = StopsWithin-less b (header_of text) (frame_of means text) header (content_of-rest means (header_of text).outcome (header_of text).rest)
-  header_refused view Memory (Some text) b header = StopsWithin-less b (header_of text) (frame_of means text) header (content_of-rest means (header_of text).outcome (header_of text).rest)
+  header_refused view (Input kind) (Some text) b header = StopsWithin-less b (header_of text) (frame_of means limit text) header (content_of-rest means limit (header_of text).outcome (header_of text).rest)
+  header_refused view Memory (Some text) b header = StopsWithin-less b (header_of text) (frame_of means limit text) (StopsBefore-within b (header_of text) header) (content_of-rest means limit (header_of text).outcome (header_of text).rest)
   header_refused view fault (Some text) b header = rw (header.0) (refl, header.1)
 
   -- no byte of the frame was taken
-  pub frame_unread : (text : List ℕ) → StopsWithin (Some text) (frame_of means text)
+  pub frame_unread : (text : List ℕ) → StopsWithin (Some text) (frame_of means limit text)
   frame_unread text =
       let header = subst (λ r. EndsIn text r.rest) (sym (header_after-none text)) (header_after-rest None text) in
-      let content = content_of-rest means (header_of text).outcome (header_of text).rest in
-      StopsWithin-start text (frame_of means text) (EndsIn-trans text (header_of text).rest (frame_of means text).rest header content)
+      let content = content_of-rest means limit (header_of text).outcome (header_of text).rest in
+      StopsWithin-start text (frame_of means limit text) (EndsIn-trans text (header_of text).rest (frame_of means limit text).rest header content)
 
-  -- the header part gave a length, and what follows is the content part
-  content_at : (a b : Option (List ℕ)) (n : ℕ) → IfSome a (λ text. Answers (λ n. n) (Ok (Some n)) b (header_of text))
-      → IfSome a (λ text. IsSomeAnd b (λ left. frame_of means text ≡ body_of means n left))
-  content_at None b n header = tt
-  content_at (Some text) None n header = absurd (cc (header.1))
-  content_at (Some text) (Some left) n header =
+  -- the header part gave a length above the limit
+  pub content_too_long : {X : Type 0} (view : X → M) (a b : Option (List ℕ)) (n : ℕ) → limit < n → IfSome a (λ text. AnswersHeader (λ n. n) (Ok (Some n)) b (header_of text))
+      → IfSome a (λ text. Answers view (Err TooLong) b (frame_of means limit text))
+  content_too_long view None b n above header = tt
+  content_too_long view (Some text) b n above header = rw (header.0, lt-ltb limit n above) (refl, header.1)
+
+  -- the header part gave a length within the limit, and what follows is the content part
+  content_at : (a b : Option (List ℕ)) (n : ℕ) → n ≤ limit → IfSome a (λ text. AnswersHeader (λ n. n) (Ok (Some n)) b (header_of text))
+      → IfSome a (λ text. IsSomeAnd b (λ left. frame_of means limit text ≡ body_of means n left))
+  content_at None b n within header = tt
+  content_at (Some text) None n within header = absurd (cc (header.1))
+  content_at (Some text) (Some left) n within header =
       let same : (header_of text).rest ≡ left = cc (header.1) in
-      ap (λ o. content_of means o (header_of text).rest) header.0 ∙ ap (body_of means n) same
+      let rest = (header_of text).rest in
+      ap (λ o. content_of means limit o rest) header.0
+      ∙ ap (λ t. cond {A = Reading M} t (record { outcome = Err TooLong; rest = rest }) (body_of means n rest)) (le-ltb limit n within)
+      ∙ ap (body_of means n) same
 
   -- the content part was not read
-  pub content_refused : {X Y : Type 0} (view : X → M) (shown : Y → List ℕ) (fault : ReadFault) (a b c : Option (List ℕ)) (n : ℕ)
-      → IfSome a (λ text. Answers (λ n. n) (Ok (Some n)) b (header_of text))
-      → IfSome b (λ left. Answers shown (Err fault) c (body_of Ok n left)) → IfSome a (λ text. Answers view (Err fault) c (frame_of means text))
-  content_refused view shown fault a b c n header = at fault a b (content_at a b n header)
+  pub content_refused : {X Y : Type 0} (view : X → M) (shown : Y → List ℕ) (fault : ReadFault) (a b c : Option (List ℕ)) (n : ℕ) → n ≤ limit
+      → IfSome a (λ text. AnswersHeader (λ n. n) (Ok (Some n)) b (header_of text))
+      → IfSome b (λ left. Answers shown (Err fault) c (body_of Ok n left)) → IfSome a (λ text. Answers view (Err fault) c (frame_of means limit text))
+  content_refused view shown fault a b c n within header = at fault a b (content_at a b n within header)
     where
-      at : (fault : ReadFault) (a b : Option (List ℕ)) → IfSome a (λ text. IsSomeAnd b (λ left. frame_of means text ≡ body_of means n left))
-          → IfSome b (λ left. Answers shown (Err fault) c (body_of Ok n left)) → IfSome a (λ text. Answers view (Err fault) c (frame_of means text))
+      at : (fault : ReadFault) (a b : Option (List ℕ)) → IfSome a (λ text. IsSomeAnd b (λ left. frame_of means limit text ≡ body_of means n left))
+          → IfSome b (λ left. Answers shown (Err fault) c (body_of Ok n left)) → IfSome a (λ text. Answers view (Err fault) c (frame_of means limit text))
       at fault None b is body = tt
       at fault (Some text) None is body = absurd is
       at (Input kind) (Some text) (Some left) is body = rw (is, body_of-rest n left) body
@@ -88,51 +105,128 @@ module _ {M : Type 0} (means : List ℕ → Result M ReadFault) where
       at fault (Some text) (Some left) is body = rw (is) (body_of-fault n left fault body.0, body.1 ∙ ap Some (sym (body_of-rest n left)))
 
   -- the header part gave a length, and the content part was read
-  pub frame_read : (a b c : Option (List ℕ)) (n : ℕ) (items : List ℕ)
-      → IfSome a (λ text. Answers (λ n. n) (Ok (Some n)) b (header_of text))
+  pub frame_read : (a b c : Option (List ℕ)) (n : ℕ) (items : List ℕ) → n ≤ limit
+      → IfSome a (λ text. AnswersHeader (λ n. n) (Ok (Some n)) b (header_of text))
       → IfSome b (λ left. Answers (λ bytes. bytes) (Ok (Some items)) c (body_of Ok n left))
-      → IfSome a (λ text. ((frame_of means text).outcome ≡ result_map_both Some (λ fault. fault) (means items)) × (c ≡ Some (frame_of means text).rest))
-  frame_read None b c n items header body = tt
-  frame_read (Some text) None c n items header body = absurd (cc (header.1))
-  frame_read (Some text) (Some left) c n items header body =
+      → IfSome a (λ text. ((frame_of means limit text).outcome ≡ result_map_both Some (λ fault. fault) (means items)) × (c ≡ Some (frame_of means limit text).rest))
+  frame_read None b c n items within header body = tt
+  frame_read (Some text) None c n items within header body = absurd (cc (header.1))
+  frame_read (Some text) (Some left) c n items within header body =
       let found = body_of-bytes n left items body.0 in
-      let content = content_at (Some text) (Some left) n header in
+      let content = content_at (Some text) (Some left) n within header in
       (ap (λ r. r.outcome) content ∙ found.0, body.1 ∙ ap Some (sym found.1 ∙ ap (λ r. r.rest) (sym content)))
 
   -- and what was made of the content part is the answer
-  pub frame_answered : {X : Type 0} (view : X → M) (a b c : Option (List ℕ)) (n : ℕ) (items : List ℕ) (r : Result X ReadFault)
-      → IfSome a (λ text. Answers (λ n. n) (Ok (Some n)) b (header_of text))
+  pub frame_answered : {X : Type 0} (view : X → M) (a b c : Option (List ℕ)) (n : ℕ) (items : List ℕ) (r : Result X ReadFault) → n ≤ limit
+      → IfSome a (λ text. AnswersHeader (λ n. n) (Ok (Some n)) b (header_of text))
       → IfSome b (λ left. Answers (λ bytes. bytes) (Ok (Some items)) c (body_of Ok n left))
-      → Decodes view r (means items) → IfSome a (λ text. Answers view (result_map_both Some (λ fault. fault) r) c (frame_of means text))
-  frame_answered {X = X} view a b c n items r header body decoded = at a r decoded (frame_read a b c n items header body)
+      → Decodes view r (means items) → IfSome a (λ text. Answers view (result_map_both Some (λ fault. fault) r) c (frame_of means limit text))
+  frame_answered {X = X} view a b c n items r within header body decoded = at a r decoded (frame_read a b c n items within header body)
     where
       at : (o : Option (List ℕ)) (r : Result X ReadFault) → Decodes view r (means items)
-          → IfSome o (λ text. ((frame_of means text).outcome ≡ result_map_both Some (λ fault. fault) (means items)) × (c ≡ Some (frame_of means text).rest))
-          → IfSome o (λ text. Answers view (result_map_both Some (λ fault. fault) r) c (frame_of means text))
+          → IfSome o (λ text. ((frame_of means limit text).outcome ≡ result_map_both Some (λ fault. fault) (means items)) × (c ≡ Some (frame_of means limit text).rest))
+          → IfSome o (λ text. Answers view (result_map_both Some (λ fault. fault) r) c (frame_of means limit text))
       at None r decoded read = tt
       at (Some text) (Ok x) decoded read = (read.0 ∙ ap (result_map_both Some (λ fault. fault)) decoded, read.1)
       at (Some text) (Err (Input kind)) decoded read = ([], read.1)
       at (Some text) (Err Memory) decoded read = ([], read.1)
       at (Some text) (Err fault) decoded read = (read.0 ∙ ap (result_map_both Some (λ fault. fault)) decoded, read.1)
 
--- a growth was refused in the header part
-pub memory_in_header : (fault : ReadFault) (a b : Option (List ℕ)) → IfSome a (λ text. Answers (λ n. n) (Err fault) b (header_of text)) → fault ≡ Memory
-    → IfSome a (λ text. ContentUnreadOrTaken text b)
-memory_in_header fault None b header is = tt
-memory_in_header fault (Some text) b header is = inl (subst (λ f. Answers (λ n. n) (Err f) b (header_of text)) is header)
+-- the fault of a tree that is no message, as it is answered
+pub refused_tree : {X : Type 0} (view : X → Message) (tree : Data) → meaning tree ≡ None → Decodes view (Err (no_message tree)) (tree_means (Some tree))
+refused_tree view null none = ap (λ m. ok_or m NoMessage) none
+refused_tree view (boolean b) none = ap (λ m. ok_or m NoMessage) none
+refused_tree view (number n) none = ap (λ m. ok_or m NoMessage) none
+refused_tree view (string s) none = ap (λ m. ok_or m NoMessage) none
+refused_tree view (array ds) none = ap (λ m. ok_or m Batch) none
+refused_tree view (object ms) none = ap (λ m. ok_or m NoMessage) none
 
--- or after it, before the content part was begun
-pub memory_after_header : (a b c : Option (List ℕ)) (n : ℕ) → IfSome a (λ text. Answers (λ n. n) (Ok (Some n)) b (header_of text)) → c ≡ b
-    → IfSome a (λ text. ContentUnreadOrTaken text c)
-memory_after_header None b c n header same = tt
-memory_after_header (Some text) b c n header same = inl ([], same ∙ header.1)
+-- it is no want of memory
+pub refusal-known : (tree : Data) → no_message tree ≢ Memory
+refusal-known null is = cc
+refusal-known (boolean b) is = cc
+refusal-known (number n) is = cc
+refusal-known (string s) is = cc
+refusal-known (array ds) is = cc
+refusal-known (object ms) is = cc
 
--- or after the content part
-pub memory_after_content : (a b c : Option (List ℕ)) (n : ℕ) (items : List ℕ) → IfSome a (λ text. Answers (λ n. n) (Ok (Some n)) b (header_of text))
-    → IfSome b (λ left. Answers (λ bytes. bytes) (Ok (Some items)) c (body_of Ok n left)) → IfSome a (λ text. ContentUnreadOrTaken text c)
-memory_after_content a b c n items header body = at a (frame_read body_means a b c n items header body)
+-- a fault of a content part that was taken
+abbrev IsOfContent : ReadFault → Type 0
+IsOfContent BodyNotText = Unit {0}
+IsOfContent NoJson = Unit {0}
+IsOfContent NoMessage = Unit {0}
+IsOfContent Batch = Unit {0}
+IsOfContent fault = ⊥
+
+abbrev IsKnownContent : {A : Type 0} → Result A ReadFault → Type 0
+IsKnownContent (Ok m) = Unit {0}
+IsKnownContent (Err fault) = IsOfContent fault
+
+tree_known : (tree : Data) (m : Option Message) → IsKnownContent (ok_or m (no_message tree))
+tree_known tree (Some m) = tt
+tree_known null None = tt
+tree_known (boolean b) None = tt
+tree_known (number n) None = tt
+tree_known (string s) None = tt
+tree_known (array ds) None = tt
+tree_known (object ms) None = tt
+
+abbrev given : Result Message ReadFault → Result (Option Message) ReadFault
+given r = result_map_both Some (λ fault. fault) r
+
+given_known : (r : Result Message ReadFault) → IsKnownContent r → IsKnownContent (given r)
+given_known (Ok m) known = tt
+given_known (Err fault) known = known
+
+abbrev content : List ℕ → Result (Option Message) ReadFault
+content body = given (body_means body)
+
+content_known : (body : List ℕ) → IsKnownContent (content body)
+content_known body = given_known (body_means body) (at (is_utf8 body) (read body))
   where
-    at : (o : Option (List ℕ)) → IfSome o (λ text. ((frame_of body_means text).outcome ≡ result_map_both Some (λ fault. fault) (body_means items)) × (c ≡ Some (frame_of body_means text).rest))
-        → IfSome o (λ text. ContentUnreadOrTaken text c)
-    at None read = tt
-    at (Some text) read = inr read.1
+    at : (t : Bool) (tree : Option Data) → IsKnownContent (cond t (tree_means tree) (Err BodyNotText))
+    at true None = tt
+    at true (Some tree) = tree_known tree (meaning tree)
+    at false tree = tt
+
+module _ (limit : ℕ) where
+  -- memory ran out in the header part
+  pub memory_in_header : (fault : ReadFault) (a b : Option (List ℕ)) → IfSome a (λ text. AnswersHeader (λ n. n) (Err fault) b (header_of text)) → fault ≡ Memory
+      → IfSome a (λ text. RunsOut limit text b)
+  memory_in_header fault None b header is = tt
+  memory_in_header fault (Some text) b header is = inl (subst (λ f. AnswersHeader (λ n. n) (Err f) b (header_of text)) is header)
+
+  -- or after it, before the content part was begun
+  pub memory_after_header : (a b c : Option (List ℕ)) (n : ℕ) → n ≤ limit → IfSome a (λ text. AnswersHeader (λ n. n) (Ok (Some n)) b (header_of text)) → c ≡ b
+      → IfSome a (λ text. RunsOut limit text c)
+  memory_after_header None b c n within header same = tt
+  memory_after_header (Some text) b c n within header same = inr (n, header.0, within, inl (same ∙ header.1))
+
+  -- or after the content part
+  pub memory_after_content : (a b c : Option (List ℕ)) (n : ℕ) (items : List ℕ) → n ≤ limit → IfSome a (λ text. AnswersHeader (λ n. n) (Ok (Some n)) b (header_of text))
+      → IfSome b (λ left. Answers (λ bytes. bytes) (Ok (Some items)) c (body_of Ok n left)) → IfSome a (λ text. RunsOut limit text c)
+  memory_after_content None b c n items within header body = tt
+  memory_after_content (Some text) b c n items within header body =
+      let read = frame_read body_means limit (Some text) b c n items within header body in
+      inr (n, header.0, within, inr (read.1, λ short. subst IsKnownContent (sym read.0 ∙ short) (content_known items)))
+
+-- with no limit no length is above it
+not_too_long : (text : List ℕ) → (reading_of text).outcome ≢ Err TooLong
+not_too_long text = at (header_of text).outcome (header_of text).rest (header_known text)
+  where
+    part : (n : ℕ) (rest : List ℕ) → (body_of body_means n rest).outcome ≢ Err TooLong
+    part n rest = short (nat_lt (length rest) n)
+      where
+        short : (t : Bool) → (cond {A = Reading Message} t (record { outcome = Err ShortBody; rest = [] }) (record { outcome = result_map_both Some (λ fault. fault) (body_means (take n rest)); rest = drop n rest })).outcome ≢ Err TooLong
+        short true is = cc
+        short false is = subst IsKnownContent is (content_known (take n rest))
+
+    at : (count : Result (Option ℕ) ReadFault) (rest : List ℕ) → IsKnownHeader count → (content_of body_means no_limit count rest).outcome ≢ Err TooLong
+    at (Err fault) rest known = λ is. known (cc)
+    at (Ok None) rest known = λ is. cc
+    at (Ok (Some n)) rest known = rw (le-ltb no_limit n known) (part n rest)
+
+pub never_too_long : {X : Type 0} (view : X → Message) (a b : Option (List ℕ)) (r : Result (Option X) ReadFault)
+    → IfSome a (λ text. Answers view r b (reading_of text)) → IfSome a (λ text. r ≢ Err TooLong)
+never_too_long view None b r answers = tt
+never_too_long view (Some text) b r answers = λ is. not_too_long text (subst (λ r. Answers view r b (reading_of text)) is answers).0

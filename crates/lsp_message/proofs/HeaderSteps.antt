@@ -1,17 +1,19 @@
 -- The header part, line by line.
-use Rattle.std.proofs.Common.{◌≡◌, ℕ, Bool, true, false, cond, eqb, List, [], ◌∷◌, length, Option, Some, None, IfSome, IsSomeAnd, Result, Ok, Err, refl, sym, ap, subst, ◌∙◌}
+use Rattle.std.proofs.Common.{◌≡◌, ◌≢◌, ℕ, Bool, true, false, cond, eqb, List, [], ◌∷◌, length, Option, Some, None, IfSome, IsSomeAnd, Result, Ok, Err, refl, sym, ap, subst, ◌∙◌}
 use Rattle.std.specs.Io.BufRead.{take_through, drop_through}
 use Rattle.std.specs.List.{concat}
 use Rattle.std.specs.Result.{result_map_both}
-use Rattle.lsp_message.specs.Frame.{Answers, StopsWithin}
 use Rattle.lsp_message.specs.Gathering.{EndsLine}
-use Rattle.lsp_message.specs.HeaderPart.{Reading, header_line, is_field, fields, after_fields, length_in, or_else, content_length, at_last_line, header_end, header_of, first_line}
+use Rattle.lsp_message.specs.HeaderPart.{header_line, is_field, fields, after_fields, length_in, or_else, content_length, at_last_line, header_end, header_of}
 use Rattle.lsp_message.specs.Lines.{lines, onto_first}
+use Rattle.lsp_message.specs.Reading.{Reading, StopsWithin, StopsBefore}
+use Rattle.lsp_message.specs.ReadingSteps.{AnswersHeader, first_line}
 use Rattle.lsp_message.specs.declared.frame.ReadFault.{ReadFault}
 use Rattle.lsp_message.specs.declared.frame.ReadFault.TheVariants.{Input, Memory}
 use Rattle.lsp_message.specs.declared.frame.header.HeaderLine.{HeaderLine}
 use Rattle.lsp_message.specs.declared.frame.header.HeaderLine.TheVariants.{Blank, Length, Other}
-use Rattle.lsp_message.proofs.Suffixes.{EndsIn, EndsIn-refl, EndsIn-append, StopsWithin-less, StopsWithin-start}
+use Rattle.lsp_message.proofs.KnownLines.{line_tested}
+use Rattle.lsp_message.proofs.Suffixes.{EndsIn, EndsIn-refl, EndsIn-append, StopsWithin-less, StopsWithin-start, StopsBefore-less}
 
 -- the first line is what stands up to the first line feed
 pub lines-split : (b : ℕ) (bs : List ℕ) → lines (b ∷ bs) ≡ take_through 10 (b ∷ bs) ∷ lines (drop_through 10 (b ∷ bs))
@@ -54,10 +56,6 @@ or_else-assoc (Some n) b c = refl
 
 pub header_after-none : (text : List ℕ) → header_of text ≡ header_after None text
 header_after-none text = ap (λ n. header_end n (after_fields (lines text))) (sym (or_else-none _))
-
--- the header part with its first line split off
-abbrev split_header : Option ℕ → List ℕ → List (List ℕ) → Reading ℕ
-split_header length line more = header_end (or_else (content_length (fields (line ∷ more))) length) (after_fields (line ∷ more))
 
 pub after_field : (length : Option ℕ) (b : ℕ) (bs : List ℕ) (line : Result HeaderLine ReadFault) → header_line (take_through 10 (b ∷ bs)) ≡ line → is_field line ≡ true
     → header_after length (b ∷ bs) ≡ header_after (or_else (length_in line) length) (drop_through 10 (b ∷ bs))
@@ -105,21 +103,17 @@ header_after-line length (b ∷ bs) = at (is_field (header_line (take_through 10
 abbrev pub Continues : Option (List ℕ) → Option (List ℕ) → Option ℕ → Type 0
 Continues a b length = IfSome a (λ text. IsSomeAnd b (λ left. header_of text ≡ header_after length left))
 
-pub Continues-start : (a : Option (List ℕ)) → Continues a a None
-Continues-start None = tt
-Continues-start (Some text) = header_after-none text
-
--- a fault that is the reading's, or comes from outside
-pub Answers-fault : {X A : Type 0} (view : X → A) (fault : ReadFault) (left : Option (List ℕ)) (reading : Reading A) → reading.outcome ≡ Err fault → left ≡ Some reading.rest
-    → Answers view (Err fault) left reading
-Answers-fault view (Input kind) left reading outcome rest = ([], rest)
-Answers-fault view Memory left reading outcome rest = ([], rest)
-Answers-fault view fault left reading outcome rest = (outcome, rest)
+-- a fault that is the reading's, or the reader's
+line_fault : {X A : Type 0} (view : X → A) (fault : ReadFault) (left : Option (List ℕ)) (reading : Reading A) → fault ≢ Memory → reading.outcome ≡ Err fault → left ≡ Some reading.rest
+    → AnswersHeader view (Err fault) left reading
+line_fault view (Input kind) left reading known outcome rest = ([], rest)
+line_fault view Memory left reading known outcome rest = absurd (known refl)
+line_fault view fault left reading known outcome rest = (outcome, rest)
 
 module _ (given : Option ℕ) where
   -- the input ends at a line's start
-  pub at_input_end : (a b c : Option (List ℕ)) → Continues a b given → IfSome b (λ left. Answers (λ line. line) (Ok None) c (first_line left))
-      → IfSome a (λ text. Answers (λ n. n) (Ok None) c (header_of text))
+  pub at_input_end : (a b c : Option (List ℕ)) → Continues a b given → IfSome b (λ left. AnswersHeader (λ line. line) (Ok None) c (first_line left))
+      → IfSome a (λ text. AnswersHeader (λ n. n) (Ok None) c (header_of text))
   at_input_end None b c same line = tt
   at_input_end (Some text) None c same line = absurd same
   at_input_end (Some text) (Some []) c same line = (ap (λ r. r.outcome) same, line.1 ∙ ap (λ r. Some r.rest) (sym same))
@@ -138,7 +132,7 @@ module _ (given : Option ℕ) where
   refused_line (Err first) fault is = cc
 
   -- a field
-  pub at_field : (line : HeaderLine) (a b c : Option (List ℕ)) → is_field (Ok line) ≡ true → Continues a b given → IfSome b (λ left. Answers (λ line. line) (Ok (Some line)) c (first_line left))
+  pub at_field : (line : HeaderLine) (a b c : Option (List ℕ)) → is_field (Ok line) ≡ true → Continues a b given → IfSome b (λ left. AnswersHeader (λ line. line) (Ok (Some line)) c (first_line left))
       → Continues a c (or_else (length_in (Ok line)) given)
   at_field line None b c goes same read = tt
   at_field line (Some text) None c goes same read = absurd same
@@ -168,12 +162,12 @@ module _ (given : Option ℕ) where
 
 -- a line that was gathered and tested
 pub line_read : (a c : Option (List ℕ)) (gathered : List ℕ) (r : Result HeaderLine ReadFault) → EndsLine [] a gathered c → (length gathered ≡ 0 → ⊥) → r ≡ header_line gathered
-    → IfSome a (λ text. Answers (λ line. line) (result_map_both Some (λ fault. fault) r) c (first_line text))
+    → IfSome a (λ text. AnswersHeader (λ line. line) (result_map_both Some (λ fault. fault) r) c (first_line text))
 line_read None c gathered r ends some is = tt
 line_read (Some []) c gathered r ends some is = absurd (some (ap length ends.0))
 line_read (Some (x ∷ xs)) c gathered (Ok line) ends some is = (ap (result_map_both Some (λ fault. fault)) (sym (is ∙ ap header_line ends.0)), ends.1)
 line_read (Some (x ∷ xs)) c gathered (Err fault) ends some is =
-    Answers-fault (λ line. line) fault c (first_line (x ∷ xs)) (ap (result_map_both Some (λ fault. fault)) (sym (is ∙ ap header_line ends.0))) ends.1
+    line_fault (λ line. line) fault c (first_line (x ∷ xs)) (λ memory. line_tested gathered (sym is ∙ ap Err memory)) (ap (result_map_both Some (λ fault. fault)) (sym (is ∙ ap header_line ends.0))) ends.1
 
 -- nothing after the line was taken
 at_stop : (given : Option ℕ) (a b c : Option (List ℕ)) → Continues a b given → IfSome b (λ left. StopsWithin c (first_line left)) → IfSome a (λ text. StopsWithin c (header_of text))
@@ -182,6 +176,13 @@ at_stop given (Some text) None c same read = absurd same
 at_stop given (Some text) (Some left) c same read =
     rw (same) (StopsWithin-less c (first_line left) (header_after given left) read (header_after-line given left))
 
+-- a byte of the line at least was not taken
+at_break : (given : Option ℕ) (a b c : Option (List ℕ)) → Continues a b given → IfSome b (λ left. StopsBefore c (first_line left)) → IfSome a (λ text. StopsBefore c (header_of text))
+at_break given None b c same read = tt
+at_break given (Some text) None c same read = absurd same
+at_break given (Some text) (Some left) c same read =
+    rw (same) (StopsBefore-less c (first_line left) (header_after given left) read (header_after-line given left))
+
 -- the header part was not read to its end
 pub Continues-stops : (a b : Option (List ℕ)) (given : Option ℕ) → Continues a b given → IfSome a (λ text. StopsWithin b (header_of text))
 Continues-stops None b given same = tt
@@ -189,28 +190,28 @@ Continues-stops (Some text) None given same = absurd same
 Continues-stops (Some text) (Some left) given same = rw (same) (StopsWithin-start left (header_after given left) (header_after-rest given left))
 
 -- the line was refused
-pub at_fault : (given : Option ℕ) (fault : ReadFault) (a b c : Option (List ℕ)) → Continues a b given → IfSome b (λ left. Answers (λ line. line) (Err fault) c (first_line left))
-    → IfSome a (λ text. Answers (λ n. n) (Err fault) c (header_of text))
+pub at_fault : (given : Option ℕ) (fault : ReadFault) (a b c : Option (List ℕ)) → Continues a b given → IfSome b (λ left. AnswersHeader (λ line. line) (Err fault) c (first_line left))
+    → IfSome a (λ text. AnswersHeader (λ n. n) (Err fault) c (header_of text))
 at_fault given (Input kind) a b c same read = at_stop given a b c same read
-at_fault given Memory a b c same read = at_stop given a b c same read
+at_fault given Memory a b c same read = at_break given a b c same read
 at_fault given fault a b c same read = at_last given (Err fault) a b c refl same read
 
 -- the blank line
-pub at_blank : (given : Option ℕ) (a b c : Option (List ℕ)) → Continues a b given → IfSome b (λ left. Answers (λ line. line) (Ok (Some Blank)) c (first_line left))
-    → IfSome a (λ text. Answers (λ n. n) (at_last_line given (Ok Blank)) c (header_of text))
+pub at_blank : (given : Option ℕ) (a b c : Option (List ℕ)) → Continues a b given → IfSome b (λ left. AnswersHeader (λ line. line) (Ok (Some Blank)) c (first_line left))
+    → IfSome a (λ text. AnswersHeader (λ n. n) (at_last_line given (Ok Blank)) c (header_of text))
 at_blank None a b c same read = at_last None (Ok Blank) a b c refl same read
 at_blank (Some n) a b c same read = at_last (Some n) (Ok Blank) a b c refl same read
 
 -- what the next line of the header part comes to
 abbrev pub Next : Option ℕ → Option (List ℕ) → Option (List ℕ) → Result (Option HeaderLine) ReadFault → Type 0
-Next given a c (Err fault) = IfSome a (λ text. Answers (λ n. n) (Err fault) c (header_of text))
-Next given a c (Ok None) = IfSome a (λ text. Answers (λ n. n) (Ok None) c (header_of text))
-Next given a c (Ok (Some Blank)) = IfSome a (λ text. Answers (λ n. n) (at_last_line given (Ok Blank)) c (header_of text))
+Next given a c (Err fault) = IfSome a (λ text. AnswersHeader (λ n. n) (Err fault) c (header_of text))
+Next given a c (Ok None) = IfSome a (λ text. AnswersHeader (λ n. n) (Ok None) c (header_of text))
+Next given a c (Ok (Some Blank)) = IfSome a (λ text. AnswersHeader (λ n. n) (at_last_line given (Ok Blank)) c (header_of text))
 Next given a c (Ok (Some (Length n))) = Continues a c (Some n)
 Next given a c (Ok (Some Other)) = Continues a c given
 
 pub next : (given : Option ℕ) (a b c : Option (List ℕ)) (r : Result (Option HeaderLine) ReadFault) → Continues a b given
-    → IfSome b (λ left. Answers (λ line. line) r c (first_line left)) → Next given a c r
+    → IfSome b (λ left. AnswersHeader (λ line. line) r c (first_line left)) → Next given a c r
 next given a b c (Err fault) same read = at_fault given fault a b c same read
 next given a b c (Ok None) same read = at_input_end given a b c same read
 next given a b c (Ok (Some Blank)) same read = at_blank given a b c same read

@@ -3,6 +3,7 @@ mod FrontOfFrame
 mod FrontSteps
 mod HeaderSteps
 mod Joined
+mod KnownLines
 mod Members
 mod Numerals
 mod Places

@@ -6,9 +6,9 @@ use Rattle.std.specs.Io.BufRead.{DropsConsumable}
 use Rattle.std.specs.Io.KnownBytes.{Keeps}
 use Rattle.std.specs.Result.{result_map_both}
 use Rattle.memchr.specs.Find.{IsFirstByte, is_byte}
-use Rattle.lsp_message.specs.Frame.{Answers}
 use Rattle.lsp_message.specs.Gathering.{TakesFront, EndsLine}
-use Rattle.lsp_message.specs.HeaderPart.{header_line, first_line}
+use Rattle.lsp_message.specs.HeaderPart.{header_line}
+use Rattle.lsp_message.specs.ReadingSteps.{AnswersHeader, first_line}
 use Rattle.lsp_message.specs.declared.frame.ReadFault.{ReadFault}
 use Rattle.lsp_message.specs.declared.frame.header.HeaderLine.{HeaderLine}
 use Rattle.lsp_message.proofs.HeaderSteps.{line_read}
@@ -18,7 +18,7 @@ module _ (a b c : Option (List ℕ)) (limit : Option ℕ) (shown : List ℕ) (k 
     (front : IfSome a (λ xs. StartsWith xs shown)) (end : IfSome a (λ xs. length shown ≡ 0 → xs ≡ []))
     (kept : Keeps a b × IfSome a (λ _. IfSome limit (λ n. length shown ≤ n))) (drops : DropsConsumable b c limit (k + 1)) where
   pub placed_line : (found : Result HeaderLine ReadFault) → found ≡ header_line (take (k + 1) shown)
-      → IfSome a (λ text. Answers (λ line. line) (result_map_both Some (λ fault. fault) found) c (first_line text))
+      → IfSome a (λ text. AnswersHeader (λ line. line) (result_map_both Some (λ fault. fault) found) c (first_line text))
   placed_line found is =
       let part = part_to_feed shown k first in
       let left = dropped a b c limit shown (k + 1) part.within kept.0 kept.1 drops in

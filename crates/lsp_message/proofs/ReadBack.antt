@@ -14,9 +14,10 @@ use Rattle.std.specs.List.{ends_with}
 use Rattle.std.specs.Str.{IsUtf8, is_utf8, chars}
 use Rattle.lsp_message.specs.Body.{body_means}
 use Rattle.lsp_message.specs.Frame.{content_of}
-use Rattle.lsp_message.specs.HeaderPart.{Reading, number, header_line, header_of}
+use Rattle.lsp_message.specs.HeaderPart.{number, header_line, header_of}
 use Rattle.lsp_message.specs.Letters.{Begins}
 use Rattle.lsp_message.specs.Message.{Message}
+use Rattle.lsp_message.specs.Reading.{Reading}
 use Rattle.lsp_message.specs.Written.{frame_text}
 use Rattle.lsp_message.specs.declared.frame.header.HeaderLine.TheVariants.{Length, Blank}
 use Rattle.lsp_message.proofs.HeaderSteps.{header_after, header_after-none, after_field, at_line}
@@ -80,8 +81,9 @@ header_of-frame body rest small =
     ∙ ap (header_after (Some n)) left ∙ at_line (Some n) 13 (10 ∷ (body ++ rest)) (Ok Blank) blank_line refl
 
 -- and so is what its body means
-pub reading_of-frame : (body rest : List ℕ) (m : Message) → length body < 2 ^ 64 → body_means body ≡ Ok m → Begins (frame_text body ++ rest) m rest
-reading_of-frame body rest m small means =
+pub reading-frame : (limit : ℕ) (body rest : List ℕ) (m : Message) → length body < 2 ^ 64 → length body ≤ limit → body_means body ≡ Ok m
+    → Begins limit (frame_text body ++ rest) m rest
+reading-frame limit body rest m small within means =
     let header = header_of-frame body rest small in
     let long : nat_lt (length (body ++ rest)) (length body) ≡ false = le-ltb _ _ (omega (arith, length-append body rest)) in
-    ap (λ (r : Reading ℕ). content_of body_means r.outcome r.rest) header ∙ rw (long, take-append_seam body rest, drop-append_seam body rest, means) refl
+    ap (λ (r : Reading ℕ). content_of body_means limit r.outcome r.rest) header ∙ rw (le-ltb limit (length body) within, long, take-append_seam body rest, drop-append_seam body rest, means) refl

@@ -24,8 +24,7 @@ use Rattle.lsp_message.specs.Id.{Id}
 use Rattle.serde_json.specs.Find.{of_integer}
 use Rattle.std.specs.Option.{ok_or}
 use Rattle.std.specs.Str.{IsUtf8}
-use Rattle.lsp_message.specs.Body.{body_means, tree_means}
-use Rattle.lsp_message.specs.declared.frame.ReadFault.TheVariants.{NoMessage}
+use Rattle.lsp_message.specs.Body.{body_means, no_message, tree_means}
 use Rattle.lsp_message.proofs.Contents.{body_means-text}
 use Rattle.lsp_message.specs.Tree.{id_tree, error_tree, without_null_details}
 use Rattle.lsp_message.proofs.TreeLaws.{as_error-error_tree}
@@ -457,7 +456,7 @@ message_reads_back (response i (Err e)) body range shallow is =
 pub body_reads_back : (m : Message) (body : List ℕ) → IsUtf8 body → IsInRange m → nesting m ≤ max_depth → IsBodyOf m body → body_means body ≡ Ok (without_null_details m)
 body_reads_back m body text range shallow is =
     let back = message_reads_back m body range shallow is in
-    body_means-text body text ∙ ap tree_means back.1 ∙ ap (λ o. ok_or o NoMessage) back.2
+    body_means-text body text ∙ ap tree_means back.1 ∙ ap (λ o. ok_or o (no_message back.0)) back.2
 
 pub result_reads : {X E : Type 0} (bytes : X → List ℕ) → ((x : X) → IsUtf8 (bytes x)) → (m : Message) (r : Result X E) → IfOk r (λ x. IsBodyOf m (bytes x)) → OnOk r (IsInRange m)
     → IfOk r (λ x. nesting m ≤ max_depth → body_means (bytes x) ≡ Ok (without_null_details m))

@@ -1,5 +1,5 @@
 -- The name and the value of a field, from the first place of ": ".
-use Rattle.std.proofs.Common.{◌≡◌, ℕ, zero, suc, ◌+◌, ◌<◌, ◌≤◌, Bool, true, false, ◌&&◌, eqb, eq-eqb, eqb-true, List, [], ◌∷◌, length, take, drop, get_or, Option, Some, None, option_map, refl, sym, ap, ◌∙◌, arith, true≢false}
+use Rattle.std.proofs.Common.{◌≡◌, ℕ, zero, suc, ◌+◌, ◌<◌, Bool, true, false, ◌&&◌, eqb, eq-eqb, eqb-true, List, [], ◌∷◌, length, take, drop, get_or, Option, Some, None, option_map, refl, sym, ap, ◌∙◌, arith, true≢false}
 use Rattle.memchr.specs.Find.{OccursAt, FindsNeedle}
 use Rattle.lsp_message.specs.HeaderPart.{name_and_value, parted, header_text}
 
@@ -64,9 +64,6 @@ pub name_and_value-found : (text : List ℕ) (r : Option ℕ) → FindsNeedle te
     → name_and_value text ≡ option_map (λ k. (take k text, drop (k + 2) text)) r
 name_and_value-found text None h = unparted text (λ k at. h k (omega arith) (omega (arith, at.fits)) at)
 name_and_value-found text (Some k) h = parted_at text k h.1 (λ j below at. h.0.before j (omega arith) below at)
-
-pub found_within : (text : List ℕ) (k : ℕ) → FindsNeedle text separator 0 (Some k) → k + 2 ≤ length text
-found_within text k h = h.1.fits
 
 -- what stands before a line's end, where it is not empty
 pub header_text-parted : (text : List ℕ) (r : Option ℕ) → eqb (length text) 0 ≡ false → FindsNeedle text separator 0 r

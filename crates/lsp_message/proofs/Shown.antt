@@ -1,5 +1,5 @@
 -- What a reader shows of the bytes that it has left, and what a line takes of it.
-use Rattle.std.proofs.Common.{◌≡◌, ◌≢◌, ℕ, zero, suc, ◌+◌, ◌<◌, ◌≤◌, eqb, eq-eqb, ne_eqb, Bool, true, false, true≢false, List, [], ◌∷◌, ◌++◌, length, take, drop, get_or, get_or-take, take-take, take_all, length-take, append_assoc, le_refl, eqb-true, All, Option, Some, None, IfSome, Result, Ok, Bor, refl, sym, ap, subst, ◌∙◌, arith}
+use Rattle.std.proofs.Common.{◌≡◌, ◌≢◌, ℕ, zero, suc, ◌+◌, ◌<◌, ◌≤◌, eqb, eq-eqb, ne_eqb, Bool, true, false, true≢false, List, [], ◌∷◌, ◌++◌, length, take, drop, get_or, get_or-take, take-take, take_all, length-take, append_assoc, le_refl, eqb-true, All, Option, Some, None, IfSome, OnSome, Result, Ok, Bor, refl, sym, ap, subst, ◌∙◌, arith}
 use Rattle.std.proofs.lemmas.List.{get_or_default}
 use Rattle.std.specs.Io.{StartsWith}
 use Rattle.std.specs.Io.BufRead.{take_through, drop_through, FillKeeps, DropsConsumable}
@@ -7,7 +7,7 @@ use Rattle.std.specs.Io.KnownBytes.{Keeps}
 use Rattle.std.proofs.KnownBytes.{starts_with_rest}
 use Rattle.std.proofs.BufReadLemmas.{take_through-append, drop_through-append}
 use Rattle.memchr.specs.Find.{IsFirstByte, is_byte}
-use Rattle.lsp_message.specs.Gathering.{KeepsLine, EndsLine}
+use Rattle.lsp_message.specs.Gathering.{KeepsLine, EndsLine, LeavesSome}
 
 -- the first line ends at its first line feed
 take_through-at : (xs : List ℕ) (k : ℕ) → k < length xs → get_or xs k 0 ≡ 10 → ((j : ℕ) → j < k → get_or xs j 0 ≢ 10)
@@ -35,6 +35,14 @@ dropped (Some x) (Some y) c limit shown n within kept fits drops = drops (room l
     room : (o : Option ℕ) → IfSome o (λ k. length shown ≤ k) → IfSome o (λ k. n ≤ k)
     room None h = tt
     room (Some k) h = omega arith
+
+-- bytes are left, where some of them are shown
+pub shown_left : (a b : Option (List ℕ)) (shown : List ℕ) → Keeps a b → IfSome a (λ xs. StartsWith xs shown) → 0 < length shown → OnSome a (LeavesSome b)
+shown_left None b shown kept front some = tt
+shown_left (Some xs) None shown kept front some = absurd kept
+shown_left (Some xs) (Some ys) shown kept front some = λ none.
+    let empty : length xs ≡ 0 = ap length (sym kept ∙ none) in
+    omega (arith, length-take (length shown) xs, ap length front)
 
 module _ (shown xs : List ℕ) (front : StartsWith xs shown) where
   shown_at : (k : ℕ) → k < length shown → get_or shown k 0 ≡ get_or xs k 0

@@ -1,16 +1,17 @@
 -- Readings that stop within a text: what they leave is the end of it.
-use Rattle.std.proofs.Common.{◌≡◌, ℕ, ◌+◌, ◌-◌, ◌≤◌, Bool, true, false, cond, eqb, List, [], ◌∷◌, ◌++◌, length, take, drop, Option, Some, None, IfSome, Result, Ok, Err, refl, sym, ap, ◌∙◌, arith, append_assoc, take-append-drop, append-nil, length-append, nat_lt}
+use Rattle.std.proofs.Common.{◌≡◌, ℕ, ◌+◌, ◌-◌, ◌≤◌, Bool, true, false, cond, eqb, List, [], ◌∷◌, ◌++◌, length, take, drop, Option, Some, None, IfSome, OnSome, Result, Ok, Err, refl, sym, ap, ◌∙◌, arith, append_assoc, take-append-drop, append-nil, length-append, nat_lt}
 use Rattle.std.specs.Io.BufRead.{take_through, drop_through}
 use Rattle.std.specs.Io.KnownBytes.{Keeps, Consumes}
 use Rattle.std.specs.Result.{result_map_both}
 use Rattle.std.proofs.Math.Seq.{drop-append-add}
 use Rattle.std.proofs.lemmas.Bool.{le-ltb}
 use Rattle.std.proofs.lemmas.List.{take_at, drop_at}
-use Rattle.lsp_message.specs.Frame.{Answers, StopsWithin, body_of, content_of}
-use Rattle.lsp_message.specs.Gathering.{StaysInLine, IsFromReader, IsFromOutside}
-use Rattle.lsp_message.specs.HeaderPart.{Reading, first_line}
+use Rattle.lsp_message.specs.Frame.{body_of, content_of}
+use Rattle.lsp_message.specs.Gathering.{LeavesSome, StaysInLine, IsFromReader, IsFromOutside}
+use Rattle.lsp_message.specs.Reading.{Reading, Answers, StopsWithin, StopsBefore}
+use Rattle.lsp_message.specs.ReadingSteps.{AnswersHeader, first_line}
 use Rattle.lsp_message.specs.declared.frame.ReadFault.{ReadFault}
-use Rattle.lsp_message.specs.declared.frame.ReadFault.TheVariants.{Input, ShortBody, Memory}
+use Rattle.lsp_message.specs.declared.frame.ReadFault.TheVariants.{Input, ShortBody, Memory, TooLong}
 
 -- the second is the end of the first
 abbrev pub EndsIn : List ℕ → List ℕ → Type 0
@@ -45,6 +46,12 @@ first_line-rest (b ∷ bs) = refl
 pub StopsWithin-less : {A B : Type 0} (left : Option (List ℕ)) (short : Reading A) (long : Reading B) → StopsWithin left short → EndsIn short.rest long.rest → StopsWithin left long
 StopsWithin-less left short long stops ends = let more = EndsIn-append stops.0 short.rest long.rest ends in (more.0, stops.1 ∙ ap Some more.1)
 
+pub StopsBefore-less : {A B : Type 0} (left : Option (List ℕ)) (short : Reading A) (long : Reading B) → StopsBefore left short → EndsIn short.rest long.rest → StopsBefore left long
+StopsBefore-less left short long stops ends = let more = EndsIn-append stops.1 short.rest long.rest ends in (stops.0, more.0, stops.2 ∙ ap (λ l. Some (stops.0 ∷ l)) more.1)
+
+pub StopsBefore-within : {A : Type 0} (left : Option (List ℕ)) (reading : Reading A) → StopsBefore left reading → StopsWithin left reading
+StopsBefore-within left reading stops = (stops.0 ∷ stops.1, stops.2)
+
 -- a reading that was not begun
 pub StopsWithin-start : {A : Type 0} (text : List ℕ) (reading : Reading A) → EndsIn text reading.rest → StopsWithin (Some text) reading
 StopsWithin-start text reading ends = (ends.0, ap Some ends.1)
@@ -55,17 +62,29 @@ line_unread None c keeps = tt
 line_unread (Some xs) None keeps = absurd keeps
 line_unread (Some xs) (Some ys) keeps = (take_through 10 xs, ap Some (keeps ∙ through xs ∙ ap (λ l. take_through 10 xs ++ l) (sym (first_line-rest xs))))
 
--- a fault from outside, within the first line
-pub line_stops : (fault : ReadFault) (a c : Option (List ℕ)) → IsFromOutside fault → StaysInLine a c
-    → IfSome a (λ text. Answers (λ line. line) (Err fault) c (first_line text))
-line_stops fault None c outside stays = tt
-line_stops fault (Some xs) None outside stays = absurd stays
-line_stops fault (Some xs) (Some ys) outside stays = at fault outside (take_through 10 ys, ap Some (through ys ∙ ap (λ l. take_through 10 ys ++ l) (stays ∙ sym (first_line-rest xs))))
+-- a line has a first byte
+starts : (b : ℕ) (bs : List ℕ) → (more : List ℕ) × (take_through 10 (b ∷ bs) ≡ b ∷ more)
+starts b bs = at (eqb b 10)
   where
-    at : (fault : ReadFault) → IsFromOutside fault → StopsWithin (Some ys) (first_line xs) → Answers (λ line. line) (Err fault) (Some ys) (first_line xs)
-    at (Input kind) outside stops = stops
-    at Memory outside stops = stops
-    at fault outside stops = absurd outside
+    at : (t : Bool) → (more : List ℕ) × (cond t (b ∷ []) (b ∷ take_through 10 bs) ≡ b ∷ more)
+    at true = ([], refl)
+    at false = (take_through 10 bs, refl)
+
+-- a fault from outside, within the first line
+pub line_stops : (fault : ReadFault) (a c : Option (List ℕ)) → IsFromOutside fault → StaysInLine a c → (fault ≡ Memory → OnSome a (LeavesSome c))
+    → IfSome a (λ text. AnswersHeader (λ line. line) (Err fault) c (first_line text))
+line_stops fault None c outside stays some = tt
+line_stops fault (Some xs) None outside stays some = absurd stays
+line_stops fault (Some xs) (Some ys) outside stays some = at fault ys outside (stays ∙ sym (first_line-rest xs)) some
+  where
+    at : (fault : ReadFault) (ys : List ℕ) → IsFromOutside fault → drop_through 10 ys ≡ (first_line xs).rest → (fault ≡ Memory → LeavesSome (Some ys))
+        → AnswersHeader (λ line. line) (Err fault) (Some ys) (first_line xs)
+    at (Input kind) ys outside same some = (take_through 10 ys, ap Some (through ys ∙ ap (λ l. take_through 10 ys ++ l) same))
+    at Memory [] outside same some = absurd (some refl refl)
+    at Memory (y ∷ ys) outside same some =
+        let first = starts y ys in
+        (y, first.0, ap Some (through (y ∷ ys) ∙ ap (λ l. l ++ drop_through 10 (y ∷ ys)) first.1 ∙ ap (λ l. y ∷ first.0 ++ l) same))
+    at fault ys outside same some = absurd outside
 
 module _ {M : Type 0} (means : List ℕ → Result M ReadFault) where
   abbrev whole : ℕ → List ℕ → Reading M
@@ -96,10 +115,14 @@ module _ {M : Type 0} (means : List ℕ → Result M ReadFault) where
   body_of-rest n text = body_left n text [] text refl (omega arith)
 
   -- what a frame leaves is the end of what its header part leaves
-  pub content_of-rest : (count : Result (Option ℕ) ReadFault) (text : List ℕ) → EndsIn text (content_of means count text).rest
-  content_of-rest (Err fault) text = EndsIn-refl text
-  content_of-rest (Ok None) text = EndsIn-refl text
-  content_of-rest (Ok (Some n)) text = body_of-rest n text
+  pub content_of-rest : (limit : ℕ) (count : Result (Option ℕ) ReadFault) (text : List ℕ) → EndsIn text (content_of means limit count text).rest
+  content_of-rest limit (Err fault) text = EndsIn-refl text
+  content_of-rest limit (Ok None) text = EndsIn-refl text
+  content_of-rest limit (Ok (Some n)) text = at (nat_lt limit n)
+    where
+      at : (t : Bool) → EndsIn text (cond {A = Reading M} t (record { outcome = Err TooLong; rest = text }) (body_of means n text)).rest
+      at true = EndsIn-refl text
+      at false = body_of-rest n text
 
 -- the content part was taken whole
 pub body_whole : {X : Type 0} (view : X → List ℕ) (x : X) (n : ℕ) (a c : Option (List ℕ)) → Consumes a c (view x) → length (view x) ≡ n

@@ -1,5 +1,5 @@
 -- Bytes taken from a reader, where those that it has left are known.
-use Rattle.std.specs.Prelude.{◌≡◌, ℕ, List, ◌++◌, Option, Some, IfSome, IsSomeAnd}
+use Rattle.std.specs.Prelude.{◌≡◌, ◌≢◌, ℕ, List, [], ◌++◌, Option, Some, IfSome, IsSomeAnd}
 use Rattle.std.specs.Io.BufRead.{take_through, drop_through}
 use Rattle.std.specs.Io.KnownBytes.{Consumes}
 use Rattle.lsp_message.specs.declared.frame.ReadFault.{ReadFault}
@@ -12,6 +12,10 @@ TakesFront old new = (taken : List ℕ) × Consumes old new taken
 -- no byte after the first line was taken
 abbrev pub StaysInLine : Option (List ℕ) → Option (List ℕ) → Type 0
 StaysInLine old new = IfSome old (λ xs. IsSomeAnd new (λ ys. drop_through 10 ys ≡ drop_through 10 xs))
+
+-- some bytes are left
+abbrev pub LeavesSome : Option (List ℕ) → Type 0
+LeavesSome left = IfSome left (λ bytes. bytes ≢ [])
 
 -- the reader failed
 abbrev pub IsFromReader : ReadFault → Type 0

@@ -2,12 +2,11 @@
 use Rattle.std.specs.Prelude.{ℕ, ◌-◌, ◌^◌, List, [], ◌∷◌, length, take, map, Bool, true, false, not, ◌&&◌, nat_eq, nat_lt, ◌==◌, if◌then◌else◌, Option, Some, None, option_map, Result, Ok, Err, codes}
 use Rattle.std.specs.Char.{to_ascii_lowercase}
 use Rattle.std.specs.List.{concat, ends_with}
-use Rattle.std.specs.Io.BufRead.{take_through, drop_through}
 use Rattle.std.specs.Option.{ok_or}
-use Rattle.std.specs.Result.{result_map_both}
 use Rattle.std.specs.Str.{is_utf8, all_ascii_digits, bytes_eq}
 use Rattle.std.specs.Str.Parse.{without_leading_plus, digits_value}
 use Rattle.lsp_message.specs.Lines.{lines}
+use Rattle.lsp_message.specs.Reading.{Reading}
 use Rattle.lsp_message.specs.declared.frame.ReadFault.{ReadFault}
 use Rattle.lsp_message.specs.declared.frame.ReadFault.TheVariants.{LineNotText, LineEnd, NoSeparator, BadLength, NoLength}
 use Rattle.lsp_message.specs.declared.frame.header.HeaderLine.{HeaderLine}
@@ -83,16 +82,6 @@ or_else (Some n) b = Some n
 abbrev pub content_length : List (List ℕ) → Option ℕ
 content_length [] = None
 content_length (line ∷ more) = or_else (content_length more) (length_in (header_line line))
-
--- what reading comes to: an answer or a fault, and the bytes that it leaves
-pub record Reading (A : Type 0) : Type 0 where
-  pub outcome : Result (Option A) ReadFault
-  pub rest : List ℕ
-
--- the line that a text begins with, or nothing where the text is empty
-abbrev pub first_line : List ℕ → Reading HeaderLine
-first_line [] = record { outcome = Ok None; rest = [] }
-first_line (byte ∷ bytes) = record { outcome = result_map_both Some (λ fault. fault) (header_line (take_through 10 (byte ∷ bytes))); rest = drop_through 10 (byte ∷ bytes) }
 
 -- the line after the fields is a bad one or the blank one
 abbrev pub at_last_line : Option ℕ → Result HeaderLine ReadFault → Result (Option ℕ) ReadFault

@@ -2,7 +2,7 @@
 use Rattle.std.specs.List.{FoldsTo}
 use Rattle.std.specs.Prelude.{◌≡◌, ℕ, List, [], ◌∷◌, ◌++◌, Bool, true, false, Some, None, Ok, Err, codes}
 use Rattle.std.specs.Str.{bytes_eq}
-use Rattle.lsp_message.specs.Body.{reading_of}
+use Rattle.lsp_message.specs.Frame.{reading_within}
 use Rattle.lsp_message.specs.Message.{Message, request, notification, response}
 use Rattle.lsp_message.specs.declared.frame.ReadFault.{ReadFault}
 
@@ -11,18 +11,6 @@ abbrev pub is_exit : Message → Bool
 is_exit (request i method params) = false
 is_exit (notification method params) = bytes_eq method (codes "exit")
 is_exit (response i outcome) = false
-
--- the text begins with a frame that means this message, and the rest follows it
-abbrev pub Begins : List ℕ → Message → List ℕ → Type 0
-Begins text m rest = reading_of text ≡ record { outcome = Ok (Some m); rest = rest }
-
--- the same, and the message isn't the last one
-abbrev pub Passes : List ℕ → Message → List ℕ → Type 0
-Passes text m rest = Begins text m rest × (is_exit m ≡ false)
-
--- these are the first messages of the text, none of them `exit`, and the rest follows them
-abbrev pub PassesAll : List ℕ → List Message → List ℕ → Type 0
-PassesAll = FoldsTo Passes
 
 -- what ends the messages of a text
 pub data Ending : Type 0 where
@@ -33,9 +21,23 @@ pub data Ending : Type 0 where
   -- a frame that can't be read
   failed : ReadFault → Ending
 
--- The messages of a text, what ends them, and the bytes that are left then. The last message is the first `exit`, where one comes.
-abbrev pub Letters : List ℕ → List Message → Ending → List ℕ → Type 0
-Letters text ms exited rest = (before : List Message) × (last : Message) × (at : List ℕ)
-    × (ms ≡ before ++ last ∷ []) × PassesAll text before at × Begins at last rest × (is_exit last ≡ true)
-Letters text ms ended rest = (at : List ℕ) × PassesAll text ms at × (reading_of at ≡ record { outcome = Ok None; rest = rest })
-Letters text ms (failed fault) rest = (at : List ℕ) × PassesAll text ms at × (reading_of at ≡ record { outcome = Err fault; rest = rest })
+-- content parts have at most so many bytes
+module _ (limit : ℕ) where
+  -- the text begins with a frame that means this message, and the rest follows it
+  abbrev pub Begins : List ℕ → Message → List ℕ → Type 0
+  Begins text m rest = reading_within limit text ≡ record { outcome = Ok (Some m); rest = rest }
+
+  -- the same, and the message isn't the last one
+  abbrev pub Passes : List ℕ → Message → List ℕ → Type 0
+  Passes text m rest = Begins text m rest × (is_exit m ≡ false)
+
+  -- these are the first messages of the text, none of them `exit`, and the rest follows them
+  abbrev pub PassesAll : List ℕ → List Message → List ℕ → Type 0
+  PassesAll = FoldsTo Passes
+
+  -- The messages of a text, what ends them, and the bytes that are left then. The last message is the first `exit`, where one comes.
+  abbrev pub Letters : List ℕ → List Message → Ending → List ℕ → Type 0
+  Letters text ms exited rest = (before : List Message) × (last : Message) × (at : List ℕ)
+      × (ms ≡ before ++ last ∷ []) × PassesAll text before at × Begins at last rest × (is_exit last ≡ true)
+  Letters text ms ended rest = (at : List ℕ) × PassesAll text ms at × (reading_within limit at ≡ record { outcome = Ok None; rest = rest })
+  Letters text ms (failed fault) rest = (at : List ℕ) × PassesAll text ms at × (reading_within limit at ≡ record { outcome = Err fault; rest = rest })

@@ -17,6 +17,8 @@ pub mod Meaning
 pub mod Message
 pub mod Ranges
 pub mod Readable
+pub mod Reading
+pub mod ReadingSteps
 pub mod RequestId
 pub mod Text
 pub mod Tree

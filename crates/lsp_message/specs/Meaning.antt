@@ -1,5 +1,4 @@
--- Which message a tree is (JSON-RPC 2.0, sections 4 and 5; a list is read by position).
-use Rattle.std.specs.Option.{option_or}
+-- Which message a tree is (JSON-RPC 2.0, sections 4 and 5).
 use Rattle.std.specs.Prelude.{ℕ, ◌^◌, ℤ, pos, negsuc, List, Bool, nat_lt, if◌then◌else◌, Option, Some, None, option_map, option_and_then, unwrap_or, Result, Ok, Err, codes}
 use Rattle.serde_json.specs.Data.{Num, Data, null, boolean, number, string, array, object, Items, no_items, item}
 use Rattle.serde_json.specs.Find.{get_member, as_str, as_number, as_integer}
@@ -82,29 +81,13 @@ message_of (Some method) None params outcome = Some (notification method params)
 message_of None (Some i) params outcome = option_map (response i) outcome
 message_of None None params outcome = None
 
--- a good id, a text, params
-abbrev pub listed_request : Data → Data → Data → Option Message
-listed_request i method params = option_and_then (λ known. option_map (λ name. request known name params) (as_str method)) (as_id i)
-
--- a text, params
-abbrev pub listed_notification : Data → Data → Option Message
-listed_notification method params = option_map (λ name. notification name params) (as_str method)
-
--- a list of two or three members is a request where it begins with a good id and a text; any other of one or two is a notification where it begins with a text
-abbrev pub listed_message : Items → Option Message
-listed_message no_items = None
-listed_message (item a no_items) = listed_notification a null
-listed_message (item a (item b no_items)) = option_or (listed_request a b null) (listed_notification a b)
-listed_message (item a (item b (item c no_items))) = listed_request a b c
-listed_message (item a (item b (item c (item more ds)))) = None
-
 -- the message that a tree is, if it is one
 abbrev pub meaning : Data → Option Message
 meaning null = None
 meaning (boolean b) = None
 meaning (number n) = None
 meaning (string s) = None
-meaning (array ds) = listed_message ds
+meaning (array ds) = None
 meaning (object ms) =
     message_of (option_and_then as_str (get_member (codes "method") ms)) (option_and_then as_id (get_member (codes "id") ms))
     (unwrap_or (get_member (codes "params") ms) null)

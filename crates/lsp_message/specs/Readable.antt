@@ -1,6 +1,7 @@
 -- A message that is read back as it was written.
 use Rattle.std.specs.Io.KnownBytes.{Appends}
 use Rattle.std.specs.Prelude.{ℕ, List, ◌++◌, Option}
+use Rattle.lsp_message.specs.Frame.{no_limit}
 use Rattle.lsp_message.specs.Letters.{Begins}
 use Rattle.lsp_message.specs.Message.{Message}
 use Rattle.lsp_message.specs.Tree.{without_null_details}
@@ -8,4 +9,4 @@ use Rattle.lsp_message.specs.Written.{IsFrameOf}
 
 -- the writer got a frame of the message, and whatever follows that frame, the message is read from its front
 abbrev pub WritesReadably : Message → Option (List ℕ) → Option (List ℕ) → Type 0
-WritesReadably m old new = (text : List ℕ) × IsFrameOf m text × Appends old new text × ((rest : List ℕ) → Begins (text ++ rest) (without_null_details m) rest)
+WritesReadably m old new = (text : List ℕ) × IsFrameOf m text × Appends old new text × ((rest : List ℕ) → Begins no_limit (text ++ rest) (without_null_details m) rest)

@@ -39,14 +39,18 @@ pub enum ReadFault {
     BodyNotText,
     /// 9: the content part isn't JSON that `serde_json` reads, which nests at most 127 levels.
     NoJson,
-    /// 10: the content part is JSON and no message.
+    /// 10: the content part is JSON, and neither a message nor a list.
     NoMessage,
-    /// 11: a growth was refused. Where it was the content part's room, that part is unread.
+    /// 11: an allocation failed. Where it was the content part's room, that part is unread.
     Memory,
+    /// 12: the content part has more bytes than the limit that was given. It is unread, and no room was reserved for it.
+    TooLong,
+    /// 13: the content part is a list, which is a batch (JSON-RPC 2.0, section 6). Batches are not read, nor an empty list.
+    Batch,
 }
 
 impl ReadFault {
-    /// The fault's number, from 1 to 11.
+    /// The fault's number, from 1 to 13.
     pub fn number(self) -> u8
         ensures { result ≡ read_fault_number self }
     {
@@ -62,6 +66,8 @@ impl ReadFault {
             ReadFault::NoJson => 9,
             ReadFault::NoMessage => 10,
             ReadFault::Memory => 11,
+            ReadFault::TooLong => 12,
+            ReadFault::Batch => 13,
         }
     }
 
@@ -80,7 +86,9 @@ impl ReadFault {
             | ReadFault::NoLength
             | ReadFault::BodyNotText
             | ReadFault::NoJson
-            | ReadFault::NoMessage => ErrorKind::InvalidData,
+            | ReadFault::NoMessage
+            | ReadFault::TooLong
+            | ReadFault::Batch => ErrorKind::InvalidData,
         }
     }
 }

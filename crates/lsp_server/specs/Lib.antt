@@ -17,6 +17,8 @@ pub use Rattle.lsp_message.specs.Meaning
 pub use Rattle.lsp_message.specs.Message
 pub use Rattle.lsp_message.specs.Ranges
 pub use Rattle.lsp_message.specs.Readable
+pub use Rattle.lsp_message.specs.Reading
+pub use Rattle.lsp_message.specs.ReadingSteps
 pub use Rattle.lsp_message.specs.RequestId
 pub use Rattle.lsp_message.specs.Text
 pub use Rattle.lsp_message.specs.Tree

@@ -396,7 +396,7 @@ fn an_interrupted_reader(rt: HostRuntime) -> Result<(), Fail> {
 }
 
 // Each fault with its number, its kind and its text.
-static FAULTS: [(ReadFault, u8, ErrorKind, &str); 11] = [
+static FAULTS: [(ReadFault, u8, ErrorKind, &str); 13] = [
     (
         ReadFault::Input(ErrorKind::TimedOut),
         1,
@@ -457,6 +457,18 @@ static FAULTS: [(ReadFault, u8, ErrorKind, &str); 11] = [
         11,
         ErrorKind::OutOfMemory,
         "read fault 11",
+    ),
+    (
+        ReadFault::TooLong,
+        12,
+        ErrorKind::InvalidData,
+        "read fault 12",
+    ),
+    (
+        ReadFault::Batch,
+        13,
+        ErrorKind::InvalidData,
+        "read fault 13",
     ),
 ];
 

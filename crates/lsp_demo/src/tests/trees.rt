@@ -14,8 +14,10 @@ enum Kind {
     Success,
     // A reply with an error.
     Failure,
-    // JSON, and no message.
+    // JSON, and neither a message nor a list.
     NoMessage,
+    // A list, which is a batch.
+    Batch,
     NoJson,
 }
 
@@ -96,22 +98,22 @@ static SPECIFICATION: [(&str, Kind, &str); 21] = [
         Kind::NoJson,
         "",
     ),
-    ("[]", Kind::NoMessage, ""),
-    ("[1]", Kind::NoMessage, ""),
-    ("[1,2,3]", Kind::NoMessage, ""),
+    ("[]", Kind::Batch, ""),
+    ("[1]", Kind::Batch, ""),
+    ("[1,2,3]", Kind::Batch, ""),
     (
         r#"[{"jsonrpc": "2.0", "method": "sum", "params": [1,2,4], "id": "1"},{"jsonrpc": "2.0", "method": "notify_hello", "params": [7]},{"foo": "boo"}]"#,
-        Kind::NoMessage,
+        Kind::Batch,
         "",
     ),
     (
         r#"[{"jsonrpc": "2.0", "result": 7, "id": "1"},{"jsonrpc": "2.0", "result": 19, "id": "2"}]"#,
-        Kind::NoMessage,
+        Kind::Batch,
         "",
     ),
     (
         r#"[{"jsonrpc": "2.0", "method": "notify_sum", "params": [1,2,4]}]"#,
-        Kind::NoMessage,
+        Kind::Batch,
         "",
     ),
 ];
@@ -377,35 +379,24 @@ static ERRORS: [(&str, Kind, &str); 17] = [
     (r#"{"error":{"code":1,"message":"x"}}"#, Kind::NoMessage, ""),
 ];
 
-// Lists and other values, which are read by position.
-static LISTS: [(&str, Kind, &str); 19] = [
-    (r#"[3,"m"]"#, Kind::Request, r#"{"id":3,"method":"m"}"#),
-    (r#"["a","m"]"#, Kind::Request, r#"{"id":"a","method":"m"}"#),
-    (r#"[3,"m",null]"#, Kind::Request, r#"{"id":3,"method":"m"}"#),
-    (
-        r#"["a","m",[1]]"#,
-        Kind::Request,
-        r#"{"id":"a","method":"m","params":[1]}"#,
-    ),
-    (r#"["m"]"#, Kind::Notification, r#"{"method":"m"}"#),
-    (
-        r#"["m",{}]"#,
-        Kind::Notification,
-        r#"{"method":"m","params":{}}"#,
-    ),
-    (r#"["m",null]"#, Kind::Notification, r#"{"method":"m"}"#),
-    (
-        r#"["m",7]"#,
-        Kind::Notification,
-        r#"{"method":"m","params":7}"#,
-    ),
-    (r#"[null,"m"]"#, Kind::NoMessage, ""),
-    (r#"[1.5,"m"]"#, Kind::NoMessage, ""),
-    (r#"[2147483648,"m"]"#, Kind::NoMessage, ""),
-    ("[3,4]", Kind::NoMessage, ""),
-    (r#"["m",{},1]"#, Kind::NoMessage, ""),
-    (r#"[1,"m",2,3]"#, Kind::NoMessage, ""),
-    (r#"[["m"]]"#, Kind::NoMessage, ""),
+// Lists, which are batches, and other values that are no objects.
+static OTHER_VALUES: [(&str, Kind, &str); 20] = [
+    (r#"[3,"m"]"#, Kind::Batch, ""),
+    (r#"["a","m"]"#, Kind::Batch, ""),
+    (r#"[3,"m",null]"#, Kind::Batch, ""),
+    (r#"["a","m",[1]]"#, Kind::Batch, ""),
+    (r#"["m"]"#, Kind::Batch, ""),
+    (r#"["m",{}]"#, Kind::Batch, ""),
+    (r#"["m",null]"#, Kind::Batch, ""),
+    (r#"["m",7]"#, Kind::Batch, ""),
+    (r#"[null,"m"]"#, Kind::Batch, ""),
+    (r#"[1.5,"m"]"#, Kind::Batch, ""),
+    (r#"[2147483648,"m"]"#, Kind::Batch, ""),
+    ("[3,4]", Kind::Batch, ""),
+    (r#"["m",{},1]"#, Kind::Batch, ""),
+    (r#"[1,"m",2,3]"#, Kind::Batch, ""),
+    (r#"[["m"]]"#, Kind::Batch, ""),
+    (r#"[{"method":"m"}]"#, Kind::Batch, ""),
     ("null", Kind::NoMessage, ""),
     ("true", Kind::NoMessage, ""),
     ("7", Kind::NoMessage, ""),
@@ -625,9 +616,14 @@ fn is_no_json(rt: &impl Abort, alloc: Global, body: &str) -> Result<(), Fail> {
 }
 
 // A body that is JSON and no message, in a frame and as a tree.
-fn is_no_message(rt: &impl Abort, alloc: Global, body: &str) -> Result<(), Fail> {
+fn is_no_message(
+    rt: &impl Abort,
+    alloc: Global,
+    body: &str,
+    wanted: ReadFault,
+) -> Result<(), Fail> {
     let fault = fault_of(framed(rt, alloc, body)?);
-    assert_eq!(rt; fault, Some(ReadFault::NoMessage), "{body}");
+    assert_eq!(rt; fault, Some(wanted), "{body}");
     let tree = parsed(alloc, body)?;
     assert!(rt; is_absent(Message::from_value(alloc, &tree)?), "{body}");
     Ok(())
@@ -647,7 +643,8 @@ fn all_mean(
 ) -> Result<(), Fail> {
     for (body, kind, text) in bodies {
         match kind {
-            Kind::NoMessage => is_no_message(rt, alloc, body)?,
+            Kind::NoMessage => is_no_message(rt, alloc, body, ReadFault::NoMessage)?,
+            Kind::Batch => is_no_message(rt, alloc, body, ReadFault::Batch)?,
             Kind::NoJson => is_no_json(rt, alloc, body)?,
             _ => is_one(rt, alloc, body, *kind, text)?,
         }
@@ -676,8 +673,8 @@ fn replies_with_errors(rt: HostRuntime) -> Result<(), Fail> {
 }
 
 #[test]
-fn lists_by_position(rt: HostRuntime) -> Result<(), Fail> {
-    all_mean(&rt, rt.alloc(), &LISTS)
+fn lists_and_other_values(rt: HostRuntime) -> Result<(), Fail> {
+    all_mean(&rt, rt.alloc(), &OTHER_VALUES)
 }
 
 #[test]

@@ -2,7 +2,8 @@
 ghost use Rattle.std.specs.Prelude.{◌≡◌, ◌+◌, ◌<◌, ◌≤◌, length, false, Ok, Err, Some, IfSome, IfOk, IfErr, OnSome, vec_len, vec_capacity};
 ghost use Rattle.std.specs.Result.{result_map_both};
 ghost use Rattle.std.specs.Io.KnownBytes.{IsAtEnd};
-ghost use Rattle.lsp_message.specs.Frame.{Answers, body_of};
+ghost use Rattle.lsp_message.specs.Frame.{body_of};
+ghost use Rattle.lsp_message.specs.Reading.{Answers};
 ghost use Rattle.lsp_message.specs.Gathering.{TakesFront, TakesInto, IsFromReader};
 
 use crate::frame::ReadFault;

@@ -1,6 +1,6 @@
 // The lines of the header part, gathered from a reader.
-ghost use Rattle.std.specs.Prelude.{◌≡◌, true, false, Ok, OnOk, OnErr, IfErr};
-ghost use Rattle.lsp_message.specs.Gathering.{TakesFront, IsFromOutside, KeepsLine, EndsLine, StaysInLine};
+ghost use Rattle.std.specs.Prelude.{◌≡◌, true, false, Ok, Err, OnOk, OnErr, OnSome, IfErr};
+ghost use Rattle.lsp_message.specs.Gathering.{TakesFront, IsFromOutside, KeepsLine, EndsLine, LeavesSome, StaysInLine};
 
 use crate::frame::ReadFault;
 use memchr::memchr;
@@ -12,6 +12,7 @@ pub(crate) fn gather_line<R: BufRead>(reader: &mut R, line: &mut Vec<u8>) -> Res
     ensures stays { OnErr result (StaysInLine (R.remaining reader.old) (R.remaining reader.new)) }
     ensures begun { TakesFront (R.remaining reader.old) (R.remaining reader.new) }
     ensures fault { IfErr result IsFromOutside }
+    ensures memory { result ≡ Err ReadFault.Memory → OnSome (R.remaining reader.old) (LeavesSome (R.remaining reader.new)) }
 {
     for _ in 0..u64::MAX {
         if gather_some(reader, line)? {
@@ -28,6 +29,7 @@ fn gather_some<R: BufRead>(reader: &mut R, line: &mut Vec<u8>) -> Result<bool, R
     ensures stays { OnErr result (StaysInLine (R.remaining reader.old) (R.remaining reader.new)) }
     ensures begun { TakesFront (R.remaining reader.old) (R.remaining reader.new) }
     ensures fault { IfErr result IsFromOutside }
+    ensures memory { result ≡ Err ReadFault.Memory → OnSome (R.remaining reader.old) (LeavesSome (R.remaining reader.new)) }
 {
     let shown = match reader.fill_buf() {
         Ok(shown) => shown,

@@ -1,6 +1,6 @@
 // A line of the header part that is tested where the reader shows it.
 ghost use Rattle.std.specs.Prelude.{IfSome};
-ghost use Rattle.lsp_message.specs.Frame.{AnswersInPlace};
+ghost use Rattle.lsp_message.specs.ReadingSteps.{AnswersInPlace};
 ghost use Rattle.lsp_message.specs.Gathering.{TakesFront};
 
 use crate::frame::ReadFault;

@@ -1,8 +1,8 @@
 // The header part, taken from a reader line by line.
 ghost use Rattle.std.specs.Prelude.{◌≡◌, Ok, IfSome};
-ghost use Rattle.lsp_message.specs.Frame.{Answers};
 ghost use Rattle.lsp_message.specs.Gathering.{TakesFront};
-ghost use Rattle.lsp_message.specs.HeaderPart.{at_last_line, first_line, header_of};
+ghost use Rattle.lsp_message.specs.HeaderPart.{at_last_line, header_of};
+ghost use Rattle.lsp_message.specs.ReadingSteps.{AnswersHeader, first_line};
 
 use crate::frame::ReadFault;
 use crate::frame::header::{HeaderLine, header_line};
@@ -16,7 +16,7 @@ pub(crate) fn read_header<R: BufRead>(
     alloc: Global,
     reader: &mut R,
 ) -> Result<Option<u64>, ReadFault>
-    ensures exact { IfSome (R.remaining reader.old) (λ text. Answers (λ n. n) result (R.remaining reader.new) (header_of text)) }
+    ensures exact { IfSome (R.remaining reader.old) (λ text. AnswersHeader (λ n. n) result (R.remaining reader.new) (header_of text)) }
     ensures begun { TakesFront (R.remaining reader.old) (R.remaining reader.new) }
 {
     let mut gathered = Vec::new(alloc);
@@ -50,7 +50,7 @@ fn read_line<R: BufRead>(
     reader: &mut R,
     gathered: &mut Vec<u8>,
 ) -> Result<Option<HeaderLine>, ReadFault>
-    ensures exact { IfSome (R.remaining reader.old) (λ text. Answers (λ line. line) result (R.remaining reader.new) (first_line text)) }
+    ensures exact { IfSome (R.remaining reader.old) (λ text. AnswersHeader (λ line. line) result (R.remaining reader.new) (first_line text)) }
     ensures begun { TakesFront (R.remaining reader.old) (R.remaining reader.new) }
 {
     match line_in_place(reader)? {
@@ -65,7 +65,7 @@ fn gathered_line<R: BufRead>(
     reader: &mut R,
     gathered: &mut Vec<u8>,
 ) -> Result<Option<HeaderLine>, ReadFault>
-    ensures exact { IfSome (R.remaining reader.old) (λ text. Answers (λ line. line) result (R.remaining reader.new) (first_line text)) }
+    ensures exact { IfSome (R.remaining reader.old) (λ text. AnswersHeader (λ line. line) result (R.remaining reader.new) (first_line text)) }
     ensures begun { TakesFront (R.remaining reader.old) (R.remaining reader.new) }
 {
     gathered.clear();

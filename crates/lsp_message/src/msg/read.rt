@@ -1,11 +1,14 @@
 // Messages, read from a reader and written to a writer.
-ghost use Rattle.std.specs.Prelude.{◌≡◌, ◌<◌, ◌≤◌, length, Err, IfSome, OnOk};
+ghost use Rattle.std.specs.Prelude.{◌≡◌, ◌≢◌, ◌<◌, ◌≤◌, length, Err, IfSome, OnOk};
 ghost use Rattle.serde_json.specs.Read.{read as read_json, max_depth};
-ghost use Rattle.lsp_message.specs.Body.{ContentUnreadOrTaken, body_means, tree_means, reading_of};
-ghost use Rattle.lsp_message.specs.Frame.{Answers, Decodes};
+ghost use Rattle.serde_json.specs.View.{view};
+ghost use Rattle.lsp_message.specs.Body.{body_means, tree_means, no_message};
+ghost use Rattle.lsp_message.specs.Frame.{RunsOut, no_limit, reading_of, reading_within};
 ghost use Rattle.lsp_message.specs.Gathering.{TakesFront};
 ghost use Rattle.lsp_message.specs.Ranges.{nesting};
 ghost use Rattle.lsp_message.specs.Readable.{WritesReadably};
+ghost use Rattle.lsp_message.specs.Reading.{Answers};
+ghost use Rattle.lsp_message.specs.ReadingSteps.{Decodes};
 ghost use Rattle.lsp_message.specs.View.{message_view};
 ghost use Rattle.lsp_message.specs.Written.{Writes};
 
@@ -23,18 +26,41 @@ impl Message {
     ///
     /// Each fault of `ReadFault` comes as its documentation says; what follows the message, or the bytes at fault, is
     /// left unread. The room of the content part is reserved before its first byte is read. After `Input` and `Memory`
-    /// nothing after the message was taken, and after `Memory` nothing of the content part, or all of it.
+    /// nothing after the message was taken, and after `Memory` nothing of the content part, or all of it. The content part
+    /// may have any length: `TooLong` never comes. `read_within` sets a limit.
     pub fn read<R: BufRead>(alloc: Global, reader: &mut R) -> Result<Option<Message>, ReadFault>
         ensures exact { IfSome (R.remaining reader.old) (λ text.
             Answers message_view result (R.remaining reader.new) (reading_of text)) }
         ensures begun { TakesFront (R.remaining reader.old) (R.remaining reader.new) }
         ensures memory { result ≡ Err ReadFault.Memory → IfSome (R.remaining reader.old) (λ text.
-            ContentUnreadOrTaken text (R.remaining reader.new)) }
+            RunsOut no_limit text (R.remaining reader.new)) }
+        ensures unlimited { IfSome (R.remaining reader.old) (λ _. result ≢ Err ReadFault.TooLong) }
+    {
+        Message::read_within(alloc, reader, u64::MAX)
+    }
+
+    /// Reads one message whose content part has at most `limit` bytes, as `read` does (LSP 3.17, "Base Protocol").
+    ///
+    /// Where the last `Content-Length` is above the limit, the answer is `TooLong` before any room is reserved for the
+    /// content part, which is left unread.
+    pub fn read_within<R: BufRead>(
+        alloc: Global,
+        reader: &mut R,
+        limit: u64,
+    ) -> Result<Option<Message>, ReadFault>
+        ensures exact { IfSome (R.remaining reader.old) (λ text.
+            Answers message_view result (R.remaining reader.new) (reading_within limit text)) }
+        ensures begun { TakesFront (R.remaining reader.old) (R.remaining reader.new) }
+        ensures memory { result ≡ Err ReadFault.Memory → IfSome (R.remaining reader.old) (λ text.
+            RunsOut limit text (R.remaining reader.new)) }
     {
         let count = match read_header(alloc, reader)? {
             Some(count) => count,
             None => return Ok(None),
         };
+        if count > limit {
+            return Err(ReadFault::TooLong);
+        }
         let body = read_body(alloc, reader, count)?;
         Ok(Some(message_in(alloc, &body)?))
     }
@@ -71,15 +97,28 @@ fn message_in_text(alloc: Global, text: &str) -> Result<Message, ReadFault>
     ensures some { result ≡ Err ReadFault.Memory → 0 < length text.now }
 {
     match Value::from_str(alloc, text) {
-        Ok(tree) => match Message::from_tree(tree) {
-            Some(message) => Ok(message),
-            None => Err(ReadFault::NoMessage),
-        },
+        Ok(tree) => {
+            let refusal = refusal_of(&tree);
+            match Message::from_tree(tree) {
+                Some(message) => Ok(message),
+                None => Err(refusal),
+            }
+        }
         Err(error) => {
             if error.is_memory() {
                 return Err(ReadFault::Memory);
             }
             Err(ReadFault::NoJson)
         }
+    }
+}
+
+/// The fault of a tree that is no message: a list is a batch.
+fn refusal_of(tree: &Value) -> ReadFault
+    ensures { result ≡ no_message (view tree.now) }
+{
+    match tree {
+        Value::Array(_) => ReadFault::Batch,
+        _ => ReadFault::NoMessage,
     }
 }

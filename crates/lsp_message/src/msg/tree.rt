@@ -4,7 +4,7 @@ ghost use Rattle.std.specs.Prelude.{◌≡◌, ℕ, List, false, is_some, Some, 
 ghost use Rattle.serde_json.specs.Data.{null, object, array};
 ghost use Rattle.serde_json.specs.Find.{as_str, get_member};
 ghost use Rattle.serde_json.specs.View.{view, number_view, items_view, members_view};
-ghost use Rattle.lsp_message.specs.Meaning.{as_i32, as_id, code_of as code_in, unless_null, as_error, listed_error as error_in_list, outcome_of as outcome_in, listed_request, listed_notification, listed_message, meaning};
+ghost use Rattle.lsp_message.specs.Meaning.{as_i32, as_id, code_of as code_in, unless_null, as_error, listed_error as error_in_list, outcome_of as outcome_in, meaning};
 ghost use Rattle.lsp_message.specs.Listed.{Lists};
 ghost use Rattle.lsp_message.specs.View.{error_view, outcome_view, message_view};
 
@@ -168,49 +168,6 @@ fn object_message(mut members: Map<String, Value>) -> Option<Message>
     }
 }
 
-fn list_message(items: Vec<Value>) -> Option<Message>
-    ensures { option_map message_view result ≡ listed_message (items_view items.items) }
-{
-    match by_position(items) {
-        Listed::One(method) => list_notification(method, Value::Null),
-        Listed::Two(first, second) => {
-            if is_id(&first) && second.is_string() {
-                list_request(first, second, Value::Null)
-            } else {
-                list_notification(first, second)
-            }
-        }
-        Listed::Three(id, method, params) => list_request(id, method, params),
-        Listed::Other => None,
-    }
-}
-
-fn list_request(id: Value, method: Value, params: Value) -> Option<Message>
-    ensures { option_map message_view result
-        ≡ listed_request (view id) (view method) (view params) }
-{
-    let id = id_of(id)?;
-    let method = text_of(method)?;
-    Some(Message::Request(Request { id, method, params }))
-}
-
-fn list_notification(method: Value, params: Value) -> Option<Message>
-    ensures { option_map message_view result ≡ listed_notification (view method) (view params) }
-{
-    let method = text_of(method)?;
-    Some(Message::Notification(Notification { method, params }))
-}
-
-fn is_id(value: &Value) -> bool
-    ensures { result ≡ is_some (as_id (view value.now)) }
-{
-    match value {
-        Value::String(_) => true,
-        Value::Number(number) => whole_number(number).is_some(),
-        _ => false,
-    }
-}
-
 impl Message {
     /// The message that a tree is, if it is one (JSON-RPC 2.0, sections 4 and 5). Its parts are moved, so no memory is needed.
     ///
@@ -224,17 +181,14 @@ impl Message {
     /// | object with a textual `method` and no good `id` | notification |
     /// | object with no textual `method`, a good `id`, a `result`, and `error` absent or null | response with a result |
     /// | object with no textual `method`, a good `id`, a readable `error`, and `result` absent or null | response with an error |
-    /// | list of two or three items, a good id and a text first | request |
-    /// | any other list of one or two items, a text first | notification |
-    /// | all else | none |
+    /// | all else, a list among it | none |
     ///
-    /// In a list the params follow the method. Absent params read as null.
+    /// Absent params read as null.
     pub fn from_tree(tree: Value) -> Option<Message>
         ensures { option_map message_view result ≡ meaning (view tree) }
     {
         match tree {
             Value::Object(members) => object_message(members),
-            Value::Array(items) => list_message(items),
             _ => None,
         }
     }

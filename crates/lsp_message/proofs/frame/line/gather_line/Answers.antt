@@ -1,5 +1,6 @@
-use Rattle.std.proofs.Common.{Ok, ap}
-use Rattle.lsp_message.proofs.Takings.{TakesFront-trans, KeepsLine-trans}
+use Rattle.std.proofs.Common.{Ok, Err, ap, ◌∙◌}
+use Rattle.std.proofs.lemmas.Result.{err_from_is_err_and}
+use Rattle.lsp_message.proofs.Takings.{TakesFront-trans, KeepsLine-trans, KeepsLine-known}
 use Rattle.lsp_message.proofs.frame.line.gather_line.Goals as goal
 
 pub returns-in_err-gather_some-clause-begun : goal.returns-in_err-gather_some-clause-begun
@@ -13,3 +14,8 @@ loop-preserved g c = record {
   line = KeepsLine-trans _ _ _ _ _ _ c.loop.invariant.line (c.in_ok-gather_some.ensures.more (ap Ok c.if-branch.false));
   begun = TakesFront-trans _ _ _ c.loop.invariant.begun c.gather_some.ensures.begun;
 }
+
+pub returns-in_err-gather_some-clause-memory : goal.returns-in_err-gather_some-clause-memory
+returns-in_err-gather_some-clause-memory g c = λ is.
+    let p = err_from_is_err_and c.from_residual.result c.from_residual.ensures.1 in
+    KeepsLine-known _ _ _ _ _ c.loop.invariant.line (c.gather_some.ensures.memory (c.in_err-gather_some.was ∙ ap Err (cc (p.1, p.2, is))))

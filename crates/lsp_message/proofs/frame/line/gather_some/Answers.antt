@@ -1,7 +1,7 @@
-use Rattle.std.proofs.Common.{◌≤◌, length, IfSome, sym, subst}
+use Rattle.std.proofs.Common.{◌≤◌, length, IfSome, sym, subst, arith, length-take}
 use Rattle.std.specs.Io.KnownBytes.{Keeps}
 use Rattle.std.proofs.BufReadLemmas.{Consumes_shown}
-use Rattle.lsp_message.proofs.Shown.{IsLinePart, part_to_feed, part_with_no_feed, kept_shown, dropped, line_ends, line_goes_on}
+use Rattle.lsp_message.proofs.Shown.{IsLinePart, part_to_feed, part_with_no_feed, kept_shown, shown_left, dropped, line_ends, line_goes_on}
 use Rattle.lsp_message.proofs.frame.line.gather_some.Given.{Over}
 use Rattle.lsp_message.proofs.frame.line.gather_some.Goals.{in-Some, in-None}
 use Rattle.lsp_message.proofs.frame.line.gather_some.Goals as goal
@@ -31,3 +31,9 @@ returns-clause-end g c = λ is.
 pub returns-clause-begun : goal.returns-clause-begun
 returns-clause-begun g c =
     (_, (Consumes_shown _ _ _ _ _ _ (part g c).within c.in-Ok.ensures.front c.in-Ok.ensures.end (kept g c).0 (kept g c).1 c.consume.ensures.bytes).0)
+
+pub returns-in_err-extend_from_slice-clause-memory : goal.returns-in_err-extend_from_slice-clause-memory
+returns-in_err-extend_from_slice-clause-memory g c = λ is.
+    let kept = kept_shown _ _ _ _ _ c.in-Ok.is c.fill_buf.follows.holds-at-none in
+    let full = c.in_err-extend_from_slice.ensures.full in
+    shown_left _ _ _ kept.0 c.in-Ok.ensures.front (omega (arith, full, c.args.line.now.ok.1, length-take c.match-memchr.count.0 c.in-Ok.shown.now))

@@ -1,4 +1,4 @@
-use Rattle.std.proofs.Common.{◌≡◌, length, sym, ap, subst, ◌∙◌, eq-eqb, true≢false}
+use Rattle.std.proofs.Common.{◌≡◌, Err, length, sym, ap, subst, ◌∙◌, eq-eqb, true≢false}
 use Rattle.std.proofs.lemmas.Result.{err_from_is_err_and}
 use Rattle.lsp_message.specs.Gathering.{EndsLine}
 use Rattle.lsp_message.specs.HeaderPart.{header_line}
@@ -11,15 +11,15 @@ returns-in_err-header_line-clause-exact g c =
     let gathered = subst (λ l. EndsLine l (g.R.Read.remaining c.args.reader.now) c.gather_line.new.line.items (g.R.Read.remaining c.gather_line.new.reader)) c.clear.ensures.items c.in_ok-gather_line.ensures.line in
     let some : length c.gather_line.new.line.items ≡ 0 → ⊥ = λ none. true≢false (sym (eq-eqb _ _ (c.gather_line.new.line.ok.0 ∙ none)) ∙ sym c.is_empty.ensures ∙ c.if-is_empty.false) in
     let p = err_from_is_err_and c.from_residual-in_err-header_line.result c.from_residual-in_err-header_line.ensures.1 in
-    rw (p.1, p.2) (line_read _ _ _ _ gathered some (c.in_err-header_line.ensures ∙ ap header_line c.deref.ensures.value))
+    rw (p.1, p.2) (line_read (g.R.Read.remaining c.args.reader.now) (g.R.Read.remaining c.gather_line.new.reader) c.gather_line.new.line.items _ gathered some (c.in_err-header_line.ensures ∙ ap header_line c.deref.ensures.value))
 
 pub returns-in_err-gather_line-clause-exact : goal.returns-in_err-gather_line-clause-exact
 returns-in_err-gather_line-clause-exact g c =
     let p = err_from_is_err_and c.from_residual.result c.from_residual.ensures.1 in
-    rw (p.1, p.2) (line_stops _ _ _ c.in_err-gather_line.ensures.fault c.in_err-gather_line.ensures.stays)
+    rw (p.1, p.2) (line_stops _ _ _ c.in_err-gather_line.ensures.fault c.in_err-gather_line.ensures.stays (λ is. c.gather_line.ensures.memory (c.in_err-gather_line.was ∙ ap Err is)))
 
 pub returns-clause-exact : goal.returns-clause-exact
 returns-clause-exact g c =
     let gathered = subst (λ l. EndsLine l (g.R.Read.remaining c.args.reader.now) c.gather_line.new.line.items (g.R.Read.remaining c.gather_line.new.reader)) c.clear.ensures.items c.in_ok-gather_line.ensures.line in
     let some : length c.gather_line.new.line.items ≡ 0 → ⊥ = λ none. true≢false (sym (eq-eqb _ _ (c.gather_line.new.line.ok.0 ∙ none)) ∙ sym c.is_empty.ensures ∙ c.if-is_empty.false) in
-    line_read _ _ _ _ gathered some (c.in_ok-header_line.ensures ∙ ap header_line c.deref.ensures.value)
+    line_read (g.R.Read.remaining c.args.reader.now) (g.R.Read.remaining c.gather_line.new.reader) c.gather_line.new.line.items _ gathered some (c.in_ok-header_line.ensures ∙ ap header_line c.deref.ensures.value)

@@ -1,7 +1,7 @@
 use Rattle.std.proofs.Common.{◌≡◌, Ok, Some, IfSome, sym, ap, subst, ◌∙◌}
 use Rattle.std.proofs.lemmas.Result.{err_from_is_err_and}
-use Rattle.lsp_message.specs.Frame.{Answers}
 use Rattle.lsp_message.specs.HeaderPart.{header_of}
+use Rattle.lsp_message.specs.ReadingSteps.{AnswersHeader}
 use Rattle.lsp_message.specs.declared.frame.header.HeaderLine.{HeaderLine}
 use Rattle.lsp_message.proofs.HeaderSteps.{Next, next, Continues, Continues-stops}
 use Rattle.lsp_message.proofs.Takings.{TakesFront-trans}
@@ -26,7 +26,7 @@ returns-in-None-clause-begun g c = TakesFront-trans _ _ _ c.loop.invariant.begun
 pub returns-in-Blank-clause-exact : goal.returns-in-Blank-clause-exact
 returns-in-Blank-clause-exact g c =
     let blank = subst (Next _ _ _) (c.in_ok-line.was ∙ ap Ok (c.in-Some.is ∙ ap Some c.in-Blank.is)) (next _ _ _ _ _ c.loop.invariant.header c.read_line.ensures.exact) in
-    subst (λ r. IfSome (g.R.Read.remaining c.args.reader.now) (λ text. Answers (λ n. n) r (g.R.Read.remaining c.read_line.new.reader) (header_of text))) (sym c.at_blank_line.ensures) blank
+    subst (λ r. IfSome (g.R.Read.remaining c.args.reader.now) (λ text. AnswersHeader (λ n. n) r (g.R.Read.remaining c.read_line.new.reader) (header_of text))) (sym c.at_blank_line.ensures) blank
 
 pub returns-in-Blank-clause-begun : goal.returns-in-Blank-clause-begun
 returns-in-Blank-clause-begun g c = TakesFront-trans _ _ _ c.loop.invariant.begun c.read_line.ensures.begun
