@@ -1,5 +1,5 @@
 pub mod Contents
-mod FrontOfFrame
+pub mod FrontOfFrame
 mod FrontSteps
 mod HeaderSteps
 mod Joined
@@ -20,4 +20,5 @@ mod Takings
 mod Texts
 mod TreeLaws
 mod Unique
+mod Within
 mod Writings

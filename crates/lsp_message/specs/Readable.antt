@@ -1,12 +1,16 @@
 -- A message that is read back as it was written.
+use Rattle.serde_json.specs.Read.{max_depth}
 use Rattle.std.specs.Io.KnownBytes.{Appends}
-use Rattle.std.specs.Prelude.{ℕ, List, ◌++◌, Option}
+use Rattle.std.specs.Prelude.{◌≤◌, ℕ, List, ◌++◌, Option}
 use Rattle.lsp_message.specs.Frame.{no_limit}
 use Rattle.lsp_message.specs.Letters.{Begins}
 use Rattle.lsp_message.specs.Message.{Message}
+use Rattle.lsp_message.specs.Ranges.{nesting}
 use Rattle.lsp_message.specs.Tree.{without_null_details}
 use Rattle.lsp_message.specs.Written.{IsFrameOf}
 
--- the writer got a frame of the message, and whatever follows that frame, the message is read from its front
+-- the writer got a frame of the message; where that nests at most 127 levels, it is read from the front, whatever follows
 abbrev pub WritesReadably : Message → Option (List ℕ) → Option (List ℕ) → Type 0
-WritesReadably m old new = (text : List ℕ) × IsFrameOf m text × Appends old new text × ((rest : List ℕ) → Begins no_limit (text ++ rest) (without_null_details m) rest)
+WritesReadably m old new =
+    (text : List ℕ) × IsFrameOf m text × Appends old new text
+    × (nesting m ≤ max_depth → (rest : List ℕ) → Begins no_limit (text ++ rest) (without_null_details m) rest)

@@ -1,6 +1,10 @@
 //! The requests that have no reply yet, of both sides (JSON-RPC 2.0, section 5).
-ghost use Rattle.std.specs.Prelude.{◌≡◌, ◌==◌, ◌+◌, ◌^◌, ◌<◌, ◌||◌, not, pos, Ok, Err, None, option_map, IfOk, IfErr, OnOk, OnErr, if◌then◌else◌};
+ghost use Rattle.std.specs.Prelude.{◌≡◌, ◌==◌, ◌+◌, ◌^◌, ◌<◌, ◌≤◌, ◌||◌, not, pos, Ok, Err, None, option_copied, option_map, IfOk, IfErr, OnOk, OnErr, if◌then◌else◌};
 ghost use Rattle.std.specs.FinMap as map;
+ghost use Rattle.serde_json.specs.Data.{depth};
+ghost use Rattle.serde_json.specs.Read.{max_depth};
+ghost use Rattle.serde_json.specs.View.{view};
+ghost use Rattle.lsp_message.specs.Converted.{IsTreeOf};
 ghost use Rattle.lsp_message.specs.Id.{number, id_cmp};
 ghost use Rattle.lsp_message.specs.View.{response_view};
 ghost use Rattle.lsp_queue.specs.Queue.{pending_of, count_of, all_ids, cancelled};
@@ -182,6 +186,13 @@ impl<O> Outgoing<O> {
     {
         self.pending.remove(&id)
     }
+
+    /// The data of a request, where it is pending. It takes no memory.
+    pub fn data(&self, id: &RequestId) -> Option<&O>
+        ensures { option_copied result ≡ map.get (pending_of self.now) id.now }
+    {
+        self.pending.get(id)
+    }
 }
 
 impl<O: Drop> Outgoing<O> {
@@ -199,6 +210,7 @@ impl<O: Drop> Outgoing<O> {
         ensures method { IfOk result (λ request. request.method ≡ method) }
         ensures params { IfOk result (λ request. request.params ≡ params) }
         ensures ok { OnOk result (self.new ≡ (map.insert (pending_of self.old) (number (pos (count_of self.old))) «data», count_of self.old + 1)) }
+        ensures room { OnOk result (count_of self.old < all_ids) }
         ensures err { OnErr result (self.new ≡ self.old) }
         ensures refused { IfErr result (λ fault. fault ≡ (if count_of self.old == all_ids then RegisterFault.Spent «data» else RegisterFault.Memory «data»)) }
         ensures spent { count_of self.old ≡ all_ids → result ≡ Err (RegisterFault.Spent «data») }
@@ -228,7 +240,10 @@ impl<O: Drop> Outgoing<O> {
     ) -> Result<Request, RegisterFault<O>>
         ensures id { IfOk result (λ request. request.id ≡ number (pos (count_of self.old))) }
         ensures method { IfOk result (λ request. request.method ≡ method) }
+        ensures params { IfOk result (λ request. IsTreeOf (P.writes params) (view request.params)) }
+        ensures nests { IfOk result (λ request. depth (view request.params) ≤ max_depth) }
         ensures ok { OnOk result (self.new ≡ (map.insert (pending_of self.old) (number (pos (count_of self.old))) «data», count_of self.old + 1)) }
+        ensures room { OnOk result (count_of self.old < all_ids) }
         ensures err { OnErr result (self.new ≡ self.old) }
         ensures handed_back { IfErr result (IsFaultOf «data») }
         ensures spent { count_of self.old ≡ all_ids → result ≡ Err (RegisterFault.Spent «data») }

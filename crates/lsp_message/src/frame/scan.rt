@@ -1,5 +1,5 @@
 // The first message of bytes that have come so far, by a scan of its header part.
-ghost use Rattle.std.specs.Prelude.{◌≡◌, ◌≤◌, Ok};
+ghost use Rattle.std.specs.Prelude.{◌≡◌, ◌≤◌, ℕ, length, Ok};
 ghost use Rattle.lsp_message.specs.Front.{front_of, at_header_end};
 ghost use Rattle.lsp_message.specs.HeaderPart.{at_last_line};
 
@@ -9,7 +9,17 @@ use crate::frame::header::{HeaderLine, header_line};
 use memchr::memchr;
 
 /// Finds how much of the bytes is their first message (LSP 3.17, "Base Protocol"). It takes no memory.
+///
+/// A whole one lies within the bytes.
 pub fn front(bytes: &[u8]) -> Front
+    ensures value { result ≡ front_of bytes.now }
+    ensures within { (count : ℕ) → result ≡ Front.Whole count → count ≤ length bytes.now }
+{
+    scanned(bytes)
+}
+
+/// The same, by a scan of the lines.
+fn scanned(bytes: &[u8]) -> Front
     ensures { result ≡ front_of bytes.now }
 {
     let mut length = None;

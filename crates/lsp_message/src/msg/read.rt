@@ -73,8 +73,8 @@ impl Message {
     pub fn write<W: Write>(&self, alloc: Global, writer: &mut W) -> Result<(), WriteFault>
         ensures frame { Writes (message_view self.now) (W.contents writer.old) result (W.contents writer.new) }
         ensures memory { result ≡ Err WriteFault.Memory → writer.new ≡ writer.old }
-        ensures reads_back { OnOk result (nesting (message_view self.now) ≤ max_depth
-            → WritesReadably (message_view self.now) (W.contents writer.old) (W.contents writer.new)) }
+        ensures reads_back { OnOk result (
+            WritesReadably (message_view self.now) (W.contents writer.old) (W.contents writer.new)) }
     {
         let body = self.body_text(alloc)?;
         write_body(alloc, writer, body.as_str())

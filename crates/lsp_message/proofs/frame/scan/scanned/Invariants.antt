@@ -1,7 +1,7 @@
 use Rattle.std.proofs.Common.{◌≡◌, ◌≤◌, length}
 use Rattle.lsp_message.specs.Front.{front_of}
 use Rattle.lsp_message.proofs.FrontSteps.{front_after}
-use Rattle.lsp_message.proofs.frame.scan.front.Given as goal
+use Rattle.lsp_message.proofs.frame.scan.scanned.Given as goal
 
 abbrev pub invariant-loop-at : goal.invariant-loop-at
 invariant-loop-at l = record {
