@@ -1,5 +1,5 @@
 //! The requests that have no reply yet, of both sides (JSON-RPC 2.0, section 5).
-ghost use Rattle.std.specs.Prelude.{◌≡◌, ◌==◌, ◌+◌, ◌^◌, ◌<◌, ◌||◌, not, pos, Ok, Err, None, option_map, IfOk, IfErr, OnOk, OnErr, if◌then◌else◌};
+ghost use Rattle.std.specs.Prelude.{◌≡◌, ◌==◌, ◌+◌, ◌^◌, ◌<◌, ◌||◌, not, pos, Ok, Err, None, option_copied, option_map, IfOk, IfErr, OnOk, OnErr, if◌then◌else◌};
 ghost use Rattle.std.specs.FinMap as map;
 ghost use Rattle.lsp_message.specs.Id.{number, id_cmp};
 ghost use Rattle.lsp_message.specs.View.{response_view};
@@ -84,6 +84,13 @@ impl<I> Incoming<I> {
         ensures { result ≡ not (map.len self.now == 0) }
     {
         self.pending.len() != 0
+    }
+
+    /// The data of a request, where it is pending. It takes no memory.
+    pub fn data(&self, id: &RequestId) -> Option<&I>
+        ensures { option_copied result ≡ map.get self.now id.now }
+    {
+        self.pending.get(id)
     }
 
     /// Takes a request out, and gives its data where it was pending. It takes no memory.
