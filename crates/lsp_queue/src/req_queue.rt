@@ -90,6 +90,13 @@ impl<I> Incoming<I> {
         self.pending.len() != 0
     }
 
+    /// The data of a request, where it is pending. It takes no memory.
+    pub fn data(&self, id: &RequestId) -> Option<&I>
+        ensures { option_copied result ≡ map.get self.now id.now }
+    {
+        self.pending.get(id)
+    }
+
     /// Takes a request out, and gives its data where it was pending. It takes no memory.
     pub fn complete(&mut self, id: &RequestId) -> Option<I>
         ensures value { result ≡ map.get self.old id.now }

@@ -168,6 +168,22 @@ fn object_message(mut members: Map<String, Value>) -> Option<Message>
     }
 }
 
+impl RequestId {
+    /// The id that a value is, where it is a good one: a text, or a whole number of 32 signed bits (JSON-RPC 2.0, section 4).
+    ///
+    /// So it reads the id that a notification names in its params, as `$/cancelRequest` does. It takes memory for a text, and
+    /// is an `Err` where that allocation failed.
+    pub fn from_value(value: &Value) -> Result<Option<RequestId>, AllocError>
+        ensures { IfOk result (λ id. id ≡ as_id (view value.now)) }
+    {
+        match value {
+            Value::String(text) => Ok(Some(RequestId::from(text.clone()?))),
+            Value::Number(number) => Ok(whole_number(number).map(RequestId::from)),
+            _ => Ok(None),
+        }
+    }
+}
+
 impl Message {
     /// The message that a tree is, if it is one (JSON-RPC 2.0, sections 4 and 5). Its parts are moved, so no memory is needed.
     ///

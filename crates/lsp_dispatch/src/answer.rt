@@ -1,0 +1,89 @@
+//! What a dispatcher answers.
+use lsp_message::{Message, Notification, Request, Response};
+use std::fmt;
+
+/// What comes of a call of a dispatcher.
+#[derive(Debug, Drop)]
+pub enum Answer {
+    /// The reply to a request of the protocol's own, whose name begins with `$/` (LSP 3.17, "`$` Notifications and Requests").
+    Unknown(Response),
+    /// A request to be worked on, under this ticket.
+    Work {
+        /// The request.
+        request: Request,
+        /// Its ticket: 0, 1, 2, .. in the order in which requests come.
+        ticket: u64,
+        /// The ticket that was pending under the same id until now. It gets no reply any more, and its work can be dropped.
+        replaced: Option<u64>,
+    },
+    /// The reply to a request that its client cancelled (LSP 3.17, "Cancellation Support"). Its work can be dropped.
+    Cancelled {
+        /// The reply, with code -32800.
+        reply: Response,
+        /// The ticket of the request.
+        ticket: u64,
+    },
+    /// The reply to a request whose work is done.
+    Finished {
+        /// The reply.
+        reply: Response,
+        /// The ticket of the request.
+        ticket: u64,
+    },
+    /// A notification for the server.
+    Note(Notification),
+    /// There is nothing to do.
+    Nothing,
+}
+
+impl Answer {
+    ghost use Rattle.std.specs.Prelude.{◌≡◌, option_map};
+    ghost use Rattle.lsp_message.specs.View.{message_view};
+    ghost use Rattle.lsp_dispatch.specs.DispatchAnswers.{answer_view, reply_of};
+
+    /// The reply to be sent, where the answer has one: `Unknown`, `Cancelled` and `Finished`. It takes no memory.
+    pub fn into_reply(self) -> Option<Message>
+        ensures { option_map message_view result ≡ reply_of (answer_view self) }
+    {
+        match self {
+            Answer::Unknown(reply) => Some(Message::Response(reply)),
+            Answer::Cancelled { reply, .. } => Some(Message::Response(reply)),
+            Answer::Finished { reply, .. } => Some(Message::Response(reply)),
+            Answer::Work { .. } | Answer::Note(_) | Answer::Nothing => None,
+        }
+    }
+}
+
+/// Why a message was not delivered. It comes back, and the dispatcher is unchanged.
+#[derive(Debug, Drop)]
+pub enum DispatchFault {
+    /// 1: an allocation failed.
+    Memory(Message),
+    /// 2: every ticket was given out, 18446744073709551615 in all.
+    Spent(Message),
+}
+
+impl DispatchFault {
+    ghost use Rattle.std.specs.Prelude.{◌≡◌};
+    ghost use Rattle.lsp_dispatch.specs.DispatchFaults.{dispatch_fault_number};
+
+    /// The fault's number, 1 or 2.
+    pub fn number(&self) -> u8
+        ensures { result ≡ dispatch_fault_number self.now }
+    {
+        match self {
+            DispatchFault::Memory(_) => 1,
+            DispatchFault::Spent(_) => 2,
+        }
+    }
+}
+
+impl fmt::Display for DispatchFault {
+    ghost use Rattle.lsp_dispatch.specs.DispatchFaults.{dispatch_fault_text};
+
+    ghost output = { dispatch_fault_text };
+
+    fn fmt<W: fmt::Write>(&self, f: &mut fmt::Formatter<W>) -> fmt::Result {
+        write!(f, "dispatch fault {}", self.number())
+    }
+}

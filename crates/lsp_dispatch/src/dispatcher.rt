@@ -1,0 +1,216 @@
+//! Requests that are being worked on, each under its id with a ticket.
+ghost use Rattle.std.specs.Prelude.{◌≡◌, Err, ◌≢◌, ◌^◌, ◌-◌, Some, None, IfOk, IfErr, OnErr, string_bytes, codes};
+ghost use Rattle.std.specs.FinMap as map;
+ghost use Rattle.serde_json.specs.View.{view};
+ghost use Rattle.lsp_message.specs.Id.{Id};
+ghost use Rattle.lsp_message.specs.View.{request_view, notification_view, response_view, message_view, outcome_view};
+ghost use Rattle.lsp_queue.specs.Queue.{pending_of, count_of};
+ghost use Rattle.lsp_dispatch.specs.DispatchAnswers.{answer_view, replaced_of};
+ghost use Rattle.lsp_dispatch.specs.DispatchCalls.{asked_in, not_found_reply, named_id as named_spec};
+ghost use Rattle.lsp_dispatch.specs.DispatchTable.{delivered, replaced_in, cancelling, finished, all_tickets, is_pending_with as pending_with};
+ghost use Rattle.lsp_dispatch.specs.DispatchFaults.{handed_back, IsSpent};
+
+use crate::answer::{Answer, DispatchFault};
+use crate::params::{is_own, named_id};
+use lsp_message::{ErrorCode, Message, Notification, Request, RequestId, Response, ResponseError};
+use lsp_queue::ReqQueue;
+use serde_json::Value;
+use std::alloc::{AllocError, Global};
+use std::marker::Model;
+
+/// The requests that are worked on, each under its id with a ticket.
+///
+/// `deliver` gives each request a ticket, and `finish` takes it back with what came of the work. Each ticket has one reply at
+/// most: where its work is finished, or where its client cancelled it (LSP 3.17, "Cancellation Support"). Work that was
+/// cancelled, or whose id came again, has none any more, whatever is finished later. Nothing is sent here: the caller sends
+/// what `Answer::into_reply` gives. For the shutdown of a session ask `shutdown` or `Connection::handle_shutdown` first.
+#[derive(Drop)]
+pub struct Dispatcher {
+    alloc: Global,
+    queue: ReqQueue<u64, u64>,
+    tickets: u64,
+}
+
+impl Model for Dispatcher {
+    ghost use Rattle.std.specs.Coded.{coded×, coded_ℕ};
+    ghost use Rattle.std.specs.FinMap as map;
+    ghost use Rattle.lsp_message.specs.IdKeys.{coded_id};
+    ghost use Rattle.lsp_dispatch.specs.DispatchTable.{Held};
+
+    ghost Value = { Held };
+
+    ghost coded = { coded× (map.code coded_id coded_ℕ) coded_ℕ };
+
+    ghost view = { λ d. (d.queue.incoming, d.tickets) };
+}
+
+impl Dispatcher {
+    /// Nothing is pending, and no ticket was given out. It takes no memory.
+    pub fn default(alloc: Global) -> Dispatcher
+        ensures { result ≡ (map.empty, 0) }
+    {
+        Dispatcher {
+            alloc,
+            queue: ReqQueue::default(alloc),
+            tickets: 0,
+        }
+    }
+
+    /// Takes a message, and says what is to be done about it. The first line that fits counts:
+    ///
+    /// | Message | Answer |
+    /// |---|---|
+    /// | request, method begins with `$/` | `Unknown`: code -32601, `method not found` |
+    /// | another request | `Work`: it is pending under its id with the next ticket; a ticket that was pending there is `replaced` |
+    /// | notification `$/cancelRequest`, params an object whose `id` is a good one that is pending | `Cancelled`: the reply of `Incoming::cancel`; the id is pending no more |
+    /// | another notification, method begins with `$/` | `Nothing` |
+    /// | another notification | `Note` |
+    /// | response | `Nothing` |
+    ///
+    /// A good id is a text, or a whole number of 32 signed bits. `DispatchFault::Memory` says that an allocation failed,
+    /// and `DispatchFault::Spent` comes exactly for a request that would need a ticket past the last. Both hand the message
+    /// back, and nothing has changed.
+    pub fn deliver(&mut self, message: Message) -> Result<Answer, DispatchFault>
+        ensures ok { IfOk result (λ answer. (answer_view answer, self.new) ≡ delivered self.old (message_view message)) }
+        ensures replaced { IfOk result (λ answer. replaced_of answer ≡ replaced_in self.old (message_view message)) }
+        ensures err { OnErr result (self.new ≡ self.old) }
+        ensures handed_back { IfErr result (λ fault. handed_back fault ≡ message) }
+        ensures spent { IfErr result (λ fault. IsSpent fault → count_of self.old ≡ all_tickets) }
+        ensures full { (id : Id) → count_of self.old ≡ all_tickets → asked_in (message_view message) ≡ Some id → result ≡ Err (DispatchFault.Spent message) }
+    {
+        match message {
+            Message::Request(request) => self.deliver_request(request),
+            Message::Notification(notification) => self.deliver_notification(notification),
+            Message::Response(_) => Ok(Answer::Nothing),
+        }
+    }
+
+    fn deliver_request(&mut self, request: Request) -> Result<Answer, DispatchFault>
+        ensures ok { IfOk result (λ answer. (answer_view answer, self.new) ≡ delivered self.old (request_view request)) }
+        ensures replaced { IfOk result (λ answer. replaced_of answer ≡ replaced_in self.old (request_view request)) }
+        ensures err { OnErr result (self.new ≡ self.old) }
+        ensures handed_back { IfErr result (λ fault. handed_back fault ≡ Message.Request request) }
+        ensures spent { IfErr result (λ fault. IsSpent fault → count_of self.old ≡ all_tickets) }
+        ensures full { (id : Id) → count_of self.old ≡ all_tickets → asked_in (request_view request) ≡ Some id → result ≡ Err (DispatchFault.Spent (Message.Request request)) }
+    {
+        if is_own(request.method.as_str()) {
+            return match not_found(self.alloc, &request.id) {
+                Ok(reply) => Ok(Answer::Unknown(reply)),
+                Err(_) => Err(DispatchFault::Memory(Message::Request(request))),
+            };
+        }
+        let ticket = self.tickets;
+        if ticket == u64::MAX {
+            return Err(DispatchFault::Spent(Message::Request(request)));
+        }
+        let replaced = self.ticket_of(&request.id);
+        match self.keep(&request.id, ticket) {
+            Ok(()) => {
+                self.tickets = ticket + 1;
+                Ok(Answer::Work {
+                    request,
+                    ticket,
+                    replaced,
+                })
+            }
+            Err(_) => Err(DispatchFault::Memory(Message::Request(request))),
+        }
+    }
+
+    /// Makes a request pending with this ticket.
+    fn keep(&mut self, id: &RequestId, ticket: u64) -> Result<(), AllocError>
+        ensures ok { IfOk result (λ _. self.new ≡ (map.insert (pending_of self.old) id.now ticket, count_of self.old)) }
+        ensures err { OnErr result (self.new ≡ self.old) }
+    {
+        let id = id.clone()?;
+        match self.queue.incoming.register(id, ticket) {
+            Ok(()) => Ok(()),
+            Err(_) => Err(AllocError),
+        }
+    }
+
+    fn deliver_notification(&mut self, notification: Notification) -> Result<Answer, DispatchFault>
+        ensures ok { IfOk result (λ answer. (answer_view answer, self.new) ≡ delivered self.old (notification_view notification)) }
+        ensures replaced { IfOk result (λ answer. replaced_of answer ≡ None) }
+        ensures err { OnErr result (self.new ≡ self.old) }
+        ensures handed_back { IfErr result (λ fault. fault ≡ DispatchFault.Memory (Message.Notification notification)) }
+    {
+        if notification.method.as_str() == "$/cancelRequest" {
+            return match self.cancel(&notification.params) {
+                Ok(answer) => Ok(answer),
+                Err(_) => Err(DispatchFault::Memory(Message::Notification(notification))),
+            };
+        }
+        if is_own(notification.method.as_str()) {
+            return Ok(Answer::Nothing);
+        }
+        Ok(Answer::Note(notification))
+    }
+
+    /// Cancels the request that the params name, where it is pending.
+    fn cancel(&mut self, params: &Value) -> Result<Answer, AllocError>
+        ensures ok { IfOk result (λ answer. (answer_view answer, self.new) ≡ cancelling self.old (named_spec (view params.now))) }
+        ensures replaced { IfOk result (λ answer. replaced_of answer ≡ None) }
+        ensures err { OnErr result (self.new ≡ self.old) }
+    {
+        let Some(id) = named_id(params)? else {
+            return Ok(Answer::Nothing);
+        };
+        let Some(ticket) = self.ticket_of(&id) else {
+            return Ok(Answer::Nothing);
+        };
+        match self.queue.incoming.cancel(id)? {
+            Some(reply) => Ok(Answer::Cancelled { reply, ticket }),
+            None => Ok(Answer::Nothing),
+        }
+    }
+
+    /// The ticket under which the request is pending.
+    fn ticket_of(&self, id: &RequestId) -> Option<u64>
+        ensures { result ≡ map.get (pending_of self.now) id.now }
+    {
+        self.queue.incoming.data(id).copied()
+    }
+
+    /// Gives the reply to a request whose work is done, as `Finished`, where it is pending under this id with this ticket. It
+    /// is pending no more then. Else the answer is `Nothing`, and nothing changes. It takes no memory.
+    pub fn finish(
+        &mut self,
+        id: RequestId,
+        ticket: u64,
+        outcome: Result<Value, ResponseError>,
+    ) -> Answer
+        ensures { (answer_view result, self.new) ≡ finished self.old id ticket (outcome_view outcome) }
+    {
+        if !self.is_pending_with(&id, ticket) {
+            return Answer::Nothing;
+        }
+        self.queue.incoming.complete(&id);
+        let reply = Response {
+            id,
+            response_result: outcome,
+        };
+        Answer::Finished { reply, ticket }
+    }
+
+    fn is_pending_with(&self, id: &RequestId, ticket: u64) -> bool
+        ensures { result ≡ pending_with ticket (map.get (pending_of self.now) id.now) }
+    {
+        match self.ticket_of(id) {
+            Some(pending) => pending == ticket,
+            None => false,
+        }
+    }
+}
+
+/// The reply to a request whose method nobody knows.
+fn not_found(alloc: Global, id: &RequestId) -> Result<Response, AllocError>
+    ensures { IfOk result (λ reply. response_view reply ≡ not_found_reply id.now) }
+{
+    let id = id.clone()?;
+    let text = String::from_str(alloc, "method not found")?;
+    Ok(Response::new_err(id, ErrorCode::MethodNotFound.number(), text))
+}
+
+#[cfg(test)]
+mod tests;

@@ -1,0 +1,13 @@
+//! A dispatcher of requests with cancellation (JSON-RPC 2.0, section 5; LSP 3.17, "Cancellation Support"): each request has at
+//! most one reply, and none after it was cancelled or replaced. `lsp_server` gives all of it on as its module `dispatch`.
+#![tactic(auto)]
+
+mod answer;
+mod calls;
+mod dispatcher;
+pub mod laws;
+mod params;
+
+pub use answer::{Answer, DispatchFault};
+pub use calls::{Call, replay};
+pub use dispatcher::Dispatcher;
