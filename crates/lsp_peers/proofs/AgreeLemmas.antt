@@ -1,0 +1,286 @@
+-- Each kind of step keeps that two peers agree with tokens and posts.
+use Rattle.std.proofs.Common.{◌≡◌, ℕ, ◌+◌, ◌<◌, List, [], ◌∷◌, ◌++◌, length, refl, sym, ap, ◌∙◌, subst, arith, length-append}
+use Rattle.std.proofs.lemmas.Bool.{lt-ltb}
+use Rattle.std.proofs.lemmas.List.{map-append}
+use Rattle.std.specs.FinMap as map
+use Rattle.std.specs.FinMap.{get-empty}
+use Rattle.std.specs.Prelude.{Option, None, Some, Result, Ok, Err, IfOk, IfSome, option_map, is_some, if◌then◌else◌, nat_lt, MatchBool, MatchOption, Bool, true, false, map as each, take, Vec}
+use Rattle.std.specs.declared.alloc.Global.{Global}
+use Rattle.serde_json.specs.Data.{Data}
+use Rattle.lsp_message.specs.Id.{Id, id_cmp}
+use Rattle.lsp_message.specs.Message.{Message, request, notification, response}
+use Rattle.lsp_message.specs.View.{message_view}
+use Rattle.lsp_message.specs.declared.msg.Message as code
+use Rattle.lsp_queue.specs.Queue.{Asked, Pending, pending_of, count_of, all_ids, cancelled}
+use Rattle.lsp_queue.specs.declared.req_queue.ReqQueue.{ReqQueue}
+use Rattle.lsp_peers.specs.declared.fault.WorldFault.{WorldFault}
+use Rattle.lsp_peers.specs.declared.peer.Peer.{Peer}
+use Rattle.lsp_peers.specs.declared.step.Outcome.{Outcome}
+use Rattle.lsp_peers.specs.declared.step.Outcome.TheVariants.{Registered, Returned, GaveUp, Absent}
+use Rattle.lsp_peers.specs.declared.step.Side.{Side}
+use Rattle.lsp_peers.specs.declared.step.Side.TheVariants.{B}
+use Rattle.lsp_peers.specs.declared.step.Step.{Step}
+use Rattle.lsp_peers.specs.Agreement.{PeerAgrees, Agrees}
+use Rattle.lsp_peers.specs.Ids.{nth_id, item_at, with_item}
+use Rattle.lsp_peers.specs.Steps.{Accounts, accounts, Registers, TakesMessage, Takes, Replies, GivesUp, StepDoes, WorldDoes, side_of, seen_from}
+use Rattle.lsp_peers.specs.Post.{Letter, Post, Line, ReadsBack, Carries, posted, next, one_taken, message_of, after_take, IfNext, empty_post}
+use Rattle.lsp_peers.specs.Settling.{Settles}
+use Rattle.lsp_peers.specs.InOnePlace.{InOnePlace, AllReadBack, requests, replies, going, returning}
+use Rattle.lsp_peers.specs.Token.{OnTheWay, AtOther, ComingBack, Done, GivenUp, Token, token, owed, label_of, Goes}
+use Rattle.lsp_peers.proofs.IdLemmas.{get-nothing}
+use Rattle.lsp_peers.proofs.PlaceLemmas.{held_token, going_token, returning_token, next_first, request_of_own, reply_of_own}
+use Rattle.lsp_peers.proofs.TokenLemmas.{Sets, insert_sets, remove_sets, remove_none, push_sets, push_keeps, goes_sets, goes_keeps, goes-length}
+
+-- a choice between two facts, where the test is known
+match_true : (b : Bool) (P Q : Type 0) → b ≡ true → P → MatchBool b P Q
+match_true true P Q is p = p
+match_true false P Q is p = cc
+
+match_some : (o : Option ℕ) (P : Type 0) (Q : ℕ → Type 0) (x : ℕ) → o ≡ Some x → Q x → MatchOption o P Q
+match_some None P Q x is q = cc
+match_some (Some y) P Q x is q = let e : x ≡ y = cc in subst Q e q
+
+match_none : (o : Option ℕ) (P : Type 0) (Q : ℕ → Type 0) → o ≡ None → P → MatchOption o P Q
+match_none None P Q is p = p
+match_none (Some y) P Q is p = cc
+
+-- a request, by its parts
+pub request_is : (i j : Id) (method other : List ℕ) (params others : Data) → i ≡ j → method ≡ other → params ≡ others → request i method params ≡ request j other others
+request_is i j method other params others a b c = λ k. request (a k) (b k) (c k)
+
+-- a side at which nothing happened
+pub new_agrees : (queue : ReqQueue ℕ ℕ) (line : Line) (taken : Vec code.Message Global) → queue.incoming ≡ map.empty → queue.outgoing ≡ (map.empty, 0) → Carries line empty_post → taken.items ≡ [] → PeerAgrees (record { queue = queue; link = line; taken = taken }) (record { tokens = []; post = empty_post }) []
+new_agrees queue line taken incoming outgoing carries none = record {
+  out = λ id. ap (λ (a : Asked ℕ). map.get (pending_of a) id) outgoing ∙ get-empty id_cmp id ∙ sym (ap owed (get-nothing id));
+  held = λ id. ap (λ (p : Pending ℕ). map.get p id) incoming ∙ get-empty id_cmp id ∙ sym (ap label_of (get-nothing id));
+  count = ap (λ (a : Asked ℕ). count_of a) outgoing;
+  line = carries;
+  taken = ap (each message_view) none;
+}
+
+length-push : (tokens : List Token) (t : Token) → length (tokens ++ t ∷ []) ≡ length tokens + 1
+length-push tokens t = length-append tokens (t ∷ [])
+
+module _ (near far : Peer) (old : Accounts) (agrees : Agrees near far old) where
+  pub register_keeps : (asked : Asked ℕ) (line : Line) (method : List ℕ) (params : Data) (payload : ℕ) (id : Id) (m : Message) → m ≡ request (nth_id (count_of near.queue.outgoing)) method params → count_of near.queue.outgoing < all_ids → asked ≡ (map.insert (pending_of near.queue.outgoing) (nth_id (count_of near.queue.outgoing)) payload, count_of near.queue.outgoing + 1) → ((letter : Letter) × (letter.message ≡ m) × Carries line (posted old.there.post letter)) → id ≡ nth_id (count_of near.queue.outgoing) → (new : Accounts) × Registers method params payload old (Registered id) new × Agrees (record { queue = record { incoming = near.queue.incoming; outgoing = asked }; link = near.link; taken = near.taken }) (record { queue = far.queue; link = line; taken = far.taken }) new
+  register_keeps asked line method params payload id m is few outgoing wrote id_is =
+      let n : count_of near.queue.outgoing ≡ length old.here.tokens = agrees.near_side.count in
+      let room : length old.here.tokens < all_ids = omega (arith, few, n) in
+      let letter : Letter = wrote.0 in
+      let t : Token = token payload OnTheWay in
+      let pending : Pending ℕ = map.insert (pending_of near.queue.outgoing) (nth_id (count_of near.queue.outgoing)) payload in (
+        accounts (old.here.tokens ++ t ∷ []) old.here.post old.there.tokens (posted old.there.post letter),
+        match_true (nat_lt (length old.here.tokens) all_ids) _ _ (lt-ltb _ _ room) (letter, wrote.1 ∙ is ∙ ap (λ (k : ℕ). request (nth_id k) method params) n, ap (λ (i : Id). Registered i) (id_is ∙ ap (λ (k : ℕ). nth_id k) n), refl),
+        record {
+          near_side = record {
+            out = λ key. ap (λ (a : Asked ℕ). map.get (pending_of a) key) outgoing ∙ push_sets owed old.here.tokens t (map.get (pending_of near.queue.outgoing)) (map.get pending) agrees.near_side.out (subst (λ (k : ℕ). Sets (map.get (pending_of near.queue.outgoing)) (map.get pending) (nth_id k) (Some payload)) n (insert_sets (pending_of near.queue.outgoing) (nth_id (count_of near.queue.outgoing)) payload)) key;
+            held = agrees.near_side.held;
+            count = ap (λ (a : Asked ℕ). count_of a) outgoing ∙ ap (λ (k : ℕ). k + 1) n ∙ sym (length-push old.here.tokens t);
+            line = agrees.near_side.line;
+            taken = agrees.near_side.taken;
+          };
+          far_side = record {
+            out = agrees.far_side.out;
+            held = λ key. agrees.far_side.held key ∙ push_keeps label_of old.here.tokens t refl key;
+            count = agrees.far_side.count;
+            line = wrote.2;
+            taken = agrees.far_side.taken;
+          };
+        },
+      )
+
+  -- nothing is held under the id
+  module _ (pending : Pending ℕ) (id : Id) (absent : map.get near.queue.incoming id ≡ None) (removed : pending ≡ map.remove near.queue.incoming id) where
+    absent_agrees : Agrees (record { queue = record { incoming = pending; outgoing = near.queue.outgoing }; link = near.link; taken = near.taken }) far old
+    absent_agrees = record {
+      near_side = record {
+        out = agrees.near_side.out;
+        held = λ key. ap (λ (p : Pending ℕ). map.get p key) removed ∙ remove_none near.queue.incoming id absent key ∙ agrees.near_side.held key;
+        count = agrees.near_side.count;
+        line = agrees.near_side.line;
+        taken = agrees.near_side.taken;
+      };
+      far_side = agrees.far_side;
+    }
+
+    pub absent_replies : (reply : Message) (answered : ℕ → Outcome) → (new : Accounts) × Replies id reply answered old Absent new × Agrees (record { queue = record { incoming = pending; outgoing = near.queue.outgoing }; link = near.link; taken = near.taken }) far new
+    absent_replies reply answered = (old, match_none (label_of (item_at old.there.tokens id)) _ _ (sym (agrees.near_side.held id) ∙ absent) (refl, refl), absent_agrees)
+
+    pub absent_gives_up : (new : Accounts) × GivesUp id old Absent new × Agrees (record { queue = record { incoming = pending; outgoing = near.queue.outgoing }; link = near.link; taken = near.taken }) far new
+    absent_gives_up = (old, match_none (label_of (item_at old.there.tokens id)) _ _ (sym (agrees.near_side.held id) ∙ absent) (refl, refl), absent_agrees)
+
+  -- the request that is held under the id
+  module _ (pending : Pending ℕ) (id : Id) (label : ℕ) (found : map.get near.queue.incoming id ≡ Some label) (removed : pending ≡ map.remove near.queue.incoming id) where
+    held_here : label_of (item_at old.there.tokens id) ≡ Some label
+    held_here = sym (agrees.near_side.held id) ∙ found
+
+    pub replies_keep : (line : Line) (reply : Message) (answered : ℕ → Outcome) → ((letter : Letter) × (letter.message ≡ reply) × Carries line (posted old.there.post letter)) → (new : Accounts) × Replies id reply answered old (answered label) new × Agrees (record { queue = record { incoming = pending; outgoing = near.queue.outgoing }; link = near.link; taken = near.taken }) (record { queue = far.queue; link = line; taken = far.taken }) new
+    replies_keep line reply answered wrote =
+        let held = held_token (item_at old.there.tokens id) label held_here in
+        let payload : ℕ = held.0 in
+        let letter : Letter = wrote.0 in
+        let tokens : List Token = with_item old.there.tokens id (token payload ComingBack) in
+        let goes : Goes id (AtOther label) ComingBack payload old.there.tokens tokens = record { was = held.1; now = refl } in (
+          accounts old.here.tokens old.here.post tokens (posted old.there.post letter),
+          match_some (label_of (item_at old.there.tokens id)) _ _ label held_here (payload, tokens, letter, goes, wrote.1, refl, refl),
+          record {
+            near_side = record {
+              out = agrees.near_side.out;
+              held = λ key. ap (λ (p : Pending ℕ). map.get p key) removed ∙ goes_sets label_of goes (map.get near.queue.incoming) (map.get (map.remove near.queue.incoming id)) agrees.near_side.held (remove_sets near.queue.incoming id) key;
+              count = agrees.near_side.count;
+              line = agrees.near_side.line;
+              taken = agrees.near_side.taken;
+            };
+            far_side = record {
+              out = λ key. agrees.far_side.out key ∙ goes_keeps owed goes refl key;
+              held = agrees.far_side.held;
+              count = agrees.far_side.count ∙ sym (goes-length goes);
+              line = wrote.2;
+              taken = agrees.far_side.taken;
+            };
+          },
+        )
+
+    pub gives_up_keeps : (new : Accounts) × GivesUp id old (GaveUp label) new × Agrees (record { queue = record { incoming = pending; outgoing = near.queue.outgoing }; link = near.link; taken = near.taken }) far new
+    gives_up_keeps =
+        let held = held_token (item_at old.there.tokens id) label held_here in
+        let payload : ℕ = held.0 in
+        let tokens : List Token = with_item old.there.tokens id (token payload GivenUp) in
+        let goes : Goes id (AtOther label) GivenUp payload old.there.tokens tokens = record { was = held.1; now = refl } in (
+          accounts old.here.tokens old.here.post tokens old.there.post,
+          match_some (label_of (item_at old.there.tokens id)) _ _ label held_here (payload, tokens, goes, refl, refl),
+          record {
+            near_side = record {
+              out = agrees.near_side.out;
+              held = λ key. ap (λ (p : Pending ℕ). map.get p key) removed ∙ goes_sets label_of goes (map.get near.queue.incoming) (map.get (map.remove near.queue.incoming id)) agrees.near_side.held (remove_sets near.queue.incoming id) key;
+              count = agrees.near_side.count;
+              line = agrees.near_side.line;
+              taken = agrees.near_side.taken;
+            };
+            far_side = record {
+              out = λ key. agrees.far_side.out key ∙ goes_keeps owed goes refl key;
+              held = agrees.far_side.held;
+              count = agrees.far_side.count ∙ sym (goes-length goes);
+              line = agrees.far_side.line;
+              taken = agrees.far_side.taken;
+            };
+          },
+        )
+
+  -- after a take, the one_taken post, and the messages taken
+  taken_more : (letter : Letter) (rest : List Letter) (m : code.Message) (taken : List code.Message) → old.here.post.waiting ≡ letter ∷ rest → message_view m ≡ letter.message → taken ≡ near.taken.items ++ m ∷ [] → each message_view taken ≡ each (λ (l : Letter). l.message) (one_taken old.here.post).taken
+  taken_more letter rest m taken waiting is pushed =
+      ap (each message_view) pushed ∙ map-append message_view near.taken.items (m ∷ []) ∙ ap (λ (ms : List Message). ms ++ message_view m ∷ []) agrees.near_side.taken ∙ ap (λ (x : Message). each (λ (l : Letter). l.message) old.here.post.taken ++ x ∷ []) is
+      ∙ sym (map-append (λ (l : Letter). l.message) old.here.post.taken (letter ∷ []))
+      ∙ ap (λ (ls : List Letter). each (λ (l : Letter). l.message) (old.here.post.taken ++ take 1 ls)) (sym waiting)
+
+  pub takes_keep : (queue : ReqQueue ℕ ℕ) (line : Line) (taken : Vec code.Message Global) (label : ℕ) (letter : Letter) (m : code.Message) (message : Message) (outcome : Outcome) → message_view m ≡ message → InOnePlace old → next old.here.post ≡ Some letter → message ≡ letter.message → Carries line (one_taken old.here.post) → Settles message label near.queue outcome queue → taken.items ≡ near.taken.items ++ m ∷ [] → (new : Accounts) × TakesMessage label message old outcome new × Agrees (record { queue = queue; link = line; taken = taken }) far new
+  takes_keep queue line taken label letter m (request id method params) outcome means placed is message_is carries settles pushed =
+      let first = next_first old.here.post letter is in
+      let waits : 0 < going (item_at old.there.tokens id) = omega (arith, sym (ap (λ (ls : List Letter). requests ls id) first.1) ∙ placed.there_once.out id, request_of_own letter.message id method params (sym message_is)) in
+      let sent = going_token (item_at old.there.tokens id) waits in
+      let tokens : List Token = with_item old.there.tokens id (token sent.0 (AtOther label)) in
+      let goes : Goes id OnTheWay (AtOther label) sent.0 old.there.tokens tokens = record { was = sent.1; now = refl } in (
+        accounts old.here.tokens (one_taken old.here.post) tokens old.there.post,
+        (sent.0, tokens, goes, settles.0, refl),
+        record {
+          near_side = record {
+            out = λ key. ap (λ (a : Asked ℕ). map.get (pending_of a) key) settles.2 ∙ agrees.near_side.out key;
+            held = λ key. ap (λ (p : Pending ℕ). map.get p key) settles.1 ∙ goes_sets label_of goes (map.get near.queue.incoming) (map.get (map.insert near.queue.incoming id label)) agrees.near_side.held (insert_sets near.queue.incoming id label) key;
+            count = ap (λ (a : Asked ℕ). count_of a) settles.2 ∙ agrees.near_side.count;
+            line = carries;
+            taken = taken_more letter first.0 m taken.items first.1 (means ∙ message_is) pushed;
+          };
+          far_side = record {
+            out = λ key. agrees.far_side.out key ∙ goes_keeps owed goes refl key;
+            held = agrees.far_side.held;
+            count = agrees.far_side.count ∙ sym (goes-length goes);
+            line = agrees.far_side.line;
+            taken = agrees.far_side.taken;
+          };
+        },
+      )
+  takes_keep queue line taken label letter m (response id answer) outcome means placed is message_is carries settles pushed =
+      let first = next_first old.here.post letter is in
+      let waits : 0 < returning (item_at old.here.tokens id) = omega (arith, sym (ap (λ (ls : List Letter). replies ls id) first.1) ∙ placed.here_once.back id, reply_of_own letter.message id answer (sym message_is)) in
+      let sent = returning_token (item_at old.here.tokens id) waits in
+      let tokens : List Token = with_item old.here.tokens id (token sent.0 Done) in
+      let goes : Goes id ComingBack Done sent.0 old.here.tokens tokens = record { was = sent.1; now = refl } in
+      let paid : map.get (pending_of near.queue.outgoing) id ≡ Some sent.0 = agrees.near_side.out id ∙ ap owed sent.1 in (
+        accounts tokens (one_taken old.here.post) old.there.tokens old.there.post,
+        (sent.0, tokens, goes, settles.0 ∙ ap (λ (p : Option ℕ). Returned id p) paid, refl),
+        record {
+          near_side = record {
+            out = λ key. ap (λ (a : Asked ℕ). map.get (pending_of a) key) settles.1 ∙ goes_sets owed goes (map.get (pending_of near.queue.outgoing)) (map.get (map.remove (pending_of near.queue.outgoing) id)) agrees.near_side.out (remove_sets (pending_of near.queue.outgoing) id) key;
+            held = λ key. ap (λ (p : Pending ℕ). map.get p key) settles.2 ∙ agrees.near_side.held key;
+            count = ap (λ (a : Asked ℕ). count_of a) settles.1 ∙ agrees.near_side.count ∙ sym (goes-length goes);
+            line = carries;
+            taken = taken_more letter first.0 m taken.items first.1 (means ∙ message_is) pushed;
+          };
+          far_side = record {
+            out = agrees.far_side.out;
+            held = λ key. agrees.far_side.held key ∙ goes_keeps label_of goes refl key;
+            count = agrees.far_side.count;
+            line = agrees.far_side.line;
+            taken = agrees.far_side.taken;
+          };
+        },
+      )
+  takes_keep queue line taken label letter m (notification method params) outcome means placed is message_is carries settles pushed =
+      let first = next_first old.here.post letter is in (
+        accounts old.here.tokens (one_taken old.here.post) old.there.tokens old.there.post,
+        (settles.0, refl),
+        record {
+          near_side = record {
+            out = λ key. ap (λ (a : Asked ℕ). map.get (pending_of a) key) settles.2 ∙ agrees.near_side.out key;
+            held = λ key. ap (λ (p : Pending ℕ). map.get p key) settles.1 ∙ agrees.near_side.held key;
+            count = ap (λ (a : Asked ℕ). count_of a) settles.2 ∙ agrees.near_side.count;
+            line = carries;
+            taken = taken_more letter first.0 m taken.items first.1 (means ∙ message_is) pushed;
+          };
+          far_side = record { out = agrees.far_side.out; held = agrees.far_side.held; count = agrees.far_side.count; line = agrees.far_side.line; taken = agrees.far_side.taken };
+        },
+      )
+
+-- which letter it was
+pub letter_is : (o : Option Letter) (message : Message) → Some message ≡ message_of o → (letter : Letter) × (o ≡ Some letter) × (message ≡ letter.message)
+letter_is None message is = cc
+letter_is (Some letter) message is = (letter, refl, cc)
+
+-- the next letter reads back
+next_reads : (o : Option Letter) (waiting : List Letter) → AllReadBack waiting → ((letter : Letter) → o ≡ Some letter → (rest : List Letter) × (waiting ≡ letter ∷ rest)) → IfSome o (λ letter. ReadsBack letter.message)
+next_reads None waiting all first = tt
+next_reads (Some letter) waiting all first = (subst AllReadBack (first letter refl).1 all).0
+
+pub placed_reads : (old : Accounts) → InOnePlace old → IfNext ReadsBack old.here.post
+placed_reads old placed = next_reads (next old.here.post) old.here.post.waiting placed.here_reads (λ letter is. next_first old.here.post letter is)
+
+pub after_taken : (post : Post) (letter : Letter) → next post ≡ Some letter → after_take post ≡ one_taken post
+after_taken post letter is = ap (λ (o : Option Letter). if is_some o then one_taken post else post) is
+
+pub takes_at : (label : ℕ) (o : Option Letter) (letter : Letter) (message : Message) (old new : Accounts) (outcome : Outcome) → o ≡ Some letter → message ≡ letter.message → TakesMessage label message old outcome new → Takes label o old outcome new
+takes_at label o letter message old new outcome is message_is takes = subst (λ (p : Option Letter). Takes label p old outcome new) (sym is) (subst (λ (m : Message). TakesMessage label m old outcome new) message_is takes)
+
+-- what a cancellation found
+pub held_under : (o : Option ℕ) (reply : Message) (id : Id) → Some reply ≡ option_map (λ (label : ℕ). cancelled id) o → (label : ℕ) × (o ≡ Some label) × (reply ≡ cancelled id)
+held_under None reply id is = cc
+held_under (Some label) reply id is = (label, refl, cc)
+
+pub held_nowhere : (o : Option ℕ) (id : Id) → ◌≡◌ {A = Option Message} None (option_map (λ (label : ℕ). cancelled id) o) → o ≡ None
+held_nowhere None id is = refl
+held_nowhere (Some label) id is = cc
+
+-- the same accounts, seen from the other side
+pub turned_agrees : (near far : Peer) (p : Accounts) → Agrees near far p → Agrees far near (record { here = p.there; there = p.here })
+turned_agrees near far p agrees = record { near_side = agrees.far_side; far_side = agrees.near_side }
+
+pub turned_sound : (p : Accounts) → InOnePlace p → InOnePlace (record { here = p.there; there = p.here })
+turned_sound p placed = record { here_once = placed.there_once; there_once = placed.here_once; here_reads = placed.there_reads; there_reads = placed.here_reads }
+
+-- a step of B, seen from A
+move_of_b : (step : Step) (old new : Accounts) (outcome : Outcome) → side_of step ≡ B → StepDoes (record { here = old.there; there = old.here }) step outcome new → WorldDoes old step outcome (record { here = new.there; there = new.here })
+move_of_b step old new outcome is moves = subst (λ (s : Side). StepDoes (seen_from s old) step outcome (seen_from s (record { here = new.there; there = new.here }))) (sym is) moves
+
+pub turned_step : (outcome : Result Outcome WorldFault) (near far : Peer) (step : Step) (old : Accounts) → side_of step ≡ B → IfOk outcome (λ o. (new : Accounts) × StepDoes (record { here = old.there; there = old.here }) step o new × Agrees near far new) → IfOk outcome (λ o. (new : Accounts) × WorldDoes old step o new × Agrees far near new)
+turned_step (Ok o) near far step old is made = (record { here = made.0.there; there = made.0.here }, move_of_b step old made.0 o is made.1, turned_agrees near far made.0 made.2)
+turned_step (Err fault) near far step old is made = tt

@@ -1,0 +1,14 @@
+mod AgreeLemmas
+mod ExchangeLemmas
+mod FrontLemmas
+mod HistoryLemmas
+mod IdLemmas
+mod Kept
+mod LawLemmas
+mod LineLemmas
+mod LinkLemmas
+mod PostLemmas
+mod RunLemmas
+mod ShallowLemmas
+mod PlaceLemmas
+mod TokenLemmas

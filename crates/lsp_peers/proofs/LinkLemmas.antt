@@ -1,0 +1,100 @@
+-- What a link carries after each of its calls, over its bytes and its two marks.
+use Rattle.std.proofs.Common.{◌≡◌, ℕ, ◌+◌, ◌-◌, ◌^◌, ◌<◌, ◌≤◌, List, [], ◌++◌, length, take, drop, min, refl, sym, ap, ◌∙◌, subst, arith, append-nil, length-append, length-drop, ⊎_elim}
+use Rattle.std.proofs.lemmas.List.{length-take}
+use Rattle.std.specs.Prelude.{Option, None, Some, Ok, Err}
+use Rattle.lsp_message.specs.Body.{reading_of}
+use Rattle.lsp_message.specs.Frame.{Answers}
+use Rattle.lsp_message.specs.Front.{front_of}
+use Rattle.lsp_message.specs.HeaderPart.{Reading}
+use Rattle.lsp_message.specs.Message.{Message}
+use Rattle.lsp_message.specs.Readable.{WritesReadably}
+use Rattle.lsp_message.specs.Tree.{without_null_details}
+use Rattle.lsp_message.specs.View.{message_view}
+use Rattle.lsp_message.specs.declared.frame.ReadFault.{ReadFault}
+use Rattle.lsp_message.specs.declared.frame.ReadFault.TheVariants.{Input, LineNotText, LineEnd, NoSeparator, BadLength, NoLength, ShortBody, BodyNotText, NoJson, NoMessage, Memory}
+use Rattle.lsp_message.specs.declared.frame.extent.Front.TheVariants.{Whole, Fault, More}
+use Rattle.lsp_peers.specs.WorldFault.{fault_of}
+use Rattle.lsp_peers.specs.declared.fault.WorldFault.TheVariants.{Memory as NoMemory}
+use Rattle.lsp_peers.specs.Post.{Letter, Post, Line, ReadsBack, line_of, Carries, posted, passed_on, unpassed, next, one_taken, message_of, after_take, IfNext}
+use Rattle.lsp_peers.proofs.LineLemmas.{line_written, line_passed, line_taken}
+use Rattle.lsp_peers.proofs.PostLemmas.{take_cases, unpassed_is, carries_written, carries_passed}
+
+-- a letter of what was written
+pub letter_written : (m : Message) (old new : List ℕ) → WritesReadably m (Some old) (Some new) → (letter : Letter) × (letter.message ≡ m) × (new ≡ old ++ letter.frame)
+letter_written m old new wrote = (record { message = m; frame = wrote.0; framed = wrote.1; readable = wrote.3 }, refl, wrote.2)
+
+-- what is read of the frame of a letter
+frame_read : (letter : Letter) (text : List ℕ) → text ≡ letter.frame → ReadsBack letter.message → (reading_of text).outcome ≡ Ok (Some letter.message)
+frame_read letter text is reads =
+    let at : reading_of (letter.frame ++ []) ≡ record { outcome = Ok (Some (without_null_details letter.message)); rest = [] } = letter.readable reads.nests [] in
+    ap (λ t. (reading_of t).outcome) (is ∙ sym (append-nil letter.frame)) ∙ ap (λ (r : Reading Message). r.outcome) at ∙ ap (λ (m : Message). Ok (Some m)) reads.same
+
+-- where the reading is a message, the one fault of a reader in memory is want of memory
+pub no_other_fault : (fault : ReadFault) (left : Option (List ℕ)) (reading : Reading Message) (m : Message) → Answers message_view (Err fault) left reading → reading.outcome ≡ Ok (Some m) → fault_of fault ≡ NoMemory
+no_other_fault (Input kind) left reading m is found = refl
+no_other_fault Memory left reading m is found = refl
+no_other_fault LineNotText left reading m is found = let e = sym is.0 ∙ found in cc
+no_other_fault LineEnd left reading m is found = let e = sym is.0 ∙ found in cc
+no_other_fault NoSeparator left reading m is found = let e = sym is.0 ∙ found in cc
+no_other_fault BadLength left reading m is found = let e = sym is.0 ∙ found in cc
+no_other_fault NoLength left reading m is found = let e = sym is.0 ∙ found in cc
+no_other_fault ShortBody left reading m is found = let e = sym is.0 ∙ found in cc
+no_other_fault BodyNotText left reading m is found = let e = sym is.0 ∙ found in cc
+no_other_fault NoJson left reading m is found = let e = sym is.0 ∙ found in cc
+no_other_fault NoMessage left reading m is found = let e = sym is.0 ∙ found in cc
+
+module _ (bytes : List ℕ) (start end : ℕ) (ordered : start ≤ end) (within : end ≤ length bytes) (post : Post) (carries : Carries (line_of bytes start end) post) where
+  pub write_keeps : (after : List ℕ) (letter : Letter) → after ≡ bytes ++ letter.frame → Carries (line_of after start end) (posted post letter)
+  write_keeps after letter is = subst (λ (b : List ℕ). Carries (line_of b start end) (posted post letter)) (sym is) (subst (λ (line : Line). Carries line (posted post letter)) (sym (line_written bytes letter.frame start end ordered within)) (carries_written _ post letter carries))
+
+  pub pass_keeps : (asked count : ℕ) → count ≡ min asked (length bytes - end) → (count ≡ min asked (unpassed post)) × Carries (line_of bytes start (end + count)) (passed_on post asked)
+  pass_keeps asked count is =
+      let way : count ≡ min asked (length (drop end bytes)) = is ∙ ap (min asked) (sym (length-drop end bytes)) in (
+        way ∙ ap (min asked) (sym (unpassed_is _ post carries)),
+        subst (λ (n : ℕ). Carries (line_of bytes start (end + n)) (passed_on post asked)) (sym way) (subst (λ (line : Line). Carries line (passed_on post asked)) (sym (line_passed bytes start end (min asked (length (drop end bytes))) ordered)) (carries_passed _ post asked carries)),
+      )
+
+  module _ (room : length bytes < 2 ^ 64) where
+    small : length ((line_of bytes start end).arrived ++ (line_of bytes start end).on_way) < 2 ^ 64
+    small = omega (arith, length-append (take (end - start) (drop start bytes)) (drop end bytes), length-take (end - start) (drop start bytes), length-drop start bytes, length-drop end bytes)
+
+    -- the front isn't whole
+    pub more_keeps : front_of (line_of bytes start end).arrived ≡ More → (None ≡ message_of (next post)) × Carries (line_of bytes start end) (after_take post)
+    more_keeps more =
+        ⊎_elim
+        (λ none. rw none.0 (refl, carries))
+        (λ some. let shows = some.1 in absurd (let e : Whole (length some.0.frame) ≡ More = sym shows.front_is ∙ more in cc))
+        (take_cases _ post small carries)
+
+    -- there is no fault
+    pub never_fault : (fault : ReadFault) → front_of (line_of bytes start end).arrived ≡ Fault fault → ⊥
+    never_fault fault is =
+        ⊎_elim
+        (λ none. let e : More ≡ Fault fault = sym none.1 ∙ is in cc)
+        (λ some. let shows = some.1 in let e : Whole (length some.0.frame) ≡ Fault fault = sym shows.front_is ∙ is in cc)
+        (take_cases _ post small carries)
+
+    -- the front is whole
+    pub whole_shows : (count : ℕ) → front_of (line_of bytes start end).arrived ≡ Whole count → (letter : Letter) × (next post ≡ Some letter) × (count ≡ length letter.frame) × (take count (line_of bytes start end).arrived ≡ letter.frame) × (start + count ≤ end → Carries (line_of bytes (start + count) end) (after_take post))
+    whole_shows count is =
+        ⊎_elim
+        (λ none. absurd (let e : More ≡ Whole count = sym none.1 ∙ is in cc))
+        (λ some.
+        let letter = some.0 in
+        let shows = some.1 in
+        let e : Whole count ≡ Whole (length letter.frame) = sym is ∙ shows.front_is in
+        let size : count ≡ length letter.frame = cc in (
+          letter,
+          shows.next_is,
+          size,
+          ap (λ n. take n (line_of bytes start end).arrived) size ∙ shows.frame_is,
+          λ fits. rw shows.next_is (subst (λ (n : ℕ). Carries (line_of bytes (start + n) end) (one_taken post)) (sym size) (subst (λ (line : Line). Carries line (one_taken post)) (sym (line_taken bytes start end (length letter.frame) (omega arith))) shows.after)),
+        ))
+        (take_cases _ post small carries)
+
+    -- what is read of it is the next letter's message
+    pub read_is : (count : ℕ) → front_of (line_of bytes start end).arrived ≡ Whole count → IfNext ReadsBack post → (letter : Letter) × (next post ≡ Some letter) × ((reading_of (take count (line_of bytes start end).arrived)).outcome ≡ Ok (Some letter.message))
+    read_is count is readable =
+        let shown = whole_shows count is in
+        let reads : ReadsBack shown.0.message = (rw shown.1 at readable) in
+        (shown.0, shown.1, frame_read shown.0 (take count (line_of bytes start end).arrived) shown.3 reads)

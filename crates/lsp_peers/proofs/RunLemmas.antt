@@ -1,0 +1,241 @@
+-- Each step keeps that each token is in one place, and a run goes on by one step.
+use Rattle.std.proofs.Common.{◌≡◌, ℕ, ◌≤◌, List, [], ◌∷◌, ◌++◌, length, refl, sym, ap, ◌∙◌, subst, arith, ⊎_elim, append-nil}
+use Rattle.std.proofs.lemmas.Bool.{cases_Bool, MatchBool-at_true, MatchBool-at_false}
+use Rattle.std.specs.Prelude.{Option, None, Some, Result, Ok, nat_lt, MatchOption, drop, string_bytes}
+use Rattle.serde_json.specs.Data.{Data, depth}
+use Rattle.serde_json.specs.View.{view}
+use Rattle.lsp_message.specs.Id.{Id}
+use Rattle.lsp_message.specs.Message.{Message, ErrorObject, request, notification, response}
+use Rattle.lsp_queue.specs.Queue.{all_ids, cancelled}
+use Rattle.lsp_peers.specs.Ids.{nth_id, item_at}
+use Rattle.lsp_peers.specs.declared.step.Outcome.{Outcome}
+use Rattle.lsp_peers.specs.declared.step.Outcome.TheVariants.{Answered, Cancelled, GaveUp, Absent}
+use Rattle.lsp_peers.specs.declared.step.Step.{Step}
+use Rattle.lsp_peers.specs.declared.step.Step.TheVariants.{Register, Pass, Take, Answer, Cancel, GiveUp}
+use Rattle.lsp_peers.specs.declared.step.Side.{Side}
+use Rattle.lsp_peers.specs.declared.step.Side.TheVariants.{A, B}
+use Rattle.lsp_peers.specs.Token.{OnTheWay, AtOther, ComingBack, Done, GivenUp, Token, token, label_of, Goes}
+use Rattle.lsp_peers.specs.Post.{Letter, ReadsBack, posted, next}
+use Rattle.lsp_peers.specs.Steps.{Accounts, accounts, nothing, Registers, Passes, TakesMessage, Takes, StepDoes, WorldDoes, Run, side_of, seen_from}
+use Rattle.lsp_peers.specs.InOnePlace.{request_of, reply_of, requests, replies, going, returning, MatchLetters, AllReadBack, InOnePlace, IsShallow, AllShallow}
+use Rattle.lsp_peers.proofs.TokenLemmas.{push_sets, push_keeps, goes_sets, goes_keeps}
+use Rattle.lsp_peers.proofs.IdLemmas.{get-end, get-nothing}
+use Rattle.lsp_peers.proofs.ShallowLemmas.{request_reads, answer_reads, cancelled_reads}
+use Rattle.lsp_peers.proofs.PlaceLemmas.{requests-push, replies-push, request_of_own, request_of_other, reply_of_own, reply_of_other, no_reply, no_request, next_first}
+
+module _ {tokens : List Token} {outbound inbound : List Letter} (once : MatchLetters tokens outbound inbound) (letter : Letter) where
+  once_registered : (method : List ℕ) (params : Data) (payload : ℕ) → letter.message ≡ request (nth_id (length tokens)) method params → MatchLetters (tokens ++ token payload OnTheWay ∷ []) (outbound ++ letter ∷ []) inbound
+  once_registered method params payload is = record {
+    out = push_sets going tokens (token payload OnTheWay) (requests outbound) (requests (outbound ++ letter ∷ [])) once.out (record {
+      here = omega (arith, requests-push outbound letter (nth_id (length tokens)), request_of_own letter.message (nth_id (length tokens)) method params is, once.out (nth_id (length tokens)) ∙ ap going (get-end tokens));
+      others = λ n apart. omega (arith, requests-push outbound letter n, request_of_other letter.message (nth_id (length tokens)) method params is n apart);
+    });
+    back = λ n. once.back n ∙ push_keeps returning tokens (token payload OnTheWay) refl n;
+  }
+
+  once_request_comes : (key : Id) (method : List ℕ) (params : Data) → letter.message ≡ request key method params → MatchLetters tokens outbound (inbound ++ letter ∷ [])
+  once_request_comes key method params is = record {
+    out = once.out;
+    back = λ n. omega (arith, replies-push inbound letter n, no_reply letter.message key method params is n, once.back n);
+  }
+
+  once_reply_goes : (key : Id) (answer : Result Data ErrorObject) → letter.message ≡ response key answer → MatchLetters tokens (outbound ++ letter ∷ []) inbound
+  once_reply_goes key answer is = record {
+    out = λ n. omega (arith, requests-push outbound letter n, no_request letter.message key answer is n, once.out n);
+    back = once.back;
+  }
+
+  once_replied : (key : Id) (label payload : ℕ) (answer : Result Data ErrorObject) (new : List Token) → Goes key (AtOther label) ComingBack payload tokens new → letter.message ≡ response key answer → MatchLetters new outbound (inbound ++ letter ∷ [])
+  once_replied key label payload answer new goes is = record {
+    out = λ n. once.out n ∙ goes_keeps going goes refl n;
+    back = goes_sets returning goes (replies inbound) (replies (inbound ++ letter ∷ [])) once.back (record {
+      here = omega (arith, replies-push inbound letter key, reply_of_own letter.message key answer is, once.back key ∙ ap returning goes.was);
+      others = λ n apart. omega (arith, replies-push inbound letter n, reply_of_other letter.message key answer is n apart);
+    });
+  }
+
+once_given_up : (tokens : List Token) (outbound inbound : List Letter) → MatchLetters tokens outbound inbound → (key : Id) (label payload : ℕ) (new : List Token) → Goes key (AtOther label) GivenUp payload tokens new → MatchLetters new outbound inbound
+once_given_up tokens outbound inbound once key label payload new goes = record {
+  out = λ n. once.out n ∙ goes_keeps going goes refl n;
+  back = λ n. once.back n ∙ goes_keeps returning goes refl n;
+}
+
+module _ (tokens : List Token) (letter : Letter) (rest others : List Letter) where
+  once_arrived : MatchLetters tokens (letter ∷ rest) others → (key : Id) (label payload : ℕ) (method : List ℕ) (params : Data) (new : List Token) → Goes key OnTheWay (AtOther label) payload tokens new → letter.message ≡ request key method params → MatchLetters new rest others
+  once_arrived once key label payload method params new goes is = record {
+    out = goes_sets going goes (requests (letter ∷ rest)) (requests rest) once.out (record {
+      here = omega (arith, request_of_own letter.message key method params is, once.out key ∙ ap going goes.was);
+      others = λ n apart. omega (arith, request_of_other letter.message key method params is n apart);
+    });
+    back = λ n. once.back n ∙ goes_keeps returning goes refl n;
+  }
+
+  once_request_taken : MatchLetters tokens others (letter ∷ rest) → (key : Id) (method : List ℕ) (params : Data) → letter.message ≡ request key method params → MatchLetters tokens others rest
+  once_request_taken once key method params is = record {
+    out = once.out;
+    back = λ n. omega (arith, once.back n, no_reply letter.message key method params is n);
+  }
+
+  once_returned : MatchLetters tokens others (letter ∷ rest) → (key : Id) (payload : ℕ) (answer : Result Data ErrorObject) (new : List Token) → Goes key ComingBack Done payload tokens new → letter.message ≡ response key answer → MatchLetters new others rest
+  once_returned once key payload answer new goes is = record {
+    out = λ n. once.out n ∙ goes_keeps going goes refl n;
+    back = goes_sets returning goes (replies (letter ∷ rest)) (replies rest) once.back (record {
+      here = omega (arith, reply_of_own letter.message key answer is, once.back key ∙ ap returning goes.was);
+      others = λ n apart. omega (arith, reply_of_other letter.message key answer is n apart);
+    });
+  }
+
+  once_reply_taken : MatchLetters tokens (letter ∷ rest) others → (key : Id) (answer : Result Data ErrorObject) → letter.message ≡ response key answer → MatchLetters tokens rest others
+  once_reply_taken once key answer is = record {
+    out = λ n. omega (arith, once.out n, no_request letter.message key answer is n);
+    back = once.back;
+  }
+
+  once_notified_in : MatchLetters tokens others (letter ∷ rest) → (method : List ℕ) (params : Data) → letter.message ≡ notification method params → MatchLetters tokens others rest
+  once_notified_in once method params is = record {
+    out = once.out;
+    back = λ n. omega (arith, once.back n, ap (λ (m : Message). reply_of m n) is);
+  }
+
+  once_notified_out : MatchLetters tokens (letter ∷ rest) others → (method : List ℕ) (params : Data) → letter.message ≡ notification method params → MatchLetters tokens rest others
+  once_notified_out once method params is = record {
+    out = λ n. omega (arith, once.out n, ap (λ (m : Message). request_of m n) is);
+    back = once.back;
+  }
+
+read_back_push : (letters : List Letter) (letter : Letter) → AllReadBack letters → ReadsBack letter.message → AllReadBack (letters ++ letter ∷ [])
+read_back_push [] letter all reads = (reads, tt)
+read_back_push (l ∷ letters) letter all reads = (all.0, read_back_push letters letter all.1 reads)
+
+reads_as : (letter : Letter) (message : Message) → letter.message ≡ message → ReadsBack message → ReadsBack letter.message
+reads_as letter message is reads = subst ReadsBack (sym is) reads
+
+-- the answer in a reply
+abbrev pub outcome_in : Message → Result Data ErrorObject
+outcome_in (request id method params) = Ok params
+outcome_in (notification method params) = Ok params
+outcome_in (response id answer) = answer
+
+module _ (old : Accounts) (placed : InOnePlace old) where
+  placed_registers : (method : List ℕ) (params : Data) (payload : ℕ) (outcome : Outcome) (new : Accounts) → depth params ≤ 126 → Registers method params payload old outcome new → InOnePlace new
+  placed_registers method params payload outcome new shallow moves =
+      let id : Id = nth_id (length old.here.tokens) in
+      ⊎_elim
+      (λ room.
+      let made = MatchBool-at_true _ _ room moves in
+      let letter : Letter = made.0 in
+      subst InOnePlace (sym made.3) (record {
+        here_once = once_registered placed.here_once letter method params payload made.1;
+        there_once = once_request_comes placed.there_once letter id method params made.1;
+        here_reads = placed.here_reads;
+        there_reads = read_back_push old.there.post.waiting letter placed.there_reads (reads_as letter (request id method params) made.1 (request_reads id method params shallow));
+      }))
+      (λ full. let made = MatchBool-at_false _ _ full moves in subst InOnePlace (sym made.1) placed)
+      (cases_Bool (nat_lt (length old.here.tokens) all_ids))
+
+  placed_passes : (bytes : ℕ) (outcome : Outcome) (new : Accounts) → Passes bytes old outcome new → InOnePlace new
+  placed_passes bytes outcome new moves = subst InOnePlace (sym moves.1) (record { here_once = placed.here_once; there_once = placed.there_once; here_reads = placed.here_reads; there_reads = placed.there_reads })
+
+  placed_takes_message : (label : ℕ) (letter : Letter) (rest : List Letter) (message : Message) (outcome : Outcome) (new : Accounts) → old.here.post.waiting ≡ letter ∷ rest → letter.message ≡ message → TakesMessage label message old outcome new → InOnePlace new
+  placed_takes_message label letter rest (request key method params) outcome new first is moves =
+      let left : rest ≡ drop 1 old.here.post.waiting = sym (ap (λ (ls : List Letter). drop 1 ls) first) in
+      subst InOnePlace (sym moves.4) (record {
+        here_once = subst (λ (ls : List Letter). MatchLetters old.here.tokens old.there.post.waiting ls) left (once_request_taken old.here.tokens letter rest old.there.post.waiting (subst (λ (ls : List Letter). MatchLetters old.here.tokens old.there.post.waiting ls) first placed.here_once) key method params is);
+        there_once = subst (λ (ls : List Letter). MatchLetters moves.1 ls old.there.post.waiting) left (once_arrived old.there.tokens letter rest old.there.post.waiting (subst (λ (ls : List Letter). MatchLetters old.there.tokens ls old.there.post.waiting) first placed.there_once) key label moves.0 method params moves.1 moves.2 is);
+        here_reads = subst AllReadBack left (subst AllReadBack first placed.here_reads).1;
+        there_reads = placed.there_reads;
+      })
+  placed_takes_message label letter rest (response key answer) outcome new first is moves =
+      let left : rest ≡ drop 1 old.here.post.waiting = sym (ap (λ (ls : List Letter). drop 1 ls) first) in
+      subst InOnePlace (sym moves.4) (record {
+        here_once = subst (λ (ls : List Letter). MatchLetters moves.1 old.there.post.waiting ls) left (once_returned old.here.tokens letter rest old.there.post.waiting (subst (λ (ls : List Letter). MatchLetters old.here.tokens old.there.post.waiting ls) first placed.here_once) key moves.0 answer moves.1 moves.2 is);
+        there_once = subst (λ (ls : List Letter). MatchLetters old.there.tokens ls old.there.post.waiting) left (once_reply_taken old.there.tokens letter rest old.there.post.waiting (subst (λ (ls : List Letter). MatchLetters old.there.tokens ls old.there.post.waiting) first placed.there_once) key answer is);
+        here_reads = subst AllReadBack left (subst AllReadBack first placed.here_reads).1;
+        there_reads = placed.there_reads;
+      })
+  placed_takes_message label letter rest (notification method params) outcome new first is moves =
+      let left : rest ≡ drop 1 old.here.post.waiting = sym (ap (λ (ls : List Letter). drop 1 ls) first) in
+      subst InOnePlace (sym moves.1) (record {
+        here_once = subst (λ (ls : List Letter). MatchLetters old.here.tokens old.there.post.waiting ls) left (once_notified_in old.here.tokens letter rest old.there.post.waiting (subst (λ (ls : List Letter). MatchLetters old.here.tokens old.there.post.waiting ls) first placed.here_once) method params is);
+        there_once = subst (λ (ls : List Letter). MatchLetters old.there.tokens ls old.there.post.waiting) left (once_notified_out old.there.tokens letter rest old.there.post.waiting (subst (λ (ls : List Letter). MatchLetters old.there.tokens ls old.there.post.waiting) first placed.there_once) method params is);
+        here_reads = subst AllReadBack left (subst AllReadBack first placed.here_reads).1;
+        there_reads = placed.there_reads;
+      })
+
+  placed_takes : (label : ℕ) (o : Option Letter) (outcome : Outcome) (new : Accounts) → ((letter : Letter) → o ≡ Some letter → (rest : List Letter) × (old.here.post.waiting ≡ letter ∷ rest)) → Takes label o old outcome new → InOnePlace new
+  placed_takes label None outcome new first moves = subst InOnePlace (sym moves.1) placed
+  placed_takes label (Some letter) outcome new first moves =
+      let f = first letter refl in
+      placed_takes_message label letter f.0 letter.message outcome new f.1 refl moves
+
+  placed_replies_at : (o : Option ℕ) (id : Id) (answer : Result Data ErrorObject) (answered : ℕ → Outcome) (outcome : Outcome) (new : Accounts) → ReadsBack (response id answer) →
+      MatchOption o ((outcome ≡ Absent) × (new ≡ old))
+      (λ label. (payload : ℕ) × (tokens : List Token) × (letter : Letter) × Goes id (AtOther label) ComingBack payload old.there.tokens tokens × (letter.message ≡ response id answer) × (outcome ≡ answered label) × (new ≡ accounts old.here.tokens old.here.post tokens (posted old.there.post letter))) → InOnePlace new
+  placed_replies_at None id answer answered outcome new reads moves = subst InOnePlace (sym moves.1) placed
+  placed_replies_at (Some label) id answer answered outcome new reads moves =
+      subst InOnePlace (sym moves.6) (record {
+        here_once = once_reply_goes placed.here_once moves.2 id answer moves.4;
+        there_once = once_replied placed.there_once moves.2 id label moves.0 answer moves.1 moves.3 moves.4;
+        here_reads = placed.here_reads;
+        there_reads = read_back_push old.there.post.waiting moves.2 placed.there_reads (reads_as moves.2 (response id answer) moves.4 reads);
+      })
+
+  placed_gives_up_at : (o : Option ℕ) (id : Id) (outcome : Outcome) (new : Accounts) →
+      MatchOption o ((outcome ≡ Absent) × (new ≡ old))
+      (λ label. (payload : ℕ) × (tokens : List Token) × Goes id (AtOther label) GivenUp payload old.there.tokens tokens × (outcome ≡ GaveUp label) × (new ≡ accounts old.here.tokens old.here.post tokens old.there.post)) → InOnePlace new
+  placed_gives_up_at None id outcome new moves = subst InOnePlace (sym moves.1) placed
+  placed_gives_up_at (Some label) id outcome new moves =
+      subst InOnePlace (sym moves.4) (record {
+        here_once = placed.here_once;
+        there_once = once_given_up old.there.tokens old.here.post.waiting old.there.post.waiting placed.there_once id label moves.0 moves.1 moves.2;
+        here_reads = placed.here_reads;
+        there_reads = placed.there_reads;
+      })
+
+placed_moves : (step : Step) (old : Accounts) → InOnePlace old → (outcome : Outcome) (new : Accounts) → IsShallow step → StepDoes old step outcome new → InOnePlace new
+placed_moves (Register side method params payload) old placed outcome new shallow moves = placed_registers old placed (string_bytes method) (view params) payload outcome new shallow moves
+placed_moves (Pass side bytes) old placed outcome new shallow moves = placed_passes old placed bytes outcome new moves
+placed_moves (Take side label) old placed outcome new shallow moves = placed_takes old placed label (next old.here.post) outcome new (λ letter is. next_first old.here.post letter is) moves
+placed_moves (Answer side id value) old placed outcome new shallow moves = placed_replies_at old placed (label_of (item_at old.there.tokens id)) id (Ok (view value)) (λ label. Answered label) outcome new (answer_reads id (view value) shallow) moves
+placed_moves (Cancel side id) old placed outcome new shallow moves = placed_replies_at old placed (label_of (item_at old.there.tokens id)) id (outcome_in (cancelled id)) (λ label. Cancelled) outcome new (cancelled_reads id) moves
+placed_moves (GiveUp side id) old placed outcome new shallow moves = placed_gives_up_at old placed (label_of (item_at old.there.tokens id)) id outcome new moves
+
+turn_sound : (p : Accounts) → InOnePlace p → InOnePlace (record { here = p.there; there = p.here })
+turn_sound p placed = record { here_once = placed.there_once; there_once = placed.here_once; here_reads = placed.there_reads; there_reads = placed.here_reads }
+
+seen_sound : (side : Side) (p : Accounts) → InOnePlace p → InOnePlace (seen_from side p)
+seen_sound A p placed = placed
+seen_sound B p placed = turn_sound p placed
+
+unseen_sound : (side : Side) (p : Accounts) → InOnePlace (seen_from side p) → InOnePlace p
+unseen_sound A p placed = placed
+unseen_sound B p placed = turn_sound (record { here = p.there; there = p.here }) placed
+
+-- a step keeps that each token is in one place
+pub placed_move : (step : Step) (old new : Accounts) (outcome : Outcome) → IsShallow step → InOnePlace old → WorldDoes old step outcome new → InOnePlace new
+placed_move step old new outcome reads placed move = unseen_sound (side_of step) new (placed_moves step (seen_from (side_of step) old) (seen_sound (side_of step) old placed) outcome (seen_from (side_of step) new) reads move)
+
+pub placed_nothing : InOnePlace nothing
+placed_nothing = record {
+  here_once = record { out = λ id. sym (ap going (get-nothing id)); back = λ id. sym (ap returning (get-nothing id)) };
+  there_once = record { out = λ id. sym (ap going (get-nothing id)); back = λ id. sym (ap returning (get-nothing id)) };
+  here_reads = tt;
+  there_reads = tt;
+}
+
+-- a run goes on by one step
+pub run_more : (old middle new : Accounts) (steps : List Step) (outcomes : List Outcome) (step : Step) (outcome : Outcome) → Run old steps outcomes middle → WorldDoes middle step outcome new → Run old (steps ++ step ∷ []) (outcomes ++ outcome ∷ []) new
+run_more old middle new [] [] step outcome run move = (new, subst (λ (p : Accounts). WorldDoes p step outcome new) run move, refl)
+run_more old middle new [] (o ∷ outcomes) step outcome run move = absurd run
+run_more old middle new (s ∷ steps) [] step outcome run move = absurd run
+run_more old middle new (s ∷ steps) (o ∷ outcomes) step outcome run move = (run.0, run.1, run_more run.0 middle new steps outcomes step outcome run.2 move)
+
+-- a step that stands in the list
+pub readable_at : (before after : List Step) (step : Step) → AllShallow (before ++ step ∷ after) → IsShallow step
+readable_at [] after step all = all.0
+readable_at (s ∷ before) after step all = readable_at before after step all.1
+
+-- nothing is left
+pub all_taken : {X : Type 0} (xs ys zs : List X) → xs ++ ys ≡ zs → length ys ≡ 0 → xs ≡ zs
+all_taken xs [] zs same none = sym (append-nil xs) ∙ same
+all_taken xs (y ∷ ys) zs same none = absurd (omega arith)

@@ -1,0 +1,10 @@
+pub mod Agreement
+pub mod Exchange
+pub mod History
+pub mod Ids
+pub mod InOnePlace
+pub mod Post
+pub mod Settling
+pub mod Steps
+pub mod Token
+pub mod WorldFault

@@ -1,0 +1,89 @@
+-- The post of one direction: all letters that were written, in order, and how far they have come.
+use Rattle.std.specs.List.{flat_map}
+use Rattle.std.specs.Prelude.{◌≡◌, ◌≤◌, ℕ, ◌+◌, ◌-◌, List, [], ◌∷◌, ◌++◌, length, take, drop, Option, None, Some, if◌then◌else◌, nat_le, min, IfSome, is_some}
+use Rattle.serde_json.specs.Read.{max_depth}
+use Rattle.lsp_message.specs.Letters.{Begins}
+use Rattle.lsp_message.specs.Message.{Message}
+use Rattle.lsp_message.specs.Ranges.{nesting}
+use Rattle.lsp_message.specs.Tree.{without_null_details}
+use Rattle.lsp_message.specs.Written.{IsFrameOf}
+
+-- A message with a frame of it (LSP 3.17, "Base Protocol"). Where the message nests at most 127 levels, it is read from the
+-- front of the frame, whatever follows that.
+pub record Letter : Type 0 where
+  pub message : Message
+  pub frame : List ℕ
+  pub framed : IsFrameOf message frame
+  pub readable : nesting message ≤ max_depth → (rest : List ℕ) → Begins (frame ++ rest) (without_null_details message) rest
+
+-- The message is read back as it was written: it nests at most 127 levels, and has no error whose data is null.
+pub record ReadsBack (m : Message) : Type 0 where
+  pub nests : nesting m ≤ max_depth
+  pub same : without_null_details m ≡ m
+
+-- The letters that were taken, then those that wait, in the order in which they were written; and how many bytes of their
+-- frames have arrived in all.
+pub record Post : Type 0 where
+  pub taken : List Letter
+  pub waiting : List Letter
+  pub passed : ℕ
+
+-- the frames of the letters, in order
+abbrev pub frames : List Letter → List ℕ
+frames letters = flat_map (λ letter. letter.frame) letters
+
+abbrev pub empty_post : Post
+empty_post = record { taken = []; waiting = []; passed = 0 }
+
+-- one more letter is written
+abbrev pub posted : Post → Letter → Post
+posted post letter = record { taken = post.taken; waiting = post.waiting ++ letter ∷ []; passed = post.passed }
+
+-- how many bytes haven't arrived yet
+abbrev pub unpassed : Post → ℕ
+unpassed post = length (frames post.taken) + length (frames post.waiting) - post.passed
+
+-- up to this many bytes more arrive
+abbrev pub passed_on : Post → ℕ → Post
+passed_on post bytes = record { taken = post.taken; waiting = post.waiting; passed = post.passed + min bytes (unpassed post) }
+
+-- the first of these letters, where all of its frame has arrived: so many bytes lie before it, and so many have arrived
+abbrev pub first_passed : ℕ → ℕ → List Letter → Option Letter
+first_passed before passed [] = None
+first_passed before passed (letter ∷ letters) = if nat_le (before + length letter.frame) passed then Some letter else None
+
+-- the first letter that waits, where all of its frame has arrived
+abbrev pub next : Post → Option Letter
+next post = first_passed (length (frames post.taken)) post.passed post.waiting
+
+-- the first letter that waits is taken
+abbrev pub one_taken : Post → Post
+one_taken post = record { taken = post.taken ++ take 1 post.waiting; waiting = drop 1 post.waiting; passed = post.passed }
+
+-- the bytes of one direction: those that arrived, then those on the way
+pub record Line : Type 0 where
+  pub arrived : List ℕ
+  pub on_way : List ℕ
+
+-- the line whose bytes lie in a list: from start those that arrived, from end those on the way
+abbrev pub line_of : List ℕ → ℕ → ℕ → Line
+line_of bytes start end = record { arrived = take (end - start) (drop start bytes); on_way = drop end bytes }
+
+-- The line carries the frames of the letters that wait, and nothing else. What arrived there, and the frames that were taken,
+-- are together as long as the post says.
+pub record Carries (line : Line) (post : Post) : Type 0 where
+  pub bytes : line.arrived ++ line.on_way ≡ frames post.waiting
+  pub count : length (frames post.taken) + length line.arrived ≡ post.passed
+
+-- the message of a letter, if there is one
+abbrev pub message_of : Option Letter → Option Message
+message_of None = None
+message_of (Some letter) = Some letter.message
+
+-- where there is a next letter, this holds of its message
+abbrev pub IfNext : (Message → Type 0) → Post → Type 0
+IfNext P post = IfSome (next post) (λ letter. P letter.message)
+
+-- the post after a take: one more is taken, where there is a next letter
+abbrev pub after_take : Post → Post
+after_take post = if is_some (next post) then one_taken post else post

@@ -1,0 +1,49 @@
+-- A token stands for one registered request and its payload. Its owner is the side in whose list it is, and its id says its
+-- place in that list.
+use Rattle.std.specs.Prelude.{◌≡◌, ℕ, List, Option, None, Some}
+use Rattle.lsp_message.specs.Id.{Id}
+use Rattle.lsp_peers.specs.Ids.{item_at, with_item}
+
+-- where a token is; the label is what the other side holds under its id
+pub data Place : Type 0 where
+  OnTheWay : Place
+  AtOther : (label : ℕ) → Place
+  ComingBack : Place
+  Done : Place
+  GivenUp : Place
+
+pub record Token : Type 0 where
+  pub payload : ℕ
+  pub place : Place
+
+abbrev pub token : ℕ → Place → Token
+token payload place = record { payload = payload; place = place }
+
+abbrev pub payload_at : Place → ℕ → Option ℕ
+payload_at Done payload = None
+payload_at OnTheWay payload = Some payload
+payload_at (AtOther label) payload = Some payload
+payload_at ComingBack payload = Some payload
+payload_at GivenUp payload = Some payload
+
+-- the payload that is pending at the owner, until the token is done
+abbrev pub owed : Option Token → Option ℕ
+owed None = None
+owed (Some t) = payload_at t.place t.payload
+
+abbrev pub label_in : Place → Option ℕ
+label_in (AtOther label) = Some label
+label_in OnTheWay = None
+label_in ComingBack = None
+label_in Done = None
+label_in GivenUp = None
+
+-- the label under which the other side holds the token
+abbrev pub label_of : Option Token → Option ℕ
+label_of None = None
+label_of (Some t) = label_in t.place
+
+-- the token of this id goes from one place to another, and no other token moves
+pub record Goes (id : Id) (from to : Place) (payload : ℕ) (old new : List Token) : Type 0 where
+  pub was : item_at old id ≡ Some (token payload from)
+  pub now : new ≡ with_item old id (token payload to)

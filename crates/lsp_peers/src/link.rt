@@ -1,0 +1,138 @@
+//! The bytes of one direction between two peers.
+ghost use Rattle.std.specs.Prelude.{◌≡◌, ◌≤◌, ℕ, length, Err, OnOk, OnErr, IfOk, option_map, min};
+ghost use Rattle.lsp_message.specs.Front.{front_of};
+ghost use Rattle.lsp_message.specs.View.{message_view};
+ghost use Rattle.lsp_peers.specs.WorldFault.{fault_of};
+ghost use Rattle.lsp_peers.specs.Post.{Letter, Post, Carries, ReadsBack, posted, passed_on, unpassed, next, message_of, empty_post, IfNext, after_take};
+
+use crate::fault::WorldFault;
+use lsp_message::{Front, Message, ReadFault, front};
+use std::alloc::Global;
+use std::marker::Model;
+
+/// The bytes of one direction: those that arrived and weren't taken, and then those on the way.
+///
+/// It holds frames (LSP 3.17, "Base Protocol") one behind another, whose bytes arrive in any pieces.
+#[derive(Drop)]
+pub struct Link {
+    alloc: Global,
+    bytes: Vec<u8>,
+    start: usize,
+    end: usize,
+}
+
+impl Model for Link {
+    ghost use Rattle.std.specs.Prelude.{◌≤◌, vec_len};
+    ghost use Rattle.lsp_peers.specs.Post.{Line, line_of};
+
+    ghost Value = { Line };
+
+    ghost view = { λ l. line_of l.bytes.items l.start l.end };
+
+    ghost invariant = { λ l. (l.start ≤ l.end) × (l.end ≤ vec_len l.bytes) };
+}
+
+impl Link {
+    /// A link without bytes. It takes no memory.
+    pub fn default(alloc: Global) -> Link
+        ensures { Carries result empty_post }
+    {
+        Link {
+            alloc,
+            bytes: Vec::new(alloc),
+            start: 0,
+            end: 0,
+        }
+    }
+
+    /// The bytes that arrived and weren't taken. It takes no memory.
+    pub fn arrived(&self) -> &[u8]
+        ensures { result.now ≡ self.now.arrived }
+    {
+        &self.bytes[self.start..self.end]
+    }
+
+    /// The bytes on the way. It takes no memory.
+    pub fn on_way(&self) -> &[u8]
+        ensures { result.now ≡ self.now.on_way }
+    {
+        &self.bytes[self.end..]
+    }
+
+    /// Adds a frame of the message to the bytes on the way.
+    ///
+    /// `WorldFault::Memory` is the only fault. The link is then as it was.
+    pub fn write(&mut self, message: &Message) -> Result<(), WorldFault>
+        ensures ok { (post : Post) → Carries self.old post → OnOk result (
+            (letter : Letter) × (letter.message ≡ message_view message.now) × Carries self.new (posted post letter)) }
+        ensures err { OnErr result (self.new ≡ self.old) }
+        ensures memory { OnErr result (result ≡ Err WorldFault.Memory) }
+    {
+        let count = self.bytes.len();
+        match message.write(self.alloc, &mut self.bytes) {
+            Ok(()) => Ok(()),
+            Err(_) => {
+                self.bytes.truncate(count);
+                Err(WorldFault::Memory)
+            }
+        }
+    }
+
+    /// Lets up to this many bytes arrive, in order, and says how many did: all, or as many as were on the way. It takes no memory
+    /// and always succeeds.
+    pub fn pass(&mut self, bytes: usize) -> usize
+        ensures { (post : Post) → Carries self.old post →
+            (result ≡ min bytes (unpassed post)) × Carries self.new (passed_on post bytes) }
+    {
+        let count = bytes.min(self.bytes.len() - self.end);
+        self.end += count;
+        count
+    }
+
+    /// Takes the first message where all of its frame arrived, and gives `None` where it did not.
+    ///
+    /// `WorldFault::Memory` means that an allocation failed, and `WorldFault::NotReadBack` that the message isn't read from its
+    /// frame. A message that nests at most 127 levels is. After a fault the link is as it was.
+    pub fn take(&mut self) -> Result<Option<Message>, WorldFault>
+        ensures ok { (post : Post) → Carries self.old post → IfNext ReadsBack post → IfOk result (λ taken.
+            (option_map message_view taken ≡ message_of (next post)) × Carries self.new (after_take post)) }
+        ensures err { OnErr result (self.new ≡ self.old) }
+        ensures memory { (post : Post) → Carries self.old post → IfNext ReadsBack post →
+            OnErr result (result ≡ Err WorldFault.Memory) }
+    {
+        let arrived = &self.bytes[self.start..self.end];
+        match front(arrived) {
+            Front::More => Ok(None),
+            Front::Fault(_) => Err(WorldFault::NotReadBack),
+            Front::Whole(count) => {
+                let mut frame = &arrived[..count];
+                match Message::read(self.alloc, &mut frame) {
+                    Ok(Some(message)) => {
+                        self.start += count;
+                        Ok(Some(message))
+                    }
+                    Ok(None) => Err(WorldFault::NotReadBack),
+                    Err(fault) => Err(fault_of_read(fault)),
+                }
+            }
+        }
+    }
+}
+
+/// Bytes in memory don't fail, so a fault of the reader counts as want of memory.
+fn fault_of_read(fault: ReadFault) -> WorldFault
+    ensures { result ≡ fault_of fault }
+{
+    match fault {
+        ReadFault::Input(_) | ReadFault::Memory => WorldFault::Memory,
+        ReadFault::LineNotText
+        | ReadFault::LineEnd
+        | ReadFault::NoSeparator
+        | ReadFault::BadLength
+        | ReadFault::NoLength
+        | ReadFault::ShortBody
+        | ReadFault::BodyNotText
+        | ReadFault::NoJson
+        | ReadFault::NoMessage => WorldFault::NotReadBack,
+    }
+}

@@ -1,0 +1,179 @@
+//! One side: its queues, the link to it, and the messages that it took.
+ghost use Rattle.std.specs.Prelude.{◌≡◌, [], Err, Ok, OnErr, IfOk, string_bytes};
+ghost use Rattle.serde_json.specs.View.{view};
+ghost use Rattle.lsp_message.specs.Message.{response};
+ghost use Rattle.lsp_message.specs.View.{message_view};
+ghost use Rattle.lsp_queue.specs.Queue.{cancelled};
+ghost use Rattle.lsp_peers.specs.Agreement.{PeerAgrees, Agrees};
+ghost use Rattle.lsp_peers.specs.Steps.{Accounts, Registers, Passes, Takes, Replies, GivesUp, StepDoes};
+ghost use Rattle.lsp_peers.specs.Post.{next, empty_post};
+ghost use Rattle.lsp_peers.specs.Settling.{Settles};
+ghost use Rattle.lsp_peers.specs.InOnePlace.{InOnePlace};
+
+use crate::fault::WorldFault;
+use crate::link::Link;
+use crate::step::{Outcome, Step};
+use lsp_message::{Message, RequestId, Response};
+use lsp_queue::{RegisterFault, ReqQueue};
+use serde_json::Value;
+use std::alloc::Global;
+
+/// One side: its queues, the link to it, and the messages that it took, in order.
+#[derive(Drop)]
+pub(crate) struct Peer {
+    pub(crate) queue: ReqQueue<u64, u64>,
+    pub(crate) link: Link,
+    pub(crate) taken: Vec<Message>,
+}
+
+impl Peer {
+    pub(crate) fn new(alloc: Global) -> Peer
+        ensures { PeerAgrees result (record { tokens = []; post = empty_post }) [] }
+    {
+        Peer {
+            queue: ReqQueue::default(alloc),
+            link: Link::default(alloc),
+            taken: Vec::new(alloc),
+        }
+    }
+
+    /// A step of this side.
+    pub(crate) fn step(&mut self, far: &mut Peer, step: Step) -> Result<Outcome, WorldFault>
+        ensures ok { (old : Accounts) → Agrees self.old far.old old → InOnePlace old → IfOk result (λ outcome.
+            (new : Accounts) × StepDoes old step outcome new × Agrees self.new far.new new) }
+        ensures err { (old : Accounts) → Agrees self.old far.old old → InOnePlace old → OnErr result (result ≡ Err WorldFault.Memory) }
+    {
+        match step {
+            Step::Register {
+                side: _,
+                method,
+                params,
+                payload,
+            } => self.register(far, method, params, payload),
+            Step::Pass { to: _, bytes } => Ok(self.pass(far, bytes)),
+            Step::Take { side: _, label } => self.take(far, label),
+            Step::Answer {
+                side: _,
+                id,
+                result: value,
+            } => self.answer(far, id, value),
+            Step::Cancel { side: _, id } => self.cancel(far, id),
+            Step::GiveUp { side: _, id } => Ok(self.give_up(far, id)),
+        }
+    }
+
+    fn register(
+        &mut self,
+        far: &mut Peer,
+        method: String,
+        params: Value,
+        payload: u64,
+    ) -> Result<Outcome, WorldFault>
+        ensures ok { (old : Accounts) → Agrees self.old far.old old → IfOk result (λ outcome.
+            (new : Accounts) × Registers (string_bytes method) (view params) payload old outcome new × Agrees self.new far.new new) }
+        ensures err { OnErr result (result ≡ Err WorldFault.Memory) }
+    {
+        match self.queue.outgoing.register_value(method, params, payload) {
+            Ok(request) => {
+                let id = request.id.clone()?;
+                far.link.write(&Message::Request(request))?;
+                Ok(Outcome::Registered(id))
+            }
+            Err(RegisterFault::Spent(_)) => Ok(Outcome::Spent),
+            Err(RegisterFault::Memory(_)) => Err(WorldFault::Memory),
+            Err(RegisterFault::Unwritable(_)) => Err(WorldFault::Memory),
+        }
+    }
+
+    fn pass(&mut self, far: &Peer, bytes: usize) -> Outcome
+        ensures { (old : Accounts) → Agrees self.old far.now old →
+            (new : Accounts) × Passes bytes old result new × Agrees self.new far.now new }
+    {
+        Outcome::Passed(self.link.pass(bytes))
+    }
+
+    fn answer(&mut self, far: &mut Peer, id: RequestId, value: Value) -> Result<Outcome, WorldFault>
+        ensures ok { (old : Accounts) → Agrees self.old far.old old → IfOk result (λ outcome.
+            (new : Accounts) × Replies id (response id (Ok (view value))) (λ label. Outcome.Answered label) old outcome new × Agrees self.new far.new new) }
+        ensures err { OnErr result (result ≡ Err WorldFault.Memory) }
+    {
+        match self.queue.incoming.complete(&id) {
+            Some(label) => {
+                let reply = Response {
+                    id,
+                    response_result: Ok(value),
+                };
+                far.link.write(&Message::Response(reply))?;
+                Ok(Outcome::Answered(label))
+            }
+            None => Ok(Outcome::Absent),
+        }
+    }
+
+    fn cancel(&mut self, far: &mut Peer, id: RequestId) -> Result<Outcome, WorldFault>
+        ensures ok { (old : Accounts) → Agrees self.old far.old old → IfOk result (λ outcome.
+            (new : Accounts) × Replies id (cancelled id) (λ label. Outcome.Cancelled) old outcome new × Agrees self.new far.new new) }
+        ensures err { OnErr result (result ≡ Err WorldFault.Memory) }
+    {
+        match self.queue.incoming.cancel(id) {
+            Ok(Some(reply)) => {
+                far.link.write(&Message::Response(reply))?;
+                Ok(Outcome::Cancelled)
+            }
+            Ok(None) => Ok(Outcome::Absent),
+            Err(_) => Err(WorldFault::Memory),
+        }
+    }
+
+    fn give_up(&mut self, far: &Peer, id: RequestId) -> Outcome
+        ensures { (old : Accounts) → Agrees self.old far.now old →
+            (new : Accounts) × GivesUp id old result new × Agrees self.new far.now new }
+    {
+        match self.queue.incoming.complete(&id) {
+            Some(label) => Outcome::GaveUp(label),
+            None => Outcome::Absent,
+        }
+    }
+
+    fn take(&mut self, far: &Peer, label: u64) -> Result<Outcome, WorldFault>
+        ensures ok { (old : Accounts) → Agrees self.old far.now old → InOnePlace old → IfOk result (λ outcome.
+            (new : Accounts) × Takes label (next old.here.post) old outcome new × Agrees self.new far.now new) }
+        ensures err { (old : Accounts) → Agrees self.old far.now old → InOnePlace old → OnErr result (result ≡ Err WorldFault.Memory) }
+    {
+        let Some(message) = self.link.take()? else {
+            return Ok(Outcome::Waiting);
+        };
+        let Ok(outcome) = settle(&mut self.queue, &message, label) else {
+            return Err(WorldFault::Memory);
+        };
+        match self.taken.push(message) {
+            Ok(()) => Ok(outcome),
+            Err(_) => Err(WorldFault::Memory),
+        }
+    }
+}
+
+/// What a message that was taken does: a request becomes pending under the label, a reply completes its id.
+fn settle(
+    queue: &mut ReqQueue<u64, u64>,
+    message: &Message,
+    label: u64,
+) -> Result<Outcome, WorldFault>
+    ensures { IfOk result (λ outcome. Settles (message_view message.now) label queue.old outcome queue.new) }
+{
+    match message {
+        Message::Request(request) => {
+            let id = request.id.clone()?;
+            match queue.incoming.register(request.id.clone()?, label) {
+                Ok(()) => Ok(Outcome::Arrived(id)),
+                Err(_) => Err(WorldFault::Memory),
+            }
+        }
+        Message::Response(response) => {
+            let id = response.id.clone()?;
+            let payload = queue.outgoing.complete(response.id.clone()?);
+            Ok(Outcome::Returned(id, payload))
+        }
+        Message::Notification(_) => Ok(Outcome::Waiting),
+    }
+}

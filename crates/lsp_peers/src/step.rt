@@ -1,0 +1,111 @@
+//! What the two sides do, and what comes of it.
+use lsp_message::RequestId;
+use serde_json::Value;
+
+/// One of the two peers.
+#[derive(Clone, Copy, Debug, PartialEq, Eq)]
+pub enum Side {
+    /// The one peer.
+    A,
+    /// The other peer.
+    B,
+}
+
+/// What a side does.
+#[derive(Debug, Drop)]
+pub enum Step {
+    /// The side registers a request with a payload under its next id, and writes the request to the other side (JSON-RPC 2.0,
+    /// section 4).
+    Register {
+        /// Who registers.
+        side: Side,
+        /// The method of the request.
+        method: String,
+        /// Its params. Null ones aren't written.
+        params: Value,
+        /// What is pending under its id until the reply is taken.
+        payload: u64,
+    },
+    /// So many bytes arrive at a side, or all that are on the way to it, where these are fewer.
+    Pass {
+        /// Where they arrive.
+        to: Side,
+        /// How many arrive at most.
+        bytes: usize,
+    },
+    /// The side takes the first message where all of its frame arrived. A request is held from then on; a reply gives back the
+    /// payload of its request.
+    Take {
+        /// Who takes it.
+        side: Side,
+        /// What a request is held under until it is answered, cancelled or given up.
+        label: u64,
+    },
+    /// The side answers a request that it holds (JSON-RPC 2.0, section 5).
+    Answer {
+        /// Who answers.
+        side: Side,
+        /// The id of the request.
+        id: RequestId,
+        /// The result.
+        result: Value,
+    },
+    /// The side replies to a request that it holds that it was cancelled (LSP 3.17, "Cancellation Support").
+    Cancel {
+        /// Who replies.
+        side: Side,
+        /// The id of the request.
+        id: RequestId,
+    },
+    /// The side forgets a request that it holds, and writes no reply.
+    GiveUp {
+        /// Who forgets it.
+        side: Side,
+        /// The id of the request.
+        id: RequestId,
+    },
+}
+
+impl Step {
+    ghost use Rattle.std.specs.Prelude.{◌≡◌};
+    ghost use Rattle.lsp_peers.specs.Steps.{side_of};
+
+    /// The side that takes the step, or that the bytes arrive at.
+    pub fn side(&self) -> Side
+        ensures { result ≡ side_of self.now }
+    {
+        match self {
+            Step::Register { side, .. } => *side,
+            Step::Pass { to, .. } => *to,
+            Step::Take { side, .. } => *side,
+            Step::Answer { side, .. } => *side,
+            Step::Cancel { side, .. } => *side,
+            Step::GiveUp { side, .. } => *side,
+        }
+    }
+}
+
+/// What came of a step.
+#[derive(Debug, Drop, PartialEq, Eq)]
+pub enum Outcome {
+    /// The request has this id: 0, 1, 2, .. for the requests of a side.
+    Registered(RequestId),
+    /// All of the side's 2147483648 ids were given out, and nothing happened.
+    Spent,
+    /// So many bytes arrived.
+    Passed(usize),
+    /// The request of this id was taken.
+    Arrived(RequestId),
+    /// The reply of this id was taken, and this payload was pending under it.
+    Returned(RequestId, Option<u64>),
+    /// No frame has arrived whole, and nothing was taken.
+    Waiting,
+    /// The request was answered. It was held under this label.
+    Answered(u64),
+    /// The reply says that the request was cancelled.
+    Cancelled,
+    /// The request is forgotten. It was held under this label.
+    GaveUp(u64),
+    /// The side holds no request of this id, and nothing happened.
+    Absent,
+}
