@@ -2,16 +2,16 @@
 use Rattle.std.proofs.Common.{◌≡◌, ℕ, ◌+◌, ◌-◌, ◌^◌, ◌<◌, ◌≤◌, List, [], ◌++◌, length, take, drop, min, refl, sym, ap, ◌∙◌, subst, arith, append-nil, length-append, length-drop, ⊎_elim}
 use Rattle.std.proofs.lemmas.List.{length-take}
 use Rattle.std.specs.Prelude.{Option, None, Some, Ok, Err}
-use Rattle.lsp_message.specs.Body.{reading_of}
-use Rattle.lsp_message.specs.Frame.{Answers}
+use Rattle.lsp_message.specs.Frame.{reading_of}
+use Rattle.lsp_message.specs.Reading.{Answers}
 use Rattle.lsp_message.specs.Front.{front_of}
-use Rattle.lsp_message.specs.HeaderPart.{Reading}
+use Rattle.lsp_message.specs.Reading.{Reading}
 use Rattle.lsp_message.specs.Message.{Message}
 use Rattle.lsp_message.specs.Readable.{WritesReadably}
 use Rattle.lsp_message.specs.Tree.{without_null_details}
 use Rattle.lsp_message.specs.View.{message_view}
 use Rattle.lsp_message.specs.declared.frame.ReadFault.{ReadFault}
-use Rattle.lsp_message.specs.declared.frame.ReadFault.TheVariants.{Input, LineNotText, LineEnd, NoSeparator, BadLength, NoLength, ShortBody, BodyNotText, NoJson, NoMessage, Memory}
+use Rattle.lsp_message.specs.declared.frame.ReadFault.TheVariants.{Input, LineNotText, LineEnd, NoSeparator, BadLength, NoLength, ShortBody, BodyNotText, NoJson, NoMessage, Memory, TooLong, Batch}
 use Rattle.lsp_message.specs.declared.frame.extent.Front.TheVariants.{Whole, Fault, More}
 use Rattle.lsp_peers.specs.WorldFault.{fault_of}
 use Rattle.lsp_peers.specs.declared.fault.WorldFault.TheVariants.{Memory as NoMemory}
@@ -42,6 +42,8 @@ no_other_fault ShortBody left reading m is found = let e = sym is.0 ∙ found in
 no_other_fault BodyNotText left reading m is found = let e = sym is.0 ∙ found in cc
 no_other_fault NoJson left reading m is found = let e = sym is.0 ∙ found in cc
 no_other_fault NoMessage left reading m is found = let e = sym is.0 ∙ found in cc
+no_other_fault TooLong left reading m is found = let e = sym is.0 ∙ found in cc
+no_other_fault Batch left reading m is found = let e = sym is.0 ∙ found in cc
 
 module _ (bytes : List ℕ) (start end : ℕ) (ordered : start ≤ end) (within : end ≤ length bytes) (post : Post) (carries : Carries (line_of bytes start end) post) where
   pub write_keeps : (after : List ℕ) (letter : Letter) → after ≡ bytes ++ letter.frame → Carries (line_of after start end) (posted post letter)

@@ -2,6 +2,7 @@
 use Rattle.std.specs.List.{flat_map}
 use Rattle.std.specs.Prelude.{◌≡◌, ◌≤◌, ℕ, ◌+◌, ◌-◌, List, [], ◌∷◌, ◌++◌, length, take, drop, Option, None, Some, if◌then◌else◌, nat_le, min, IfSome, is_some}
 use Rattle.serde_json.specs.Read.{max_depth}
+use Rattle.lsp_message.specs.Frame.{no_limit}
 use Rattle.lsp_message.specs.Letters.{Begins}
 use Rattle.lsp_message.specs.Message.{Message}
 use Rattle.lsp_message.specs.Ranges.{nesting}
@@ -14,7 +15,7 @@ pub record Letter : Type 0 where
   pub message : Message
   pub frame : List ℕ
   pub framed : IsFrameOf message frame
-  pub readable : nesting message ≤ max_depth → (rest : List ℕ) → Begins (frame ++ rest) (without_null_details message) rest
+  pub readable : nesting message ≤ max_depth → (rest : List ℕ) → Begins no_limit (frame ++ rest) (without_null_details message) rest
 
 -- The message is read back as it was written: it nests at most 127 levels, and has no error whose data is null.
 pub record ReadsBack (m : Message) : Type 0 where

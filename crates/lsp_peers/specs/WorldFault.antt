@@ -1,7 +1,7 @@
 -- Faults of a link or a world: their numbers and texts, and which one a fault of reading is.
 use Rattle.std.specs.Prelude.{ℕ, List, Option, Some, codes}
 use Rattle.lsp_message.specs.declared.frame.ReadFault.{ReadFault}
-use Rattle.lsp_message.specs.declared.frame.ReadFault.TheVariants.{Input, LineNotText, LineEnd, NoSeparator, BadLength, NoLength, ShortBody, BodyNotText, NoJson, NoMessage, Memory}
+use Rattle.lsp_message.specs.declared.frame.ReadFault.TheVariants.{Input, LineNotText, LineEnd, NoSeparator, BadLength, NoLength, ShortBody, BodyNotText, NoJson, NoMessage, Memory, TooLong, Batch}
 use Rattle.lsp_peers.specs.declared.fault.WorldFault.{WorldFault}
 use Rattle.lsp_peers.specs.declared.fault.WorldFault.TheVariants.{Memory as NoMemory, NotReadBack}
 
@@ -27,3 +27,5 @@ fault_of ShortBody = NotReadBack
 fault_of BodyNotText = NotReadBack
 fault_of NoJson = NotReadBack
 fault_of NoMessage = NotReadBack
+fault_of TooLong = NotReadBack
+fault_of Batch = NotReadBack

@@ -133,6 +133,8 @@ fn fault_of_read(fault: ReadFault) -> WorldFault
         | ReadFault::ShortBody
         | ReadFault::BodyNotText
         | ReadFault::NoJson
-        | ReadFault::NoMessage => WorldFault::NotReadBack,
+        | ReadFault::NoMessage
+        | ReadFault::TooLong
+        | ReadFault::Batch => WorldFault::NotReadBack,
     }
 }
