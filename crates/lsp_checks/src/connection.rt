@@ -1,6 +1,7 @@
 // The handshake and the end of a session over a connection in memory, whose other side is a thread or was ready before.
-use crate::client::{Part, client_thread};
-use lsp_server::{Connection, IoFault, Message, ProtocolError, ReadFault, RequestId, WriteFault};
+use lsp_server::{
+    Connection, IoFault, Message, ProtocolError, ReadFault, Request, RequestId, WriteFault,
+};
 use serde_json::{Map, Value};
 use std::alloc::{AllocError, Global};
 use std::cell::Cell;
@@ -8,8 +9,13 @@ use std::io::ErrorKind;
 use std::process::Abort;
 use std::sync::Wait;
 use std::test::Fail;
-use std::thread;
-use std::time::{Clock, Duration};
+use std::thread::{JoinHandle, Threads};
+use std::time::{Clock, Duration, Instant};
+use test_support::client::{Act, Part, client_thread, receives, sends};
+use test_support::messages::message;
+use test_support::texts::{
+    ABORTED, DISCONNECTED, EXPECTED_INITIALIZE, NO_EXIT, TIMED_OUT, UNEXPECTED, agrees,
+};
 
 const INITIALIZE: &str = "{\"id\":234,\"method\":\"initialize\",\"params\":{\"a\":1}}";
 
@@ -23,76 +29,41 @@ const NULL: &str = "{\"id\":2,\"result\":null}";
 
 const EXIT: &str = "{\"method\":\"exit\"}";
 
-// How many seconds a test waits for a message at most.
-const PATIENCE: u64 = 20;
-
-// The message with this member text.
-fn message(alloc: Global, text: &str) -> Option<Message> {
-    let Ok(tree) = Value::from_str(alloc, text) else {
-        return None;
-    };
-    Message::from_value(alloc, &tree).unwrap_or(None)
-}
-
-// Sends the message with this member text.
-pub(crate) fn sends<R: Wait + AllocGlobal>(rt: &R, connection: &Connection, text: &str) -> bool {
-    match message(rt.alloc(), text) {
-        Some(message) => connection.sender.send(rt, message).is_ok(),
-        None => false,
-    }
-}
-
-// The next message has this member text.
-pub(crate) fn receives<R: Wait + Clock + AllocGlobal>(
-    rt: &R,
-    connection: &Connection,
-    text: &str,
-) -> bool {
-    match connection
-        .receiver
-        .recv_timeout(rt, Duration::from_secs(PATIENCE))
-    {
-        Ok(message) => has_text(rt.alloc(), &message, text),
-        Err(_) => false,
-    }
-}
-
-fn has_text(alloc: Global, message: &Message, text: &str) -> bool {
-    match message.member_text(alloc) {
-        Ok(found) => found.as_str() == text,
-        Err(_) => false,
-    }
-}
-
 // A client's side of the handshake.
-pub(crate) fn shakes_hands<R: Wait + Clock + AllocGlobal>(rt: &R, connection: &Connection) -> bool {
-    sends(rt, connection, INITIALIZE)
-        && receives(rt, connection, RESULT)
-        && sends(rt, connection, INITIALIZED)
-}
+const HANDSHAKE: Part = Part {
+    acts: &[
+        Act::Sends(INITIALIZE),
+        Act::Receives(RESULT),
+        Act::Sends(INITIALIZED),
+    ],
+    sent_last: &[],
+};
 
-// The same, which waits for longer than one turn before it ends the handshake, and then finds no second result.
-pub(crate) fn shakes_hands_slowly<R: Wait + Clock + AllocGlobal>(
-    rt: &R,
-    connection: &Connection,
-) -> bool {
-    if !sends(rt, connection, INITIALIZE) || !receives(rt, connection, RESULT) {
-        return false;
-    }
-    thread::sleep(rt, Duration::from_millis(1200));
-    sends(rt, connection, INITIALIZED)
-        && connection
-            .receiver
-            .recv_timeout(rt, Duration::from_millis(300))
-            .is_err()
-}
+// The same, which waits for more than one turn before it ends the handshake, and then finds no second result.
+const SLOW_HANDSHAKE: Part = Part {
+    acts: &[
+        Act::Sends(INITIALIZE),
+        Act::Receives(RESULT),
+        Act::Sleeps(1500),
+        Act::Sends(INITIALIZED),
+        Act::HearsNothing(300),
+    ],
+    sent_last: &[],
+};
 
 // A client's side of the end: it sends `exit` only after the null came.
-pub(crate) fn ends_after_null<R: Wait + Clock + AllocGlobal>(
-    rt: &R,
-    connection: &Connection,
-) -> bool {
-    receives(rt, connection, NULL) && sends(rt, connection, EXIT)
+const END: Part = Part {
+    acts: &[Act::Receives(NULL), Act::Sends(EXIT)],
+    sent_last: &[],
+};
+
+// A thread that plays the part with the ends of the client.
+fn plays<R>(rt: &R, part: Part, client: Connection) -> Option<JoinHandle<bool>>
+where
+    R: Threads + Wait + Clock + AllocGlobal + Copy + Drop + Send + 'static,
+{
+    let Connection { sender, receiver } = client;
+    client_thread(rt, part, sender, receiver)
 }
 
 fn no_capabilities(alloc: Global) -> Value {
@@ -108,19 +79,17 @@ fn is_error(
     disconnected: bool,
 ) -> Result<(), AllocError> {
     let shown = error.to_string(alloc)?;
-    assert!(rt; shown.as_str().starts_with(text), "{shown}");
+    assert!(rt; agrees(shown.as_str(), text), "{shown}");
     assert_eq!(rt; error.channel_is_disconnected(), disconnected, "{shown}");
     Ok(())
 }
-
-const ABORTED: &str = "Initialization has been aborted during initialization";
 
 #[test]
 fn initialize_is_found(rt: HostRuntime) -> Result<(), Fail> {
     let alloc = rt.alloc();
     let (server, client) = Connection::memory(alloc)?;
-    assert!(rt; sends(&rt, &client, INITIALIZED));
-    assert!(rt; sends(&rt, &client, INITIALIZE));
+    assert!(rt; sends(&rt, &client.sender, INITIALIZED));
+    assert!(rt; sends(&rt, &client.sender, INITIALIZE));
     let Ok((id, params)) = server.initialize_start(&rt) else {
         return Err(Fail::from("no request"));
     };
@@ -135,7 +104,7 @@ fn initialize_is_found(rt: HostRuntime) -> Result<(), Fail> {
 fn exit_ends_the_handshake(rt: HostRuntime) -> Result<(), Fail> {
     let alloc = rt.alloc();
     let (server, client) = Connection::memory(alloc)?;
-    assert!(rt; sends(&rt, &client, EXIT));
+    assert!(rt; sends(&rt, &client.sender, EXIT));
     let Err(error) = server.initialize_start(&rt) else {
         return Err(Fail::from("no error"));
     };
@@ -143,9 +112,10 @@ fn exit_ends_the_handshake(rt: HostRuntime) -> Result<(), Fail> {
         &rt,
         alloc,
         &error,
-        "expected initialize request, got ",
+        EXPECTED_INITIALIZE,
         false,
     )?;
+    assert!(rt; client.receiver.is_empty());
     Ok(())
 }
 
@@ -153,7 +123,7 @@ fn exit_ends_the_handshake(rt: HostRuntime) -> Result<(), Fail> {
 fn a_client_shakes_hands(rt: HostRuntime) -> Result<(), Fail> {
     let alloc = rt.alloc();
     let (server, client) = Connection::memory(alloc)?;
-    let Some(other) = client_thread(&rt, Part::Handshake, client) else {
+    let Some(other) = plays(&rt, HANDSHAKE, client) else {
         return Err(Fail::from("no thread"));
     };
     let Ok(params) = server.initialize(&rt, no_capabilities(alloc)) else {
@@ -168,13 +138,17 @@ fn a_client_shakes_hands(rt: HostRuntime) -> Result<(), Fail> {
 fn a_slow_client_gets_one_result(rt: HostRuntime) -> Result<(), Fail> {
     let alloc = rt.alloc();
     let (server, client) = Connection::memory(alloc)?;
-    let Some(other) = client_thread(&rt, Part::SlowHandshake, client) else {
+    let Some(other) = plays(&rt, SLOW_HANDSHAKE, client) else {
         return Err(Fail::from("no thread"));
     };
-    let Ok(params) = server.initialize_while(&rt, no_capabilities(alloc), || true) else {
+    let asked = Cell::new(0u32);
+    let running = || asked.replace(asked.get().saturating_add(1)) < 1000;
+    let Ok(params) = server.initialize_while(&rt, no_capabilities(alloc), running) else {
         return Err(Fail::from("no params"));
     };
     assert!(rt; other.join(&rt));
+    // Once at the start, and then once a second while the client sleeps.
+    assert!(rt; asked.get() >= 3);
     assert_eq!(rt; params.to_string(alloc)?.as_str(), "{\"a\":1}");
     Ok(())
 }
@@ -192,7 +166,7 @@ fn the_handshake_is_called_off(rt: HostRuntime) -> Result<(), Fail> {
         return Err(Fail::from("no error"));
     };
     is_error(&rt, alloc, &error, ABORTED, false)?;
-    assert!(rt; receives(&rt, &client, "{\"id\":234,\"result\":null}"));
+    assert!(rt; receives(&rt, &client.receiver, "{\"id\":234,\"result\":null}"));
     assert!(rt; client.receiver.is_empty());
     Ok(())
 }
@@ -203,9 +177,11 @@ fn the_handshake_is_called_off_later(rt: HostRuntime) -> Result<(), Fail> {
     let alloc = rt.alloc();
     let (server, client) = Connection::memory(alloc)?;
     let first = Cell::new(true);
+    let start = Instant::now(&rt)?;
     let Err(error) = server.initialize_start_while(&rt, || first.replace(false)) else {
         return Err(Fail::from("no error"));
     };
+    assert!(rt; start.elapsed(&rt)? >= Duration::from_secs(1));
     is_error(&rt, alloc, &error, ABORTED, false)?;
     assert!(rt; !first.get());
     assert!(rt; client.receiver.is_empty());
@@ -220,19 +196,18 @@ fn the_other_side_is_gone(rt: HostRuntime) -> Result<(), Fail> {
     let Err(error) = server.initialize_start(&rt) else {
         return Err(Fail::from("no error"));
     };
-    is_error(&rt, alloc, &error, "disconnected channel", true)?;
+    is_error(&rt, alloc, &error, DISCONNECTED, true)?;
     let Err(error) = server.initialize_finish(&rt, RequestId::from(1), Value::Null) else {
         return Err(Fail::from("no error"));
     };
-    is_error(&rt, alloc, &error, "disconnected channel", true)?;
+    is_error(&rt, alloc, &error, DISCONNECTED, true)?;
     let Some(Message::Request(request)) = message(alloc, SHUTDOWN) else {
         return Err(Fail::from("no request"));
     };
     let Err(error) = server.handle_shutdown(&rt, &request) else {
         return Err(Fail::from("no error"));
     };
-    let gone = "channel disconnected waiting for exit notification";
-    is_error(&rt, alloc, &error, gone, true)?;
+    is_error(&rt, alloc, &error, NO_EXIT, true)?;
     Ok(())
 }
 
@@ -243,12 +218,52 @@ fn exit_follows_the_null(rt: HostRuntime) -> Result<(), Fail> {
     let Some(Message::Request(request)) = message(alloc, SHUTDOWN) else {
         return Err(Fail::from("no request"));
     };
-    let Some(other) = client_thread(&rt, Part::End, client) else {
+    let Some(other) = plays(&rt, END, client) else {
         return Err(Fail::from("no thread"));
     };
     let answer = server.handle_shutdown(&rt, &request);
     assert!(rt; matches!(&answer, Ok(true)));
     assert!(rt; other.join(&rt));
+    Ok(())
+}
+
+// The request `shutdown`.
+fn shutdown_request(alloc: Global) -> Result<Request, Fail> {
+    match message(alloc, SHUTDOWN) {
+        Some(Message::Request(request)) => Ok(request),
+        Some(_) | None => Err(Fail::from("no request")),
+    }
+}
+
+#[test]
+fn another_message_comes_after_the_null(rt: HostRuntime) -> Result<(), Fail> {
+    let alloc = rt.alloc();
+    let (server, client) = Connection::memory(alloc)?;
+    assert!(rt; sends(&rt, &client.sender, INITIALIZED));
+    let request = shutdown_request(alloc)?;
+    let Err(error) = server.handle_shutdown(&rt, &request) else {
+        return Err(Fail::from("no error"));
+    };
+    is_error(&rt, alloc, &error, UNEXPECTED, false)?;
+    assert!(rt; receives(&rt, &client.receiver, NULL));
+    assert!(rt; client.receiver.is_empty());
+    Ok(())
+}
+
+// The other side stays and says nothing: `exit` is awaited for 30 seconds.
+#[test]
+fn exit_is_not_awaited_for_ever(rt: HostRuntime) -> Result<(), Fail> {
+    let alloc = rt.alloc();
+    let (server, client) = Connection::memory(alloc)?;
+    let request = shutdown_request(alloc)?;
+    let start = Instant::now(&rt)?;
+    let Err(error) = server.handle_shutdown(&rt, &request) else {
+        return Err(Fail::from("no error"));
+    };
+    let seconds = start.elapsed(&rt)?.as_secs();
+    is_error(&rt, alloc, &error, TIMED_OUT, false)?;
+    assert!(rt; (30..45).contains(&seconds), "{seconds}");
+    assert!(rt; receives(&rt, &client.receiver, NULL));
     Ok(())
 }
 

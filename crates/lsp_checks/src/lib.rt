@@ -4,19 +4,21 @@
 #![tactic(auto)]
 
 #[cfg(test)]
-mod client;
-#[cfg(test)]
 mod connection;
 pub mod example;
 #[cfg(test)]
-mod fronts;
+mod ids;
 #[cfg(test)]
 mod lifecycle;
 #[cfg(test)]
-mod peer;
+mod loops;
+#[cfg(test)]
+mod messages;
 pub mod question;
 #[cfg(test)]
 mod queues;
+#[cfg(test)]
+mod reading;
 pub mod server;
 #[cfg(test)]
 mod session;
@@ -24,3 +26,5 @@ mod session;
 mod tcp;
 #[cfg(test)]
 mod write_loop;
+#[cfg(test)]
+mod writing;

@@ -12,6 +12,11 @@ use std::alloc::{AllocError, Global};
 use std::cell::Cell;
 use std::process::Abort;
 use std::test::Fail;
+use test_support::messages::{member_texts, note};
+use test_support::texts::{
+    ABORTED, DISCONNECTED, EXPECTED_INITIALIZE, EXPECTED_INITIALIZED, NO_EXIT, OUT_OF_MEMORY,
+    TIMED_OUT, UNEXPECTED, agrees,
+};
 
 // What comes in, in the order of an inbox.
 #[derive(Clone, Copy)]
@@ -33,13 +38,6 @@ fn request(alloc: Global, id: i32, method: &str, params: &str) -> Result<Request
         params: Value::from_str(alloc, params)?,
         method: String::from_str(alloc, method)?,
     })
-}
-
-fn note(alloc: Global, method: &str) -> Result<Message, AllocError> {
-    Ok(Message::Notification(Notification {
-        method: String::from_str(alloc, method)?,
-        params: Value::Null,
-    }))
 }
 
 fn reply(id: i32) -> Message {
@@ -76,15 +74,6 @@ fn answers(alloc: Global, said: &[bool]) -> Result<ListGate, AllocError> {
     Ok(gate)
 }
 
-// The member texts of what was sent, one after another.
-pub(crate) fn sent_text(alloc: Global, outbox: &ListOutbox) -> Result<String, AllocError> {
-    let mut all = String::new(alloc);
-    for message in &outbox.sent {
-        all.push_str(message.member_text(alloc)?.as_str())?;
-    }
-    Ok(all)
-}
-
 fn is_message(event: Event) -> bool {
     match event {
         Event::Message(_) => true,
@@ -108,11 +97,9 @@ fn is_error(
     disconnected: bool,
 ) -> Result<(), Fail> {
     let shown = error.to_string(alloc)?;
-    let begins = shown.as_str().starts_with(text);
-    let is_text = begins && (text.ends_with(' ') || shown.len() == text.len());
     assert_eq!(rt;
         (
-            is_text,
+            agrees(shown.as_str(), text),
             error.channel_is_disconnected(),
             error.is_out_of_memory()
         ),
@@ -121,22 +108,6 @@ fn is_error(
     );
     Ok(())
 }
-
-const DISCONNECTED: &str = "disconnected channel";
-
-const EXPECTED_INITIALIZE: &str = "expected initialize request, got ";
-
-const ABORTED: &str = "Initialization has been aborted during initialization";
-
-const EXPECTED_INITIALIZED: &str = "expected initialized notification, got: ";
-
-const UNEXPECTED: &str = "unexpected message during shutdown: ";
-
-const TIMED_OUT: &str = "timed out waiting for exit notification";
-
-const GONE: &str = "channel disconnected waiting for exit notification";
-
-const OUT_OF_MEMORY: &str = "out of memory";
 
 // The call failed, with this error.
 fn fails<T: Drop>(
@@ -193,7 +164,7 @@ fn a_request_before_initialize_is_refused(rt: HostRuntime) -> Result<(), Fail> {
     assert_eq!(rt; started(alloc, answer)?.as_str(), "234 {\"a\":1}");
     assert_eq!(rt; inbox.events.len(), 0);
     assert_eq!(rt; outbox.sent.len(), 1);
-    let sent = sent_text(alloc, &outbox)?;
+    let sent = member_texts(alloc, outbox.sent.as_slice())?;
     let beginning =
         "{\"id\":7,\"error\":{\"code\":-32002,\"message\":\"expected initialize request, got ";
     assert!(rt; sent.as_str().starts_with(beginning), "{sent}");
@@ -366,7 +337,7 @@ fn the_result_is_sent_and_nothing_comes(rt: HostRuntime) -> Result<(), Fail> {
     fails(&rt, alloc, Some(answer), DISCONNECTED, true)?;
     assert_eq!(rt; outbox.sent.len(), 1);
     assert_eq!(rt;
-        sent_text(alloc, &outbox)?.as_str(),
+        member_texts(alloc, outbox.sent.as_slice())?.as_str(),
         "{\"id\":1,\"result\":null}"
     );
     Ok(())
@@ -450,10 +421,10 @@ fn shutdown_waits_for_exit(rt: HostRuntime) -> Result<(), Fail> {
     let alloc = rt.alloc();
     let mut outbox = ListOutbox::new(alloc, 1);
     let mut inbox = ListInbox::new(alloc);
-    shutdown_fails(&rt, alloc, &mut inbox, &mut outbox, GONE, true)?;
+    shutdown_fails(&rt, alloc, &mut inbox, &mut outbox, NO_EXIT, true)?;
     assert_eq!(rt; outbox.sent.len(), 1);
     assert_eq!(rt;
-        sent_text(alloc, &outbox)?.as_str(),
+        member_texts(alloc, outbox.sent.as_slice())?.as_str(),
         "{\"id\":2,\"result\":null}"
     );
     let mut inbox = list(

@@ -89,10 +89,10 @@ fn tell<R: Wait + AllocGlobal>(rt: &R, connection: &Connection, method: &str) ->
 #[cfg(test)]
 mod tests {
     use super::ask_server;
-    use crate::peer::{Part, peer_thread};
     use lsp_server::SessionEnd;
     use serde_json::json;
     use std::test::Fail;
+    use test_support::peer::{Part, peer_thread};
 
     #[test]
     fn a_server_answers(rt: HostRuntime) -> Result<(), Fail> {

@@ -1,172 +1,27 @@
 // Sessions of a server, from bytes to bytes (LSP 3.17, "Base Protocol" and "Server lifecycle").
 use lsp_server::{
-    Event, Handler, Inbox, ListInbox, ListOutbox, Notification, Request, ResponseError, SessionEnd,
-    StreamInbox, serve, session,
+    Event, Handler, Inbox, ListInbox, ListOutbox, SessionEnd, StreamInbox, serve, session,
 };
 use serde_json::{Map, Value};
 use std::alloc::{AllocError, Global};
 use std::cell::Cell;
 use std::fmt::Display;
-use std::io;
-use std::io::{BufRead, ErrorKind, Read, Write};
+use std::io::{BufRead, ErrorKind, Write};
 use std::test::Fail;
-
-const INITIALIZE: &str =
-    "Content-Length: 46\r\n\r\n{\"jsonrpc\":\"2.0\",\"id\":1,\"method\":\"initialize\"}";
-
-const INITIALIZED: &str =
-    "Content-Length: 40\r\n\r\n{\"jsonrpc\":\"2.0\",\"method\":\"initialized\"}";
-
-const SHUTDOWN: &str =
-    "Content-Length: 44\r\n\r\n{\"jsonrpc\":\"2.0\",\"id\":2,\"method\":\"shutdown\"}";
-
-const EXIT: &str = "Content-Length: 33\r\n\r\n{\"jsonrpc\":\"2.0\",\"method\":\"exit\"}";
-
-// All four.
-const SESSION: &str =
-    "Content-Length: 46\r\n\r\n{\"jsonrpc\":\"2.0\",\"id\":1,\"method\":\"initialize\"}Content-Length: 40\r\n\r\n{\"jsonrpc\":\"2.0\",\"method\":\"initialized\"}Content-Length: 44\r\n\r\n{\"jsonrpc\":\"2.0\",\"id\":2,\"method\":\"shutdown\"}Content-Length: 33\r\n\r\n{\"jsonrpc\":\"2.0\",\"method\":\"exit\"}";
-
-// A notification of another method.
-const NOTE: &str = "Content-Length: 30\r\n\r\n{\"jsonrpc\":\"2.0\",\"method\":\"x\"}";
-
-// The reply to `initialize`.
-const CAPABILITIES: &str =
-    "Content-Length: 53\r\n\r\n{\"jsonrpc\":\"2.0\",\"id\":1,\"result\":{\"capabilities\":{}}}";
-
-// The reply to `shutdown`.
-const NULL: &str = "Content-Length: 38\r\n\r\n{\"jsonrpc\":\"2.0\",\"id\":2,\"result\":null}";
-
-// Both replies.
-const REPLIES: &str =
-    "Content-Length: 53\r\n\r\n{\"jsonrpc\":\"2.0\",\"id\":1,\"result\":{\"capabilities\":{}}}Content-Length: 38\r\n\r\n{\"jsonrpc\":\"2.0\",\"id\":2,\"result\":null}";
+use test_support::devices::{AtLimit, LimitedWriter, StepReader};
+use test_support::frames::{
+    CAPABILITIES, ECHO, ECHO_REPLY, EXIT, INITIALIZE, INITIALIZED, NOTE, NULL, REPLIES, SESSION,
+    SHUTDOWN, STRAY_REPLY, UNKNOWN, UNKNOWN_REPLY,
+};
+use test_support::handlers::{Echo, Nulls};
+use test_support::shared::{CountedAt, CountingWriter, WaitingReader};
+use test_support::texts::{
+    DISCONNECTED, EXPECTED_INITIALIZE, EXPECTED_INITIALIZED, NO_EXIT, UNEXPECTED, agrees,
+};
 
 const SHUT_DOWN: &str = "shut down";
 
 const CLOSED: &str = "closed";
-
-const DISCONNECTED: &str = "disconnected channel";
-
-const EXPECTED_INITIALIZE: &str = "expected initialize request, got ";
-
-const EXPECTED_INITIALIZED: &str = "expected initialized notification, got: ";
-
-const UNEXPECTED: &str = "unexpected message during shutdown: ";
-
-const NO_EXIT: &str = "channel disconnected waiting for exit notification";
-
-// Echoes the params of `demo/echo`, knows no other method, and counts what comes.
-#[derive(Drop)]
-pub(crate) struct Echo {
-    alloc: Global,
-    asked: u32,
-    told: u32,
-}
-
-impl Echo {
-    pub(crate) fn new(alloc: Global) -> Echo {
-        Echo {
-            alloc,
-            asked: 0,
-            told: 0,
-        }
-    }
-}
-
-impl Handler for Echo {
-    ghost use Rattle.std.specs.Prelude.{⊤};
-
-    ghost answers = { λ _ _ _ _ _ _. ⊤ };
-
-    ghost notes = { λ _ _ _ _. ⊤ };
-
-    fn answer(&mut self, request: &Request) -> Result<Result<Value, ResponseError>, AllocError> {
-        self.asked = self.asked.saturating_add(1);
-        if request.method.as_str() == "demo/echo" {
-            return Ok(Ok(request.params.clone()?));
-        }
-        Ok(Err(ResponseError {
-            code: -32601,
-            message: String::from_str(self.alloc, "method not found")?,
-            data: None,
-        }))
-    }
-
-    fn note(&mut self, _notification: &Notification) -> Result<(), AllocError> {
-        self.told = self.told.saturating_add(1);
-        Ok(())
-    }
-}
-
-// A client that shows its bytes, at most so many at a time. `initialized` and `shutdown` come once it got the first reply,
-// and `exit` once it got the second: to read on before is a fault.
-#[derive(Drop)]
-struct Client<'a> {
-    left: &'a [u8],
-    step: usize,
-    got: &'a Cell<usize>,
-}
-
-impl Client<'_> {
-    // How many of the bytes are kept back.
-    fn unsent(&self) -> usize {
-        if self.got.get() < 75 {
-            return 183;
-        }
-        if self.got.get() < 135 {
-            return 55;
-        }
-        0
-    }
-}
-
-impl Read for Client<'_> {
-    fn read(&mut self, buf: &mut [u8]) -> io::Result<usize> {
-        let mut shown = self.fill_buf()?;
-        let count = shown.read(buf)?;
-        self.consume(count);
-        Ok(count)
-    }
-}
-
-impl BufRead for Client<'_> {
-    fn fill_buf(&mut self) -> io::Result<&[u8]> {
-        let unsent = self.unsent();
-        let sent = self.left.len().saturating_sub(unsent);
-        if sent == 0 && unsent != 0 {
-            return Err(io::Error::from(ErrorKind::WouldBlock));
-        }
-        Ok(&self.left[..sent.min(self.step)])
-    }
-
-    fn consume(&mut self, amount: usize) {
-        self.left = &self.left[amount.min(self.left.len())..];
-    }
-}
-
-// Takes so many bytes, fails at the next one, and says how many were flushed.
-#[derive(Drop)]
-struct Line<'a> {
-    taken: Vec<u8>,
-    room: usize,
-    flushed: &'a Cell<usize>,
-}
-
-impl Write for Line<'_> {
-    fn write(&mut self, buf: &[u8]) -> io::Result<usize> {
-        let count = buf.len().min(self.room);
-        if count == 0 {
-            return Err(io::Error::from(ErrorKind::BrokenPipe));
-        }
-        self.room = self.room.saturating_sub(count);
-        self.taken.extend_from_slice(&buf[..count])?;
-        Ok(count)
-    }
-
-    fn flush(&mut self) -> io::Result<()> {
-        self.flushed.set(self.taken.len());
-        Ok(())
-    }
-}
 
 // How a session ended, or the fault's text.
 fn end_text<E: Display + Drop>(
@@ -206,12 +61,7 @@ fn run<H: Handler>(
     step: usize,
     handler: &mut H,
 ) -> Result<Outcome, AllocError> {
-    let got = Cell::new(REPLIES.len());
-    let mut reader = Client {
-        left: text,
-        step,
-        got: &got,
-    };
+    let mut reader = StepReader::new(text, step);
     let mut written = Vec::new(alloc);
     let end = end_of(alloc, &mut reader, &mut written, handler)?;
     Ok(Outcome {
@@ -247,11 +97,6 @@ fn consists_of(bytes: &[u8], parts: &[&str]) -> bool {
         left = others;
     }
     left.is_empty()
-}
-
-// A text with an open end is the beginning of what is found.
-fn agrees(found: &str, wanted: &str) -> bool {
-    found == wanted || wanted.ends_with(' ') && found.starts_with(wanted)
 }
 
 // What the client sends and the session uses, what follows it, how the session ends, and what it writes.
@@ -309,7 +154,7 @@ static RUNS: [(&[&str], &str, &str, &[&str]); 12] = [
 fn sessions_of_bytes(rt: HostRuntime) -> Result<(), Fail> {
     let alloc = rt.alloc();
     for (row, (used, behind, end, output)) in RUNS.iter().enumerate() {
-        for step in [1, 1000] {
+        for step in [1, 2, 3, 7, 1000] {
             let outcome = run_parts(alloc, used, behind, step, &mut Echo::new(alloc))?;
             let found = outcome.end.as_str();
             assert!(rt; agrees(found, end), "{row}: {found}");
@@ -361,25 +206,12 @@ fn an_early_request_is_refused(rt: HostRuntime) -> Result<(), Fail> {
     Ok(())
 }
 
-const ECHO: &str =
-    "Content-Length: 58\r\n\r\n{\"jsonrpc\":\"2.0\",\"id\":5,\"method\":\"demo/echo\",\"params\":[1]}";
-
-const ECHO_REPLY: &str = "Content-Length: 37\r\n\r\n{\"jsonrpc\":\"2.0\",\"id\":5,\"result\":[1]}";
-
-const RESPONSE: &str = "Content-Length: 38\r\n\r\n{\"jsonrpc\":\"2.0\",\"id\":3,\"result\":null}";
-
-const UNKNOWN: &str =
-    "Content-Length: 41\r\n\r\n{\"jsonrpc\":\"2.0\",\"id\":\"x\",\"method\":\"foo\"}";
-
-const UNKNOWN_REPLY: &str =
-    "Content-Length: 79\r\n\r\n{\"jsonrpc\":\"2.0\",\"id\":\"x\",\"error\":{\"code\":-32601,\"message\":\"method not found\"}}";
-
 static MIDDLE: [&str; 8] = [
     INITIALIZE,
     INITIALIZED,
     ECHO,
     NOTE,
-    RESPONSE,
+    STRAY_REPLY,
     UNKNOWN,
     SHUTDOWN,
     EXIT,
@@ -445,41 +277,45 @@ fn sessions_that_are_cut_off(rt: HostRuntime) -> Result<(), Fail> {
     Ok(())
 }
 
+// Until the first reply came, all behind `initialize` is kept back, and until the second came, `exit` is.
+const WAITS: [(usize, usize); 2] = [(75, 183), (135, 55)];
+
+// How a session ends whose reader waits for what the writer counts, and what it wrote.
+fn waiting_end(
+    alloc: Global,
+    step: usize,
+    counted_at: CountedAt,
+) -> Result<(String, Vec<u8>), AllocError> {
+    let count = Cell::new(0);
+    let mut reader = WaitingReader::new(SESSION.as_bytes(), step, &WAITS, &count);
+    let mut writer = CountingWriter::new(alloc, &count, counted_at);
+    let end = end_of(alloc, &mut reader, &mut writer, &mut Echo::new(alloc))?;
+    Ok((end, writer.taken))
+}
+
 #[test]
 fn replies_go_out_before_the_next_read(rt: HostRuntime) -> Result<(), Fail> {
-    let alloc = rt.alloc();
-    let got = Cell::new(0);
-    let mut client = Client {
-        left: SESSION.as_bytes(),
-        step: 1000,
-        got: &got,
-    };
-    let mut line = Line {
-        taken: Vec::new(alloc),
-        room: 1000,
-        flushed: &got,
-    };
-    let end = end_of(alloc, &mut client, &mut line, &mut Echo::new(alloc))?;
-    assert_eq!(rt; end.as_str(), SHUT_DOWN);
-    assert_eq!(rt; line.taken.as_slice(), REPLIES.as_bytes());
+    for step in [1, 2, 3, 7, 1000] {
+        for counted_at in [CountedAt::Write, CountedAt::Flush] {
+            let (end, written) = waiting_end(rt.alloc(), step, counted_at)?;
+            assert_eq!(rt; end.as_str(), SHUT_DOWN, "{step}");
+            assert_eq!(rt; written.as_slice(), REPLIES.as_bytes(), "{step}");
+        }
+    }
     Ok(())
 }
 
+// The writer fails once, and would take more afterwards.
 #[test]
 fn the_writer_fails(rt: HostRuntime) -> Result<(), Fail> {
     let alloc = rt.alloc();
     let replies = REPLIES.as_bytes();
-    let flushed = Cell::new(0);
     for room in 0..replies.len() {
-        let mut line = Line {
-            taken: Vec::new(alloc),
-            room,
-            flushed: &flushed,
-        };
+        let mut writer = LimitedWriter::new(alloc, room, AtLimit::FailsOnce(ErrorKind::BrokenPipe));
         let mut reader = SESSION.as_bytes();
-        let end = end_of(alloc, &mut reader, &mut line, &mut Echo::new(alloc))?;
+        let end = end_of(alloc, &mut reader, &mut writer, &mut Echo::new(alloc))?;
         assert_eq!(rt; end.as_str(), "write fault 1", "{room}");
-        assert_eq!(rt; line.taken.as_slice(), &replies[..room], "{room}");
+        assert_eq!(rt; writer.taken.as_slice(), &replies[..room], "{room}");
     }
     Ok(())
 }
@@ -550,26 +386,6 @@ fn sessions_over_lists(rt: HostRuntime) -> Result<(), Fail> {
         assert!(rt; consists_of(sent.as_slice(), output), "{room}");
     }
     Ok(())
-}
-
-// Answers each request with null.
-#[derive(Drop)]
-struct Nulls;
-
-impl Handler for Nulls {
-    ghost use Rattle.std.specs.Prelude.{⊤};
-
-    ghost answers = { λ _ _ _ _ _ _. ⊤ };
-
-    ghost notes = { λ _ _ _ _. ⊤ };
-
-    fn answer(&mut self, _request: &Request) -> Result<Result<Value, ResponseError>, AllocError> {
-        Ok(Ok(Value::Null))
-    }
-
-    fn note(&mut self, _notification: &Notification) -> Result<(), AllocError> {
-        Ok(())
-    }
 }
 
 // What a client sent to clangd, without what it told of a document's text, and five of six like requests.

@@ -1,7 +1,4 @@
 // Connections over TCP. Both ends are in this process, on 127.0.0.1, and a message is awaited only so long.
-use crate::connection::{receives, sends};
-use crate::peer::{Part, peer_thread};
-use crate::session::Echo;
 use lsp_server::{
     Connection, Handler, IoFault, IoThreads, Message, Notification, Request, Response, SessionEnd,
 };
@@ -15,6 +12,9 @@ use std::test::Fail;
 use std::thread::{JoinHandle, Threads};
 use std::time::{Clock, Duration};
 use std::{io, thread};
+use test_support::client::{Act, plays, sends};
+use test_support::handlers::Echo;
+use test_support::peer::{Part, peer_thread};
 
 const INITIALIZE: &str = "{\"id\":1,\"method\":\"initialize\"}";
 
@@ -39,27 +39,36 @@ const EXIT: &str = "{\"method\":\"exit\"}";
 
 const EXIT_FRAME: &[u8] = b"Content-Length: 33\r\n\r\n{\"jsonrpc\":\"2.0\",\"method\":\"exit\"}";
 
-fn shakes_hands<R: Wait + Clock + AllocGlobal>(rt: &R, client: &Connection) -> bool {
-    sends(rt, client, INITIALIZE) && receives(rt, client, RESULT) && sends(rt, client, INITIALIZED)
-}
+// The messages of the handshake.
+const HANDSHAKE: [Act; 3] = [
+    Act::Sends(INITIALIZE),
+    Act::Receives(RESULT),
+    Act::Sends(INITIALIZED),
+];
 
 // A client that sends its messages in order, and takes the replies in order.
-fn holds_session<R: Wait + Clock + AllocGlobal>(rt: &R, client: &Connection) -> bool {
-    shakes_hands(rt, client)
-        && sends(rt, client, ECHO)
-        && sends(rt, client, OTHER)
-        && sends(rt, client, SHUTDOWN)
-        && receives(rt, client, ECHOED)
-        && receives(rt, client, NOT_FOUND)
-        && receives(rt, client, NULL)
-        && sends(rt, client, EXIT)
+const WHOLE_SESSION: [Act; 10] = [
+    Act::Sends(INITIALIZE),
+    Act::Receives(RESULT),
+    Act::Sends(INITIALIZED),
+    Act::Sends(ECHO),
+    Act::Sends(OTHER),
+    Act::Sends(SHUTDOWN),
+    Act::Receives(ECHOED),
+    Act::Receives(NOT_FOUND),
+    Act::Receives(NULL),
+    Act::Sends(EXIT),
+];
+
+fn holds<R: Wait + Clock + AllocGlobal>(rt: &R, client: &Connection, acts: &[Act]) -> bool {
+    plays(rt, &client.sender, &client.receiver, acts)
 }
 
 #[test]
 fn a_client_connects(rt: HostRuntime) -> Result<(), Fail> {
     let (address, server) = peer_thread(&rt, Part::Serves(SessionEnd::ShutDown))?;
     let (client, threads) = Connection::connect(&rt, address)?;
-    assert!(rt; holds_session(&rt, &client));
+    assert!(rt; holds(&rt, &client, &WHOLE_SESSION));
     drop(client);
     assert!(rt; threads.join(&rt).is_ok());
     assert!(rt; server.join(&rt));
@@ -167,7 +176,7 @@ fn a_server_listens(rt: HostRuntime) -> Result<(), Fail> {
     let address = free_address(&rt)?;
     let server = server_thread(&rt, address)?;
     let (client, threads) = connects(&rt, address)?;
-    assert!(rt; holds_session(&rt, &client));
+    assert!(rt; holds(&rt, &client, &WHOLE_SESSION));
     drop(client);
     assert!(rt; threads.join(&rt).is_ok());
     assert!(rt; server.join(&rt));
@@ -327,7 +336,7 @@ fn a_peer_that_never_reads_and_stays(rt: HostRuntime) -> Result<(), Fail> {
 fn a_peer_that_is_gone_midway(rt: HostRuntime) -> Result<(), Fail> {
     let (address, peer) = peer_thread(&rt, Part::NeverReads(b"Content-Len"))?;
     let (connection, threads) = Connection::connect(&rt, address)?;
-    assert!(rt; sends(&rt, &connection, INITIALIZE));
+    assert!(rt; sends(&rt, &connection.sender, INITIALIZE));
     let found = told(rt.alloc(), threads.join(&rt))?;
     assert_eq!(rt; found.as_str(), "read fault 1");
     drop(connection);
@@ -340,9 +349,26 @@ fn a_peer_that_is_gone_midway(rt: HostRuntime) -> Result<(), Fail> {
 fn a_dropped_connection_ends_the_session(rt: HostRuntime) -> Result<(), Fail> {
     let (address, server) = peer_thread(&rt, Part::Serves(SessionEnd::Closed))?;
     let (client, threads) = Connection::connect(&rt, address)?;
-    assert!(rt; shakes_hands(&rt, &client));
+    assert!(rt; holds(&rt, &client, &HANDSHAKE));
     drop(client);
     assert!(rt; threads.join(&rt).is_ok());
     assert!(rt; server.join(&rt));
+    Ok(())
+}
+
+// The messages of the peer are not wanted any more when the first comes.
+#[test]
+fn a_receiver_that_is_gone(rt: HostRuntime) -> Result<(), Fail> {
+    let (address, peer) = peer_thread(&rt, Part::NeverReads(EXIT_FRAME))?;
+    let (connection, threads) = Connection::connect(&rt, address)?;
+    let Connection { sender, receiver } = connection;
+    drop(receiver);
+    assert!(rt; sends(&rt, &sender, INITIALIZE));
+    let Err(fault) = threads.join(&rt) else {
+        return Err(Fail::from("no fault"));
+    };
+    assert_eq!(rt; fault, IoFault::Closed);
+    drop(sender);
+    assert!(rt; peer.join(&rt));
     Ok(())
 }

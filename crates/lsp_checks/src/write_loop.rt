@@ -1,10 +1,11 @@
 // What is written of an inbox's messages (LSP 3.17, "Base Protocol"), and what is handed on afterwards.
-use crate::lifecycle::{Step, list, sent_text};
+use crate::lifecycle::{Step, list};
 use lsp_server::{ListInbox, ListOutbox, WriteEnd, WriteFault, write_loop};
 use std::alloc::Global;
-use std::io;
-use std::io::{ErrorKind, Write};
+use std::io::ErrorKind;
 use std::test::Fail;
+use test_support::devices::{AtLimit, LimitedWriter};
+use test_support::messages::member_texts;
 
 const TWO_FRAMES: &[u8] =
     b"Content-Length: 30\r\n\r\n{\"jsonrpc\":\"2.0\",\"method\":\"a\"}Content-Length: 30\r\n\r\n{\"jsonrpc\":\"2.0\",\"method\":\"b\"}";
@@ -12,29 +13,6 @@ const TWO_FRAMES: &[u8] =
 // Two messages, and a timeout between them.
 fn two_messages(alloc: Global) -> Result<ListInbox, Fail> {
     list(alloc, &[Step::Note("a"), Step::Timeout, Step::Note("b")])
-}
-
-// Takes so many bytes, and fails from then on.
-#[derive(Drop)]
-struct ShortWriter {
-    taken: Vec<u8>,
-    room: usize,
-}
-
-impl Write for ShortWriter {
-    fn write(&mut self, buf: &[u8]) -> io::Result<usize> {
-        let count = buf.len().min(self.room);
-        if count == 0 {
-            return Err(io::Error::from(ErrorKind::BrokenPipe));
-        }
-        self.taken.extend_from_slice(&buf[..count])?;
-        self.room = self.room.saturating_sub(count);
-        Ok(count)
-    }
-
-    fn flush(&mut self) -> io::Result<()> {
-        Ok(())
-    }
 }
 
 #[test]
@@ -46,7 +24,7 @@ fn all_messages_are_written_and_handed_on(rt: HostRuntime) -> Result<(), Fail> {
     let end = write_loop(alloc, &mut inbox, &mut written, &mut spent);
     assert_eq!(rt; end, WriteEnd::Closed);
     assert_eq!(rt; written.as_slice(), TWO_FRAMES);
-    let handed_on = sent_text(alloc, &spent)?;
+    let handed_on = member_texts(alloc, spent.sent.as_slice())?;
     assert_eq!(rt; handed_on.as_str(), "{\"method\":\"a\"}{\"method\":\"b\"}");
     assert_eq!(rt; inbox.events.len(), 0);
     Ok(())
@@ -56,10 +34,7 @@ fn all_messages_are_written_and_handed_on(rt: HostRuntime) -> Result<(), Fail> {
 fn nothing_follows_a_message_that_was_not_written(rt: HostRuntime) -> Result<(), Fail> {
     let alloc = rt.alloc();
     let mut inbox = two_messages(alloc)?;
-    let mut writer = ShortWriter {
-        taken: Vec::new(alloc),
-        room: 10,
-    };
+    let mut writer = LimitedWriter::new(alloc, 10, AtLimit::FailsOnce(ErrorKind::BrokenPipe));
     let mut spent = ListOutbox::new(alloc, 9);
     let end = write_loop(alloc, &mut inbox, &mut writer, &mut spent);
     assert_eq!(rt;
@@ -67,7 +42,7 @@ fn nothing_follows_a_message_that_was_not_written(rt: HostRuntime) -> Result<(),
         WriteEnd::Fault(WriteFault::Output(ErrorKind::BrokenPipe))
     );
     assert_eq!(rt; writer.taken.as_slice(), b"Content-Le".as_slice());
-    let handed_on = sent_text(alloc, &spent)?;
+    let handed_on = member_texts(alloc, spent.sent.as_slice())?;
     assert_eq!(rt; handed_on.as_str(), "{\"method\":\"a\"}");
     assert_eq!(rt; inbox.events.len(), 2);
     Ok(())

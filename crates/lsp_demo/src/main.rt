@@ -4,8 +4,6 @@
 ghost use Rattle.std.specs.Prelude.{◌≡◌, option_map};
 ghost use Rattle.lsp_demo.specs.Program.{asks_serve, asked_address};
 
-#[cfg(test)]
-mod devices;
 mod pump;
 mod report;
 mod serve;

@@ -1,17 +1,17 @@
 // The server over a connection in memory: replies, exit statuses, and what is said on standard error.
 use crate::serve::serve_on;
-use crossbeam_channel::{Receiver, Sender};
-use lsp_server::{Connection, Message};
-use serde_json::Value;
-use std::alloc::{AllocError, Global};
+use lsp_server::Connection;
+use std::alloc::AllocError;
 use std::process::Abort;
 use std::sync::Wait;
 use std::test::Fail;
-use std::thread;
-use std::thread::{JoinHandle, Threads};
+use std::thread::Threads;
 use std::time::Clock;
+use test_support::client::{Act, Part, client_thread, sends};
 
 const INITIALIZE: &str = "{\"id\":1,\"method\":\"initialize\"}";
+
+const RESULT: &str = "{\"id\":1,\"result\":{\"capabilities\":{}}}";
 
 const INITIALIZED: &str = "{\"method\":\"initialized\"}";
 
@@ -29,20 +29,9 @@ pub(super) const RESULT_FRAME: &str =
 pub(super) const ALL_FRAMES: &str =
     "Content-Length: 53\r\n\r\n{\"jsonrpc\":\"2.0\",\"id\":1,\"result\":{\"capabilities\":{}}}Content-Length: 37\r\n\r\n{\"jsonrpc\":\"2.0\",\"id\":5,\"result\":[1]}Content-Length: 79\r\n\r\n{\"jsonrpc\":\"2.0\",\"id\":\"x\",\"error\":{\"code\":-32601,\"message\":\"method not found\"}}Content-Length: 38\r\n\r\n{\"jsonrpc\":\"2.0\",\"id\":2,\"result\":null}";
 
-// The message with this member text.
-fn message(alloc: Global, text: &str) -> Option<Message> {
-    let Ok(tree) = Value::from_str(alloc, text) else {
-        return None;
-    };
-    Message::from_value(alloc, &tree).unwrap_or(None)
-}
-
 fn sends_all<R: Wait + AllocGlobal + Abort>(rt: &R, client: &Connection, texts: &[&str]) {
     for text in texts {
-        let Some(message) = message(rt.alloc(), text) else {
-            panic!(rt; "no message: {text}");
-        };
-        assert!(rt; client.sender.send(rt, message).is_ok());
+        assert!(rt; sends(rt, &client.sender, text), "{text}");
     }
 }
 
@@ -139,64 +128,23 @@ fn a_result_that_is_not_sent(rt: HostRuntime) -> Result<(), Fail> {
     Ok(())
 }
 
-// What a connection carries. The thread is started for any such type, since the check finds that it may own the ends of the
-// channels only where it need not look into the type.
-trait Carried {
-    // A client that takes the result, and no other reply.
-    fn take_the_result<R: Wait + AllocGlobal + Abort + Drop>(
-        rt: R,
-        sender: Sender<Self>,
-        receiver: Receiver<Self>,
-    );
-}
-
-impl Carried for Message {
-    fn take_the_result<R: Wait + AllocGlobal + Abort + Drop>(
-        rt: R,
-        sender: Sender<Message>,
-        receiver: Receiver<Message>,
-    ) {
-        let client = Connection { sender, receiver };
-        sends_all(&rt, &client, &[INITIALIZE]);
-        assert!(rt; client.receiver.recv(&rt).is_ok());
-        let Connection { sender, receiver } = client;
-        drop(receiver);
-        for text in [INITIALIZED, ECHO] {
-            let Some(message) = message(rt.alloc(), text) else {
-                panic!(rt; "no message: {text}");
-            };
-            assert!(rt; sender.send(&rt, message).is_ok());
-        }
-    }
-}
-
-fn start<M, R>(rt: &R, sender: Sender<M>, receiver: Receiver<M>) -> Option<JoinHandle<()>>
-where
-    M: Carried + Drop + Send + 'static,
-    R: Threads + Wait + AllocGlobal + Abort + Copy + Drop + Send + 'static,
-{
-    let theirs = *rt;
-    thread::spawn(rt, move || M::take_the_result(theirs, sender, receiver)).ok()
-}
-
-fn client_thread<R>(rt: &R, client: Connection) -> Option<JoinHandle<()>>
-where
-    R: Threads + Wait + AllocGlobal + Abort + Copy + Drop + Send + 'static,
-{
-    let Connection { sender, receiver } = client;
-    start::<Message, R>(rt, sender, receiver)
-}
+// A client that takes the result, and no other reply.
+const TAKES_THE_RESULT: Part = Part {
+    acts: &[Act::Sends(INITIALIZE), Act::Receives(RESULT)],
+    sent_last: &[INITIALIZED, ECHO],
+};
 
 #[test]
 fn a_reply_that_is_not_sent(rt: HostRuntime) -> Result<(), Fail> {
     let alloc = rt.alloc();
     let (server, client) = Connection::memory(alloc)?;
-    let Some(other) = client_thread(&rt, client) else {
+    let Connection { sender, receiver } = client;
+    let Some(other) = client_thread(&rt, TAKES_THE_RESULT, sender, receiver) else {
         return Err(Fail::from("no thread"));
     };
     let mut errors = Vec::new(alloc);
     assert_eq!(rt; serve_on(&rt, server, None, &mut errors), 1);
-    other.join(&rt);
+    assert!(rt; other.join(&rt));
     let said = b"lsp_demo: ended without shutdown\n".as_slice();
     assert_eq!(rt; errors.as_slice(), said);
     Ok(())

@@ -1,13 +1,15 @@
 // The program over TCP. Its client is a stream of this process, on 127.0.0.1.
 use super::serve::{ALL_FRAMES, RESULT_FRAME};
 use crate::serve::tcp_on;
-use std::io::{ErrorKind, Read, Write};
+use std::io::{Read, Write};
 use std::net::{Net, Shutdown, SocketAddr, TcpListener, TcpStream};
 use std::sync::Wait;
 use std::test::Fail;
 use std::thread::{JoinHandle, Threads};
 use std::time::{Clock, Duration};
 use std::{io, thread};
+use test_support::PATIENCE;
+use test_support::client::connects;
 
 // A whole session, with a request that is answered and one that is not known.
 const SESSION: &[u8] =
@@ -16,9 +18,6 @@ const SESSION: &[u8] =
 // The messages of the handshake.
 const HANDSHAKE: &[u8] =
     b"Content-Length: 46\r\n\r\n{\"jsonrpc\":\"2.0\",\"id\":1,\"method\":\"initialize\"}Content-Length: 40\r\n\r\n{\"jsonrpc\":\"2.0\",\"method\":\"initialized\"}";
-
-// How many seconds the client waits for the program at most.
-const PATIENCE: u64 = 20;
 
 // The program at an address says this, and ends with this status.
 fn program_thread<R>(
@@ -57,23 +56,6 @@ where
     let mut errors = Vec::new(rt.alloc());
     let found = tcp_on(&rt, address, &mut errors);
     found == status && errors.as_slice() == said.as_bytes()
-}
-
-// A stream to a program that is about to listen.
-fn connects<R: Net<Stream = TcpStream> + Clock>(
-    rt: &R,
-    address: SocketAddr,
-) -> io::Result<TcpStream> {
-    for _try in 0..10_000 {
-        match TcpStream::connect(rt, address) {
-            Ok(stream) => return Ok(stream),
-            Err(error) if error.kind() == ErrorKind::ConnectionRefused => {
-                thread::sleep(rt, Duration::from_millis(1));
-            }
-            Err(error) => return Err(error),
-        }
-    }
-    Err(io::Error::from(ErrorKind::TimedOut))
 }
 
 // What comes back from the program that is sent these bytes.

@@ -1,12 +1,12 @@
 // The program, run on its words.
-use super::{EXIT, TWO_EXITS, prints};
-use crate::devices::{AtLimit, LimitedWriter, StepReader};
 use crate::pump::pump_words;
 use lsp_server::{PumpFault, ReadFault, StartFault, WriteFault, pump};
 use std::alloc::{AllocError, Global};
 use std::io::{BufRead, ErrorKind, Write};
 use std::process::Abort;
 use std::test::Fail;
+use test_support::devices::{AtLimit, LimitedWriter, StepReader};
+use test_support::frames::{EXIT, TWO_EXITS};
 
 const USAGE: &str = "usage: lsp_demo pump | serve | tcp ADDR\n";
 
@@ -80,7 +80,7 @@ fn messages_are_passed_on(rt: HostRuntime) -> Result<(), Fail> {
     let alloc = rt.alloc();
     pumps(&rt, alloc, b"", b"", "", 0)?;
     pumps(&rt, alloc, NOTE, NOTE_FRAME, "", 0)?;
-    pumps(&rt, alloc, TWO_EXITS, EXIT, "", 0)?;
+    pumps(&rt, alloc, TWO_EXITS.as_bytes(), EXIT.as_bytes(), "", 0)?;
     pumps(&rt, alloc, EACH_KIND, EACH_KIND_FRAMES, "", 0)
 }
 
@@ -198,11 +198,11 @@ fn one_write_and_one_flush_a_message(rt: HostRuntime) -> Result<(), Fail> {
 #[test]
 fn the_bytes_after_an_exit_are_left(rt: HostRuntime) -> Result<(), Fail> {
     let alloc = rt.alloc();
-    let mut reader = TWO_EXITS;
+    let mut reader = TWO_EXITS.as_bytes();
     let mut writer = Vec::new(alloc);
     assert_eq!(rt; pump(&rt, alloc, &mut reader, &mut writer), Ok(()));
-    assert_eq!(rt; writer.as_slice(), EXIT);
-    assert_eq!(rt; reader, EXIT);
+    assert_eq!(rt; writer.as_slice(), EXIT.as_bytes());
+    assert_eq!(rt; reader, EXIT.as_bytes());
     Ok(())
 }
 
@@ -270,7 +270,7 @@ fn fault_texts(rt: HostRuntime) -> Result<(), Fail> {
         (PumpFault::Start(StartFault::Memory), "out of memory"),
         (PumpFault::Start(StartFault::Thread), "thread not started"),
     ] {
-        prints(&rt, rt.alloc(), &fault, text)?;
+        assert_eq!(rt; fault.to_string(rt.alloc())?.as_str(), text);
     }
     Ok(())
 }

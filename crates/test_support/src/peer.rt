@@ -1,6 +1,7 @@
-// The other end of a connection over TCP: a thread that takes one stream on 127.0.0.1 and plays a part.
-use crate::session::Echo;
-use lsp_server::{SessionEnd, session};
+//! The other end of a connection over TCP: a thread that takes one stream on 127.0.0.1 and plays a part.
+use crate::PATIENCE;
+use crate::handlers::Echo;
+use lsp_session::{SessionEnd, session};
 use serde_json::{Map, Value};
 use std::alloc::Global;
 use std::io::{BufReader, Read, Write};
@@ -9,25 +10,22 @@ use std::thread::{JoinHandle, Threads};
 use std::time::{Clock, Duration};
 use std::{io, thread};
 
-// How many seconds the thread waits for the other end at most.
-const PATIENCE: u64 = 20;
-
-// What the thread does with the stream.
+/// What the thread does with the stream.
 #[derive(Clone, Copy)]
-pub(crate) enum Part {
-    // It serves a session, which is to end in this way.
+pub enum Part {
+    /// It serves a session, which is to end in this way.
     Serves(SessionEnd),
-    // It sends these bytes, and is gone.
+    /// It sends these bytes, and is gone.
     SendsAndLeaves(&'static [u8]),
-    // It sends these bytes, and stays until the other end has closed, which sends nothing.
+    /// It sends these bytes, and stays until the other end has closed, which sends nothing.
     SendsAndStays(&'static [u8]),
-    // It sends these bytes once something came, and is gone a while later without having read any of it: the system resets
-    // the connection then.
+    /// It sends these bytes once something came, and is gone a while later without having read any of it: the system
+    /// resets the connection then.
     NeverReads(&'static [u8]),
 }
 
-// The address of the other end, and the thread. Whether it played its part is what the thread gives back.
-pub(crate) fn peer_thread<R>(rt: &R, part: Part) -> io::Result<(SocketAddr, JoinHandle<bool>)>
+/// The address of the other end, and the thread. Whether it played its part is what the thread gives back.
+pub fn peer_thread<R>(rt: &R, part: Part) -> io::Result<(SocketAddr, JoinHandle<bool>)>
 where
     R: Net<Listener = TcpListener, Stream = TcpStream>
         + Threads

@@ -1,5 +1,4 @@
 // The ids of requests (JSON-RPC 2.0, section 4): numbers and texts.
-use super::prints;
 use lsp_server::RequestId;
 use std::alloc::{AllocError, Global};
 use std::collections::{BTreeMap, HashMap};
@@ -97,31 +96,6 @@ fn ids_sort(rt: HostRuntime) -> Result<(), Fail> {
     ids.sort()?;
     let shown = printed(rt.alloc(), ids.as_slice())?;
     assert_eq!(rt; shown.as_str(), "-5 2 10 \"\" \"1\" ");
-    Ok(())
-}
-
-fn id_prints(rt: &impl Abort, alloc: Global, name: Name, text: &str) -> Result<(), AllocError> {
-    let id = id_of(alloc, name)?;
-    prints(rt, alloc, &id, text)
-}
-
-#[test]
-fn ids_print(rt: HostRuntime) -> Result<(), Fail> {
-    for (name, text) in &RISING {
-        id_prints(&rt, rt.alloc(), *name, text)?;
-    }
-    for (name, text) in [
-        (Name::Number(92), "92"),
-        (Name::Text("92"), r#""92""#),
-        (Name::Text("a\"b"), r#""a\"b""#),
-        (Name::Text("a\\b"), r#""a\\b""#),
-        (Name::Text("it's"), r#""it's""#),
-        (Name::Text("\n\r\t"), r#""\n\r\t""#),
-        (Name::Text("\0"), r#""\0""#),
-        (Name::Text("\u{1b}\u{7f}"), r#""\u{1b}\u{7f}""#),
-    ] {
-        id_prints(&rt, rt.alloc(), name, text)?;
-    }
     Ok(())
 }
 

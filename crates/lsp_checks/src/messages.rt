@@ -1,5 +1,4 @@
 // Messages made by the constructors, and taken apart again.
-use super::{has_text, note, prints};
 use lsp_server::{
     ErrorCode, ExtractError, Message, Notification, Request, RequestId, Response, ResponseError,
 };
@@ -8,6 +7,19 @@ use std::alloc::{AllocError, Global};
 use std::fmt::Display;
 use std::process::Abort;
 use std::test::Fail;
+use test_support::messages::note;
+
+// The member text of the message is this.
+fn has_text(
+    rt: &impl Abort,
+    alloc: Global,
+    message: &Message,
+    text: &str,
+) -> Result<(), AllocError> {
+    let found = message.member_text(alloc)?;
+    assert_eq!(rt; found.as_str(), text);
+    Ok(())
+}
 
 // A request of id 7 and method `a`, whose params are 5.
 fn request(alloc: Global) -> Result<Request, Fail> {
@@ -179,7 +191,8 @@ fn printed<D: Display + Drop>(
     value: D,
     text: &str,
 ) -> Result<D, AllocError> {
-    prints(rt, alloc, &value, text)?;
+    let found = value.to_string(alloc)?;
+    assert_eq!(rt; found.as_str(), text);
     Ok(value)
 }
 

@@ -1,12 +1,13 @@
 // Messages written as frames (LSP 3.17, "Base Protocol").
-use super::{EXIT, EXIT_LENGTH, TWO_EXITS, note, prints};
-use crate::devices::{AtLimit, LimitedWriter};
 use lsp_server::{ErrorCode, Message, Request, RequestId, Response, WriteFault};
 use serde_json::Value;
 use std::alloc::{AllocError, Global};
 use std::io::ErrorKind;
 use std::process::Abort;
 use std::test::Fail;
+use test_support::devices::{AtLimit, LimitedWriter};
+use test_support::frames::{EXIT, EXIT_LENGTH, TWO_EXITS};
+use test_support::messages::note;
 
 // What the message writes.
 fn frame_of(alloc: Global, message: &Message) -> Result<Vec<u8>, Fail> {
@@ -145,7 +146,7 @@ fn fails_after(
     writer.step = step;
     let answer = write_exit(alloc, &mut writer)?;
     assert_eq!(rt; answer, Err(WriteFault::Output(kind)), "{room}");
-    assert_eq!(rt; Some(writer.taken.as_slice()), EXIT.get(..room), "{room}");
+    assert_eq!(rt; Some(writer.taken.as_slice()), EXIT.as_bytes().get(..room), "{room}");
     assert_eq!(rt; writer.flushes, 0, "{room}");
     Ok(())
 }
@@ -194,7 +195,7 @@ fn a_failing_flush(rt: HostRuntime) -> Result<(), Fail> {
     let answer = write_exit(rt.alloc(), &mut writer)?;
     assert_eq!(rt; answer, Err(WriteFault::Output(ErrorKind::BrokenPipe)));
     assert_eq!(rt; writer.flushes, 2);
-    assert_eq!(rt; writer.taken.as_slice(), TWO_EXITS);
+    assert_eq!(rt; writer.taken.as_slice(), TWO_EXITS.as_bytes());
     Ok(())
 }
 
@@ -205,7 +206,7 @@ fn faults_have_numbers_and_texts(rt: HostRuntime) -> Result<(), Fail> {
         (WriteFault::Memory, 2, "write fault 2"),
     ] {
         assert_eq!(rt; fault.number(), number);
-        prints(&rt, rt.alloc(), &fault, text)?;
+        assert_eq!(rt; fault.to_string(rt.alloc())?.as_str(), text);
     }
     Ok(())
 }

@@ -1,6 +1,4 @@
 // What a loop over a reader's messages hands on, and to whom.
-use super::{EXIT, EXIT_LENGTH, TWO_EXITS, note};
-use crate::devices::{AtLimit, LimitedWriter, StepReader};
 use lsp_server::{
     FrameOutbox, ListOutbox, Message, Outbox, ReadEnd, ReadFault, SendFault, WriteFault, read_loop,
 };
@@ -8,31 +6,25 @@ use std::alloc::{AllocError, Global};
 use std::io::ErrorKind;
 use std::process::Abort;
 use std::test::Fail;
+use test_support::devices::{AtLimit, LimitedWriter, StepReader};
+use test_support::frames::{EXIT, EXIT_LENGTH, TWO_EXITS};
+use test_support::messages::{member_texts, note};
 
-const TWO_NOTES: &[u8] =
-    b"Content-Length: 14\r\n\r\n{\"method\":\"a\"}Content-Length: 14\r\n\r\n{\"method\":\"b\"}";
+const TWO_NOTES: &str =
+    "Content-Length: 14\r\n\r\n{\"method\":\"a\"}Content-Length: 14\r\n\r\n{\"method\":\"b\"}";
 
-const NOTES_AND_FAULT: &[u8] =
-    b"Content-Length: 14\r\n\r\n{\"method\":\"a\"}Content-Length: 14\r\n\r\n{\"method\":\"b\"}Content-Length:2\r\n\r\n{}";
+const NOTES_AND_FAULT: &str =
+    "Content-Length: 14\r\n\r\n{\"method\":\"a\"}Content-Length: 14\r\n\r\n{\"method\":\"b\"}Content-Length:2\r\n\r\n{}";
 
-const NOTE_AND_EXITS: &[u8] =
-    b"Content-Length: 14\r\n\r\n{\"method\":\"a\"}Content-Length: 17\r\n\r\n{\"method\":\"exit\"}Content-Length: 17\r\n\r\n{\"method\":\"exit\"}";
+const NOTE_AND_EXITS: &str =
+    "Content-Length: 14\r\n\r\n{\"method\":\"a\"}Content-Length: 17\r\n\r\n{\"method\":\"exit\"}Content-Length: 17\r\n\r\n{\"method\":\"exit\"}";
 
-const EXIT_REQUEST: &[u8] =
-    b"Content-Length: 24\r\n\r\n{\"id\":1,\"method\":\"exit\"}Content-Length: 14\r\n\r\n{\"method\":\"b\"}";
-
-// The member texts of messages, one after another.
-fn member_texts(alloc: Global, messages: &[Message]) -> Result<String, AllocError> {
-    let mut texts = String::new(alloc);
-    for message in messages {
-        texts.push_str(message.member_text(alloc)?.as_str())?;
-    }
-    Ok(texts)
-}
+const EXIT_REQUEST: &str =
+    "Content-Length: 24\r\n\r\n{\"id\":1,\"method\":\"exit\"}Content-Length: 14\r\n\r\n{\"method\":\"b\"}";
 
 // What is handed on to an outbox with so much room, how the loop ends, and what is left.
-static RUNS: [(&str, &[u8], usize, &str, ReadEnd, &[u8]); 11] = [
-    ("no input", b"", 9, "", ReadEnd::End, b""),
+static RUNS: [(&str, &str, usize, &str, ReadEnd, &str); 11] = [
+    ("no input", "", 9, "", ReadEnd::End, ""),
     (
         "the first of two exits",
         TWO_EXITS,
@@ -47,7 +39,7 @@ static RUNS: [(&str, &[u8], usize, &str, ReadEnd, &[u8]); 11] = [
         9,
         "{\"method\":\"a\"}{\"method\":\"b\"}",
         ReadEnd::End,
-        b"",
+        "",
     ),
     (
         "room for all messages and no more",
@@ -55,7 +47,7 @@ static RUNS: [(&str, &[u8], usize, &str, ReadEnd, &[u8]); 11] = [
         2,
         "{\"method\":\"a\"}{\"method\":\"b\"}",
         ReadEnd::End,
-        b"",
+        "",
     ),
     (
         "room for one of two messages",
@@ -63,7 +55,7 @@ static RUNS: [(&str, &[u8], usize, &str, ReadEnd, &[u8]); 11] = [
         1,
         "{\"method\":\"a\"}",
         ReadEnd::Closed,
-        b"",
+        "",
     ),
     ("no room", TWO_EXITS, 0, "", ReadEnd::Closed, EXIT),
     (
@@ -72,7 +64,7 @@ static RUNS: [(&str, &[u8], usize, &str, ReadEnd, &[u8]); 11] = [
         2,
         "{\"method\":\"a\"}{\"method\":\"exit\"}",
         ReadEnd::Exit,
-        b"Content-Length: 17\r\n\r\n{\"method\":\"exit\"}",
+        "Content-Length: 17\r\n\r\n{\"method\":\"exit\"}",
     ),
     (
         "no room for the exit",
@@ -80,7 +72,7 @@ static RUNS: [(&str, &[u8], usize, &str, ReadEnd, &[u8]); 11] = [
         1,
         "{\"method\":\"a\"}",
         ReadEnd::Closed,
-        b"Content-Length: 17\r\n\r\n{\"method\":\"exit\"}",
+        "Content-Length: 17\r\n\r\n{\"method\":\"exit\"}",
     ),
     (
         "a fault after two messages",
@@ -88,7 +80,7 @@ static RUNS: [(&str, &[u8], usize, &str, ReadEnd, &[u8]); 11] = [
         9,
         "{\"method\":\"a\"}{\"method\":\"b\"}",
         ReadEnd::Fault(ReadFault::NoSeparator),
-        b"\r\n{}",
+        "\r\n{}",
     ),
     (
         "a fault after a full outbox",
@@ -96,7 +88,7 @@ static RUNS: [(&str, &[u8], usize, &str, ReadEnd, &[u8]); 11] = [
         2,
         "{\"method\":\"a\"}{\"method\":\"b\"}",
         ReadEnd::Fault(ReadFault::NoSeparator),
-        b"\r\n{}",
+        "\r\n{}",
     ),
     (
         "a request of that name",
@@ -104,7 +96,7 @@ static RUNS: [(&str, &[u8], usize, &str, ReadEnd, &[u8]); 11] = [
         9,
         "{\"id\":1,\"method\":\"exit\"}{\"method\":\"b\"}",
         ReadEnd::End,
-        b"",
+        "",
     ),
 ];
 
@@ -123,12 +115,12 @@ fn into_list(
 #[test]
 fn into_a_list(rt: HostRuntime) -> Result<(), Fail> {
     for (name, text, room, wanted, end, rest) in &RUNS {
-        for step in [1, 1000] {
-            let mut reader = StepReader::new(text, step);
+        for step in [1, 2, 3, 7, 1000] {
+            let mut reader = StepReader::new(text.as_bytes(), step);
             let (found, texts) = into_list(rt.alloc(), &mut reader, *room)?;
             assert_eq!(rt; texts.as_str(), *wanted, "{name}");
             assert_eq!(rt; found, *end, "{name}");
-            assert_eq!(rt; reader.left, *rest, "{name}");
+            assert_eq!(rt; reader.left, rest.as_bytes(), "{name}");
         }
     }
     Ok(())
@@ -139,7 +131,7 @@ fn up_to_a_failing_read(rt: HostRuntime) {
     let alloc = rt.alloc();
     let kind = ErrorKind::ConnectionReset;
     for before in 0..=TWO_NOTES.len() {
-        let mut reader = StepReader::failing(TWO_NOTES, 1000, before, kind);
+        let mut reader = StepReader::failing(TWO_NOTES.as_bytes(), 1000, before, kind);
         let mut outbox = ListOutbox::new(alloc, 9);
         let end = read_loop(alloc, &mut reader, &mut outbox);
         assert_eq!(rt; end, ReadEnd::Fault(ReadFault::Input(kind)), "{before}");
@@ -193,7 +185,7 @@ fn takes_two(rt: &impl Abort, alloc: Global, writer: &mut LimitedWriter) -> Resu
 fn frames_and_flushes(rt: HostRuntime) -> Result<(), Fail> {
     let mut writer = LimitedWriter::unlimited(rt.alloc());
     takes_two(&rt, rt.alloc(), &mut writer)?;
-    assert_eq!(rt; writer.taken.as_slice(), TWO_EXITS);
+    assert_eq!(rt; writer.taken.as_slice(), TWO_EXITS.as_bytes());
     assert_eq!(rt; writer.writes, 2);
     assert_eq!(rt; writer.flushes, 2);
     Ok(())
@@ -225,7 +217,7 @@ fn nothing_follows_a_failed_write(rt: HostRuntime) -> Result<(), Fail> {
     for room in 0..EXIT_LENGTH {
         let mut writer = LimitedWriter::new(rt.alloc(), room, AtLimit::FailsOnce(kind));
         takes_none(&rt, rt.alloc(), &mut writer, kind)?;
-        assert_eq!(rt; Some(writer.taken.as_slice()), EXIT.get(..room), "{room}");
+        assert_eq!(rt; Some(writer.taken.as_slice()), EXIT.as_bytes().get(..room), "{room}");
         assert_eq!(rt; writer.flushes, 0, "{room}");
     }
     Ok(())
@@ -236,7 +228,7 @@ fn nothing_follows_a_failed_flush(rt: HostRuntime) -> Result<(), Fail> {
     let mut writer = LimitedWriter::unlimited(rt.alloc());
     writer.bad_flush = 1;
     takes_none(&rt, rt.alloc(), &mut writer, ErrorKind::BrokenPipe)?;
-    assert_eq!(rt; writer.taken.as_slice(), EXIT);
+    assert_eq!(rt; writer.taken.as_slice(), EXIT.as_bytes());
     assert_eq!(rt; writer.flushes, 1);
     Ok(())
 }
@@ -257,7 +249,7 @@ fn into_writer(
 fn into_a_failing_writer(rt: HostRuntime) {
     let kind = ErrorKind::BrokenPipe;
     let mut writer = LimitedWriter::new(rt.alloc(), 10, AtLimit::FailsOnce(kind));
-    let mut left = NOTES_AND_FAULT;
+    let mut left = NOTES_AND_FAULT.as_bytes();
     let (end, fault) = into_writer(rt.alloc(), &mut left, &mut writer);
     assert_eq!(rt; end, ReadEnd::Closed);
     assert_eq!(rt; fault, Some(WriteFault::Output(kind)));

@@ -1,4 +1,4 @@
-// A reader that cuts and fails, and a writer that has a limit, for the tests.
+//! A reader that cuts and fails, and a writer that has a limit.
 use std::alloc::Global;
 use std::io;
 use std::io::{BufRead, ErrorKind, Read, Write};
@@ -85,7 +85,7 @@ pub struct LimitedWriter {
     pub taken: Vec<u8>,
     /// How many bytes a write takes at most.
     pub step: usize,
-    /// The flush that fails, counted from 1.
+    /// The flush that fails, counted from 1. At 0 none fails.
     pub bad_flush: usize,
     /// How many writes there were.
     pub writes: usize,
@@ -96,6 +96,7 @@ pub struct LimitedWriter {
 }
 
 impl LimitedWriter {
+    /// A writer with room for so many bytes.
     pub fn new(alloc: Global, room: usize, at_limit: AtLimit) -> LimitedWriter {
         LimitedWriter {
             taken: Vec::new(alloc),
