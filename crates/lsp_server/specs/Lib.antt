@@ -1,3 +1,9 @@
+pub use Rattle.lsp_dispatch.specs.Dispatch
+pub use Rattle.lsp_dispatch.specs.DispatchAnswers
+pub use Rattle.lsp_dispatch.specs.DispatchCalls
+pub use Rattle.lsp_dispatch.specs.DispatchFaults
+pub use Rattle.lsp_dispatch.specs.DispatchLaw
+pub use Rattle.lsp_dispatch.specs.DispatchTable
 pub use Rattle.lsp_message.specs.Body
 pub use Rattle.lsp_message.specs.Converted
 pub use Rattle.lsp_message.specs.ErrorCode

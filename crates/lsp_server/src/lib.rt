@@ -2,6 +2,7 @@
 #![tactic(auto)]
 
 mod channels;
+pub mod dispatch;
 pub mod laws;
 mod socket;
 mod stdio;
