@@ -3,6 +3,7 @@ use super::{EXIT, EXIT_LENGTH, TWO_EXITS, note};
 use crate::devices::{AtLimit, LimitedWriter, StepReader};
 use lsp_server::{
     FrameOutbox, ListOutbox, Message, Outbox, ReadEnd, ReadFault, SendFault, WriteFault, read_loop,
+    read_loop_within,
 };
 use std::alloc::{AllocError, Global};
 use std::io::ErrorKind;
@@ -132,6 +133,24 @@ fn into_a_list(rt: HostRuntime) -> Result<(), Fail> {
         }
     }
     Ok(())
+}
+
+// A message as long as the limit is handed on, and a longer one is not.
+#[test]
+fn up_to_a_limit(rt: HostRuntime) {
+    let alloc = rt.alloc();
+    let mut left = TWO_EXITS;
+    let mut outbox = ListOutbox::new(alloc, 9);
+    let end = read_loop_within(alloc, &mut left, &mut outbox, 33);
+    assert_eq!(rt; end, ReadEnd::Exit);
+    assert_eq!(rt; outbox.sent.len(), 1);
+    assert_eq!(rt; left, EXIT);
+    let mut left = EXIT;
+    let mut outbox = ListOutbox::new(alloc, 9);
+    let end = read_loop_within(alloc, &mut left, &mut outbox, 32);
+    assert_eq!(rt; end, ReadEnd::Fault(ReadFault::TooLong));
+    assert!(rt; outbox.sent.is_empty());
+    assert_eq!(rt; left.len(), 33);
 }
 
 #[test]

@@ -1,8 +1,10 @@
 // Messages read from bytes (LSP 3.17, "Base Protocol").
-use super::{Answer, EXIT, EXIT_LENGTH, EXIT_TEXT, TWO_EXITS, prints, read_text, reads};
+use super::{
+    Answer, EXIT, EXIT_LENGTH, EXIT_TEXT, TWO_EXITS, member_text, prints, read_text, reads,
+};
 use crate::devices::StepReader;
-use lsp_server::ReadFault;
-use std::alloc::Global;
+use lsp_server::{Message, ReadFault};
+use std::alloc::{AllocError, Global};
 use std::io::ErrorKind;
 use std::process::Abort;
 use std::test::Fail;
@@ -151,7 +153,7 @@ static HEADER_LINES: [(&str, &[u8], Answer, &[u8]); 25] = [
     ),
 ];
 
-static CONTENT_PARTS: [(&str, &[u8], Answer, &[u8]); 19] = [
+static CONTENT_PARTS: [(&str, &[u8], Answer, &[u8]); 21] = [
     (
         "other case, a plus sign and zeros",
         b"content-LENGTH: +002\r\nX: y: z\r\n\r\n{}Q",
@@ -250,6 +252,18 @@ static CONTENT_PARTS: [(&str, &[u8], Answer, &[u8]); 19] = [
         b"Q",
     ),
     (
+        "a list",
+        b"Content-Length: 7\r\n\r\n[3,\"m\"]Q",
+        Err(ReadFault::Batch),
+        b"Q",
+    ),
+    (
+        "an empty list",
+        b"Content-Length: 2\r\n\r\n[]Q",
+        Err(ReadFault::Batch),
+        b"Q",
+    ),
+    (
         "the greatest length",
         b"Content-Length: 18446744073709551615\r\n\r\n{}",
         Err(ReadFault::Memory),
@@ -260,6 +274,80 @@ static CONTENT_PARTS: [(&str, &[u8], Answer, &[u8]); 19] = [
         b"Content-Length: 9223372036854775807\r\n\r\n{}",
         Err(ReadFault::Memory),
         b"{}",
+    ),
+];
+
+// What is read first of some bytes where the content part may have so many, and what is left of them.
+static LIMITS: [(&str, &[u8], u64, Answer, &[u8]); 10] = [
+    (
+        "a content part above the limit",
+        b"Content-Length: 2\r\n\r\n{}",
+        1,
+        Err(ReadFault::TooLong),
+        b"{}",
+    ),
+    (
+        "a content part as long as the limit",
+        b"Content-Length: 2\r\n\r\n{}",
+        2,
+        Err(ReadFault::NoMessage),
+        b"",
+    ),
+    (
+        "a message as long as the limit",
+        TWO_EXITS,
+        33,
+        Ok(Some(EXIT_TEXT)),
+        EXIT,
+    ),
+    (
+        "a length that no memory holds",
+        b"Content-Length: 9223372036854775807\r\n\r\n{}",
+        5,
+        Err(ReadFault::TooLong),
+        b"{}",
+    ),
+    (
+        "a length of 2^60",
+        b"Content-Length: 1152921504606846976\r\n\r\n{}",
+        1048576,
+        Err(ReadFault::TooLong),
+        b"{}",
+    ),
+    (
+        "a length past 64 bits",
+        b"Content-Length: 18446744073709551616\r\nZ",
+        5,
+        Err(ReadFault::BadLength),
+        b"Z",
+    ),
+    (
+        "the last of two lengths, within the limit",
+        b"Content-Length: 9\r\nContent-Length: 1\r\n\r\n7Z",
+        1,
+        Err(ReadFault::NoMessage),
+        b"Z",
+    ),
+    (
+        "the last of two lengths, above the limit",
+        b"Content-Length: 1\r\nContent-Length: 9\r\n\r\n7Z",
+        1,
+        Err(ReadFault::TooLong),
+        b"7Z",
+    ),
+    (
+        "an empty content part and no room at all",
+        b"Content-Length: 0\r\n\r\n",
+        0,
+        Err(ReadFault::NoJson),
+        b"",
+    ),
+    (
+        "a list above the limit",
+        b"Content-Length: 7\r\n\r\n[3,\"m\"]Q",
+        6,
+        Err(ReadFault::TooLong),
+        b"[3,\"m\"]Q",
     ),
 ];
 
@@ -295,6 +383,32 @@ fn header_parts(rt: HostRuntime) -> Result<(), Fail> {
 fn content_parts(rt: HostRuntime) -> Result<(), Fail> {
     for (name, text, wanted, rest) in &CONTENT_PARTS {
         reads_in_pieces(&rt, rt.alloc(), name, text, *wanted, rest)?;
+    }
+    Ok(())
+}
+
+// The message that is read first of some bytes with a limit, by its member text.
+fn read_text_within(
+    alloc: Global,
+    bytes: &mut &[u8],
+    limit: u64,
+) -> Result<Result<Option<String>, ReadFault>, AllocError> {
+    Ok(match Message::read_within(alloc, bytes, limit) {
+        Ok(Some(message)) => Ok(Some(member_text(alloc, message)?)),
+        Ok(None) => Ok(None),
+        Err(fault) => Err(fault),
+    })
+}
+
+#[test]
+fn content_parts_with_a_limit(rt: HostRuntime) -> Result<(), Fail> {
+    for (name, text, limit, wanted, rest) in &LIMITS {
+        let mut left = *text;
+        match read_text_within(rt.alloc(), &mut left, *limit)? {
+            Ok(text) => assert_eq!(rt; Ok(text.as_deref()), *wanted, "{name}"),
+            Err(fault) => assert_eq!(rt; Err(fault), *wanted, "{name}"),
+        }
+        assert_eq!(rt; left, *rest, "{name}");
     }
     Ok(())
 }
