@@ -1,6 +1,7 @@
 // What a loop over a reader's messages hands on, and to whom.
 use lsp_server::{
     FrameOutbox, ListOutbox, Message, Outbox, ReadEnd, ReadFault, SendFault, WriteFault, read_loop,
+    read_loop_within,
 };
 use std::alloc::{AllocError, Global};
 use std::io::ErrorKind;
@@ -124,6 +125,24 @@ fn into_a_list(rt: HostRuntime) -> Result<(), Fail> {
         }
     }
     Ok(())
+}
+
+// A message as long as the limit is handed on, and a longer one is not.
+#[test]
+fn up_to_a_limit(rt: HostRuntime) {
+    let alloc = rt.alloc();
+    let mut left = TWO_EXITS;
+    let mut outbox = ListOutbox::new(alloc, 9);
+    let end = read_loop_within(alloc, &mut left, &mut outbox, 33);
+    assert_eq!(rt; end, ReadEnd::Exit);
+    assert_eq!(rt; outbox.sent.len(), 1);
+    assert_eq!(rt; left, EXIT);
+    let mut left = EXIT;
+    let mut outbox = ListOutbox::new(alloc, 9);
+    let end = read_loop_within(alloc, &mut left, &mut outbox, 32);
+    assert_eq!(rt; end, ReadEnd::Fault(ReadFault::TooLong));
+    assert!(rt; outbox.sent.is_empty());
+    assert_eq!(rt; left.len(), 33);
 }
 
 #[test]

@@ -1,6 +1,7 @@
 // Sessions of a server, from bytes to bytes (LSP 3.17, "Base Protocol" and "Server lifecycle").
 use lsp_server::{
     Event, Handler, Inbox, ListInbox, ListOutbox, SessionEnd, StreamInbox, serve, session,
+    session_within,
 };
 use serde_json::{Map, Value};
 use std::alloc::{AllocError, Global};
@@ -100,7 +101,7 @@ fn consists_of(bytes: &[u8], parts: &[&str]) -> bool {
 }
 
 // What the client sends and the session uses, what follows it, how the session ends, and what it writes.
-static RUNS: [(&[&str], &str, &str, &[&str]); 12] = [
+static RUNS: [(&[&str], &str, &str, &[&str]); 13] = [
     (&[SESSION], "", SHUT_DOWN, &[REPLIES]),
     (
         &[INITIALIZE, INITIALIZED, SHUTDOWN, EXIT],
@@ -146,6 +147,12 @@ static RUNS: [(&[&str], &str, &str, &[&str]); 12] = [
         EXPECTED_INITIALIZED,
         &[CAPABILITIES],
     ),
+    (
+        &["Content-Length: 16\r\n\r\n[1,\"initialize\"]"],
+        EXIT,
+        "read fault 13",
+        &[],
+    ),
     (&[], "", DISCONNECTED, &[]),
     (&[EXIT], INITIALIZE, EXPECTED_INITIALIZE, &[]),
 ];
@@ -161,6 +168,23 @@ fn sessions_of_bytes(rt: HostRuntime) -> Result<(), Fail> {
             assert!(rt; consists_of(outcome.written.as_slice(), output), "{row}");
             assert_eq!(rt; outcome.left, behind.len(), "{row}");
         }
+    }
+    Ok(())
+}
+
+// The longest of the four messages has 46 bytes.
+#[test]
+fn sessions_within_a_limit(rt: HostRuntime) -> Result<(), Fail> {
+    let alloc = rt.alloc();
+    for (limit, end, output) in [(46, SHUT_DOWN, REPLIES), (45, "read fault 12", "")] {
+        let mut reader = SESSION.as_bytes();
+        let mut written = Vec::new(alloc);
+        let capabilities = Value::Object(Map::new(alloc));
+        let mut handler = Echo::new(alloc);
+        let answer =
+            session_within(alloc, &mut reader, &mut written, capabilities, &mut handler, limit);
+        assert_eq!(rt; end_text(alloc, answer)?.as_str(), end, "{limit}");
+        assert_eq!(rt; written.as_slice(), output.as_bytes(), "{limit}");
     }
     Ok(())
 }

@@ -16,7 +16,7 @@ pub use lsp_queue::{Incoming, Outgoing, RegisterFault, ReqQueue};
 pub use lsp_session::{
     CallGate, Event, FrameOutbox, Gate, Handler, Inbox, ListGate, ListInbox, ListOutbox, OpenGate,
     Outbox, ProtocolError, PumpFault, ReadEnd, SendFault, SessionEnd, SessionFault, StartFault,
-    StreamInbox, WriteEnd, finish, finish_within, pump, read_loop, serve, session, shutdown,
-    start_within, wait_within, write_loop,
+    StreamInbox, WriteEnd, finish, finish_within, pump, read_loop, read_loop_within, serve, session,
+    session_within, shutdown, start_within, wait_within, write_loop,
 };
 pub use stdio::{IoFault, IoThreads};

@@ -188,18 +188,18 @@ module _ {H : Type 0} (answers : H → Id → List ℕ → Data → Result Data 
           (early_each (requests_of out.before) out.replies out.each_replied) (early_replied out.rest out.later out.end))
 
 -- a session whose requests were all answered, but perhaps for the one that ended it
-module _ (P : List Message → Stop → List Message → Option Message → SessionAnswer → Type 0)
+module _ (limit : ℕ) (P : List Message → Stop → List Message → Option Message → SessionAnswer → Type 0)
     (replies : (letters : List Message) (stop : Stop) (output : List Message) (null : Option Message) (answer : SessionAnswer)
     → P letters stop output null answer → Replied stop letters (all_of output null) answer)
     (text : List ℕ) (left a b : Option (List ℕ)) where
-  module _ (letters : List Message) (at : List ℕ) (output : List Message) (answer : SessionAnswer) (read : BeginsWith text letters at) (written : GetsFrames output a b) where
-    all_answered : (Left : List ℕ → Type 0) (stop : Stop) → Left at → (replied : Replied stop letters output answer) → replied.extra ≡ [] → AnswersAll text left a b Left
+  module _ (letters : List Message) (at : List ℕ) (output : List Message) (answer : SessionAnswer) (read : BeginsWith limit text letters at) (written : GetsFrames output a b) where
+    all_answered : (Left : List ℕ → Type 0) (stop : Stop) → Left at → (replied : Replied stop letters output answer) → replied.extra ≡ [] → AnswersAll limit text left a b Left
     all_answered Left stop rest replied none = (letters, at, output, read, rest, rw (replied.all, none, append-nil) replied.each, written)
 
-    stopped_answered : (stop : Stop) → LeftAfter stop at left → Replied stop letters output answer
-        → AnswersAll text left a b (ReadsNoMore text left a b) ⊎ (IsErr answer × AnswersAllButLast text left a b)
+    stopped_answered : (stop : Stop) → LeftAfter limit stop at left → Replied stop letters output answer
+        → AnswersAll limit text left a b (ReadsNoMore limit text left a b) ⊎ (IsErr answer × AnswersAllButLast limit text left a b)
     stopped_answered decided rest replied = elim replied.few [
-      | inl none ↦ inl (all_answered (ReadsNoMore text left a b) decided (decided, rest) replied none)
+      | inl none ↦ inl (all_answered (ReadsNoMore limit text left a b) decided (decided, rest) replied none)
       | inr last ↦ inr (
         last.0,
         (
@@ -216,32 +216,32 @@ module _ (P : List Message → Stop → List Message → Option Message → Sess
         ),
       )
     ]
-    stopped_answered no_more rest replied = inl (all_answered (ReadsNoMore text left a b) no_more (no_more, rest) replied replied.few)
+    stopped_answered no_more rest replied = inl (all_answered (ReadsNoMore limit text left a b) no_more (no_more, rest) replied replied.few)
     stopped_answered timed_out rest replied = absurd rest
     stopped_answered (refused fault) rest replied = absurd rest
     stopped_answered exhausted rest replied = absurd rest
 
-  comes_answered : (answer : SessionAnswer) → Comes P text left a b answer
-      → AnswersAll text left a b (ReadsNoMore text left a b) ⊎ (IsErr answer × AnswersAllButLast text left a b)
+  comes_answered : (answer : SessionAnswer) → Comes limit P text left a b answer
+      → AnswersAll limit text left a b (ReadsNoMore limit text left a b) ⊎ (IsErr answer × AnswersAllButLast limit text left a b)
   comes_answered answer comes =
       stopped_answered comes.letters comes.at (all_of comes.output comes.null) answer comes.read comes.written comes.stop comes.rest
       (replies comes.letters comes.stop comes.output comes.null answer comes.part)
 
   -- what became of a session's requests
-  answers_requests : (answer : Result SessionEnd SessionFault) → Gives P text left a b answer → AnswersRequests text left a b answer
+  answers_requests : (answer : Result SessionEnd SessionFault) → Gives limit P text left a b answer → AnswersRequests limit text left a b answer
   answers_requests (Ok end) comes = elim (comes_answered (Ok end) comes) [ inl all ↦ all | inr last ↦ absurd (cc (last.0)) ]
   answers_requests (Err (Protocol fault)) comes = elim (comes_answered (Err fault) comes) [ inl all ↦ inl all | inr last ↦ inr last.1 ]
   answers_requests (Err (Read fault)) fails =
       let replied = replies fails.letters no_more fails.output fails.null fails.answer fails.part in
-      all_answered fails.letters fails.at (all_of fails.output fails.null) fails.answer fails.read fails.written (λ at. FailedAfter fault at left) no_more fails.rest replied replied.few
+      all_answered fails.letters fails.at (all_of fails.output fails.null) fails.answer fails.read fails.written (λ at. FailedAfter limit fault at left) no_more fails.rest replied replied.few
   answers_requests (Err (Write fault)) gives = tt
   answers_requests (Err Memory) gives = tt
 
 -- the same where the text is known
-pub answers_known : (P : List Message → Stop → List Message → Option Message → SessionAnswer → Type 0)
+pub answers_known : (limit : ℕ) (P : List Message → Stop → List Message → Option Message → SessionAnswer → Type 0)
     → ((letters : List Message) (stop : Stop) (output : List Message) (null : Option Message) (answer : SessionAnswer)
     → P letters stop output null answer → Replied stop letters (all_of output null) answer)
-    → (known left a b : Option (List ℕ)) (answer : Result SessionEnd SessionFault) → IfSome known (λ text. Gives P text left a b answer)
-    → IfSome known (λ text. AnswersRequests text left a b answer)
-answers_known P replies None left a b answer gives = tt
-answers_known P replies (Some text) left a b answer gives = answers_requests P replies text left a b answer gives
+    → (known left a b : Option (List ℕ)) (answer : Result SessionEnd SessionFault) → IfSome known (λ text. Gives limit P text left a b answer)
+    → IfSome known (λ text. AnswersRequests limit text left a b answer)
+answers_known limit P replies None left a b answer gives = tt
+answers_known limit P replies (Some text) left a b answer gives = answers_requests limit P replies text left a b answer gives

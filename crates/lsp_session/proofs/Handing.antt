@@ -2,10 +2,11 @@
 use Rattle.std.proofs.Common.{◌≡◌, ℕ, true, false, List, [], ◌∷◌, ◌++◌, Option, Some, None, IfSome, IsSomeAnd, Result, Ok, Err, refl, ap}
 use Rattle.std.proofs.lemmas.Fn.{FoldsTo-push}
 use Rattle.std.specs.List.{FoldsTo}
-use Rattle.lsp_message.specs.Body.{body_means, reading_of}
-use Rattle.lsp_message.specs.Frame.{Answers, StopsWithin}
+use Rattle.lsp_message.specs.Body.{body_means}
+use Rattle.lsp_message.specs.Frame.{reading_within}
 use Rattle.lsp_message.specs.Letters.{Begins, Passes, PassesAll, is_exit}
 use Rattle.lsp_message.specs.Message.{Message}
+use Rattle.lsp_message.specs.Reading.{Answers, StopsWithin}
 use Rattle.lsp_message.specs.declared.frame.ReadFault.{ReadFault}
 use Rattle.lsp_message.specs.declared.frame.ReadFault.TheVariants.{Input, Memory as NoMemory}
 use Rattle.lsp_message.specs.declared.msg.Message as msg
@@ -16,79 +17,76 @@ use Rattle.lsp_session.specs.declared.lifecycle.SendFault.{SendFault}
 use Rattle.lsp_session.specs.declared.lifecycle.SendFault.TheVariants.{Closed as IsClosed, Memory as IsFull}
 use Rattle.lsp_session.specs.declared.loops.ReadEnd.TheVariants.{Exit, End, Fault}
 
--- what a read answered, as the reading of the whole text
-pub begins : (at : List ℕ) (m : Message) → (reading_of at).outcome ≡ Ok (Some m) → Begins at m (reading_of at).rest
-begins at m outcome = ap (λ o. record { outcome = o; rest = (reading_of at).rest }) outcome
+module _ (limit : ℕ) where
+  -- what a read answered, as the reading of the whole text
+  pub begins : (at : List ℕ) (m : Message) → (reading_within limit at).outcome ≡ Ok (Some m) → Begins limit at m (reading_within limit at).rest
+  begins at m outcome = ap (λ o. record { outcome = o; rest = (reading_within limit at).rest }) outcome
 
-module _ {S : Type 0} (sends : S → Message → Result (Unit {0}) SendFault → S → Type 0) where
-  -- of the messages that the first bytes begin with, those before the second bytes were handed on
-  abbrev pub Handed : Option (List ℕ) → Option (List ℕ) → S → S → Type 0
-  Handed a b old new = IfSome a (λ text. IsSomeAnd b (λ at. (ms : List Message) × PassesAll text ms at × FoldsTo (Takes sends) old ms new))
+  module _ {S : Type 0} (sends : S → Message → Result (Unit {0}) SendFault → S → Type 0) where
+    -- of the messages that the first bytes begin with, those before the second bytes were handed on
+    abbrev pub Handed : Option (List ℕ) → Option (List ℕ) → S → S → Type 0
+    Handed a b old new = IfSome a (λ text. IsSomeAnd b (λ at. (ms : List Message) × PassesAll limit text ms at × FoldsTo (Takes sends) old ms new))
 
-  pub Handed-none : (a : Option (List ℕ)) (old : S) → Handed a a old old
-  Handed-none None old = tt
-  Handed-none (Some text) old = ([], refl, refl)
+    module _ {X : Type 0} (view : X → Message) (a b c : Option (List ℕ)) (old mid new : S) (x : X) (so_far : Handed a b old mid)
+        (read : IfSome b (λ at. Answers view (Ok (Some x)) c (reading_within limit at))) where
+      pub Handed-more : sends mid (view x) (Ok tt) new → is_exit (view x) ≡ false → Handed a c old new
+      Handed-more sent goes = at a b so_far read
+        where
+          at : (a b : Option (List ℕ)) → Handed a b old mid → IfSome b (λ at. Answers view (Ok (Some x)) c (reading_within limit at)) → Handed a c old new
+          at None b so_far read = tt
+          at (Some text) None so_far read = absurd so_far
+          at (Some text) (Some left) so_far read =
+              let passed = FoldsTo-push (Passes limit) text so_far.0 left (view x) (reading_within limit left).rest so_far.1 (begins left (view x) read.0, goes) in
+              let taken = FoldsTo-push (Takes sends) old so_far.0 mid (view x) new so_far.2 sent in
+              rw read.1 (so_far.0 ++ view x ∷ [], passed, taken)
 
-  module _ {X : Type 0} (view : X → Message) (a b c : Option (List ℕ)) (old mid new : S) (x : X) (so_far : Handed a b old mid)
-      (read : IfSome b (λ at. Answers view (Ok (Some x)) c (reading_of at))) where
-    pub Handed-more : sends mid (view x) (Ok tt) new → is_exit (view x) ≡ false → Handed a c old new
-    Handed-more sent goes = at a b so_far read
-      where
-        at : (a b : Option (List ℕ)) → Handed a b old mid → IfSome b (λ at. Answers view (Ok (Some x)) c (reading_of at)) → Handed a c old new
-        at None b so_far read = tt
-        at (Some text) None so_far read = absurd so_far
-        at (Some text) (Some left) so_far read =
-            let passed = FoldsTo-push Passes text so_far.0 left (view x) (reading_of left).rest so_far.1 (begins left (view x) read.0, goes) in
-            let taken = FoldsTo-push (Takes sends) old so_far.0 mid (view x) new so_far.2 sent in
-            rw read.1 (so_far.0 ++ view x ∷ [], passed, taken)
+      pub hands_exit : sends mid (view x) (Ok tt) new → is_exit (view x) ≡ true → IfSome a (λ text. Hands limit sends text old new c Exit)
+      hands_exit sent last = at a b so_far read
+        where
+          at : (a b : Option (List ℕ)) → Handed a b old mid → IfSome b (λ at. Answers view (Ok (Some x)) c (reading_within limit at)) → IfSome a (λ text. Hands limit sends text old new c Exit)
+          at None b so_far read = tt
+          at (Some text) None so_far read = absurd so_far
+          at (Some text) (Some left) so_far read =
+              let taken = FoldsTo-push (Takes sends) old so_far.0 mid (view x) new so_far.2 sent in
+              (so_far.0 ++ view x ∷ [], (reading_within limit left).rest, (so_far.0, view x, left, refl, so_far.1, begins left (view x) read.0, last), taken, read.1)
 
-    pub hands_exit : sends mid (view x) (Ok tt) new → is_exit (view x) ≡ true → IfSome a (λ text. Hands sends text old new c Exit)
-    hands_exit sent last = at a b so_far read
-      where
-        at : (a b : Option (List ℕ)) → Handed a b old mid → IfSome b (λ at. Answers view (Ok (Some x)) c (reading_of at)) → IfSome a (λ text. Hands sends text old new c Exit)
-        at None b so_far read = tt
-        at (Some text) None so_far read = absurd so_far
-        at (Some text) (Some left) so_far read =
-            let taken = FoldsTo-push (Takes sends) old so_far.0 mid (view x) new so_far.2 sent in
-            (so_far.0 ++ view x ∷ [], (reading_of left).rest, (so_far.0, view x, left, refl, so_far.1, begins left (view x) read.0, last), taken, read.1)
+      refuses : (refusal : msg.Message → SendFault) (back : msg.Message) → sends mid (view x) (Err (refusal back)) new
+          → IfSome a (λ text. Refuses limit sends text old new c refusal)
+      refuses refusal back refused = at a b so_far read
+        where
+          at : (a b : Option (List ℕ)) → Handed a b old mid → IfSome b (λ at. Answers view (Ok (Some x)) c (reading_within limit at)) → IfSome a (λ text. Refuses limit sends text old new c refusal)
+          at None b so_far read = tt
+          at (Some text) None so_far read = absurd so_far
+          at (Some text) (Some left) so_far read =
+              (so_far.0, left, view x, (reading_within limit left).rest, mid, back, so_far.1, begins left (view x) read.0, so_far.2, refused, read.1)
 
-    refuses : (refusal : msg.Message → SendFault) (back : msg.Message) → sends mid (view x) (Err (refusal back)) new
-        → IfSome a (λ text. Refuses sends text old new c refusal)
-    refuses refusal back refused = at a b so_far read
-      where
-        at : (a b : Option (List ℕ)) → Handed a b old mid → IfSome b (λ at. Answers view (Ok (Some x)) c (reading_of at)) → IfSome a (λ text. Refuses sends text old new c refusal)
-        at None b so_far read = tt
-        at (Some text) None so_far read = absurd so_far
-        at (Some text) (Some left) so_far read =
-            (so_far.0, left, view x, (reading_of left).rest, mid, back, so_far.1, begins left (view x) read.0, so_far.2, refused, read.1)
+      pub hands_refused : (fault : SendFault) → sends mid (view x) (Err fault) new → IfSome a (λ text. Hands limit sends text old new c (refused_end fault))
+      hands_refused (IsClosed back) refused = refuses IsClosed back refused
+      hands_refused (IsFull back) refused = refuses IsFull back refused
 
-    pub hands_refused : (fault : SendFault) → sends mid (view x) (Err fault) new → IfSome a (λ text. Hands sends text old new c (refused_end fault))
-    hands_refused (IsClosed back) refused = refuses IsClosed back refused
-    hands_refused (IsFull back) refused = refuses IsFull back refused
+    module _ {X : Type 0} (view : X → Message) (c : Option (List ℕ)) (old new : S) where
+      pub hands_end : (a b : Option (List ℕ)) → Handed a b old new → IfSome b (λ at. Answers view (Ok None) c (reading_within limit at)) → IfSome a (λ text. Hands limit sends text old new c End)
+      hands_end None b so_far read = tt
+      hands_end (Some text) None so_far read = absurd so_far
+      hands_end (Some text) (Some left) so_far read =
+          let end = ap (λ o. record { outcome = o; rest = (reading_within limit left).rest }) read.0 in
+          (so_far.0, (reading_within limit left).rest, (left, so_far.1, end), so_far.2, read.1)
 
-  module _ {X : Type 0} (view : X → Message) (c : Option (List ℕ)) (old new : S) where
-    pub hands_end : (a b : Option (List ℕ)) → Handed a b old new → IfSome b (λ at. Answers view (Ok None) c (reading_of at)) → IfSome a (λ text. Hands sends text old new c End)
-    hands_end None b so_far read = tt
-    hands_end (Some text) None so_far read = absurd so_far
-    hands_end (Some text) (Some left) so_far read =
-        let end = ap (λ o. record { outcome = o; rest = (reading_of left).rest }) read.0 in
-        (so_far.0, (reading_of left).rest, (left, so_far.1, end), so_far.2, read.1)
+      hands_before : (text left : List ℕ) → Handed (Some text) (Some left) old new → StopsWithin c (reading_within limit left) → HandsBefore limit sends text old new c
+      hands_before text left so_far stops = (so_far.0, left, so_far.1, so_far.2, stops)
 
-    hands_before : (text left : List ℕ) → Handed (Some text) (Some left) old new → StopsWithin c (reading_of left) → HandsBefore sends text old new c
-    hands_before text left so_far stops = (so_far.0, left, so_far.1, so_far.2, stops)
+      pub hands_fault : (fault : ReadFault) (a b : Option (List ℕ)) → Handed a b old new → IfSome b (λ at. Answers view (Err fault) c (reading_within limit at))
+          → IfSome a (λ text. Hands limit sends text old new c (Fault fault))
+      hands_fault fault None b so_far read = tt
+      hands_fault fault (Some text) None so_far read = absurd so_far
+      hands_fault (Input kind) (Some text) (Some left) so_far read = hands_before text left so_far read
+      hands_fault NoMemory (Some text) (Some left) so_far read = hands_before text left so_far read
+      hands_fault fault (Some text) (Some left) so_far read =
+          let end = ap (λ o. record { outcome = o; rest = (reading_within limit left).rest }) read.0 in
+          (so_far.0, (reading_within limit left).rest, (left, so_far.1, end), so_far.2, read.1)
 
-    pub hands_fault : (fault : ReadFault) (a b : Option (List ℕ)) → Handed a b old new → IfSome b (λ at. Answers view (Err fault) c (reading_of at))
-        → IfSome a (λ text. Hands sends text old new c (Fault fault))
-    hands_fault fault None b so_far read = tt
-    hands_fault fault (Some text) None so_far read = absurd so_far
-    hands_fault (Input kind) (Some text) (Some left) so_far read = hands_before text left so_far read
-    hands_fault NoMemory (Some text) (Some left) so_far read = hands_before text left so_far read
-    hands_fault fault (Some text) (Some left) so_far read =
-        let end = ap (λ o. record { outcome = o; rest = (reading_of left).rest }) read.0 in
-        (so_far.0, (reading_of left).rest, (left, so_far.1, end), so_far.2, read.1)
-
-  -- and where no more messages are read
-  pub hands_on : (old new : S) (a b : Option (List ℕ)) → Handed a b old new → IfSome a (λ text. HandsBefore sends text old new b)
-  hands_on old new None b so_far = tt
-  hands_on old new (Some text) None so_far = absurd so_far
-  hands_on old new (Some text) (Some left) so_far = (so_far.0, left, so_far.1, so_far.2, frame_unread body_means left)
+    -- and where no more messages are read
+    pub hands_on : (old new : S) (a b : Option (List ℕ)) → Handed a b old new → IfSome a (λ text. HandsBefore limit sends text old new b)
+    hands_on old new None b so_far = tt
+    hands_on old new (Some text) None so_far = absurd so_far
+    hands_on old new (Some text) (Some left) so_far = (so_far.0, left, so_far.1, so_far.2, frame_unread body_means limit left)

@@ -67,18 +67,18 @@ module _ {W : Type 0} (contents : W → Option (List ℕ)) where
         (first.1.0 ++ more.1.0, (first.1.0, more.1.0, first.1.1, more.1.1, refl), Appends-trans (at old) (at mid) (at new) first.1.0 more.1.0 first.1.2 more.1.2),
       )
 
-  module _ (text : List ℕ) (old new : FrameOutbox W) (left : Option (List ℕ)) (unfailed : old.fault ≡ None) where
-    all_passed : (ending : Ending) → HandsAll (FrameOutboxSends contents) text old new left ending → (new.fault ≡ None) × PassesOn text (at old) (at new) ending
+  module _ (limit : ℕ) (text : List ℕ) (old new : FrameOutbox W) (left : Option (List ℕ)) (unfailed : old.fault ≡ None) where
+    all_passed : (ending : Ending) → HandsAll limit (FrameOutboxSends contents) text old new left ending → (new.fault ≡ None) × PassesOn limit text (at old) (at new) ending
     all_passed ending handed =
         let frames = taken_frames old handed.0 new unfailed handed.3 in
         (frames.0, (handed.0, handed.1, handed.2, frames.1))
 
-    some_passed : HandsBefore (FrameOutboxSends contents) text old new left → (new.fault ≡ None) × PassesOnSome text (at old) (at new)
+    some_passed : HandsBefore limit (FrameOutboxSends contents) text old new left → (new.fault ≡ None) × PassesOnSome limit text (at old) (at new)
     some_passed handed =
         let frames = taken_frames old handed.0 new unfailed handed.3 in
         (frames.0, (handed.0, handed.1, handed.2, frames.1))
 
-    broken_off : Refuses (FrameOutboxSends contents) text old new left Shut → (kind : _) × (new.fault ≡ Some (Output kind)) × BreaksOff text (at old) (at new)
+    broken_off : Refuses limit (FrameOutboxSends contents) text old new left Shut → (kind : _) × (new.fault ≡ Some (Output kind)) × BreaksOff limit text (at old) (at new)
     broken_off refused =
         let mid = refused.4 in
         let frames = taken_frames old refused.0 mid unfailed refused.8 in
@@ -105,7 +105,7 @@ module _ {W : Type 0} (contents : W → Option (List ℕ)) where
           ),
         )
 
-    ran_out : Refuses (FrameOutboxSends contents) text old new left Full → (new.fault ≡ Some NoMemory) × PassesOnSome text (at old) (at new)
+    ran_out : Refuses limit (FrameOutboxSends contents) text old new left Full → (new.fault ≡ Some NoMemory) × PassesOnSome limit text (at old) (at new)
     ran_out refused =
         let mid = refused.4 in
         let frames = taken_frames old refused.0 mid unfailed refused.8 in
@@ -113,7 +113,7 @@ module _ {W : Type 0} (contents : W → Option (List ℕ)) where
         (last.0, (refused.0, refused.1, refused.6, (frames.1.0, frames.1.1, Appends-Keeps (at old) (at mid) (at new) frames.1.0 frames.1.2 last.1)))
 
     -- the answer of `pump`
-    pub pumped : (end : ReadEnd) → Hands (FrameOutboxSends contents) text old new left end → Pumps text (at old) (at new) (pump_answer end new.fault)
+    pub pumped : (end : ReadEnd) → Hands limit (FrameOutboxSends contents) text old new left end → Pumps limit text (at old) (at new) (pump_answer end new.fault)
     pumped Exit handed = let all = all_passed exited handed in rw all.0 (inl all.1)
     pumped End handed = let all = all_passed ended handed in rw all.0 (inr all.1)
     pumped (Fault (Input kind)) handed = let some = some_passed handed in rw some.0 some.1
@@ -128,20 +128,20 @@ module _ {W : Type 0} (contents : W → Option (List ℕ)) where
   taken_keeps old [] new taken = ap (λ o. o.writer.ghost_name) (sym taken)
   taken_keeps old (m ∷ ms) new taken = taken_keeps taken.0 ms new taken.2 ∙ taken.1.1
 
-  hands_keeps : (text : List ℕ) (old new : FrameOutbox W) (left : Option (List ℕ)) (end : ReadEnd) → Hands (FrameOutboxSends contents) text old new left end
+  hands_keeps : (limit : ℕ) (text : List ℕ) (old new : FrameOutbox W) (left : Option (List ℕ)) (end : ReadEnd) → Hands limit (FrameOutboxSends contents) text old new left end
       → new.writer.ghost_name ≡ old.writer.ghost_name
-  hands_keeps text old new left Exit handed = taken_keeps old handed.0 new handed.3
-  hands_keeps text old new left End handed = taken_keeps old handed.0 new handed.3
-  hands_keeps text old new left (Fault (Input kind)) handed = taken_keeps old handed.0 new handed.3
-  hands_keeps text old new left (Fault NoMemoryToRead) handed = taken_keeps old handed.0 new handed.3
-  hands_keeps text old new left (Fault fault) handed = taken_keeps old handed.0 new handed.3
-  hands_keeps text old new left Closed refused = refused.9.1 ∙ taken_keeps old refused.0 refused.4 refused.8
-  hands_keeps text old new left Memory refused = refused.9.1 ∙ taken_keeps old refused.0 refused.4 refused.8
+  hands_keeps limit text old new left Exit handed = taken_keeps old handed.0 new handed.3
+  hands_keeps limit text old new left End handed = taken_keeps old handed.0 new handed.3
+  hands_keeps limit text old new left (Fault (Input kind)) handed = taken_keeps old handed.0 new handed.3
+  hands_keeps limit text old new left (Fault NoMemoryToRead) handed = taken_keeps old handed.0 new handed.3
+  hands_keeps limit text old new left (Fault fault) handed = taken_keeps old handed.0 new handed.3
+  hands_keeps limit text old new left Closed refused = refused.9.1 ∙ taken_keeps old refused.0 refused.4 refused.8
+  hands_keeps limit text old new left Memory refused = refused.9.1 ∙ taken_keeps old refused.0 refused.4 refused.8
 
   -- the same from the writer that the outbox was lent to what it is in the end
-  pub pumped_from : (known : Option (List ℕ)) (first last : W) (old new : FrameOutbox W) (left : Option (List ℕ)) → old.fault ≡ None → old.writer.now ≡ first
+  pub pumped_from : (limit : ℕ) (known : Option (List ℕ)) (first last : W) (old new : FrameOutbox W) (left : Option (List ℕ)) → old.fault ≡ None → old.writer.now ≡ first
       → (new.writer.ghost_name ≡ old.writer.ghost_name → last ≡ new.writer.now) → (end : ReadEnd)
-      → IfSome known (λ text. Hands (FrameOutboxSends contents) text old new left end) → IfSome known (λ text. Pumps text (contents first) (contents last) (pump_answer end new.fault))
-  pumped_from None first last old new left unfailed same named end handed = tt
-  pumped_from (Some text) first last old new left unfailed same named end handed =
-      rw (named (hands_keeps text old new left end handed), sym same) (pumped text old new left unfailed end handed)
+      → IfSome known (λ text. Hands limit (FrameOutboxSends contents) text old new left end) → IfSome known (λ text. Pumps limit text (contents first) (contents last) (pump_answer end new.fault))
+  pumped_from limit None first last old new left unfailed same named end handed = tt
+  pumped_from limit (Some text) first last old new left unfailed same named end handed =
+      rw (named (hands_keeps limit text old new left end handed), sym same) (pumped limit text old new left unfailed end handed)

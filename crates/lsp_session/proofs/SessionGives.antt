@@ -4,11 +4,11 @@ use Rattle.std.proofs.lemmas.List.Elements.{filter_map-append}
 use Rattle.std.specs.List.{FoldsTo, list_all, filter_map}
 use Rattle.std.specs.Prelude.{Ok, Err, MatchOption}
 use Rattle.lsp_message.proofs.Contents.{frame_unread}
-use Rattle.lsp_message.specs.Body.{body_means, reading_of}
-use Rattle.lsp_message.specs.HeaderPart.{Reading}
-use Rattle.lsp_message.specs.Frame.{Answers, StopsWithin}
+use Rattle.lsp_message.specs.Body.{body_means}
+use Rattle.lsp_message.specs.Frame.{reading_within}
 use Rattle.lsp_message.specs.Letters.{Begins}
 use Rattle.lsp_message.specs.Message.{Message}
+use Rattle.lsp_message.specs.Reading.{Reading, Answers, StopsWithin}
 use Rattle.lsp_message.specs.Written.{GetsFrames}
 use Rattle.lsp_message.specs.declared.frame.ReadFault.{ReadFault}
 use Rattle.lsp_message.specs.declared.frame.ReadFault.TheVariants.{Input, Memory as NoMemoryToRead}
@@ -33,246 +33,247 @@ use Rattle.lsp_session.specs.declared.loops.frame_outbox.FrameOutbox.{FrameOutbo
 use Rattle.lsp_session.specs.declared.loops.stream_inbox.StreamInbox.{StreamInbox}
 use Rattle.lsp_session.specs.declared.loops.stream_session.SessionFault.TheVariants.{Memory}
 
--- a reading that failed
-unread_at : (fault : ReadFault) (at : List ℕ) → (reading_of at).outcome ≡ Err fault → reading_of at ≡ record { outcome = Err fault; rest = (reading_of at).rest }
-unread_at fault at is = ap (λ o. record { outcome = o; rest = (reading_of at).rest }) is
+module _ (limit : ℕ) where
+  -- a reading that failed
+  unread_at : (fault : ReadFault) (at : List ℕ) → (reading_within limit at).outcome ≡ Err fault → reading_within limit at ≡ record { outcome = Err fault; rest = (reading_within limit at).rest }
+  unread_at fault at is = ap (λ o. record { outcome = o; rest = (reading_within limit at).rest }) is
 
--- the answer of a session that was refused a growth
-ran_out_answer : (answer : SessionAnswer) → ran_out answer ≡ true → answer ≡ Err out_of_memory
-ran_out_answer (Ok end) is = absurd (cc (is))
-ran_out_answer (Err out_of_memory) is = refl
-ran_out_answer (Err fault) is = absurd (cc (is))
+  -- the answer of a session that was refused a growth
+  ran_out_answer : (answer : SessionAnswer) → ran_out answer ≡ true → answer ≡ Err out_of_memory
+  ran_out_answer (Ok end) is = absurd (cc (is))
+  ran_out_answer (Err out_of_memory) is = refl
+  ran_out_answer (Err fault) is = absurd (cc (is))
 
-ran_out_gives : (end : Option ReadEnd) → read_answer (Err out_of_memory) end ≡ Err Memory
-ran_out_gives None = refl
-ran_out_gives (Some (Fault fault)) = refl
-ran_out_gives (Some end) = refl
+  ran_out_gives : (end : Option ReadEnd) → read_answer (Err out_of_memory) end ≡ Err Memory
+  ran_out_gives None = refl
+  ran_out_gives (Some (Fault fault)) = refl
+  ran_out_gives (Some end) = refl
 
-module _ (P : List Message → Stop → List Message → Option Message → SessionAnswer → Type 0) (text : List ℕ) (a b : Option (List ℕ))
-    (letters : List Message) (output : List Message) (null : Option Message) where
-  -- a growth was refused
-  runs_out : (left : Option (List ℕ)) (stop : Stop) (answer : SessionAnswer) → P letters stop output null answer
-      → (at : List ℕ) × BeginsWith text letters at × StopsWithin left (reading_of at) → GetsFirst (all_of output null) a b → RunsOut P text left a b
-  runs_out left stop answer part read written =
-      record { letters = letters; at = read.0; read = read.1; rest = read.2; stop = stop; output = output; null = null; answer = answer; part = part; written = written }
+  module _ (P : List Message → Stop → List Message → Option Message → SessionAnswer → Type 0) (text : List ℕ) (a b : Option (List ℕ))
+      (letters : List Message) (output : List Message) (null : Option Message) where
+    -- a growth was refused
+    runs_out : (left : Option (List ℕ)) (stop : Stop) (answer : SessionAnswer) → P letters stop output null answer
+        → (at : List ℕ) × BeginsWith limit text letters at × StopsWithin left (reading_within limit at) → GetsFirst (all_of output null) a b → RunsOut limit P text left a b
+    runs_out left stop answer part read written =
+        record { letters = letters; at = read.0; read = read.1; rest = read.2; stop = stop; output = output; null = null; answer = answer; part = part; written = written }
 
-  -- a write failed
-  write_fails : (left : Option (List ℕ)) (stop : Stop) (answer : SessionAnswer) → P letters stop output null answer
-      → (at : List ℕ) × BeginsWith text letters at × StopsWithin left (reading_of at) → IsUnsent stop null → BreaksOffLast (all_of output null) a b → WriteFails P text left a b
-  write_fails left stop answer part read unsent written = record {
-    letters = letters;
-    at = read.0;
-    read = read.1;
-    rest = read.2;
-    stop = stop;
-    output = output;
-    null = null;
-    unsent = unsent;
-    answer = answer;
-    part = part;
-    written = written;
-  }
+    -- a write failed
+    write_fails : (left : Option (List ℕ)) (stop : Stop) (answer : SessionAnswer) → P letters stop output null answer
+        → (at : List ℕ) × BeginsWith limit text letters at × StopsWithin left (reading_within limit at) → IsUnsent stop null → BreaksOffLast (all_of output null) a b → WriteFails limit P text left a b
+    write_fails left stop answer part read unsent written = record {
+      letters = letters;
+      at = read.0;
+      read = read.1;
+      rest = read.2;
+      stop = stop;
+      output = output;
+      null = null;
+      unsent = unsent;
+      answer = answer;
+      part = part;
+      written = written;
+    }
 
-  module _ (written : GetsFrames (all_of output null) a b) (new : Stream) (answer : SessionAnswer) where
-    -- a session that came to its end
-    plain_gives : (answer : SessionAnswer) → ran_out answer ≡ false → Comes P text new.remaining a b answer → Gives P text new.remaining a b (plain_answer answer)
-    plain_gives (Ok end) enough comes = comes
-    plain_gives (Err fault) enough comes = rw enough comes
+    module _ (written : GetsFrames (all_of output null) a b) (new : Stream) (answer : SessionAnswer) where
+      -- a session that came to its end
+      plain_gives : (answer : SessionAnswer) → ran_out answer ≡ false → Comes limit P text new.remaining a b answer → Gives limit P text new.remaining a b (plain_answer answer)
+      plain_gives (Ok end) enough comes = comes
+      plain_gives (Err fault) enough comes = rw enough comes
 
-    module _ (part : P letters decided output null answer) (facts : Facts decided letters answer) (brought : Brought text letters new) where
-      decided_plain : Gives P text new.remaining a b (plain_answer answer)
-      decided_plain = plain_gives answer facts.0 (record {
-        letters = letters;
-        at = brought.at;
-        read = brought.read;
-        stop = decided;
-        rest = brought.left;
-        output = output;
-        null = null;
-        part = part;
-        written = written;
-      })
-
-      -- a letter decided
-      decided_gives : (goes : Bool) → list_all is_no_exit letters ≡ goes → Gives P text new.remaining a b (read_answer answer new.end)
-      decided_gives false exits = rw (brought.end, exits) decided_plain
-      decided_gives true none = at (came_to_no_more answer) refl
-        where
-          at : (c : Bool) → came_to_no_more answer ≡ c → Gives P text new.remaining a b (read_answer answer new.end)
-          at false is = rw (brought.end, none, is) decided_plain
-          at true is = absurd (true≢false (sym none ∙ facts.1 is))
-
-    module _ (part : P letters no_more output null answer) (facts : Facts no_more letters answer) where
-      -- as many were taken as can be counted
-      many_gives : Brought text letters new → Gives P text new.remaining a b (read_answer answer new.end)
-      many_gives brought = rw (brought.end, facts.2, facts.1) (record {
-        letters = letters;
-        at = brought.at;
-        read = brought.read;
-        rest = rw brought.left (frame_unread body_means brought.at);
-        output = output;
-        null = null;
-        answer = answer;
-        part = part;
-        written = written;
-      })
-
-      module _ (at : List ℕ) (read : BeginsWith text letters at) where
-        fails : (fault : ReadFault) → FailedAfter fault at new.remaining → Fails P text new.remaining a b fault
-        fails fault rest =
-            record { letters = letters; at = at; read = read; rest = rest; output = output; null = null; answer = answer; part = part; written = written }
-
-        fault_gives : (fault : ReadFault) → Answers (λ (m : Message). m) (Err fault) new.remaining (reading_of at) → Gives P text new.remaining a b (Err (read_fault fault))
-        fault_gives (Input kind) answers = fails (Input kind) answers
-        fault_gives NoMemoryToRead answers = runs_out new.remaining no_more answer part (at, read, answers) (whole_first (all_of output null) a b written)
-        fault_gives fault answers = fails fault ((reading_of at).rest, unread_at fault at answers.0, answers.1)
-
-        -- no more came
-        end_gives : (end : Option ReadEnd) → StreamReads (Some at) closed end new.remaining → Gives P text new.remaining a b (read_answer answer end)
-        end_gives None reads = absurd reads
-        end_gives (Some End) reads = plain_gives answer facts.0 (record {
+      module _ (part : P letters decided output null answer) (facts : Facts decided letters answer) (brought : Brought limit text letters new) where
+        decided_plain : Gives limit P text new.remaining a b (plain_answer answer)
+        decided_plain = plain_gives answer facts.0 (record {
           letters = letters;
-          at = at;
-          read = read;
-          stop = no_more;
-          rest = ((reading_of at).rest, ap (λ o. record { outcome = o; rest = (reading_of at).rest }) reads.0.0, reads.0.1);
+          at = brought.at;
+          read = brought.read;
+          stop = decided;
+          rest = brought.left;
           output = output;
           null = null;
           part = part;
           written = written;
         })
-        end_gives (Some (Fault fault)) reads = rw facts.0 (fault_gives fault reads.0)
-        end_gives (Some end) reads = absurd reads
 
--- the last of several events
-last_event : (earlier : List Event) (event : Event) (old new : Stream) → FoldsTo StreamGives old (earlier ++ event ∷ []) new
-    → (mid : Stream) × FoldsTo StreamGives old earlier mid × StreamGives mid event new
-last_event earlier event old new run = let parts = FoldsTo-split StreamGives earlier (event ∷ []) old new run in (parts.0, parts.1, rw parts.2.2 at parts.2.1)
+        -- a letter decided
+        decided_gives : (goes : Bool) → list_all is_no_exit letters ≡ goes → Gives limit P text new.remaining a b (read_answer answer new.end)
+        decided_gives false exits = rw (brought.end, exits) decided_plain
+        decided_gives true none = at (came_to_no_more answer) refl
+          where
+            at : (c : Bool) → came_to_no_more answer ≡ c → Gives limit P text new.remaining a b (read_answer answer new.end)
+            at false is = rw (brought.end, none, is) decided_plain
+            at true is = absurd (true≢false (sym none ∙ facts.1 is))
 
--- no byte after the message that was read last was taken
-reads_within : (at : List ℕ) (end : Option ReadEnd) (left : Option (List ℕ)) → StreamReads (Some at) closed end left → StopsWithin left (reading_of at)
-reads_within at None left reads = absurd reads
-reads_within at (Some End) left reads = ([], reads.0.1)
-reads_within at (Some (Fault fault)) left reads = fault_within fault reads.0
-  where
-    fault_within : (fault : ReadFault) → Answers (λ (m : Message). m) (Err fault) left (reading_of at) → StopsWithin left (reading_of at)
-    fault_within (Input kind) answers = answers
-    fault_within NoMemoryToRead answers = answers
-    fault_within fault answers = ([], answers.1)
-reads_within at (Some end) left reads = absurd reads
+      module _ (part : P letters no_more output null answer) (facts : Facts no_more letters answer) where
+        -- as many were taken as can be counted
+        many_gives : Brought limit text letters new → Gives limit P text new.remaining a b (read_answer answer new.end)
+        many_gives brought = rw (brought.end, facts.2, facts.1) (record {
+          letters = letters;
+          at = brought.at;
+          read = brought.read;
+          rest = rw brought.left (frame_unread body_means limit brought.at);
+          output = output;
+          null = null;
+          answer = answer;
+          part = part;
+          written = written;
+        })
 
-module _ (text : List ℕ) (old new : Stream) (unended : old.end ≡ None) (known : old.remaining ≡ Some text)
-    (events : List Event) (run : FoldsTo StreamGives old events new) where
-  -- what was left when an inbox told that no more come
-  pub record ClosedAt (letters : List Message) : Type 0 where
-    pub at : List ℕ
-    pub read : BeginsWith text letters at
-    pub reads : StreamReads (Some at) closed new.end new.remaining
+        module _ (at : List ℕ) (read : BeginsWith limit text letters at) where
+          fails : (fault : ReadFault) → FailedAfter limit fault at new.remaining → Fails limit P text new.remaining a b fault
+          fails fault rest =
+              record { letters = letters; at = at; read = read; rest = rest; output = output; null = null; answer = answer; part = part; written = written }
 
-  closed_at : (earlier : List Event) (letters : List Message) → events ≡ earlier ++ closed ∷ [] → list_all is_open earlier ≡ true → filter_map message_in events ≡ letters
-      → list_all is_no_exit letters ≡ true → ClosedAt letters
-  closed_at earlier letters cut still_open brings no_exit =
-      let last = last_event earlier closed old new (rw cut at run) in
-      let same : filter_map message_in earlier ≡ letters = rw (sym brings, cut, filter_map-append message_in earlier (closed ∷ []), append-nil) refl in
-      let brought = rw same at (brought_open earlier text old last.0 unended known last.1 still_open) in
-      let unended' : last.0.end ≡ None = rw (brought.end, no_exit) refl in
-      record { at = brought.at; read = brought.read; reads = rw (unended', brought.left) at last.2 }
+          fault_gives : (fault : ReadFault) → Answers (λ (m : Message). m) (Err fault) new.remaining (reading_within limit at) → Gives limit P text new.remaining a b (Err (read_fault fault))
+          fault_gives (Input kind) answers = fails (Input kind) answers
+          fault_gives NoMemoryToRead answers = runs_out new.remaining no_more answer part (at, read, answers) (whole_first (all_of output null) a b written)
+          fault_gives fault answers = fails fault ((reading_within limit at).rest, unread_at fault at answers.0, answers.1)
 
-  open_within : (letters : List Message) → Brought text letters new → (at : List ℕ) × BeginsWith text letters at × StopsWithin new.remaining (reading_of at)
-  open_within letters brought = (brought.at, brought.read, rw brought.left (frame_unread body_means brought.at))
+          -- no more came
+          end_gives : (end : Option ReadEnd) → StreamReads limit (Some at) closed end new.remaining → Gives limit P text new.remaining a b (read_answer answer end)
+          end_gives None reads = absurd reads
+          end_gives (Some End) reads = plain_gives answer facts.0 (record {
+            letters = letters;
+            at = at;
+            read = read;
+            stop = no_more;
+            rest = ((reading_within limit at).rest, ap (λ o. record { outcome = o; rest = (reading_within limit at).rest }) reads.0.0, reads.0.1);
+            output = output;
+            null = null;
+            part = part;
+            written = written;
+          })
+          end_gives (Some (Fault fault)) reads = rw facts.0 (fault_gives fault reads.0)
+          end_gives (Some end) reads = absurd reads
 
-  -- the letters that were used, and what is left after them
-  left_within : (letters : List Message) (stop : Stop) (answer : SessionAnswer) → Brings events letters stop → Facts stop letters answer
-      → (at : List ℕ) × BeginsWith text letters at × StopsWithin new.remaining (reading_of at)
-  left_within letters decided answer brought facts = open_within letters (rw brought.0 at (brought_open events text old new unended known run brought.1))
-  left_within letters no_more answer brought facts = elim brought.1 [
-    | inl last ↦ let closed' = closed_at last.0 letters last.1 last.2 brought.0 facts.2 in (closed'.at, closed'.read, reads_within closed'.at new.end new.remaining closed'.reads)
-    | inr many ↦ open_within letters (rw brought.0 at (brought_open events text old new unended known run many.1))
-  ]
-  left_within letters timed_out answer brought facts = absurd (no_timeout brought.1.0 old new (rw brought.1.1 at run))
-  left_within letters (refused fault) answer brought facts = open_within letters (rw brought.0 at (brought_open events text old new unended known run brought.1))
-  left_within letters exhausted answer brought facts =
-      let all = rw brought.1 at (brought_open events text old new unended known run brought.2) in
-      let parts = FoldsTo-split Begins letters (brought.0 ∷ []) text all.at all.read in
-      let after : (reading_of parts.0).rest ≡ all.at = ap (λ (r : Reading Message). r.rest) parts.2.1 ∙ parts.2.2 in
-      (parts.0, parts.1, ([], rw after all.left))
+  -- the last of several events
+  last_event : (earlier : List Event) (event : Event) (old new : Stream) → FoldsTo (StreamGives limit) old (earlier ++ event ∷ []) new
+      → (mid : Stream) × FoldsTo (StreamGives limit) old earlier mid × StreamGives limit mid event new
+  last_event earlier event old new run = let parts = FoldsTo-split (StreamGives limit) earlier (event ∷ []) old new run in (parts.0, parts.1, rw parts.2.2 at parts.2.1)
 
-module _ (P : List Message → Stop → List Message → Option Message → SessionAnswer → Type 0)
-    (knows : (letters : List Message) (stop : Stop) (output : List Message) (null : Option Message) (answer : SessionAnswer) → P letters stop output null answer → Facts stop letters answer)
-    (text : List ℕ) (old new : Stream) (unended : old.end ≡ None) (known : old.remaining ≡ Some text)
-    (events : List Event) (run : FoldsTo StreamGives old events new) (letters : List Message)
-    (output : List Message) (null : Option Message) (answer : SessionAnswer) (a b : Option (List ℕ)) (written : GetsFrames (all_of output null) a b) where
-  closed_gives : (earlier : List Event) → events ≡ earlier ++ closed ∷ [] → list_all is_open earlier ≡ true → filter_map message_in events ≡ letters → P letters no_more output null answer
-      → Gives P text new.remaining a b (read_answer answer new.end)
-  closed_gives earlier cut still_open brings part =
-      let facts = knows letters no_more output null answer part in
-      let last = closed_at text old new unended known events run earlier letters cut still_open brings facts.2 in
-      end_gives P text a b letters output null written new answer part facts last.at last.read new.end last.reads
-
-  open_brought : filter_map message_in events ≡ letters → list_all is_open events ≡ true → Brought text letters new
-  open_brought brings still_open = rw brings at (brought_open events text old new unended known run still_open)
-
-  -- no write failed
-  pub stop_gives : (stop : Stop) → Brings events letters stop → NotRefused stop → P letters stop output null answer → Gives P text new.remaining a b (read_answer answer new.end)
-  stop_gives decided brought taken part =
-      decided_gives P text a b letters output null written new answer part (knows letters decided output null answer part) (open_brought brought.0 brought.1) (list_all is_no_exit letters) refl
-  stop_gives no_more brought taken part = elim brought.1 [
-    | inl last ↦ closed_gives last.0 last.1 last.2 brought.0 part
-    | inr many ↦ many_gives P text a b letters output null written new answer part (knows letters no_more output null answer part) (open_brought brought.0 many.1)
-  ]
-  stop_gives timed_out brought taken part = absurd (no_timeout brought.1.0 old new (rw brought.1.1 at run))
-  stop_gives (refused fault) brought taken part = absurd taken
-  stop_gives exhausted brought taken part =
-      let facts = knows letters exhausted output null answer part in
-      rw (ran_out_answer answer facts, ran_out_gives new.end)
-      (runs_out P text a b letters output null new.remaining exhausted answer part
-      (left_within text old new unended known events run letters exhausted answer brought facts) (whole_first (all_of output null) a b written))
-
-module _ {R W : Type 0} (remaining : R → Option (List ℕ)) (contents : W → Option (List ℕ))
-    (P : List Message → Stop → List Message → Option Message → SessionAnswer → Type 0)
-    (knows : (letters : List Message) (stop : Stop) (output : List Message) (null : Option Message) (answer : SessionAnswer) → P letters stop output null answer → Facts stop letters answer)
-    (inbox inbox' : StreamInbox R) (outbox outbox' : FrameOutbox W) (unended : inbox.end ≡ None) (unfailed : outbox.fault ≡ None)
-    (answer : SessionAnswer) (runs : Runs (StreamInboxGives remaining) (FrameOutboxSends contents) P (inbox, outbox) answer (inbox', outbox')) where
-  -- what a session over boxes comes to in bytes
-  runs_give : (text : List ℕ) → remaining inbox.reader.now ≡ Some text
-      → Gives P text (remaining inbox'.reader.now) (contents outbox.writer.now) (contents outbox'.writer.now) (session_answer answer inbox'.end outbox'.fault)
-  runs_give text known =
-      at outbox'.fault (gets_written contents outbox outbox' runs.output runs.null unfailed runs.stop runs.got)
+  -- no byte after the message that was read last was taken
+  reads_within : (at : List ℕ) (end : Option ReadEnd) (left : Option (List ℕ)) → StreamReads limit (Some at) closed end left → StopsWithin left (reading_within limit at)
+  reads_within at None left reads = absurd reads
+  reads_within at (Some End) left reads = ([], reads.0.1)
+  reads_within at (Some (Fault fault)) left reads = fault_within fault reads.0
     where
-      run : FoldsTo StreamGives (stream_of remaining inbox) runs.events (stream_of remaining inbox')
-      run = (streams_of remaining runs.events inbox inbox' runs.received).0
+      fault_within : (fault : ReadFault) → Answers (λ (m : Message). m) (Err fault) left (reading_within limit at) → StopsWithin left (reading_within limit at)
+      fault_within (Input kind) answers = answers
+      fault_within NoMemoryToRead answers = answers
+      fault_within fault answers = ([], answers.1)
+  reads_within at (Some end) left reads = absurd reads
 
-      within : (at : List ℕ) × BeginsWith text runs.letters at × StopsWithin (remaining inbox'.reader.now) (reading_of at)
-      within =
-          left_within text (stream_of remaining inbox) (stream_of remaining inbox') unended known runs.events run runs.letters runs.stop answer runs.brought
-          (knows runs.letters runs.stop runs.output runs.null answer runs.part)
+  module _ (text : List ℕ) (old new : Stream) (unended : old.end ≡ None) (known : old.remaining ≡ Some text)
+      (events : List Event) (run : FoldsTo (StreamGives limit) old events new) where
+    -- what was left when an inbox told that no more come
+    pub record ClosedAt (letters : List Message) : Type 0 where
+      pub at : List ℕ
+      pub read : BeginsWith limit text letters at
+      pub reads : StreamReads limit (Some at) closed new.end new.remaining
 
-      at : (fault : Option WriteFault)
-          → MatchOption fault (NotRefused runs.stop × GetsFrames (all_of runs.output runs.null) (contents outbox.writer.now) (contents outbox'.writer.now))
-          (λ f. IsUnsent runs.stop runs.null × GetsPart f (all_of runs.output runs.null) (contents outbox.writer.now) (contents outbox'.writer.now))
-          → Gives P text (remaining inbox'.reader.now) (contents outbox.writer.now) (contents outbox'.writer.now) (session_answer answer inbox'.end fault)
-      at None written =
-          stop_gives P knows text (stream_of remaining inbox) (stream_of remaining inbox') unended known runs.events run runs.letters runs.output runs.null answer
-          (contents outbox.writer.now) (contents outbox'.writer.now) written.1 runs.stop runs.brought written.0 runs.part
-      at (Some (Output kind)) unwritten = (
-        tt,
-        write_fails P text (contents outbox.writer.now) (contents outbox'.writer.now) runs.letters runs.output runs.null (remaining inbox'.reader.now) runs.stop answer runs.part
-            within unwritten.0 unwritten.1,
-      )
-      at (Some NoMemory) unwritten =
-          runs_out P text (contents outbox.writer.now) (contents outbox'.writer.now) runs.letters runs.output runs.null (remaining inbox'.reader.now) runs.stop answer runs.part
-          within unwritten.1
+    closed_at : (earlier : List Event) (letters : List Message) → events ≡ earlier ++ closed ∷ [] → list_all is_open earlier ≡ true → filter_map message_in events ≡ letters
+        → list_all is_no_exit letters ≡ true → ClosedAt letters
+    closed_at earlier letters cut still_open brings no_exit =
+        let last = last_event earlier closed old new (rw cut at run) in
+        let same : filter_map message_in earlier ≡ letters = rw (sym brings, cut, filter_map-append message_in earlier (closed ∷ []), append-nil) refl in
+        let brought = rw same at (brought_open limit earlier text old last.0 unended known last.1 still_open) in
+        let unended' : last.0.end ≡ None = rw (brought.end, no_exit) refl in
+        record { at = brought.at; read = brought.read; reads = rw (unended', brought.left) at last.2 }
 
-  -- the same of the reader and the writer that were lent
-  pub session_gives : (first last : R) (first' last' : W) → inbox.reader.now ≡ first → outbox.writer.now ≡ first'
-      → (inbox'.reader.ghost_name ≡ inbox.reader.ghost_name → last ≡ inbox'.reader.now)
-      → (outbox'.writer.ghost_name ≡ outbox.writer.ghost_name → last' ≡ outbox'.writer.now)
-      → IfSome (remaining first) (λ text. Gives P text (remaining last) (contents first') (contents last') (session_answer answer inbox'.end outbox'.fault))
-  session_gives first last first' last' same same' named named' =
-      rw (named (streams_of remaining runs.events inbox inbox' runs.received).1, named' (gets_keeps contents outbox outbox' runs.output runs.null runs.stop runs.got), sym same, sym same')
-      (at (remaining inbox.reader.now) refl)
-    where
-      at : (known : Option (List ℕ)) → remaining inbox.reader.now ≡ known
-          → IfSome known (λ text. Gives P text (remaining inbox'.reader.now) (contents outbox.writer.now) (contents outbox'.writer.now) (session_answer answer inbox'.end outbox'.fault))
-      at None is = tt
-      at (Some text) is = runs_give text is
+    open_within : (letters : List Message) → Brought limit text letters new → (at : List ℕ) × BeginsWith limit text letters at × StopsWithin new.remaining (reading_within limit at)
+    open_within letters brought = (brought.at, brought.read, rw brought.left (frame_unread body_means limit brought.at))
+
+    -- the letters that were used, and what is left after them
+    left_within : (letters : List Message) (stop : Stop) (answer : SessionAnswer) → Brings events letters stop → Facts stop letters answer
+        → (at : List ℕ) × BeginsWith limit text letters at × StopsWithin new.remaining (reading_within limit at)
+    left_within letters decided answer brought facts = open_within letters (rw brought.0 at (brought_open limit events text old new unended known run brought.1))
+    left_within letters no_more answer brought facts = elim brought.1 [
+      | inl last ↦ let closed' = closed_at last.0 letters last.1 last.2 brought.0 facts.2 in (closed'.at, closed'.read, reads_within closed'.at new.end new.remaining closed'.reads)
+      | inr many ↦ open_within letters (rw brought.0 at (brought_open limit events text old new unended known run many.1))
+    ]
+    left_within letters timed_out answer brought facts = absurd (no_timeout limit brought.1.0 old new (rw brought.1.1 at run))
+    left_within letters (refused fault) answer brought facts = open_within letters (rw brought.0 at (brought_open limit events text old new unended known run brought.1))
+    left_within letters exhausted answer brought facts =
+        let all = rw brought.1 at (brought_open limit events text old new unended known run brought.2) in
+        let parts = FoldsTo-split (Begins limit) letters (brought.0 ∷ []) text all.at all.read in
+        let after : (reading_within limit parts.0).rest ≡ all.at = ap (λ (r : Reading Message). r.rest) parts.2.1 ∙ parts.2.2 in
+        (parts.0, parts.1, ([], rw after all.left))
+
+  module _ (P : List Message → Stop → List Message → Option Message → SessionAnswer → Type 0)
+      (knows : (letters : List Message) (stop : Stop) (output : List Message) (null : Option Message) (answer : SessionAnswer) → P letters stop output null answer → Facts stop letters answer)
+      (text : List ℕ) (old new : Stream) (unended : old.end ≡ None) (known : old.remaining ≡ Some text)
+      (events : List Event) (run : FoldsTo (StreamGives limit) old events new) (letters : List Message)
+      (output : List Message) (null : Option Message) (answer : SessionAnswer) (a b : Option (List ℕ)) (written : GetsFrames (all_of output null) a b) where
+    closed_gives : (earlier : List Event) → events ≡ earlier ++ closed ∷ [] → list_all is_open earlier ≡ true → filter_map message_in events ≡ letters → P letters no_more output null answer
+        → Gives limit P text new.remaining a b (read_answer answer new.end)
+    closed_gives earlier cut still_open brings part =
+        let facts = knows letters no_more output null answer part in
+        let last = closed_at text old new unended known events run earlier letters cut still_open brings facts.2 in
+        end_gives P text a b letters output null written new answer part facts last.at last.read new.end last.reads
+
+    open_brought : filter_map message_in events ≡ letters → list_all is_open events ≡ true → Brought limit text letters new
+    open_brought brings still_open = rw brings at (brought_open limit events text old new unended known run still_open)
+
+    -- no write failed
+    pub stop_gives : (stop : Stop) → Brings events letters stop → NotRefused stop → P letters stop output null answer → Gives limit P text new.remaining a b (read_answer answer new.end)
+    stop_gives decided brought taken part =
+        decided_gives P text a b letters output null written new answer part (knows letters decided output null answer part) (open_brought brought.0 brought.1) (list_all is_no_exit letters) refl
+    stop_gives no_more brought taken part = elim brought.1 [
+      | inl last ↦ closed_gives last.0 last.1 last.2 brought.0 part
+      | inr many ↦ many_gives P text a b letters output null written new answer part (knows letters no_more output null answer part) (open_brought brought.0 many.1)
+    ]
+    stop_gives timed_out brought taken part = absurd (no_timeout limit brought.1.0 old new (rw brought.1.1 at run))
+    stop_gives (refused fault) brought taken part = absurd taken
+    stop_gives exhausted brought taken part =
+        let facts = knows letters exhausted output null answer part in
+        rw (ran_out_answer answer facts, ran_out_gives new.end)
+        (runs_out P text a b letters output null new.remaining exhausted answer part
+        (left_within text old new unended known events run letters exhausted answer brought facts) (whole_first (all_of output null) a b written))
+
+  module _ {R W : Type 0} (remaining : R → Option (List ℕ)) (contents : W → Option (List ℕ))
+      (P : List Message → Stop → List Message → Option Message → SessionAnswer → Type 0)
+      (knows : (letters : List Message) (stop : Stop) (output : List Message) (null : Option Message) (answer : SessionAnswer) → P letters stop output null answer → Facts stop letters answer)
+      (inbox inbox' : StreamInbox R) (outbox outbox' : FrameOutbox W) (unended : inbox.end ≡ None) (limited : inbox.limit ≡ limit) (unfailed : outbox.fault ≡ None)
+      (answer : SessionAnswer) (runs : Runs (StreamInboxGives remaining) (FrameOutboxSends contents) P (inbox, outbox) answer (inbox', outbox')) where
+    -- what a session over boxes comes to in bytes
+    runs_give : (text : List ℕ) → remaining inbox.reader.now ≡ Some text
+        → Gives limit P text (remaining inbox'.reader.now) (contents outbox.writer.now) (contents outbox'.writer.now) (session_answer answer inbox'.end outbox'.fault)
+    runs_give text known =
+        at outbox'.fault (gets_written contents outbox outbox' runs.output runs.null unfailed runs.stop runs.got)
+      where
+        run : FoldsTo (StreamGives limit) (stream_of remaining inbox) runs.events (stream_of remaining inbox')
+        run = (streams_of remaining limit runs.events inbox inbox' limited runs.received).0
+
+        within : (at : List ℕ) × BeginsWith limit text runs.letters at × StopsWithin (remaining inbox'.reader.now) (reading_within limit at)
+        within =
+            left_within text (stream_of remaining inbox) (stream_of remaining inbox') unended known runs.events run runs.letters runs.stop answer runs.brought
+            (knows runs.letters runs.stop runs.output runs.null answer runs.part)
+
+        at : (fault : Option WriteFault)
+            → MatchOption fault (NotRefused runs.stop × GetsFrames (all_of runs.output runs.null) (contents outbox.writer.now) (contents outbox'.writer.now))
+            (λ f. IsUnsent runs.stop runs.null × GetsPart f (all_of runs.output runs.null) (contents outbox.writer.now) (contents outbox'.writer.now))
+            → Gives limit P text (remaining inbox'.reader.now) (contents outbox.writer.now) (contents outbox'.writer.now) (session_answer answer inbox'.end fault)
+        at None written =
+            stop_gives P knows text (stream_of remaining inbox) (stream_of remaining inbox') unended known runs.events run runs.letters runs.output runs.null answer
+            (contents outbox.writer.now) (contents outbox'.writer.now) written.1 runs.stop runs.brought written.0 runs.part
+        at (Some (Output kind)) unwritten = (
+          tt,
+          write_fails P text (contents outbox.writer.now) (contents outbox'.writer.now) runs.letters runs.output runs.null (remaining inbox'.reader.now) runs.stop answer runs.part
+              within unwritten.0 unwritten.1,
+        )
+        at (Some NoMemory) unwritten =
+            runs_out P text (contents outbox.writer.now) (contents outbox'.writer.now) runs.letters runs.output runs.null (remaining inbox'.reader.now) runs.stop answer runs.part
+            within unwritten.1
+
+    -- the same of the reader and the writer that were lent
+    pub session_gives : (first last : R) (first' last' : W) → inbox.reader.now ≡ first → outbox.writer.now ≡ first'
+        → (inbox'.reader.ghost_name ≡ inbox.reader.ghost_name → last ≡ inbox'.reader.now)
+        → (outbox'.writer.ghost_name ≡ outbox.writer.ghost_name → last' ≡ outbox'.writer.now)
+        → IfSome (remaining first) (λ text. Gives limit P text (remaining last) (contents first') (contents last') (session_answer answer inbox'.end outbox'.fault))
+    session_gives first last first' last' same same' named named' =
+        rw (named (streams_of remaining limit runs.events inbox inbox' limited runs.received).1, named' (gets_keeps contents outbox outbox' runs.output runs.null runs.stop runs.got), sym same, sym same')
+        (at (remaining inbox.reader.now) refl)
+      where
+        at : (known : Option (List ℕ)) → remaining inbox.reader.now ≡ known
+            → IfSome known (λ text. Gives limit P text (remaining inbox'.reader.now) (contents outbox.writer.now) (contents outbox'.writer.now) (session_answer answer inbox'.end outbox'.fault))
+        at None is = tt
+        at (Some text) is = runs_give text is

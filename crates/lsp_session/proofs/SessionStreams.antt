@@ -4,7 +4,7 @@ use Rattle.std.proofs.KnownBytes.{Appends-trans}
 use Rattle.std.specs.Io.KnownBytes.{Keeps}
 use Rattle.std.specs.List.{FoldsTo, list_all, filter_map}
 use Rattle.std.specs.Prelude.{Result, Ok, Err, MatchOption, if◌then◌else◌}
-use Rattle.lsp_message.specs.Body.{reading_of}
+use Rattle.lsp_message.specs.Frame.{reading_within}
 use Rattle.lsp_message.specs.Letters.{is_exit}
 use Rattle.lsp_message.specs.Message.{Message}
 use Rattle.lsp_message.specs.Written.{IsFrameOf, AreFramesOf, GetsFrames, Writes}
@@ -26,85 +26,86 @@ use Rattle.lsp_session.specs.declared.loops.ReadEnd.{ReadEnd}
 use Rattle.lsp_session.specs.declared.loops.ReadEnd.TheVariants.{Exit}
 use Rattle.lsp_session.specs.declared.loops.frame_outbox.FrameOutbox.{FrameOutbox}
 
--- an inbox that has ended brings nothing more
-ended_brings : (events : List Event) (end : ReadEnd) (old new : Stream) → old.end ≡ Some end → FoldsTo StreamGives old events new → filter_map message_in events ≡ []
-ended_brings [] end old new is run = refl
-ended_brings (event ∷ events) end old new is run =
-    let step = rw is at run.1 in
-    rw step.0 (ended_brings events end run.0 new step.1 run.2)
+module _ (limit : ℕ) where
+  -- an inbox that has ended brings nothing more
+  ended_brings : (events : List Event) (end : ReadEnd) (old new : Stream) → old.end ≡ Some end → FoldsTo (StreamGives limit) old events new → filter_map message_in events ≡ []
+  ended_brings [] end old new is run = refl
+  ended_brings (event ∷ events) end old new is run =
+      let step = rw is at run.1 in
+      rw step.0 (ended_brings events end run.0 new step.1 run.2)
 
--- and its next event is that no more come
-ended_closes : (events : List Event) (end : ReadEnd) (old new : Stream) → old.end ≡ Some end → FoldsTo StreamGives old events new → list_all is_open events ≡ true → old ≡ new
-ended_closes [] end old new is run still_open = run
-ended_closes (event ∷ events) end old new is run still_open = let step = rw is at run.1 in absurd (cc (rw step.0 at still_open))
+  -- and its next event is that no more come
+  ended_closes : (events : List Event) (end : ReadEnd) (old new : Stream) → old.end ≡ Some end → FoldsTo (StreamGives limit) old events new → list_all is_open events ≡ true → old ≡ new
+  ended_closes [] end old new is run still_open = run
+  ended_closes (event ∷ events) end old new is run still_open = let step = rw is at run.1 in absurd (cc (rw step.0 at still_open))
 
--- the letters that an inbox brought are the first messages of the text
-module _ (m : Message) (text : List ℕ) (mid new : Stream) (events : List Event) (run : FoldsTo StreamGives mid events new) where
-  -- one more letter before them
-  letter_then : (b : Bool) → mid.end ≡ (if b then Some Exit else None)
-      → Reads (Some text) (Ok (Some m)) mid.remaining
-      → ((rest : List ℕ) → mid.end ≡ None → mid.remaining ≡ Some rest → (at : List ℕ) × BeginsWith rest (filter_map message_in events) at)
-      → (at : List ℕ) × BeginsWith text (m ∷ filter_map message_in events) at
-  letter_then true is reads later =
-      rw (ended_brings events Exit mid new is run) ((reading_of text).rest, ((reading_of text).rest, begins text m reads.0.0, refl))
-  letter_then false is reads later =
-      let more = later (reading_of text).rest is reads.0.1 in
-      (more.0, ((reading_of text).rest, begins text m reads.0.0, more.1))
+  -- the letters that an inbox brought are the first messages of the text
+  module _ (m : Message) (text : List ℕ) (mid new : Stream) (events : List Event) (run : FoldsTo (StreamGives limit) mid events new) where
+    -- one more letter before them
+    letter_then : (b : Bool) → mid.end ≡ (if b then Some Exit else None)
+        → Reads limit (Some text) (Ok (Some m)) mid.remaining
+        → ((rest : List ℕ) → mid.end ≡ None → mid.remaining ≡ Some rest → (at : List ℕ) × BeginsWith limit rest (filter_map message_in events) at)
+        → (at : List ℕ) × BeginsWith limit text (m ∷ filter_map message_in events) at
+    letter_then true is reads later =
+        rw (ended_brings events Exit mid new is run) ((reading_within limit text).rest, ((reading_within limit text).rest, begins limit text m reads.0.0, refl))
+    letter_then false is reads later =
+        let more = later (reading_within limit text).rest is reads.0.1 in
+        (more.0, ((reading_within limit text).rest, begins limit text m reads.0.0, more.1))
 
-pub brought_begins : (events : List Event) (text : List ℕ) (old new : Stream) → old.end ≡ None → old.remaining ≡ Some text → FoldsTo StreamGives old events new
-    → (at : List ℕ) × BeginsWith text (filter_map message_in events) at
-brought_begins [] text old new unended known run = (text, refl)
-brought_begins (timeout ∷ events) text old new unended known run = absurd (rw unended at run.1)
-brought_begins (closed ∷ events) text old new unended known run = at run.0.end refl (rw (unended, known) at run.1)
-  where
-    at : (end : Option ReadEnd) → run.0.end ≡ end → StreamReads (Some text) closed end run.0.remaining → (at : List ℕ) × BeginsWith text (filter_map message_in events) at
-    at None is reads = absurd reads
-    at (Some end) is reads = rw (ended_brings events end run.0 new is run.2) (text, refl)
-brought_begins (message m ∷ events) text old new unended known run =
-    let step = rw (unended, known) at run.1 in
-    letter_then m text run.0 new events run.2 (is_exit m) step.0 step.1
-    (λ rest still left. brought_begins events rest run.0 new still left run.2)
+  pub brought_begins : (events : List Event) (text : List ℕ) (old new : Stream) → old.end ≡ None → old.remaining ≡ Some text → FoldsTo (StreamGives limit) old events new
+      → (at : List ℕ) × BeginsWith limit text (filter_map message_in events) at
+  brought_begins [] text old new unended known run = (text, refl)
+  brought_begins (timeout ∷ events) text old new unended known run = absurd (rw unended at run.1)
+  brought_begins (closed ∷ events) text old new unended known run = at run.0.end refl (rw (unended, known) at run.1)
+    where
+      at : (end : Option ReadEnd) → run.0.end ≡ end → StreamReads limit (Some text) closed end run.0.remaining → (at : List ℕ) × BeginsWith limit text (filter_map message_in events) at
+      at None is reads = absurd reads
+      at (Some end) is reads = rw (ended_brings events end run.0 new is run.2) (text, refl)
+  brought_begins (message m ∷ events) text old new unended known run =
+      let step = rw (unended, known) at run.1 in
+      letter_then m text run.0 new events run.2 (is_exit m) step.0 step.1
+      (λ rest still left. brought_begins events rest run.0 new still left run.2)
 
--- what an inbox brought that may bring more, what it has left, and whether an `exit` came
-pub record Brought (text : List ℕ) (letters : List Message) (new : Stream) : Type 0 where
-  pub at : List ℕ
-  pub read : BeginsWith text letters at
-  pub left : new.remaining ≡ Some at
-  pub end : new.end ≡ (if list_all is_no_exit letters then None else Some Exit)
+  -- what an inbox brought that may bring more, what it has left, and whether an `exit` came
+  pub record Brought (text : List ℕ) (letters : List Message) (new : Stream) : Type 0 where
+    pub at : List ℕ
+    pub read : BeginsWith limit text letters at
+    pub left : new.remaining ≡ Some at
+    pub end : new.end ≡ (if list_all is_no_exit letters then None else Some Exit)
 
-module _ (m : Message) (text : List ℕ) (mid new : Stream) (events : List Event) (run : FoldsTo StreamGives mid events new) (still_open : list_all is_open events ≡ true) where
-  open_then : (b : Bool) → is_exit m ≡ b → mid.end ≡ (if b then Some Exit else None)
-      → Reads (Some text) (Ok (Some m)) mid.remaining
-      → ((rest : List ℕ) → mid.end ≡ None → mid.remaining ≡ Some rest → Brought rest (filter_map message_in events) new)
-      → Brought text (m ∷ filter_map message_in events) new
-  open_then true exits is reads later = rw (ended_brings events Exit mid new is run, sym (ended_closes events Exit mid new is run still_open)) (record {
-    at = (reading_of text).rest;
-    read = ((reading_of text).rest, begins text m reads.0.0, refl);
-    left = reads.0.1;
-    end = rw (exits, is) refl;
-  })
-  open_then false exits is reads later =
-      let more = later (reading_of text).rest is reads.0.1 in
-      record { at = more.at; read = ((reading_of text).rest, begins text m reads.0.0, more.read); left = more.left; end = rw exits more.end }
+  module _ (m : Message) (text : List ℕ) (mid new : Stream) (events : List Event) (run : FoldsTo (StreamGives limit) mid events new) (still_open : list_all is_open events ≡ true) where
+    open_then : (b : Bool) → is_exit m ≡ b → mid.end ≡ (if b then Some Exit else None)
+        → Reads limit (Some text) (Ok (Some m)) mid.remaining
+        → ((rest : List ℕ) → mid.end ≡ None → mid.remaining ≡ Some rest → Brought rest (filter_map message_in events) new)
+        → Brought text (m ∷ filter_map message_in events) new
+    open_then true exits is reads later = rw (ended_brings events Exit mid new is run, sym (ended_closes events Exit mid new is run still_open)) (record {
+      at = (reading_within limit text).rest;
+      read = ((reading_within limit text).rest, begins limit text m reads.0.0, refl);
+      left = reads.0.1;
+      end = rw (exits, is) refl;
+    })
+    open_then false exits is reads later =
+        let more = later (reading_within limit text).rest is reads.0.1 in
+        record { at = more.at; read = ((reading_within limit text).rest, begins limit text m reads.0.0, more.read); left = more.left; end = rw exits more.end }
 
-pub brought_open : (events : List Event) (text : List ℕ) (old new : Stream) → old.end ≡ None → old.remaining ≡ Some text → FoldsTo StreamGives old events new
-    → list_all is_open events ≡ true → Brought text (filter_map message_in events) new
-brought_open [] text old new unended known run still_open = record { at = text; read = refl; left = rw (sym run) known; end = rw (sym run) unended }
-brought_open (timeout ∷ events) text old new unended known run still_open = absurd (rw unended at run.1)
-brought_open (closed ∷ events) text old new unended known run still_open = absurd (cc (still_open))
-brought_open (message m ∷ events) text old new unended known run still_open =
-    let step = rw (unended, known) at run.1 in
-    open_then m text run.0 new events run.2 still_open (is_exit m) refl step.0 step.1
-    (λ rest still left. brought_open events rest run.0 new still left run.2 still_open)
+  pub brought_open : (events : List Event) (text : List ℕ) (old new : Stream) → old.end ≡ None → old.remaining ≡ Some text → FoldsTo (StreamGives limit) old events new
+      → list_all is_open events ≡ true → Brought text (filter_map message_in events) new
+  brought_open [] text old new unended known run still_open = record { at = text; read = refl; left = rw (sym run) known; end = rw (sym run) unended }
+  brought_open (timeout ∷ events) text old new unended known run still_open = absurd (rw unended at run.1)
+  brought_open (closed ∷ events) text old new unended known run still_open = absurd (cc (still_open))
+  brought_open (message m ∷ events) text old new unended known run still_open =
+      let step = rw (unended, known) at run.1 in
+      open_then m text run.0 new events run.2 still_open (is_exit m) refl step.0 step.1
+      (λ rest still left. brought_open events rest run.0 new still left run.2 still_open)
 
--- an inbox that reads has no timeouts
-pub no_timeout : (earlier : List Event) (old new : Stream) → FoldsTo StreamGives old (earlier ++ timeout ∷ []) new → ⊥
-no_timeout [] old new run = at old.end run.1
-  where
-    at : (end : Option ReadEnd) → MatchOption end (StreamReads old.remaining timeout run.0.end run.0.remaining) (λ end. (timeout ≡ closed) × (run.0.end ≡ Some end) × Keeps old.remaining run.0.remaining) → ⊥
-    at None gives = gives
-    at (Some end) gives = cc (gives.0)
-no_timeout (event ∷ earlier) old new run = no_timeout earlier run.0 new run.2
+  -- an inbox that reads has no timeouts
+  pub no_timeout : (earlier : List Event) (old new : Stream) → FoldsTo (StreamGives limit) old (earlier ++ timeout ∷ []) new → ⊥
+  no_timeout [] old new run = at old.end run.1
+    where
+      at : (end : Option ReadEnd) → MatchOption end (StreamReads limit old.remaining timeout run.0.end run.0.remaining) (λ end. (timeout ≡ closed) × (run.0.end ≡ Some end) × Keeps old.remaining run.0.remaining) → ⊥
+      at None gives = gives
+      at (Some end) gives = cc (gives.0)
+  no_timeout (event ∷ earlier) old new run = no_timeout earlier run.0 new run.2
 
 -- frames of one more message
 frames_push : (ms : List Message) (m : Message) (frames frame : List ℕ) → AreFramesOf ms frames → IsFrameOf m frame → AreFramesOf (ms ++ m ∷ []) (frames ++ frame)

@@ -11,22 +11,23 @@ use Rattle.lsp_session.specs.declared.lifecycle.SendFault.{SendFault}
 use Rattle.lsp_session.specs.declared.loops.ReadEnd.{ReadEnd}
 use Rattle.lsp_session.specs.declared.loops.stream_inbox.StreamInbox.{StreamInbox}
 
-module _ {R : Type 0} (remaining : R → Option (List ℕ)) where
+module _ {R : Type 0} (remaining : R → Option (List ℕ)) (limit : ℕ) where
   -- receives from an inbox over a reader, as they are seen, and the reader that it was lent
-  pub streams_of : (events : List Event) (old new : StreamInbox R) → FoldsTo (StreamInboxGives remaining) old events new
-      → FoldsTo StreamGives (stream_of remaining old) events (stream_of remaining new) × (new.reader.ghost_name ≡ old.reader.ghost_name)
-  streams_of [] old new run = (ap (λ (s : StreamInbox R). stream_of remaining s) run, rw run refl)
-  streams_of (event ∷ events) old new run =
-      let rest = streams_of events run.0 new run.2 in
-      ((stream_of remaining run.0, run.1.0, rest.0), rest.1 ∙ run.1.1)
+  pub streams_of : (events : List Event) (old new : StreamInbox R) → old.limit ≡ limit → FoldsTo (StreamInboxGives remaining) old events new
+      → FoldsTo (StreamGives limit) (stream_of remaining old) events (stream_of remaining new) × (new.reader.ghost_name ≡ old.reader.ghost_name)
+  streams_of [] old new limited run = (ap (λ (s : StreamInbox R). stream_of remaining s) run, rw run refl)
+  streams_of (event ∷ events) old new limited run =
+      let rest = streams_of events run.0 new (run.1.2 ∙ limited) run.2 in
+      let first = rw limited at run.1.0 in
+      ((stream_of remaining run.0, first, rest.0), rest.1 ∙ run.1.1)
 
   module _ {O : Type 0} (sends : O → Message → Result (Unit {0}) SendFault → O → Type 0) (first last : R) (old new : StreamInbox R) (before after : O)
-      (same : old.reader.now ≡ first) (named : new.reader.ghost_name ≡ old.reader.ghost_name → last ≡ new.reader.now) where
+      (limited : old.limit ≡ limit) (same : old.reader.now ≡ first) (named : new.reader.ghost_name ≡ old.reader.ghost_name → last ≡ new.reader.now) where
     pub finishes_over : (reply : Message) (answer : FinishAnswer) → FinishesAt (StreamInboxGives remaining) sends reply (old, before) answer (new, after)
-        → (end : Option ReadEnd) × FinishesAt StreamGives sends reply (record { remaining = remaining first; end = old.end }, before) answer (record { remaining = remaining last; end = end }, after)
+        → (end : Option ReadEnd) × FinishesAt (StreamGives limit) sends reply (record { remaining = remaining first; end = old.end }, before) answer (record { remaining = remaining last; end = end }, after)
     finishes_over reply answer (inl sent) =
         let waits = sent.2 in
-        let run = streams_of (waits.passed ++ sent.1 ∷ []) old new waits.received in
+        let run = streams_of (waits.passed ++ sent.1 ∷ []) old new limited waits.received in
         rw (named run.1, ← same) (new.end, inl (sent.0, sent.1, record { passed = waits.passed; only_timeouts = waits.only_timeouts; received = run.0 }, sent.3))
     finishes_over reply answer (inr refused) =
         rw (named (ap (λ (s : StreamInbox R). s.reader.ghost_name) refused.3), ← same)

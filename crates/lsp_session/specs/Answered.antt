@@ -22,25 +22,25 @@ RepliesToEach = AllZip RepliesTo
 abbrev pub requests_of : List Message → List Id
 requests_of letters = filter_map request_id letters
 
-module _ (text : List ℕ) (left old new : Option (List ℕ)) where
+module _ (limit : ℕ) (text : List ℕ) (left old new : Option (List ℕ)) where
   -- Each request among the messages that were read got exactly one reply, under its id, in order. Nothing else was written.
   abbrev pub AnswersAll : (List ℕ → Type 0) → Type 0
   AnswersAll Left = (letters : List Message) × (at : List ℕ) × (replies : List Message)
-      × BeginsWith text letters at × Left at × RepliesToEach (requests_of letters) replies × GetsFrames replies old new
+      × BeginsWith limit text letters at × Left at × RepliesToEach (requests_of letters) replies × GetsFrames replies old new
 
   -- no further message was read, but that the text ended
   abbrev pub ReadsNoMore : List ℕ → Type 0
-  ReadsNoMore at = (stop : Stop) × LeftAfter stop at left
+  ReadsNoMore at = (stop : Stop) × LeftAfter limit stop at left
 
   -- The same but for the last message that was read, a request that the lifecycle does not allow.
   abbrev pub AnswersAllButLast : Type 0
   AnswersAllButLast = (before : List Message) × (id : Id) × (method : List ℕ) × (params : Data) × (at : List ℕ) × (replies : List Message)
-      × BeginsWith text (before ++ request id method params ∷ []) at × (left ≡ Some at) × RepliesToEach (requests_of before) replies × GetsFrames replies old new
+      × BeginsWith limit text (before ++ request id method params ∷ []) at × (left ≡ Some at) × RepliesToEach (requests_of before) replies × GetsFrames replies old new
 
   -- what became of a session's requests; where writing failed or memory ran out, this says nothing
   abbrev pub AnswersRequests : Result SessionEnd SessionFault → Type 0
   AnswersRequests (Ok end) = AnswersAll ReadsNoMore
   AnswersRequests (Err (Protocol fault)) = AnswersAll ReadsNoMore ⊎ AnswersAllButLast
-  AnswersRequests (Err (Read fault)) = AnswersAll (λ at. FailedAfter fault at left)
+  AnswersRequests (Err (Read fault)) = AnswersAll (λ at. FailedAfter limit fault at left)
   AnswersRequests (Err (Write fault)) = Unit {0}
   AnswersRequests (Err Memory) = Unit {0}

@@ -15,19 +15,20 @@ use Rattle.lsp_session.specs.declared.relay.PumpFault.TheVariants.{Read, Write, 
 use Rattle.lsp_session.specs.declared.relay.StartFault.{StartFault}
 use Rattle.lsp_session.specs.declared.relay.StartFault.TheVariants.{Memory as StartMemory, Thread}
 
-module _ (text : List ℕ) (old new : Option (List ℕ)) where
+-- content parts have at most so many bytes
+module _ (limit : ℕ) (text : List ℕ) (old new : Option (List ℕ)) where
   -- the writer got frames of all messages of the text, in order, which ended so
   abbrev pub PassesOn : Ending → Type 0
-  PassesOn ending = (ms : List Message) × (rest : List ℕ) × Letters text ms ending rest × GetsFrames ms old new
+  PassesOn ending = (ms : List Message) × (rest : List ℕ) × Letters limit text ms ending rest × GetsFrames ms old new
 
   -- the writer got frames of the first messages of the text, in order
   abbrev pub PassesOnSome : Type 0
-  PassesOnSome = (ms : List Message) × (at : List ℕ) × PassesAll text ms at × GetsFrames ms old new
+  PassesOnSome = (ms : List Message) × (at : List ℕ) × PassesAll limit text ms at × GetsFrames ms old new
 
   -- the writer got frames of the first messages of the text, in order, and a beginning of a frame of the next
   abbrev pub BreaksOff : Type 0
   BreaksOff = (ms : List Message) × (at : List ℕ) × (m : Message) × (rest : List ℕ) × (frames : List ℕ) × (frame : List ℕ)
-      × PassesAll text ms at × Begins at m rest × AreFramesOf ms frames × IsFrameOf m frame
+      × PassesAll limit text ms at × Begins limit at m rest × AreFramesOf ms frames × IsFrameOf m frame
       × (part : List ℕ) × (more : List ℕ) × (frame ≡ part ++ more) × Appends old new (frames ++ part)
 
   abbrev pub Pumps : Result (Unit {0}) PumpFault → Type 0

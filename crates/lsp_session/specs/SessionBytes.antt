@@ -2,11 +2,11 @@
 use Rattle.std.specs.Io.KnownBytes.{Appends}
 use Rattle.std.specs.List.{FoldsTo}
 use Rattle.std.specs.Prelude.{◌≡◌, ◌⊎◌, ℕ, List, [], ◌∷◌, ◌++◌, Option, Some, None, Result, Ok, Err}
-use Rattle.lsp_message.specs.Body.{reading_of}
 use Rattle.lsp_message.specs.Faults.{read_fault_text, write_fault_text}
-use Rattle.lsp_message.specs.Frame.{StopsWithin}
+use Rattle.lsp_message.specs.Frame.{reading_within}
 use Rattle.lsp_message.specs.Letters.{Begins}
 use Rattle.lsp_message.specs.Message.{Message}
+use Rattle.lsp_message.specs.Reading.{StopsWithin}
 use Rattle.lsp_message.specs.Written.{IsFrameOf, AreFramesOf, GetsFrames, IsOutput}
 use Rattle.lsp_message.specs.declared.frame.ReadFault.{ReadFault}
 use Rattle.lsp_message.specs.declared.frame.ReadFault.TheVariants.{Input, Memory as NoMemoryToRead}
@@ -16,9 +16,9 @@ use Rattle.lsp_session.specs.declared.loops.serving.SessionEnd.{SessionEnd}
 use Rattle.lsp_session.specs.declared.loops.stream_session.SessionFault.{SessionFault}
 use Rattle.lsp_session.specs.declared.loops.stream_session.SessionFault.TheVariants.{Protocol, Read, Write, Memory}
 
--- these are the first messages of the text, and the rest follows them
-abbrev pub BeginsWith : List ℕ → List Message → List ℕ → Type 0
-BeginsWith = FoldsTo Begins
+-- these are the first messages of the text, whose content parts have at most so many bytes, and the rest follows them
+abbrev pub BeginsWith : ℕ → List ℕ → List Message → List ℕ → Type 0
+BeginsWith limit = FoldsTo (Begins limit)
 
 -- all that a session writes, the null of `shutdown` last
 abbrev pub all_of : List Message → Option Message → List Message
@@ -42,25 +42,25 @@ IsUnsent (refused fault) None = Unit {0}
 IsUnsent stop None = ⊥
 
 -- What follows the last letter is left, where a letter decided. Where the text ended instead, what follows its end is left: nothing.
-abbrev pub LeftAfter : Stop → List ℕ → Option (List ℕ) → Type 0
-LeftAfter decided at left = left ≡ Some at
-LeftAfter no_more at left = (rest : List ℕ) × (reading_of at ≡ record { outcome = Ok None; rest = rest }) × (left ≡ Some rest)
-LeftAfter stop at left = ⊥
+abbrev pub LeftAfter : ℕ → Stop → List ℕ → Option (List ℕ) → Type 0
+LeftAfter limit decided at left = left ≡ Some at
+LeftAfter limit no_more at left = (rest : List ℕ) × (reading_within limit at ≡ record { outcome = Ok None; rest = rest }) × (left ≡ Some rest)
+LeftAfter limit stop at left = ⊥
 
 -- Reading failed after the last letter.
-abbrev pub FailedAfter : ReadFault → List ℕ → Option (List ℕ) → Type 0
-FailedAfter (Input kind) at left = StopsWithin left (reading_of at)
-FailedAfter NoMemoryToRead at left = ⊥
-FailedAfter fault at left = (rest : List ℕ) × (reading_of at ≡ record { outcome = Err fault; rest = rest }) × (left ≡ Some rest)
+abbrev pub FailedAfter : ℕ → ReadFault → List ℕ → Option (List ℕ) → Type 0
+FailedAfter limit (Input kind) at left = StopsWithin left (reading_within limit at)
+FailedAfter limit NoMemoryToRead at left = ⊥
+FailedAfter limit fault at left = (rest : List ℕ) × (reading_within limit at ≡ record { outcome = Err fault; rest = rest }) × (left ≡ Some rest)
 
-module _ (P : List Message → Stop → List Message → Option Message → SessionAnswer → Type 0) (text : List ℕ) (left old new : Option (List ℕ)) where
+module _ (limit : ℕ) (P : List Message → Stop → List Message → Option Message → SessionAnswer → Type 0) (text : List ℕ) (left old new : Option (List ℕ)) where
   -- The session came to its end: its letters are the first messages of the text, and all its output was written.
   pub record Comes (answer : SessionAnswer) : Type 0 where
     pub letters : List Message
     pub at : List ℕ
-    pub read : BeginsWith text letters at
+    pub read : BeginsWith limit text letters at
     pub stop : Stop
-    pub rest : LeftAfter stop at left
+    pub rest : LeftAfter limit stop at left
     pub output : List Message
     pub null : Option Message
     pub part : P letters stop output null answer
@@ -70,8 +70,8 @@ module _ (P : List Message → Stop → List Message → Option Message → Sess
   pub record Fails (fault : ReadFault) : Type 0 where
     pub letters : List Message
     pub at : List ℕ
-    pub read : BeginsWith text letters at
-    pub rest : FailedAfter fault at left
+    pub read : BeginsWith limit text letters at
+    pub rest : FailedAfter limit fault at left
     pub output : List Message
     pub null : Option Message
     pub answer : SessionAnswer
@@ -83,8 +83,8 @@ module _ (P : List Message → Stop → List Message → Option Message → Sess
   pub record WriteFails : Type 0 where
     pub letters : List Message
     pub at : List ℕ
-    pub read : BeginsWith text letters at
-    pub rest : StopsWithin left (reading_of at)
+    pub read : BeginsWith limit text letters at
+    pub rest : StopsWithin left (reading_within limit at)
     pub stop : Stop
     pub output : List Message
     pub null : Option Message
@@ -97,8 +97,8 @@ module _ (P : List Message → Stop → List Message → Option Message → Sess
   pub record RunsOut : Type 0 where
     pub letters : List Message
     pub at : List ℕ
-    pub read : BeginsWith text letters at
-    pub rest : StopsWithin left (reading_of at)
+    pub read : BeginsWith limit text letters at
+    pub rest : StopsWithin left (reading_within limit at)
     pub stop : Stop
     pub output : List Message
     pub null : Option Message

@@ -9,7 +9,7 @@ module _ {R : Type 0} (remaining : R → Option (List ℕ)) where
   abbrev pub stream_of : StreamInbox R → Stream
   stream_of inbox = record { remaining = remaining inbox.reader.now; end = inbox.end }
 
-  -- one receive, which keeps the reader that the inbox was lent
+  -- one receive, which keeps the reader that the inbox was lent, and its limit
   abbrev pub StreamInboxGives : StreamInbox R → Event → StreamInbox R → Type 0
   StreamInboxGives old event new =
-      StreamGives (stream_of old) event (stream_of new) × (new.reader.ghost_name ≡ old.reader.ghost_name)
+      StreamGives old.limit (stream_of old) event (stream_of new) × (new.reader.ghost_name ≡ old.reader.ghost_name) × (new.limit ≡ old.limit)

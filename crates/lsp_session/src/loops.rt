@@ -1,5 +1,6 @@
 //! Loops over messages: from a reader to an outbox, and from an inbox to a writer (LSP 3.17, "Base Protocol").
 ghost use Rattle.std.specs.Prelude.{◌≡◌, IfSome};
+ghost use Rattle.lsp_message.specs.Frame.{no_limit};
 ghost use Rattle.lsp_session.specs.ReadLoop.{Hands, refused_end};
 
 use crate::lifecycle::{Outbox, SendFault, is_exit};
@@ -14,10 +15,9 @@ mod stream_session;
 mod write;
 
 pub use frame_outbox::FrameOutbox;
-
 pub use serving::{Handler, SessionEnd, initialize_result, serve};
 pub use stream_inbox::StreamInbox;
-pub use stream_session::{SessionFault, session};
+pub use stream_session::{SessionFault, session, session_within};
 pub use write::{WriteEnd, write_loop};
 
 /// How a loop over a reader's messages ended.
@@ -38,10 +38,24 @@ pub enum ReadEnd {
 /// Hands on a reader's messages, up to and with the first `exit`.
 pub fn read_loop<R: BufRead, O: Outbox>(alloc: Global, reader: &mut R, outbox: &mut O) -> ReadEnd
     ensures { IfSome (R.remaining reader.old) (λ text.
-        Hands O.sends text outbox.old outbox.new (R.remaining reader.new) result) }
+        Hands no_limit O.sends text outbox.old outbox.new (R.remaining reader.new) result) }
+{
+    read_loop_within(alloc, reader, outbox, u64::MAX)
+}
+
+/// Hands on a reader's messages, up to and with the first `exit`. A message whose content part has more than `limit` bytes
+/// ends the loop with `ReadFault::TooLong`, before any room is reserved for it.
+pub fn read_loop_within<R: BufRead, O: Outbox>(
+    alloc: Global,
+    reader: &mut R,
+    outbox: &mut O,
+    limit: u64,
+) -> ReadEnd
+    ensures { IfSome (R.remaining reader.old) (λ text.
+        Hands limit O.sends text outbox.old outbox.new (R.remaining reader.new) result) }
 {
     for _ in 0..u64::MAX {
-        let message = match Message::read(alloc, reader) {
+        let message = match Message::read_within(alloc, reader, limit) {
             Ok(Some(message)) => message,
             Ok(None) => return ReadEnd::End,
             Err(fault) => return ReadEnd::Fault(fault),

@@ -1,5 +1,6 @@
 //! Messages passed on from a reader to a writer.
 ghost use Rattle.std.specs.Prelude.{◌≡◌, IfSome};
+ghost use Rattle.lsp_message.specs.Frame.{no_limit};
 ghost use Rattle.lsp_session.specs.Pump.{Pumps, pump_answer};
 
 use crate::loops::{FrameOutbox, ReadEnd, read_loop};
@@ -19,6 +20,7 @@ pub enum StartFault {
 }
 
 impl fmt::Display for StartFault {
+    ghost use Rattle.lsp_message.specs.Frame.{no_limit};
     ghost use Rattle.lsp_session.specs.Pump.{start_fault_text};
 
     ghost output = { start_fault_text };
@@ -45,6 +47,7 @@ pub enum PumpFault {
 }
 
 impl fmt::Display for PumpFault {
+    ghost use Rattle.lsp_message.specs.Frame.{no_limit};
     ghost use Rattle.lsp_session.specs.Pump.{pump_fault_text};
 
     ghost output = { pump_fault_text };
@@ -70,7 +73,7 @@ pub fn pump<T, R: BufRead + Drop, W: Write>(
     reader: R,
     writer: &mut W,
 ) -> Result<(), PumpFault>
-    ensures { IfSome (R.remaining reader) (λ text. Pumps text (W.contents writer.old) (W.contents writer.new) result) }
+    ensures { IfSome (R.remaining reader) (λ text. Pumps no_limit text (W.contents writer.old) (W.contents writer.new) result) }
 {
     let _ = rt;
     let mut reader = reader;

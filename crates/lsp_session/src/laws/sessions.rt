@@ -1,5 +1,6 @@
 //! What a session does with the requests of its client.
 ghost use Rattle.std.specs.Prelude.{IfSome};
+ghost use Rattle.lsp_message.specs.Frame.{no_limit};
 ghost use Rattle.lsp_session.specs.Answered.{AnswersRequests};
 
 use crate::loops::{Handler, SessionEnd, SessionFault, session};
@@ -22,7 +23,7 @@ pub fn each_request_is_answered_once<R: BufRead, W: Write, H: Handler>(
     handler: &mut H,
 ) -> Result<SessionEnd, SessionFault>
     ensures { IfSome (R.remaining reader.old) (λ text.
-        AnswersRequests text (R.remaining reader.new) (W.contents writer.old) (W.contents writer.new) result) }
+        AnswersRequests no_limit text (R.remaining reader.new) (W.contents writer.old) (W.contents writer.new) result) }
 {
     session(alloc, reader, writer, capabilities, handler)
 }

@@ -1,6 +1,7 @@
 //! What an engine of the lifecycle takes from a reader, and what it leaves.
 ghost use Rattle.serde_json.specs.View.{view};
 ghost use Rattle.std.specs.Prelude.{None, Option};
+ghost use Rattle.lsp_message.specs.Frame.{no_limit};
 ghost use Rattle.lsp_session.specs.Finish.{FinishesAt};
 ghost use Rattle.lsp_session.specs.Replies.{ok_reply};
 ghost use Rattle.lsp_session.specs.Streams.{StreamGives};
@@ -23,7 +24,7 @@ pub fn finish_over_reader<R: BufRead, O: Outbox>(
     id: RequestId,
     initialize_result: Value,
 ) -> Result<(), ProtocolError>
-    ensures { (end : Option ReadEndType) × FinishesAt StreamGives O.sends (ok_reply id (view initialize_result))
+    ensures { (end : Option ReadEndType) × FinishesAt (StreamGives no_limit) O.sends (ok_reply id (view initialize_result))
         (record { remaining = R.remaining reader.old; end = None }, outbox.old) result
         (record { remaining = R.remaining reader.new; end = end }, outbox.new) }
 {

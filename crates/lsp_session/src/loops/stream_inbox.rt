@@ -1,5 +1,6 @@
 // An inbox that reads messages.
 ghost use Rattle.std.specs.Prelude.{◌≡◌, None};
+ghost use Rattle.lsp_message.specs.Frame.{no_limit};
 ghost use Rattle.lsp_session.specs.Event.{event_view};
 ghost use Rattle.lsp_session.specs.StreamBoxes.{StreamInboxGives};
 
@@ -15,6 +16,7 @@ use std::io::BufRead;
 pub struct StreamInbox<'a, R> {
     alloc: Global,
     reader: &'a mut R,
+    limit: u64,
     end: Option<ReadEnd>,
 }
 
@@ -24,10 +26,23 @@ impl<'a, R: BufRead> StreamInbox<'a, R> {
         ensures same_reader { result.reader.ghost_name ≡ reader.entry.ghost_name }
         ensures unread { result.reader.now ≡ reader.old }
         ensures unended { result.end ≡ None }
+        ensures unlimited { result.limit ≡ no_limit }
+    {
+        StreamInbox::within(alloc, reader, u64::MAX)
+    }
+
+    /// An inbox over a reader, for messages whose content part has at most `limit` bytes. A longer one ends the messages
+    /// with `ReadFault::TooLong`. It takes no memory.
+    pub fn within(alloc: Global, reader: &'a mut R, limit: u64) -> Self
+        ensures same_reader { result.reader.ghost_name ≡ reader.entry.ghost_name }
+        ensures unread { result.reader.now ≡ reader.old }
+        ensures unended { result.end ≡ None }
+        ensures limited { result.limit ≡ limit }
     {
         StreamInbox {
             alloc,
             reader,
+            limit,
             end: None,
         }
     }
@@ -45,7 +60,7 @@ impl<'a, R: BufRead> StreamInbox<'a, R> {
         if self.end.is_some() {
             return Event::Closed;
         }
-        match Message::read(self.alloc, self.reader) {
+        match Message::read_within(self.alloc, self.reader, self.limit) {
             Ok(Some(message)) => {
                 if is_exit(&message) {
                     self.end = Some(ReadEnd::Exit);

@@ -1,6 +1,7 @@
 // A session over a reader and a writer.
 ghost use Rattle.serde_json.specs.View.{view};
 ghost use Rattle.std.specs.Prelude.{◌≡◌, IfSome};
+ghost use Rattle.lsp_message.specs.Frame.{no_limit};
 ghost use Rattle.lsp_session.specs.Session.{SessionOut};
 ghost use Rattle.lsp_session.specs.SessionBytes.{Gives};
 ghost use Rattle.lsp_session.specs.SessionFault.{ran_out as ran_out_spec, came_to_no_more as came_to_no_more_spec, protocol_fault as protocol_fault_spec, read_fault as read_fault_spec, plain_answer as plain_answer_spec, read_answer as read_answer_spec, session_answer as session_answer_spec};
@@ -61,10 +62,27 @@ pub fn session<R: BufRead, W: Write, H: Handler>(
     handler: &mut H,
 ) -> Result<SessionEnd, SessionFault>
     ensures { IfSome (R.remaining reader.old) (λ text.
-        Gives (SessionOut H.answers H.notes (view capabilities) handler.old handler.new)
+        Gives no_limit (SessionOut H.answers H.notes (view capabilities) handler.old handler.new)
         text (R.remaining reader.new) (W.contents writer.old) (W.contents writer.new) result) }
 {
-    let mut inbox = StreamInbox::new(alloc, reader);
+    session_within(alloc, reader, writer, capabilities, handler, u64::MAX)
+}
+
+/// Runs a session of a server, as `session` does, over messages whose content part has at most `limit` bytes. A longer one
+/// is `SessionFault::Read` of `ReadFault::TooLong`, before any room is reserved for it.
+pub fn session_within<R: BufRead, W: Write, H: Handler>(
+    alloc: Global,
+    reader: &mut R,
+    writer: &mut W,
+    capabilities: Value,
+    handler: &mut H,
+    limit: u64,
+) -> Result<SessionEnd, SessionFault>
+    ensures { IfSome (R.remaining reader.old) (λ text.
+        Gives limit (SessionOut H.answers H.notes (view capabilities) handler.old handler.new)
+        text (R.remaining reader.new) (W.contents writer.old) (W.contents writer.new) result) }
+{
+    let mut inbox = StreamInbox::within(alloc, reader, limit);
     let mut outbox = FrameOutbox::new(alloc, writer);
     let answer = serve(alloc, &mut inbox, &mut outbox, capabilities, handler);
     session_answer(answer, inbox.end(), outbox.fault())
