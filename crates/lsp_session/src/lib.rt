@@ -15,6 +15,6 @@ pub use lifecycle::{
 };
 pub use loops::{
     FrameOutbox, Handler, ReadEnd, SessionEnd, SessionFault, StreamInbox, WriteEnd,
-    initialize_result, read_loop, serve, session, write_loop,
+    initialize_result, read_loop, serve, session, session_answer, write_loop,
 };
 pub use relay::{PumpFault, StartFault, pump};

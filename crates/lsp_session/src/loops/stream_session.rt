@@ -71,7 +71,7 @@ pub fn session<R: BufRead, W: Write, H: Handler>(
 }
 
 /// The answer of a session whose messages ended so, and whose outbox kept this fault.
-fn session_answer(
+pub fn session_answer(
     answer: Result<SessionEnd, ProtocolError>,
     end: Option<ReadEnd>,
     unwritten: Option<WriteFault>,
