@@ -131,13 +131,13 @@ fn into_a_list(rt: HostRuntime) -> Result<(), Fail> {
 #[test]
 fn up_to_a_limit(rt: HostRuntime) {
     let alloc = rt.alloc();
-    let mut left = TWO_EXITS;
+    let mut left = TWO_EXITS.as_bytes();
     let mut outbox = ListOutbox::new(alloc, 9);
     let end = read_loop_within(alloc, &mut left, &mut outbox, 33);
     assert_eq!(rt; end, ReadEnd::Exit);
     assert_eq!(rt; outbox.sent.len(), 1);
-    assert_eq!(rt; left, EXIT);
-    let mut left = EXIT;
+    assert_eq!(rt; left, EXIT.as_bytes());
+    let mut left = EXIT.as_bytes();
     let mut outbox = ListOutbox::new(alloc, 9);
     let end = read_loop_within(alloc, &mut left, &mut outbox, 32);
     assert_eq!(rt; end, ReadEnd::Fault(ReadFault::TooLong));

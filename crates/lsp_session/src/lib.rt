@@ -15,6 +15,7 @@ pub use lifecycle::{
 };
 pub use loops::{
     FrameOutbox, Handler, ReadEnd, SessionEnd, SessionFault, StreamInbox, WriteEnd,
-    initialize_result, read_loop, read_loop_within, serve, session, session_within, write_loop,
+    initialize_result, read_loop, read_loop_within, serve, session, session_answer, session_within,
+    write_loop,
 };
 pub use relay::{PumpFault, StartFault, pump};

@@ -17,7 +17,7 @@ mod write;
 pub use frame_outbox::FrameOutbox;
 pub use serving::{Handler, SessionEnd, initialize_result, serve};
 pub use stream_inbox::StreamInbox;
-pub use stream_session::{SessionFault, session, session_within};
+pub use stream_session::{SessionFault, session, session_answer, session_within};
 pub use write::{WriteEnd, write_loop};
 
 /// How a loop over a reader's messages ended.

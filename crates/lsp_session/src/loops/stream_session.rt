@@ -89,7 +89,7 @@ pub fn session_within<R: BufRead, W: Write, H: Handler>(
 }
 
 /// The answer of a session whose messages ended so, and whose outbox kept this fault.
-fn session_answer(
+pub fn session_answer(
     answer: Result<SessionEnd, ProtocolError>,
     end: Option<ReadEnd>,
     unwritten: Option<WriteFault>,

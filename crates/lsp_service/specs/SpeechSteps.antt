@@ -1,0 +1,66 @@
+-- The steps of a session of a server that speaks. For private clauses.
+use Rattle.std.specs.List.{FoldsTo}
+use Rattle.std.specs.Prelude.{◌≡◌, ◌⊎◌, true, List, [], ◌∷◌, ◌++◌, Option, Result, Ok, Err}
+use Rattle.lsp_message.specs.Message.{Message}
+use Rattle.lsp_session.specs.Boxes.{Takes}
+use Rattle.lsp_session.specs.Event.{Event}
+use Rattle.lsp_session.specs.ProtocolError.{ProtocolFault, out_of_memory}
+use Rattle.lsp_session.specs.Session.{SessionAnswer, is_served}
+use Rattle.lsp_session.specs.SessionRun.{RunsAwaiting}
+use Rattle.lsp_session.specs.SessionSteps.{AwaitsLast}
+use Rattle.lsp_session.specs.Start.{fault_of_refusal}
+use Rattle.lsp_session.specs.declared.lifecycle.SendFault.{SendFault}
+use Rattle.serde_json.specs.Data.{Data}
+use Rattle.lsp_message.specs.Id.{Id}
+use Rattle.lsp_session.specs.Replies.{ok_reply}
+use Rattle.lsp_session.specs.SessionSteps.{RunsFrom}
+use Rattle.lsp_service.specs.Speech.{Speaks, AfterInitialize}
+
+module _ {O : Type 0} (sends : O → Message → Result (Unit {0}) SendFault → O → Type 0) where
+  -- the outbox took some of these messages, and refused the next one
+  pub record RefusesOne (old : O) (ms : List Message) (fault : ProtocolFault) (new : O) : Type 0 where
+    pub part : List Message
+    pub unsaid : Message
+    pub more : List Message
+    pub cut : ms ≡ part ++ unsaid ∷ more
+    pub mid : O
+    pub taken : FoldsTo (Takes sends) old part mid
+    pub refusal : SendFault
+    pub refuses : sends mid unsaid (Err refusal) new
+    pub is : fault ≡ fault_of_refusal refusal
+
+  -- messages are sent in order, up to the first that is refused
+  abbrev pub SendsAll : O → List Message → Result (Unit {0}) ProtocolFault → O → Type 0
+  SendsAll old ms (Ok done) new = FoldsTo (Takes sends) old ms new
+  SendsAll old ms (Err fault) new = RefusesOne old ms fault new
+
+module _ {S O : Type 0} (gives : S → Message → List Message → S → Type 0) (sends : O → Message → Result (Unit {0}) SendFault → O → Type 0) where
+  -- the speaker gives messages for a letter, and they are sent
+  abbrev pub Utters : Message → S × O → Result (Unit {0}) ProtocolFault → S × O → Type 0
+  Utters m old (Ok done) new = (said : List Message) × gives old.0 m said new.0 × FoldsTo (Takes sends) old.1 said new.1
+  Utters m old (Err fault) new =
+      ((said : List Message) × gives old.0 m said new.0 × RefusesOne sends old.1 said fault new.1)
+      ⊎ ((fault ≡ out_of_memory) × (new.1 ≡ old.1))
+
+module _ {S I O : Type 0} (gives : S → Message → List Message → S → Type 0)
+    (receives : I → Event → I → Type 0) (sends : O → Message → Result (Unit {0}) SendFault → O → Type 0) where
+  -- The speaker serves a letter, and the outbox takes what it gives.
+  pub record SpeaksOn (m : Message) (old new : S × I × O) : Type 0 where
+    pub served : is_served m ≡ true
+    pub said : List Message
+    pub given : gives old.0 m said new.0
+    pub unread : new.1 ≡ old.1
+    pub taken : FoldsTo (Takes sends) old.2 said new.2
+
+  -- A message that was received is the first of the letters that the session ends with, or a growth is refused at it.
+  abbrev pub EndsAt : Message → S × I × O → SessionAnswer → S × I × O → Type 0
+  EndsAt m old answer new =
+      RunsAwaiting receives sends (AwaitsLast m) (λ letters. Speaks gives old.0 new.0 (m ∷ letters)) (old.1, old.2) answer (new.1, new.2)
+      ⊎ ((answer ≡ Err out_of_memory) × (new.1 ≡ old.1) × (new.2 ≡ old.2))
+
+  -- From `initialize` on: the server gives its result, which is offered, and the session goes on; or a growth is refused.
+  abbrev pub StartsOn : (S → Data → Data → S → Type 0) → Id → Data → S × I × O → SessionAnswer → S × I × O → Type 0
+  StartsOn initializes id params old answer new =
+      ((result : Data) × (mid : S) × initializes old.0 params result mid
+      × RunsFrom receives sends (AfterInitialize gives mid new.0) (ok_reply id result) (old.1, old.2) answer (new.1, new.2))
+      ⊎ ((answer ≡ Err out_of_memory) × (new.1 ≡ old.1) × (new.2 ≡ old.2))
