@@ -17,6 +17,7 @@
 #include <errno.h>
 #include <fcntl.h>
 #include <pthread.h>
+#include <stdarg.h>
 #include <stdatomic.h>
 #include <stdint.h>
 #include <stdio.h>
@@ -225,3 +226,12 @@ int getsockname(int file, struct sockaddr *address, socklen_t *length) {
 int shutdown(int file, int ways) { return fails(SOCKET) ? no_room() : (int)syscall(SYS_shutdown, file, ways); }
 
 int dup(int file) { return fails(SOCKET) ? no_room() : (int)syscall(SYS_dup, file); }
+
+int fcntl(int file, int command, ...) {
+    va_list arguments;
+    va_start(arguments, command);
+    void *argument = va_arg(arguments, void *);
+    va_end(arguments);
+    int copies = command == F_DUPFD || command == F_DUPFD_CLOEXEC;
+    return copies && fails(SOCKET) ? no_room() : (int)syscall(SYS_fcntl, file, command, argument);
+}

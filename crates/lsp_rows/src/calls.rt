@@ -79,7 +79,7 @@ fn front_answer(alloc: Global, bytes: &[u8]) -> Result<Answer, AllocError> {
     match front(bytes) {
         Front::Whole(length) => Ok(Answer::of(format!(in alloc; "whole, {length} bytes")?)),
         Front::More => Ok(Answer::of(String::from_str(alloc, "more")?)),
-        Front::Fault(number) => Ok(Answer::of(format!(in alloc; "fault {number}")?)),
+        Front::Fault(fault) => Ok(Answer::of(format!(in alloc; "{fault}")?)),
     }
 }
 
