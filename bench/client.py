@@ -18,6 +18,7 @@ from pathlib import Path
 
 SERVE = Path(__file__).resolve().parent.parent / "crates" / "lsp_demo" / "out" / "lsp_demo"
 PATIENCE = 10
+UNAWAITED = 50
 HEADER = re.compile(rb"Content-Length: (0|[1-9][0-9]*)\r\n\r\n")
 LONGEST_HEADER = 200
 
@@ -203,10 +204,7 @@ def check_session(start):
 
 @dataclass
 class BadEnd:
-    """What a client sends, each with the reply that it awaits, whether it then closes its end, and why the program ends.
-
-    After an error of the protocol the program ends at once, so a reply is only certain for a client that awaits it.
-    """
+    """What a client sends, each with the reply that it awaits, whether it then closes its end, and why the program ends."""
 
     name: str
     exchanges: list
@@ -269,6 +267,23 @@ def check_bad_end(start, case):
         expect_failure(server, case.text)
 
 
+def check_unawaited(start):
+    """Each bad end again and again, by a client that sends everything at once: all replies come nevertheless."""
+    for case in BAD_ENDS:
+        sent = b"".join(data for data, _ in case.exchanges)
+        wanted = b"".join(frame(reply) for _, reply in case.exchanges if reply is not None)
+        for _ in range(UNAWAITED):
+            with start() as server:
+                server.send_bytes(sent)
+                if case.closes:
+                    server.close_input()
+                status, rest, errors = server.finish()
+            expect(f"the replies before {case.name}", rest, wanted)
+            expect("the status", status, 1)
+            expect("lines on standard error", errors.count("\n"), 1)
+    print(f"bad ends with no wait for a reply, {UNAWAITED} times each: every reply came")
+
+
 def check_closed_output(command):
     """The client reads nothing at all, and ends its own output after a request."""
     print("a closed standard output")
@@ -324,6 +339,7 @@ def check_all(program):
     check_session(lambda: Server(command))
     for case in BAD_ENDS:
         check_bad_end(lambda: Server(command), case)
+    check_unawaited(lambda: Server(command))
     check_closed_output(command)
     check_output_closed_midway(command)
     check_words(program, ["serve", "twice"], USAGE)

@@ -23,14 +23,17 @@ from client import (
     EXIT,
     INITIALIZE,
     INITIALIZED,
+    INITIALIZE_REPLY,
     PATIENCE,
     SHUTDOWN,
+    SHUTDOWN_REPLY,
     USAGE,
     WHOLE_SESSION,
     Difference,
     Server,
     check_bad_end,
     check_session,
+    check_unawaited,
     check_words,
     exchange,
     expect,
@@ -44,6 +47,10 @@ MEGABYTE = 1_000_000
 BLOCKED_AFTER = 1
 GIVEN_UP_AFTER = 40
 LONGEST_BURST = 0.02
+SLOW_BYTES = 4
+STALL = 3
+FLOOD = 100_000
+FLOOD_PATIENCE = 60
 
 
 def free_port():
@@ -144,6 +151,62 @@ def check_pieces(program):
     expect("the status", status, 0)
 
 
+def check_slow(program):
+    """A message comes a byte a second at first, and then stops for a while in its midst."""
+    print("a client that sends a byte a second, and then stalls")
+    with TcpServer(program) as server:
+        exchange(server, BEGUN)
+        message = frame(ECHO)
+        for byte in message[:SLOW_BYTES]:
+            server.send_bytes(bytes([byte]))
+            time.sleep(1)
+        server.send_bytes(message[SLOW_BYTES:-1])
+        time.sleep(STALL)
+        expect("what came before the last byte", select.select([server.output()], [], [], 0)[0], [])
+        server.send_bytes(message[-1:])
+        exchange(server, [(b"", ECHO_REPLY), (frame(SHUTDOWN), SHUTDOWN_REPLY), (frame(EXIT), None)])
+        status, rest, errors = server.finish()
+    expect("after the last reply", rest, b"")
+    expect("standard error", errors, "")
+    expect("the status", status, 0)
+
+
+def check_half_closed(program):
+    """The client says that nothing more comes, and then reads."""
+    print("a client that closes one half of its connection")
+    with TcpServer(program) as server:
+        server.send_bytes(frame(INITIALIZE) + frame(INITIALIZED) + frame(ECHO) * 10)
+        server.close_input()
+        status, rest, errors = server.finish()
+    expect("the replies", replies(rest), [INITIALIZE_REPLY] + [ECHO_REPLY] * 10)
+    expect("standard error", errors, "lsp_demo: ended without shutdown\n")
+    expect("the status", status, 1)
+
+
+def check_flood(program):
+    """Requests come as fast as they are taken, by a client that reads at the same time."""
+    sent = frame(ECHO) * FLOOD + frame(SHUTDOWN)
+    wanted = frame(ECHO_REPLY) * FLOOD + frame(SHUTDOWN_REPLY)
+    with TcpServer(program) as server:
+        exchange(server, BEGUN)
+        start, received, at = time.monotonic(), bytearray(), 0
+        server.socket.setblocking(False)
+        while len(received) < len(wanted) and time.monotonic() - start < FLOOD_PATIENCE:
+            readable, writable, _ = select.select([server.socket], [server.socket] if at < len(sent) else [], [], 1)
+            if readable:
+                received += server.socket.recv(1 << 20)
+            if writable:
+                at += server.socket.send(sent[at : at + (1 << 20)])
+        print(f"a client that floods: {FLOOD} requests in {time.monotonic() - start:.1f} seconds")
+        server.socket.setblocking(True)
+        expect("the replies", bytes(received) == wanted, True)
+        server.send_bytes(frame(EXIT))
+        status, rest, errors = server.finish()
+    expect("after the last reply", rest, b"")
+    expect("standard error", errors, "")
+    expect("the status", status, 0)
+
+
 def check_one_client(program):
     """While a client is served no other is taken."""
     print("a second client")
@@ -232,7 +295,11 @@ def check_all(program):
     check_session(lambda: TcpServer(program))
     for case in BAD_ENDS:
         check_bad_end(lambda: TcpServer(program), case)
+    check_unawaited(lambda: TcpServer(program))
     check_pieces(program)
+    check_slow(program)
+    check_half_closed(program)
+    check_flood(program)
     check_one_client(program)
     check_gone(program, "a client that is gone in the middle of a message", ECHOED + [(frame(ECHO)[:-1], None)], "read fault 7")
     check_gone(program, "a client that is gone in the middle of a header", ASKED + [(b"Content-", None)], "read fault 3")

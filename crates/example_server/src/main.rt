@@ -11,7 +11,9 @@ use std::time::Clock;
 
 fn main(rt: HostRuntime) -> Result<()> {
     let (connection, threads) = Connection::stdio(&rt)?;
-    serve(&rt, connection)?;
+    let served = serve(&rt, connection);
+    let threads = threads.flush(&rt);
+    served?;
     threads.join(&rt)?;
     Ok(())
 }

@@ -2,7 +2,7 @@
 // It trusts its input: a line with the length, an empty line and the body, over and over.
 #![tactic(auto)]
 
-use anyhow::{Context, Result};
+use anyhow::Result;
 use serde_json::Value;
 use std::alloc::Global;
 use std::fmt::Write as _;
@@ -36,7 +36,7 @@ fn echo_all<R: BufRead, W: Write>(alloc: Global, reader: &mut R, writer: &mut W)
         }
         body.resize(length, 0)?;
         reader.read_exact(body.as_mut_slice())?;
-        let value = Value::from_slice(alloc, body.as_slice()).context("reading a body")?;
+        let value = Value::from_slice(alloc, body.as_slice())?;
         let text = value.to_string(alloc)?;
         frame.clear();
         let text_length = text.len();

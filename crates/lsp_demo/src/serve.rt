@@ -56,6 +56,8 @@ pub fn serve_on<R: Threads + Wait + Clock + AllocGlobal, E: Write>(
                 if let Err(fault) = close(rt, connection, threads) {
                     return report(errors, fault);
                 }
+            } else {
+                let _ = flush(rt, connection, threads);
             }
             report(errors, error)
         }
@@ -63,16 +65,28 @@ pub fn serve_on<R: Threads + Wait + Clock + AllocGlobal, E: Write>(
     }
 }
 
-/// Lets go of the connection, and waits for its threads.
+/// Lets go of the connection, waits until all that was sent is written, and then for the threads.
 fn close<R: Threads>(
     rt: &R,
     connection: Connection,
     threads: Option<IoThreads>,
 ) -> Result<(), IoFault> {
-    drop(connection);
-    match threads {
+    match flush(rt, connection, threads) {
         Some(threads) => threads.join(rt),
         None => Ok(()),
+    }
+}
+
+/// Lets go of the connection, and waits until all that was sent is written. The client may stay and say nothing.
+fn flush<R: Threads>(
+    rt: &R,
+    connection: Connection,
+    threads: Option<IoThreads>,
+) -> Option<IoThreads> {
+    drop(connection);
+    match threads {
+        Some(threads) => Some(threads.flush(rt)),
+        None => None,
     }
 }
 

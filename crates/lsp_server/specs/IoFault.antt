@@ -1,5 +1,5 @@
 -- The numbers and texts of the faults of a connection's worker threads.
-use Rattle.std.specs.Prelude.{ℕ, List, Bool, true, false, Option, Some, Result, Ok, Err, codes}
+use Rattle.std.specs.Prelude.{ℕ, List, Bool, true, false, Option, Some, None, Result, Ok, Err, codes}
 use Rattle.lsp_message.specs.Faults.{read_fault_text, write_fault_text}
 use Rattle.lsp_session.specs.declared.loops.ReadEnd.{ReadEnd}
 use Rattle.lsp_session.specs.declared.loops.ReadEnd.TheVariants.{Exit, End, Fault, Closed as OutboxClosed, Memory as OutboxMemory}
@@ -7,6 +7,8 @@ use Rattle.lsp_session.specs.declared.loops.write.WriteEnd.{WriteEnd}
 use Rattle.lsp_session.specs.declared.loops.write.WriteEnd.TheVariants.{Closed as InboxClosed, Fault as Unwritten}
 use Rattle.lsp_server.specs.declared.stdio.IoFault.{IoFault}
 use Rattle.lsp_server.specs.declared.stdio.IoFault.TheVariants.{Read, Write, Closed, Start, Socket, Memory}
+use Rattle.lsp_server.specs.declared.stdio.Writer.{Writer}
+use Rattle.lsp_server.specs.declared.stdio.Writer.TheVariants.{Started, Ended}
 
 abbrev pub io_fault_number : IoFault → ℕ
 io_fault_number (Read fault) = 1
@@ -55,3 +57,8 @@ reader_answer OutboxMemory = Err Memory
 abbrev pub writer_answer : WriteEnd → Result (Unit {0}) IoFault
 writer_answer InboxClosed = Ok tt
 writer_answer (Unwritten fault) = Err (Write fault)
+
+-- what the thread that writes answered, where it has ended
+abbrev pub ended_answer : Writer → Option (Result (Unit {0}) IoFault)
+ended_answer (Started thread) = None
+ended_answer (Ended answer) = Some answer

@@ -1,6 +1,6 @@
 //! A connection over standard input and output, and the threads that serve a connection.
-ghost use Rattle.std.specs.Prelude.{◌≡◌, true, IfErr};
-ghost use Rattle.lsp_server.specs.IoFault.{is_start_fault, reader_answer, writer_answer};
+ghost use Rattle.std.specs.Prelude.{◌≡◌, true, IfErr, IfSome, IsSome};
+ghost use Rattle.lsp_server.specs.IoFault.{is_start_fault, reader_answer, writer_answer, ended_answer};
 
 use crate::channels::{ChannelInbox, ChannelOutbox, Connection};
 use lsp_session::{ReadEnd, WriteEnd, read_loop, write_loop};
@@ -85,11 +85,54 @@ impl From<AllocError> for IoFault {
 #[derive(Drop)]
 pub struct IoThreads {
     reader: JoinHandle<Result<(), IoFault>>,
-    writer: JoinHandle<Result<(), IoFault>>,
+    writer: Writer,
     dropper: JoinHandle<()>,
 }
 
+/// The thread that writes.
+#[derive(Drop)]
+enum Writer {
+    /// It may still run.
+    Started(JoinHandle<Result<(), IoFault>>),
+    /// It has ended, and answered this.
+    Ended(Result<(), IoFault>),
+}
+
+impl Writer {
+    /// What the thread answers. It is waited for where it may still run.
+    fn join<R: Threads>(self, rt: &R) -> Result<(), IoFault>
+        ensures { IfSome (ended_answer self) (λ answer. result ≡ answer) }
+    {
+        match self {
+            Writer::Started(thread) => thread.join(rt),
+            Writer::Ended(answer) => answer,
+        }
+    }
+}
+
 impl IoThreads {
+    /// Waits until all that was sent is written, and for nothing else. It gives the threads back, for `join`.
+    ///
+    /// The thread that writes ends when all is written and the connection's sender is gone, or at a fault: drop the
+    /// connection first. The other threads run on, also where one waits for a peer that says nothing. A program that ends
+    /// without `join`, as after an error of the handshake, calls this before, or the last replies may be lost.
+    pub fn flush<R: Threads>(self, rt: &R) -> IoThreads
+        ensures written { IsSome (ended_answer result.writer) }
+        ensures same_reader { result.reader ≡ self.reader }
+        ensures same_dropper { result.dropper ≡ self.dropper }
+    {
+        let IoThreads {
+            reader,
+            writer,
+            dropper,
+        } = self;
+        IoThreads {
+            reader,
+            writer: Writer::Ended(writer.join(rt)),
+            dropper,
+        }
+    }
+
     /// Waits for the threads to end. A fault of the reader is answered without waiting for the others, and a fault of the
     /// writer when all have ended.
     ///
@@ -213,7 +256,7 @@ where
     };
     let threads = IoThreads {
         reader,
-        writer,
+        writer: Writer::Started(writer),
         dropper,
     };
     Ok(((sender, receiver), threads))

@@ -1,0 +1,237 @@
+// Loaded before the C library, it makes one call of a program fail, or cuts all its reads and writes into pieces.
+//
+// FAIL_ONCE says what happens, in the words that `run` makes:
+//   memory N            the Nth allocation is refused
+//   memory-from N       the Nth allocation is refused, and each one after it
+//   thread N            the Nth thread is not started
+//   socket N            the Nth call that makes a socket or sets it up fails
+//   read N HOW          of the Nth read: `error` fails it, `interrupt` interrupts it, `short` lets it move one byte
+//   write N HOW         the same of the Nth write
+//   pieces K            no read or write moves more than K bytes
+//
+// FAIL_ONCE_COUNTS names a file of 64 bytes. It holds, as 8 numbers of 64 bits, how many calls there were of memory, threads,
+// sockets, reads and writes, and then how many calls were made to fail. It is kept up to date while the program runs, since
+// a program may end in any way.
+#define _GNU_SOURCE
+#include <dlfcn.h>
+#include <errno.h>
+#include <fcntl.h>
+#include <pthread.h>
+#include <stdarg.h>
+#include <stdatomic.h>
+#include <stdint.h>
+#include <stdio.h>
+#include <stdlib.h>
+#include <string.h>
+#include <sys/mman.h>
+#include <sys/socket.h>
+#include <sys/syscall.h>
+#include <sys/types.h>
+#include <sys/uio.h>
+#include <unistd.h>
+
+enum kind { MEMORY, THREAD, SOCKET, READ, WRITE, FAILED, NUMBERS = 8 };
+enum how { IS_ERROR, IS_INTERRUPT, IS_SHORT };
+
+static _Atomic uint64_t not_shared[NUMBERS];
+static _Atomic uint64_t *counts = not_shared;
+static int kind_to_fail = -1;
+static uint64_t place;
+static int lasts;
+static enum how how;
+static size_t piece = SIZE_MAX;
+
+extern void *__libc_malloc(size_t);
+extern void *__libc_calloc(size_t, size_t);
+extern void *__libc_realloc(void *, size_t);
+extern void *__libc_memalign(size_t, size_t);
+
+static void share_counts(const char *path) {
+    int file = open(path, O_RDWR | O_CLOEXEC);
+    if (file < 0)
+        return;
+    void *shared = mmap(NULL, NUMBERS * sizeof(uint64_t), PROT_READ | PROT_WRITE, MAP_SHARED, file, 0);
+    close(file);
+    if (shared != MAP_FAILED)
+        counts = shared;
+}
+
+static int is(const char *word, const char *name) { return strcmp(word, name) == 0; }
+
+__attribute__((constructor)) static void start(void) {
+    const char *path = getenv("FAIL_ONCE_COUNTS");
+    if (path)
+        share_counts(path);
+    const char *plan = getenv("FAIL_ONCE");
+    char word[32] = "", manner[32] = "";
+    unsigned long long number = 0;
+    if (!plan || sscanf(plan, "%31s %llu %31s", word, &number, manner) < 2)
+        return;
+    place = number;
+    lasts = is(word, "memory-from");
+    how = is(manner, "interrupt") ? IS_INTERRUPT : is(manner, "short") ? IS_SHORT : IS_ERROR;
+    if (is(word, "pieces"))
+        piece = number;
+    else if (is(word, "memory") || lasts)
+        kind_to_fail = MEMORY;
+    else if (is(word, "thread"))
+        kind_to_fail = THREAD;
+    else if (is(word, "socket"))
+        kind_to_fail = SOCKET;
+    else if (is(word, "read"))
+        kind_to_fail = READ;
+    else if (is(word, "write"))
+        kind_to_fail = WRITE;
+    // What this library itself has called so far is no call of the program.
+    memset((void *)counts, 0, NUMBERS * sizeof(uint64_t));
+}
+
+// Counts the call, and says whether it is to fail.
+static int fails(enum kind kind) {
+    uint64_t number = atomic_fetch_add(&counts[kind], 1) + 1;
+    int is_here = (int)kind == kind_to_fail && (number == place || (lasts && number > place));
+    if (is_here)
+        atomic_fetch_add(&counts[FAILED], 1);
+    return is_here;
+}
+
+// Memory.
+
+static void *refused(void) {
+    errno = ENOMEM;
+    return NULL;
+}
+
+void *malloc(size_t size) { return fails(MEMORY) ? refused() : __libc_malloc(size); }
+
+void *calloc(size_t count, size_t size) { return fails(MEMORY) ? refused() : __libc_calloc(count, size); }
+
+void *realloc(void *block, size_t size) { return fails(MEMORY) ? refused() : __libc_realloc(block, size); }
+
+void *aligned_alloc(size_t align, size_t size) { return fails(MEMORY) ? refused() : __libc_memalign(align, size); }
+
+int posix_memalign(void **block, size_t align, size_t size) {
+    if (fails(MEMORY))
+        return ENOMEM;
+    void *made = __libc_memalign(align, size);
+    if (!made)
+        return ENOMEM;
+    *block = made;
+    return 0;
+}
+
+// Threads.
+
+int pthread_create(pthread_t *thread, const pthread_attr_t *attributes, void *(*run)(void *), void *argument) {
+    static int (*real)(pthread_t *, const pthread_attr_t *, void *(*)(void *), void *);
+    if (fails(THREAD))
+        return EAGAIN;
+    if (!real)
+        *(void **)&real = dlsym(RTLD_NEXT, "pthread_create");
+    return real(thread, attributes, run, argument);
+}
+
+// Reads and writes.
+
+static int fails_now(enum kind kind, size_t *size) {
+    if (*size > piece)
+        *size = piece;
+    if (!fails(kind))
+        return 0;
+    if (how == IS_SHORT) {
+        if (*size > 1)
+            *size = 1;
+        return 0;
+    }
+    errno = how == IS_INTERRUPT ? EINTR : EIO;
+    return 1;
+}
+
+ssize_t read(int file, void *room, size_t size) {
+    return fails_now(READ, &size) ? -1 : syscall(SYS_read, file, room, size);
+}
+
+ssize_t recvfrom(int file, void *room, size_t size, int flags, struct sockaddr *from, socklen_t *length) {
+    return fails_now(READ, &size) ? -1 : syscall(SYS_recvfrom, file, room, size, flags, from, length);
+}
+
+ssize_t recv(int file, void *room, size_t size, int flags) { return recvfrom(file, room, size, flags, NULL, NULL); }
+
+ssize_t write(int file, const void *bytes, size_t size) {
+    return fails_now(WRITE, &size) ? -1 : syscall(SYS_write, file, bytes, size);
+}
+
+ssize_t __write(int file, const void *bytes, size_t size) { return write(file, bytes, size); }
+
+ssize_t writev(int file, const struct iovec *parts, int count) {
+    size_t size = SIZE_MAX;
+    if (fails_now(WRITE, &size))
+        return -1;
+    if (size == SIZE_MAX || count == 0)
+        return syscall(SYS_writev, file, parts, count);
+    return syscall(SYS_write, file, parts->iov_base, size < parts->iov_len ? size : parts->iov_len);
+}
+
+ssize_t sendto(int file, const void *bytes, size_t size, int flags, const struct sockaddr *to, socklen_t length) {
+    return fails_now(WRITE, &size) ? -1 : syscall(SYS_sendto, file, bytes, size, flags, to, length);
+}
+
+ssize_t send(int file, const void *bytes, size_t size, int flags) {
+    return sendto(file, bytes, size, flags, NULL, 0);
+}
+
+ssize_t sendmsg(int file, const struct msghdr *message, int flags) {
+    size_t size = SIZE_MAX;
+    if (fails_now(WRITE, &size))
+        return -1;
+    if (size == SIZE_MAX || message->msg_iovlen == 0)
+        return syscall(SYS_sendmsg, file, message, flags);
+    struct iovec first = message->msg_iov[0];
+    return syscall(SYS_sendto, file, first.iov_base, size < first.iov_len ? size : first.iov_len, flags, NULL, 0);
+}
+
+// Sockets.
+
+static int no_room(void) {
+    errno = ENOBUFS;
+    return -1;
+}
+
+int socket(int domain, int type, int protocol) {
+    return fails(SOCKET) ? no_room() : (int)syscall(SYS_socket, domain, type, protocol);
+}
+
+int bind(int file, const struct sockaddr *address, socklen_t length) {
+    return fails(SOCKET) ? no_room() : (int)syscall(SYS_bind, file, address, length);
+}
+
+int listen(int file, int waiting) { return fails(SOCKET) ? no_room() : (int)syscall(SYS_listen, file, waiting); }
+
+int accept4(int file, struct sockaddr *address, socklen_t *length, int flags) {
+    return fails(SOCKET) ? no_room() : (int)syscall(SYS_accept4, file, address, length, flags);
+}
+
+int connect(int file, const struct sockaddr *address, socklen_t length) {
+    return fails(SOCKET) ? no_room() : (int)syscall(SYS_connect, file, address, length);
+}
+
+int setsockopt(int file, int level, int name, const void *value, socklen_t length) {
+    return fails(SOCKET) ? no_room() : (int)syscall(SYS_setsockopt, file, level, name, value, length);
+}
+
+int getsockname(int file, struct sockaddr *address, socklen_t *length) {
+    return fails(SOCKET) ? no_room() : (int)syscall(SYS_getsockname, file, address, length);
+}
+
+int shutdown(int file, int ways) { return fails(SOCKET) ? no_room() : (int)syscall(SYS_shutdown, file, ways); }
+
+int dup(int file) { return fails(SOCKET) ? no_room() : (int)syscall(SYS_dup, file); }
+
+int fcntl(int file, int command, ...) {
+    va_list arguments;
+    va_start(arguments, command);
+    void *argument = va_arg(arguments, void *);
+    va_end(arguments);
+    int copies = command == F_DUPFD || command == F_DUPFD_CLOEXEC;
+    return copies && fails(SOCKET) ? no_room() : (int)syscall(SYS_fcntl, file, command, argument);
+}
