@@ -33,21 +33,21 @@ use Rattle.lsp_session.specs.declared.loops.frame_outbox.FrameOutbox.{FrameOutbo
 use Rattle.lsp_session.specs.declared.loops.stream_inbox.StreamInbox.{StreamInbox}
 use Rattle.lsp_session.specs.declared.loops.stream_session.SessionFault.TheVariants.{Memory}
 
+-- the answer of a session that was refused a growth
+pub ran_out_answer : (answer : SessionAnswer) → ran_out answer ≡ true → answer ≡ Err out_of_memory
+ran_out_answer (Ok end) is = absurd (cc (is))
+ran_out_answer (Err out_of_memory) is = refl
+ran_out_answer (Err fault) is = absurd (cc (is))
+
+pub ran_out_gives : (end : Option ReadEnd) → read_answer (Err out_of_memory) end ≡ Err Memory
+ran_out_gives None = refl
+ran_out_gives (Some (Fault fault)) = refl
+ran_out_gives (Some end) = refl
+
 module _ (limit : ℕ) where
   -- a reading that failed
   unread_at : (fault : ReadFault) (at : List ℕ) → (reading_within limit at).outcome ≡ Err fault → reading_within limit at ≡ record { outcome = Err fault; rest = (reading_within limit at).rest }
   unread_at fault at is = ap (λ o. record { outcome = o; rest = (reading_within limit at).rest }) is
-
-  -- the answer of a session that was refused a growth
-  ran_out_answer : (answer : SessionAnswer) → ran_out answer ≡ true → answer ≡ Err out_of_memory
-  ran_out_answer (Ok end) is = absurd (cc (is))
-  ran_out_answer (Err out_of_memory) is = refl
-  ran_out_answer (Err fault) is = absurd (cc (is))
-
-  ran_out_gives : (end : Option ReadEnd) → read_answer (Err out_of_memory) end ≡ Err Memory
-  ran_out_gives None = refl
-  ran_out_gives (Some (Fault fault)) = refl
-  ran_out_gives (Some end) = refl
 
   module _ (P : List Message → Stop → List Message → Option Message → SessionAnswer → Type 0) (text : List ℕ) (a b : Option (List ℕ))
       (letters : List Message) (output : List Message) (null : Option Message) where

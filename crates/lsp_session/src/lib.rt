@@ -6,7 +6,6 @@ mod error;
 pub mod laws;
 mod lifecycle;
 mod loops;
-mod relay;
 
 pub use error::ProtocolError;
 pub use lifecycle::{
@@ -18,4 +17,3 @@ pub use loops::{
     initialize_result, read_loop, read_loop_within, serve, session, session_answer, session_within,
     write_loop,
 };
-pub use relay::{PumpFault, StartFault, pump};

@@ -1,7 +1,9 @@
 //! Loops over messages: from a reader to an outbox, and from an inbox to a writer (LSP 3.17, "Base Protocol").
-ghost use Rattle.std.specs.Prelude.{◌≡◌, IfSome};
+ghost use Rattle.std.specs.Prelude.{◌≡◌, IfSome, List};
 ghost use Rattle.lsp_message.specs.Frame.{no_limit};
+ghost use Rattle.lsp_message.specs.Message as plain;
 ghost use Rattle.lsp_session.specs.ReadLoop.{Hands, refused_end};
+ghost use Rattle.lsp_session.specs.WriteLoop.{OffersAll};
 
 use crate::lifecycle::{Outbox, SendFault, is_exit};
 use lsp_message::{Message, ReadFault};
@@ -35,10 +37,12 @@ pub enum ReadEnd {
     Memory,
 }
 
-/// Hands on a reader's messages, up to and with the first `exit`.
+/// Hands on a reader's messages, up to and with the first `exit`. Of any reader it is known that each change of the outbox is that
+/// of a send.
 pub fn read_loop<R: BufRead, O: Outbox>(alloc: Global, reader: &mut R, outbox: &mut O) -> ReadEnd
-    ensures { IfSome (R.remaining reader.old) (λ text.
+    ensures handed { IfSome (R.remaining reader.old) (λ text.
         Hands no_limit O.sends text outbox.old outbox.new (R.remaining reader.new) result) }
+    ensures offered { (ms : List plain.Message) × OffersAll O.sends outbox.old ms outbox.new }
 {
     read_loop_within(alloc, reader, outbox, u64::MAX)
 }
@@ -51,8 +55,9 @@ pub fn read_loop_within<R: BufRead, O: Outbox>(
     outbox: &mut O,
     limit: u64,
 ) -> ReadEnd
-    ensures { IfSome (R.remaining reader.old) (λ text.
+    ensures handed { IfSome (R.remaining reader.old) (λ text.
         Hands limit O.sends text outbox.old outbox.new (R.remaining reader.new) result) }
+    ensures offered { (ms : List plain.Message) × OffersAll O.sends outbox.old ms outbox.new }
 {
     for _ in 0..u64::MAX {
         let message = match Message::read_within(alloc, reader, limit) {
