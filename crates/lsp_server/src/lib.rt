@@ -20,5 +20,7 @@ pub use lsp_session::{
     finish, finish_within, read_loop, read_loop_within, serve, session, session_within, shutdown,
     start_within, wait_within, write_loop,
 };
-pub use lsp_threads::{PumpFault, StartFault, Threaded, pump, run_threads};
+pub use lsp_threads::{
+    PumpFault, StartFault, Threaded, pump, pump_within, run_threads, run_threads_within,
+};
 pub use stdio::{IoFault, IoThreads};

@@ -1,7 +1,7 @@
 -- A session whose reader and writer run in threads of their own: bytes in to bytes out (LSP 3.17, "Base Protocol" and "Server lifecycle").
 use Rattle.std.specs.Io.KnownBytes.{Appends}
 use Rattle.std.specs.Prelude.{◌≡◌, Bool, true, false, ℕ, List, ◌∷◌, ◌++◌, Option, Some, None, Result, Ok, Err}
-use Rattle.lsp_message.specs.Body.{reading_of}
+use Rattle.lsp_message.specs.Frame.{reading_within}
 use Rattle.lsp_message.specs.Message.{Message}
 use Rattle.lsp_message.specs.Written.{IsFrameOf, AreFramesOf, GetsFrames, IsOutput}
 use Rattle.lsp_message.specs.declared.frame.ReadFault.{ReadFault}
@@ -30,25 +30,25 @@ pub record BreaksOffWithin (ms : List Message) (old new : Option (List ℕ)) : T
   pub got : Appends old new (frames ++ part)
 
 -- The last letter decided, or the text ends after it.
-abbrev pub EndsSo : Stop → List ℕ → Type 0
-EndsSo decided at = Unit {0}
-EndsSo no_more at = (rest : List ℕ) × (reading_of at ≡ record { outcome = Ok None; rest = rest })
-EndsSo stop at = ⊥
+abbrev pub EndsSo : ℕ → Stop → List ℕ → Type 0
+EndsSo limit decided at = Unit {0}
+EndsSo limit no_more at = (rest : List ℕ) × (reading_within limit at ≡ record { outcome = Ok None; rest = rest })
+EndsSo limit stop at = ⊥
 
 -- Reading fails after the last letter: the reader failed there, or the text has this fault.
-abbrev pub FailsAt : ReadFault → List ℕ → Type 0
-FailsAt (Input kind) at = Unit {0}
-FailsAt NoMemoryToRead at = ⊥
-FailsAt fault at = (rest : List ℕ) × (reading_of at ≡ record { outcome = Err fault; rest = rest })
+abbrev pub FailsAt : ℕ → ReadFault → List ℕ → Type 0
+FailsAt limit (Input kind) at = Unit {0}
+FailsAt limit NoMemoryToRead at = ⊥
+FailsAt limit fault at = (rest : List ℕ) × (reading_within limit at ≡ record { outcome = Err fault; rest = rest })
 
-module _ (P : List Message → Stop → List Message → Option Message → SessionAnswer → Type 0) (text : List ℕ) (old new : Option (List ℕ)) where
+module _ (limit : ℕ) (P : List Message → Stop → List Message → Option Message → SessionAnswer → Type 0) (text : List ℕ) (old new : Option (List ℕ)) where
   -- The session came to its end: its letters are the first messages of the text, and all its output was written.
   pub record Comes (answer : SessionAnswer) : Type 0 where
     pub letters : List Message
     pub at : List ℕ
-    pub read : BeginsWith text letters at
+    pub read : BeginsWith limit text letters at
     pub stop : Stop
-    pub ends : EndsSo stop at
+    pub ends : EndsSo limit stop at
     pub output : List Message
     pub null : Option Message
     pub part : P letters stop output null answer
@@ -58,8 +58,8 @@ module _ (P : List Message → Stop → List Message → Option Message → Sess
   pub record Fails (fault : ReadFault) : Type 0 where
     pub letters : List Message
     pub at : List ℕ
-    pub read : BeginsWith text letters at
-    pub ends : FailsAt fault at
+    pub read : BeginsWith limit text letters at
+    pub ends : FailsAt limit fault at
     pub output : List Message
     pub null : Option Message
     pub answer : SessionAnswer
@@ -70,7 +70,7 @@ module _ (P : List Message → Stop → List Message → Option Message → Sess
   pub record WriteFails : Type 0 where
     pub letters : List Message
     pub at : List ℕ
-    pub read : BeginsWith text letters at
+    pub read : BeginsWith limit text letters at
     pub stop : Stop
     pub output : List Message
     pub null : Option Message
@@ -82,7 +82,7 @@ module _ (P : List Message → Stop → List Message → Option Message → Sess
   pub record RunsOut : Type 0 where
     pub letters : List Message
     pub at : List ℕ
-    pub read : BeginsWith text letters at
+    pub read : BeginsWith limit text letters at
     pub stop : Stop
     pub output : List Message
     pub null : Option Message

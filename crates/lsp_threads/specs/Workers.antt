@@ -15,9 +15,9 @@ use Rattle.lsp_relay.specs.Relay.{ended, Sending}
 use Rattle.lsp_relay.specs.declared.ends.Parcel.{Parcel}
 use Rattle.lsp_relay.specs.declared.ends.Parcel.TheVariants as parcel
 
--- what was sent is what a loop over the messages of the text hands on, and then End
-abbrev pub HandsOn : List ℕ → Sending Message → ReadEnd → List (Parcel Message) → Type 0
-HandsOn text old end sent = (mid : Sending Message) × (left : Option (List ℕ)) × Hands RelaySends text old mid left end × (sent ≡ mid.sent ++ parcel.End ∷ [])
+-- what was sent is what a loop over the messages of the text hands on, whose content parts have at most so many bytes, and then End
+abbrev pub HandsOn : ℕ → List ℕ → Sending Message → ReadEnd → List (Parcel Message) → Type 0
+HandsOn limit text old end sent = (mid : Sending Message) × (left : Option (List ℕ)) × Hands limit RelaySends text old mid left end × (sent ≡ mid.sent ++ parcel.End ∷ [])
 
 -- of these messages, the writer got frames of all, or of the first and then what the failed write of one left
 abbrev pub WritesAll : List plain.Message → WriteEnd → Option (List ℕ) → Option (List ℕ) → Type 0

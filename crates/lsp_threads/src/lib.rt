@@ -7,6 +7,6 @@ mod pumping;
 mod threads;
 mod workers;
 
-pub use pumping::{PumpFault, pump, pump_with};
-pub use threads::{Builders, Threaded, run_threads, run_threads_with};
+pub use pumping::{PumpFault, pump, pump_with, pump_within};
+pub use threads::{Builders, Threaded, run_threads, run_threads_with, run_threads_within};
 pub use workers::StartFault;

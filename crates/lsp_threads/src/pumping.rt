@@ -1,5 +1,6 @@
 //! Messages passed on from a reader, in a thread of its own, to a writer.
 ghost use Rattle.std.specs.Prelude.{◌≡◌, IfSome, Option};
+ghost use Rattle.lsp_message.specs.Frame.{no_limit};
 ghost use Rattle.lsp_threads.specs.Pump.{Pumps, pump_answer};
 ghost use Rattle.lsp_threads.specs.Workers.{write_fault};
 
@@ -29,7 +30,8 @@ pub enum PumpFault {
 }
 
 impl fmt::Display for PumpFault {
-    ghost use Rattle.lsp_threads.specs.Pump.{pump_fault_text};
+    ghost use Rattle.lsp_message.specs.Frame.{no_limit};
+ghost use Rattle.lsp_threads.specs.Pump.{pump_fault_text};
 
     ghost output = { pump_fault_text };
 
@@ -54,29 +56,48 @@ where
     T: Threads + Wait + Copy + Drop + Send + 'static,
     R: BufRead + Drop + Send + 'static,
     W: Write,
-    ensures { IfSome (R.remaining reader) (λ text. Pumps text (W.contents writer.old) (W.contents writer.new) result) }
+    ensures { IfSome (R.remaining reader) (λ text. Pumps no_limit text (W.contents writer.old) (W.contents writer.new) result) }
 {
-    pump_with(rt, Builder::new(), alloc, reader, writer)
+    pump_within(rt, alloc, reader, writer, u64::MAX)
 }
 
-/// `pump` with the thread that reads started by this builder, which sets its stack's size, for one.
+/// `pump` over messages whose content part has at most `limit` bytes. A longer one is `PumpFault::Read` of
+/// `ReadFault::TooLong`, before any room is reserved for it.
+pub fn pump_within<T, R, W>(
+    rt: &T,
+    alloc: Global,
+    reader: R,
+    writer: &mut W,
+    limit: u64,
+) -> Result<(), PumpFault>
+where
+    T: Threads + Wait + Copy + Drop + Send + 'static,
+    R: BufRead + Drop + Send + 'static,
+    W: Write,
+    ensures { IfSome (R.remaining reader) (λ text. Pumps limit text (W.contents writer.old) (W.contents writer.new) result) }
+{
+    pump_with(rt, Builder::new(), alloc, reader, writer, limit)
+}
+
+/// `pump_within` with the thread that reads started by this builder, which sets its stack's size, for one.
 pub fn pump_with<T, R, W>(
     rt: &T,
     builder: Builder,
     alloc: Global,
     reader: R,
     writer: &mut W,
+    limit: u64,
 ) -> Result<(), PumpFault>
 where
     T: Threads + Wait + Copy + Drop + Send + 'static,
     R: BufRead + Drop + Send + 'static,
     W: Write,
-    ensures { IfSome (R.remaining reader) (λ text. Pumps text (W.contents writer.old) (W.contents writer.new) result) }
+    ensures { IfSome (R.remaining reader) (λ text. Pumps limit text (W.contents writer.old) (W.contents writer.new) result) }
 {
     let Ok((tx, rx)) = relay::<Message>(alloc, ROOM) else {
         return Err(PumpFault::Start(StartFault::Memory));
     };
-    let reading = match start_reader::<Message, T, R>(rt, builder, alloc, reader, tx) {
+    let reading = match start_reader::<Message, T, R>(rt, builder, alloc, reader, limit, tx) {
         Ok(reading) => reading,
         Err(fault) => return Err(PumpFault::Start(fault)),
     };

@@ -1,6 +1,7 @@
 //! A session of a server whose reader and writer run in threads of their own.
 ghost use Rattle.serde_json.specs.View.{view};
 ghost use Rattle.std.specs.Prelude.{◌≡◌, [], IfOk, IfSome};
+ghost use Rattle.lsp_message.specs.Frame.{no_limit};
 ghost use Rattle.lsp_session.specs.Session.{SessionOut};
 ghost use Rattle.lsp_threads.specs.Threads.{ThreadsGive, session_end as session_end_spec};
 
@@ -46,13 +47,35 @@ where
     W: Write + Drop + Send + 'static,
     H: Handler,
     ensures { IfSome (R.remaining reader) (λ text. IfOk result (λ done.
-        ThreadsGive (SessionOut H.answers H.notes (view capabilities) handler.old handler.new) text (W.contents writer) (W.contents done.writer) done.answer)) }
+        ThreadsGive no_limit (SessionOut H.answers H.notes (view capabilities) handler.old handler.new) text (W.contents writer) (W.contents done.writer) done.answer)) }
+{
+    run_threads_within(rt, alloc, reader, writer, capabilities, handler, u64::MAX)
+}
+
+/// `run_threads` over messages whose content part has at most `limit` bytes. A longer one is `SessionFault::Read` of
+/// `ReadFault::TooLong`, where the session came to it, before any room is reserved for it.
+pub fn run_threads_within<T, R, W, H>(
+    rt: &T,
+    alloc: Global,
+    reader: R,
+    writer: W,
+    capabilities: Value,
+    handler: &mut H,
+    limit: u64,
+) -> Result<Threaded<W>, StartFault>
+where
+    T: Threads + Wait + Copy + Drop + Send + 'static,
+    R: BufRead + Drop + Send + 'static,
+    W: Write + Drop + Send + 'static,
+    H: Handler,
+    ensures { IfSome (R.remaining reader) (λ text. IfOk result (λ done.
+        ThreadsGive limit (SessionOut H.answers H.notes (view capabilities) handler.old handler.new) text (W.contents writer) (W.contents done.writer) done.answer)) }
 {
     let builders = Builders {
         writer: Builder::new(),
         reader: Builder::new(),
     };
-    run_threads_with(rt, builders, alloc, reader, writer, capabilities, handler)
+    run_threads_with(rt, builders, alloc, reader, writer, capabilities, handler, limit)
 }
 
 /// How the two threads of a session are started.
@@ -64,7 +87,7 @@ pub struct Builders {
     pub reader: Builder,
 }
 
-/// `run_threads` with the threads started by these builders, which set the sizes of their stacks, for one.
+/// `run_threads_within` with the threads started by these builders, which set the sizes of their stacks, for one.
 pub fn run_threads_with<T, R, W, H>(
     rt: &T,
     builders: Builders,
@@ -73,6 +96,7 @@ pub fn run_threads_with<T, R, W, H>(
     writer: W,
     capabilities: Value,
     handler: &mut H,
+    limit: u64,
 ) -> Result<Threaded<W>, StartFault>
 where
     T: Threads + Wait + Copy + Drop + Send + 'static,
@@ -80,9 +104,9 @@ where
     W: Write + Drop + Send + 'static,
     H: Handler,
     ensures { IfSome (R.remaining reader) (λ text. IfOk result (λ done.
-        ThreadsGive (SessionOut H.answers H.notes (view capabilities) handler.old handler.new) text (W.contents writer) (W.contents done.writer) done.answer)) }
+        ThreadsGive limit (SessionOut H.answers H.notes (view capabilities) handler.old handler.new) text (W.contents writer) (W.contents done.writer) done.answer)) }
 {
-    match start_both(rt, builders, alloc, reader, writer) {
+    match start_both(rt, builders, alloc, reader, limit, writer) {
         Ok(workers) => Ok(serve_between(rt, alloc, workers, capabilities, handler)),
         Err(fault) => Err(fault),
     }
@@ -103,6 +127,7 @@ fn start_both<T, R, W>(
     builders: Builders,
     alloc: Global,
     reader: R,
+    limit: u64,
     writer: W,
 ) -> Result<Workers<R, W>, StartFault>
 where
@@ -110,7 +135,7 @@ where
     R: BufRead + Drop + Send + 'static,
     W: Write + Drop + Send + 'static,
     ensures reading { IfOk result (λ workers. (workers.rx.taken ≡ []) × (workers.reading.promise.tx.value.relay ≡ workers.rx.relay)
-        × (workers.reading.promise.tx.value.sent ≡ []) × (workers.reading.promise.reader.value ≡ reader)) }
+        × (workers.reading.promise.tx.value.sent ≡ []) × (workers.reading.promise.reader.value ≡ reader) × (workers.reading.promise.limit ≡ limit)) }
     ensures writing { IfOk result (λ workers. (workers.replies.sent ≡ []) × (workers.writing.promise.rx.value.relay ≡ workers.replies.relay)
         × (workers.writing.promise.writer.value ≡ writer)) }
 {
@@ -130,7 +155,7 @@ where
         Ok(writing) => writing,
         Err(fault) => return Err(fault),
     };
-    match start_reader::<Message, T, R>(rt, builders.reader, alloc, reader, tx) {
+    match start_reader::<Message, T, R>(rt, builders.reader, alloc, reader, limit, tx) {
         Ok(reading) => Ok(Workers {
             rx,
             replies,
@@ -173,7 +198,7 @@ where
     requires reading { (workers.rx.taken ≡ []) × (workers.reading.promise.tx.value.relay ≡ workers.rx.relay) × (workers.reading.promise.tx.value.sent ≡ []) }
     requires writing { (workers.replies.sent ≡ []) × (workers.writing.promise.rx.value.relay ≡ workers.replies.relay) }
     ensures { IfSome (R.remaining workers.reading.promise.reader.value) (λ text.
-        ThreadsGive (SessionOut H.answers H.notes (view capabilities) handler.old handler.new) text
+        ThreadsGive workers.reading.promise.limit (SessionOut H.answers H.notes (view capabilities) handler.old handler.new) text
         (W.contents workers.writing.promise.writer.value) (W.contents result.writer) result.answer) }
 {
     let Workers {

@@ -7,7 +7,7 @@ ghost use Rattle.lsp_relay.specs.declared.ends.Parcel.{Parcel as parcel};
 use crate::boxes::{Dropper, RelayInbox, RelayOutbox};
 use lsp_message::Message;
 use lsp_relay::{Parcel, RelayRx, RelayTx};
-use lsp_session::{ReadEnd, WriteEnd, read_loop, write_loop};
+use lsp_session::{ReadEnd, WriteEnd, read_loop_within, write_loop};
 use std::alloc::Global;
 use std::error::Error;
 use std::fmt;
@@ -49,22 +49,24 @@ pub trait Carried: Drop {
     ghost use Rattle.lsp_session.specs.declared.loops.ReadEnd.{ReadEnd as read_end};
     ghost use Rattle.lsp_session.specs.declared.loops.write.WriteEnd.{WriteEnd as write_end};
 
-    /// The messages of these bytes, which ended so, were sent on this end of a relay, and these parcels were sent then.
-    ghost hands_on: { List ℕ → Sending Self → read_end → List (parcel Self) → Type 0 };
+    /// The messages of these bytes, whose content parts have at most so many, were sent on this end of a relay and ended so, and
+    /// these parcels were sent then.
+    ghost hands_on: { ℕ → List ℕ → Sending Self → read_end → List (parcel Self) → Type 0 };
 
     /// These parcels were taken and written, and the writing ended so.
     ghost writes: { List (parcel Self) → write_end → Option (List ℕ) → Option (List ℕ) → Type 0 };
 
-    /// Sends the messages of a reader, and then End.
+    /// Sends the messages of a reader, whose content parts have at most `limit` bytes, and then End.
     fn read_into<R: Wait + Drop, S: BufRead + Drop>(
         rt: R,
         alloc: Global,
         reader: S,
+        limit: u64,
         tx: RelayTx<Self>,
     ) -> (RelayTx<Self>, ReadEnd)
         requires { tx.sent ≡ [] }
         ensures relay { result.0.relay ≡ tx.relay }
-        ensures sent { IfSome (S.remaining reader) (λ text. hands_on text tx result.1 result.0.sent) };
+        ensures sent { IfSome (S.remaining reader) (λ text. hands_on limit text tx result.1 result.0.sent) };
 
     /// Writes each message up to End. After a fault it writes nothing more.
     fn write_out<R: Wait + Copy + Drop, W: Write + Drop>(
@@ -82,6 +84,7 @@ pub trait Carried: Drop {
 #[derive(Drop)]
 pub struct Reader<S, M: Drop> {
     pub reader: Snapshot<S>,
+    pub limit: u64,
     pub tx: Snapshot<RelayTx<M>>,
 }
 
@@ -89,7 +92,7 @@ impl<S: BufRead, M: Carried> Promise<(RelayTx<M>, ReadEnd)> for Reader<S, M> {
     ghost use Rattle.std.specs.Prelude.{◌≡◌, IfSome};
 
     ghost kept_by = { λ p r. (r.0.relay ≡ p.tx.value.relay)
-        × IfSome (S.remaining p.reader.value) (λ text. M.hands_on text p.tx.value r.1 r.0.sent) };
+        × IfSome (S.remaining p.reader.value) (λ text. M.hands_on p.limit text p.tx.value r.1 r.0.sent) };
 }
 
 /// What the thread that writes gives back: the receiver's end of the relay that it was given, of which all was taken, and
@@ -113,6 +116,7 @@ pub fn start_reader<M, R, S>(
     builder: Builder,
     alloc: Global,
     reader: S,
+    limit: u64,
     tx: RelayTx<M>,
 ) -> Result<PromisedHandle<(RelayTx<M>, ReadEnd), Reader<S, M>>, StartFault>
 where
@@ -120,14 +124,15 @@ where
     R: Threads + Wait + Copy + Drop + Send + 'static,
     S: BufRead + Drop + Send + 'static,
     requires { tx.sent ≡ [] }
-    ensures { IfOk result (λ handle. (handle.promise.reader.value ≡ reader) × (handle.promise.tx.value ≡ tx)) }
+    ensures { IfOk result (λ handle. (handle.promise.reader.value ≡ reader) × (handle.promise.limit ≡ limit) × (handle.promise.tx.value ≡ tx)) }
 {
     let promise = Reader {
         reader: Snapshot::of(&reader),
+        limit,
         tx: Snapshot::of(&tx),
     };
     let theirs = *rt;
-    match builder.spawn_with(rt, promise, move || M::read_into(theirs, alloc, reader, tx)) {
+    match builder.spawn_with(rt, promise, move || M::read_into(theirs, alloc, reader, limit, tx)) {
         Ok(handle) => Ok(handle),
         Err(_) => Err(StartFault::Thread),
     }
@@ -170,15 +175,16 @@ impl Carried for Message {
         rt: R,
         alloc: Global,
         reader: S,
+        limit: u64,
         tx: RelayTx<Message>,
     ) -> (RelayTx<Message>, ReadEnd)
         requires { tx.sent ≡ [] }
         ensures relay { result.0.relay ≡ tx.relay }
-        ensures sent { IfSome (S.remaining reader) (λ text. HandsOn text tx result.1 result.0.sent) }
+        ensures sent { IfSome (S.remaining reader) (λ text. HandsOn limit text tx result.1 result.0.sent) }
     {
         let mut reader = reader;
         let mut outbox = RelayOutbox::new(rt, tx);
-        let end = read_loop(alloc, &mut reader, &mut outbox);
+        let end = read_loop_within(alloc, &mut reader, &mut outbox, limit);
         (outbox.finish(), end)
     }
 

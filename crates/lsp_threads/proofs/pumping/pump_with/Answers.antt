@@ -16,7 +16,7 @@ pub returns : goal.returns
 returns g c =
     let started = c.in-Ok-start_reader.ensures in
     let promise = c.in-Ok-start_reader.reading.promise in
-    let handed = subst (λ r. IfSome (g.R.Read.remaining r) (λ text. HandsOn text promise.tx.value c.join-tx.result.1 c.join-tx.result.0.sent)) started.0 c.join-tx.ensures.1 in
+    let handed = subst (λ r. IfSome (g.R.Read.remaining r) (λ text. HandsOn c.args.limit text promise.tx.value c.join-tx.result.1 c.join-tx.result.0.sent)) started.0 (subst (λ l. IfSome (g.R.Read.remaining promise.reader.value) (λ text. HandsOn l text promise.tx.value c.join-tx.result.1 c.join-tx.result.0.sent)) started.1 c.join-tx.ensures.1) in
     rw (c.answer_of.ensures ∙ ap (pump_answer c.join-tx.result.1) c.fault_of.ensures)
-    (pumped_over _ _ _ promise.tx.value c.join-tx.result.0.sent c.write_from-rx.result.0.taken c.join-tx.result.1 c.write_from-rx.result.1
-    (ap (λ (s : Sending Message). s.sent) started.1 ∙ c.in-Ok.ensures.empty.0) handed c.write_from-rx.ensures.written c.settle_all.ensures)
+    (pumped_over c.args.limit _ _ _ promise.tx.value c.join-tx.result.0.sent c.write_from-rx.result.0.taken c.join-tx.result.1 c.write_from-rx.result.1
+    (ap (λ (s : Sending Message). s.sent) started.2 ∙ c.in-Ok.ensures.empty.0) handed c.write_from-rx.ensures.written c.settle_all.ensures)

@@ -29,7 +29,7 @@ returns g c =
     let notes = g.H.Handler.notes in
     let ended = c.session_end.ensures ∙ (λ i. session_end (c.is_closed-closed.ensures i) (c.gave_exit-exited.ensures i) c.join-tx.result.1) in
     let answer = c.session_answer-answer.ensures ∙ (λ i. session_answer c.serve-answer.result (ended i) (c.fault_of.ensures i)) in
-    rw answer (threads_give (SessionOut answers notes (view c.args.capabilities) c.args.handler.now c.serve-answer.new.handler)
+    rw answer (threads_give c.args.workers.reading.promise.limit (SessionOut answers notes (view c.args.capabilities) c.args.handler.now c.serve-answer.new.handler)
     (session_facts answers notes c.args.handler.now c.serve-answer.new.handler (view c.args.capabilities))
     _ _ c.new-inbox.result c.serve-answer.new.inbox c.new-outbox.result c.serve-answer.new.outbox c.serve-answer.result c.serve-answer.ensures
     (ap (λ (t : Receiving Message). t.taken) c.new-inbox.ensures ∙ c.requires.reading.0) (ap (λ (t : Receiving Message). t.exited) c.new-inbox.ensures)
