@@ -19,4 +19,4 @@ pub use lsp_session::{
     StreamInbox, WriteEnd, finish, finish_within, pump, read_loop, serve, session, shutdown,
     start_within, wait_within, write_loop,
 };
-pub use stdio::{IoFault, IoThreads};
+pub use stdio::{CHANNEL_ROOM, IoFault, IoThreads};
