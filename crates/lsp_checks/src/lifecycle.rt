@@ -530,12 +530,13 @@ impl Outbox for CountingOutbox<'_> {
     }
 }
 
-// Gives the notification once something was sent, and is closed before.
+// Gives the notification once something was sent, and is closed before. It keeps for how long it was last asked to wait.
 #[derive(Drop)]
 struct LaterInbox<'a> {
     alloc: Global,
     sent: &'a Cell<u32>,
     method: &'static str,
+    seconds: u64,
 }
 
 impl LaterInbox<'_> {
@@ -557,7 +558,8 @@ impl Inbox for LaterInbox<'_> {
 
     ghost receives = { λ _ _ _. ⊤ };
 
-    fn receive_for(&mut self, _seconds: u64) -> Event {
+    fn receive_for(&mut self, seconds: u64) -> Event {
+        self.seconds = seconds;
         self.next()
     }
 
@@ -574,18 +576,21 @@ fn replies_go_out_before_the_wait(rt: HostRuntime) -> Result<(), Fail> {
         alloc,
         sent: &sent,
         method: "initialized",
+        seconds: 0,
     };
     let mut outbox = CountingOutbox { sent: &sent };
     assert_eq!(rt;
         finishes_at_once(alloc, &mut inbox, &mut outbox),
         Some(true)
     );
+    assert_eq!(rt; inbox.seconds, 1);
     sent.set(0);
     assert!(rt; finishes(alloc, &mut inbox, &mut outbox));
     sent.set(0);
     inbox.method = "exit";
     let answer = shuts(alloc, &mut inbox, &mut outbox, "shutdown")?;
     assert_eq!(rt; answer, Some(true));
+    assert_eq!(rt; inbox.seconds, 30);
     Ok(())
 }
 

@@ -1,6 +1,6 @@
 // Connections over TCP. Both ends are in this process, on 127.0.0.1, and a message is awaited only so long.
 use lsp_server::{
-    Connection, Handler, IoFault, IoThreads, Message, Notification, Request, Response, SessionEnd,
+    CHANNEL_ROOM, Connection, Handler, IoFault, IoThreads, Message, Notification, Request, Response, SessionEnd,
 };
 use serde_json::{Map, Value};
 use std::alloc::{AllocError, Global};
@@ -68,6 +68,8 @@ fn holds<R: Wait + Clock + AllocGlobal>(rt: &R, client: &Connection, acts: &[Act
 fn a_client_connects(rt: HostRuntime) -> Result<(), Fail> {
     let (address, server) = peer_thread(&rt, Part::Serves(SessionEnd::ShutDown))?;
     let (client, threads) = Connection::connect(&rt, address)?;
+    assert_eq!(rt; client.sender.capacity(), Some(CHANNEL_ROOM));
+    assert_eq!(rt; client.receiver.capacity(), Some(CHANNEL_ROOM));
     assert!(rt; holds(&rt, &client, &WHOLE_SESSION));
     drop(client);
     assert!(rt; threads.join(&rt).is_ok());

@@ -7,6 +7,7 @@ mod KnownLines
 mod Members
 mod Numerals
 mod Places
+mod Plain
 mod Printed
 mod ReadBack
 mod Readings

@@ -23,4 +23,4 @@ pub use lsp_session::{
 pub use lsp_threads::{
     PumpFault, StartFault, Threaded, pump, pump_within, run_threads, run_threads_within,
 };
-pub use stdio::{IoFault, IoThreads};
+pub use stdio::{CHANNEL_ROOM, IoFault, IoThreads};

@@ -3,10 +3,11 @@ ghost use Rattle.std.specs.Prelude.{◌≡◌, true, IfErr, IfSome, IsSome};
 ghost use Rattle.lsp_server.specs.IoFault.{is_start_fault, reader_answer, writer_answer, ended_answer};
 
 use crate::channels::{ChannelInbox, ChannelOutbox, Connection};
-use lsp_session::{ReadEnd, WriteEnd, read_loop, write_loop};
+use lsp_session::{Outbox, ReadEnd, SendFault, WriteEnd, read_loop, write_loop};
 use crossbeam_channel::{Receiver, Sender, bounded};
 use lsp_message::{Message, ReadFault, WriteFault};
 use std::alloc::{AllocError, Global};
+use std::cell::Cell;
 use std::error::Error;
 use std::io::{BufRead, BufReader, ErrorKind, Read, Write};
 use std::sync::Wait;
@@ -16,6 +17,16 @@ use std::{fmt, io, thread};
 
 /// How many bytes a reader is asked for at once: as many as a pipe holds.
 const READ_AHEAD: usize = 65536;
+
+/// How many messages wait in each of the two channels of a connection at most. A thread that has more to take before it
+/// sleeps is woken less often; a peer that reads nothing has so many kept in memory.
+pub const CHANNEL_ROOM: usize = 16;
+
+/// How many large messages wait to be dropped.
+const DROP_ROOM: usize = 1;
+
+/// The longest frame in bytes whose message the thread that writes drops itself: to hand it over takes longer.
+const SMALL_FRAME: usize = 8192;
 
 /// Why a connection was not made, or why its threads did not end as they should.
 #[derive(Clone, Copy, Debug, PartialEq, Eq)]
@@ -238,9 +249,9 @@ where
     W: Write + Drop + Send + 'static,
     ensures { IfErr result (λ fault. is_start_fault fault ≡ true) }
 {
-    let (incoming, receiver) = bounded(alloc, 1)?;
-    let (sender, outgoing) = bounded(alloc, 1)?;
-    let (to_drop, spent) = bounded(alloc, 1)?;
+    let (incoming, receiver) = bounded(alloc, CHANNEL_ROOM)?;
+    let (sender, outgoing) = bounded(alloc, CHANNEL_ROOM)?;
+    let (to_drop, spent) = bounded(alloc, DROP_ROOM)?;
     let theirs = *rt;
     let Ok(writer) = thread::spawn(rt, move || {
         M::write_all(theirs, alloc, outgoing, writer, to_drop)
@@ -262,7 +273,7 @@ where
     Ok(((sender, receiver), threads))
 }
 
-/// The thread that drops what was written, so that a large message keeps no other waiting.
+/// The thread that drops large messages that were written, so that they keep no other waiting.
 fn drop_all<R: Wait + Drop, M: Drop>(rt: R, spent: Receiver<M>) {
     for message in spent.iter(&rt) {
         drop(message);
@@ -306,7 +317,7 @@ fn reader_end(end: ReadEnd) -> Result<(), IoFault>
     }
 }
 
-/// Writes what one channel gives, and sends it on to the other.
+/// Writes what one channel gives, and sends what is large on to the other.
 fn write_between<'a, R: Wait + Clock, W: Write>(
     rt: &'a R,
     alloc: Global,
@@ -318,11 +329,60 @@ fn write_between<'a, R: Wait + Clock, W: Write>(
         rt,
         receiver: outgoing,
     };
-    let mut spent = ChannelOutbox {
+    let written = Cell::new(0);
+    let mut counted = CountedWriter {
+        writer,
+        written: &written,
+    };
+    let large = ChannelOutbox {
         rt,
         sender: to_drop,
     };
-    write_loop(alloc, &mut inbox, writer, &mut spent)
+    let mut spent = SpentOutbox {
+        large,
+        written: &written,
+    };
+    write_loop(alloc, &mut inbox, &mut counted, &mut spent)
+}
+
+/// Counts the bytes that its writer takes.
+#[derive(Drop)]
+struct CountedWriter<'a, W> {
+    writer: &'a mut W,
+    written: &'a Cell<usize>,
+}
+
+impl<'a, W: Write> Write for CountedWriter<'a, W> {
+    fn write(&mut self, buf: &[u8]) -> io::Result<usize> {
+        let count = self.writer.write(buf)?;
+        self.written.set(self.written.get().saturating_add(count));
+        Ok(count)
+    }
+
+    fn flush(&mut self) -> io::Result<()> {
+        self.writer.flush()
+    }
+}
+
+/// Takes what was written: it drops a small message, and sends on a large one.
+#[derive(Drop)]
+struct SpentOutbox<'a, R> {
+    large: ChannelOutbox<'a, R>,
+    /// How many bytes were written since the message before.
+    written: &'a Cell<usize>,
+}
+
+impl<'a, R: Wait> Outbox for SpentOutbox<'a, R> {
+    ghost use Rattle.std.specs.Prelude.{⊤};
+
+    ghost sends = { λ _ _ _ _. ⊤ };
+
+    fn send(&mut self, message: Message) -> Result<(), SendFault> {
+        if self.written.replace(0) <= SMALL_FRAME {
+            return Ok(());
+        }
+        self.large.send(message)
+    }
 }
 
 /// What the thread that writes answers.

@@ -9,19 +9,19 @@ use std::fmt::Write as _;
 use std::io::{ErrorKind, Write};
 
 /// Room for the header part of a frame: the name, at most 20 digits and the ends of two lines.
-const HEADER_ROOM: usize = 40;
+pub(crate) const HEADER_ROOM: usize = 40;
 
 /// Writes the frame of a body, and flushes once.
 pub(crate) fn write_body<W: Write>(
     alloc: Global,
     writer: &mut W,
-    body: &str,
+    body: String,
 ) -> Result<(), WriteFault>
-    ensures ok { OnOk result (Appends (W.contents writer.old) (W.contents writer.new) (frame_text body.now)) }
-    ensures begun { AppendsBeginning (W.contents writer.old) (W.contents writer.new) (frame_text body.now) }
+    ensures ok { OnOk result (Appends (W.contents writer.old) (W.contents writer.new) (frame_text (string_bytes body))) }
+    ensures begun { AppendsBeginning (W.contents writer.old) (W.contents writer.new) (frame_text (string_bytes body)) }
     ensures memory { result ≡ Err WriteFault.Memory → writer.new ≡ writer.old }
 {
-    let frame = compose(alloc, body)?;
+    let frame = with_header(alloc, body)?;
     write_bytes(writer, frame.as_bytes())?;
     match writer.flush() {
         Ok(()) => Ok(()),
@@ -29,12 +29,15 @@ pub(crate) fn write_body<W: Write>(
     }
 }
 
-fn compose(alloc: Global, body: &str) -> Result<String, AllocError>
-    ensures { IfOk result (λ frame. string_bytes frame ≡ frame_text body.now) }
+/// Puts the header part before the body, in the body's own room.
+fn with_header(alloc: Global, body: String) -> Result<String, AllocError>
+    ensures { IfOk result (λ frame. string_bytes frame ≡ frame_text (string_bytes body)) }
 {
-    let length = body.len();
-    let mut frame = String::with_capacity(alloc, length.saturating_add(HEADER_ROOM))?;
-    write!(frame, "Content-Length: {length}\r\n\r\n{body}").map_err(|_| AllocError)?;
+    let mut frame = body;
+    let length = frame.len();
+    let mut header = String::with_capacity(alloc, HEADER_ROOM)?;
+    write!(header, "Content-Length: {length}\r\n\r\n").map_err(|_| AllocError)?;
+    frame.insert_str(0, header.as_str())?;
     Ok(frame)
 }
 

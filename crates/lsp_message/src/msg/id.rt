@@ -1,5 +1,6 @@
 ghost use Rattle.std.specs.Prelude.{◌≡◌, Some, IfOk, string_bytes};
 
+use crate::msg::text::{push_decimal, push_quoted};
 use serde_json::Value;
 use std::alloc::{AllocError, Global};
 use std::cmp::Ordering;
@@ -164,7 +165,9 @@ impl Clone for RequestId {
 }
 
 impl RequestId {
+    ghost use Rattle.std.specs.Prelude.{◌++◌, OnOk};
     ghost use Rattle.serde_json.specs.View.{view};
+    ghost use Rattle.serde_json.specs.Written.{compact_text};
     ghost use Rattle.lsp_message.specs.Meaning.{as_id};
     ghost use Rattle.lsp_message.specs.Ranges.{IsIdInRange};
     ghost use Rattle.lsp_message.specs.Tree.{id_tree};
@@ -178,6 +181,17 @@ impl RequestId {
         match &self.0 {
             IdRepr::Number(number) => Ok(Value::from(*number)),
             IdRepr::Text(text) => Value::try_from_str(alloc, text.as_str()),
+        }
+    }
+    // Adds the text of the member `id`.
+    pub(crate) fn push_text(&self, out: &mut String, alloc: Global) -> Result<(), AllocError>
+        ensures text { OnOk result (string_bytes out.new
+            ≡ string_bytes out.old ++ compact_text (id_tree self.now)) }
+        ensures range { OnOk result (IsIdInRange self.now) }
+    {
+        match &self.0 {
+            IdRepr::Number(number) => push_decimal(out, *number),
+            IdRepr::Text(text) => push_quoted(out, alloc, text.as_str()),
         }
     }
 }

@@ -77,7 +77,7 @@ impl Message {
             WritesReadably (message_view self.now) (W.contents writer.old) (W.contents writer.new)) }
     {
         let body = self.body_text(alloc)?;
-        write_body(alloc, writer, body.as_str())
+        write_body(alloc, writer, body)
     }
 }
 

@@ -1,5 +1,6 @@
 // From a message to text, in the order in which JSON-RPC 2.0 shows the members.
 ghost use Rattle.std.specs.Prelude.{◌≡◌, ◌≤◌, ◌++◌, ℕ, List, true, Some, Ok, IfOk, OnOk, option_map, string_bytes, codes};
+ghost use Rattle.std.specs.List.{list_all};
 ghost use Rattle.serde_json.specs.Data.{string, number as json_number};
 ghost use Rattle.serde_json.specs.Find.{of_integer};
 ghost use Rattle.serde_json.specs.Read.{max_depth};
@@ -10,12 +11,13 @@ ghost use Rattle.lsp_message.specs.Meaning.{is_i32, unless_null};
 ghost use Rattle.lsp_message.specs.Message.{response};
 ghost use Rattle.lsp_message.specs.Ranges.{IsIdInRange, IsInRange, nesting};
 ghost use Rattle.lsp_message.specs.Tree.{id_tree, without_null_details};
-ghost use Rattle.lsp_message.specs.Text.{IsValueText, named, Adds, IsLaterMember, IsErrorText, IsTextFrom, IsMemberText, IsBodyOf};
+ghost use Rattle.lsp_message.specs.Text.{is_plain_byte, IsValueText, named, Adds, IsLaterMember, IsErrorText, IsTextFrom, IsMemberText, IsBodyOf};
 ghost use Rattle.lsp_message.specs.View.{error_view, request_view, notification_view, response_view, message_view};
 
 use crate::msg::{Message, Notification, Request, RequestId, Response, ResponseError};
 use serde_json::Value;
 use std::alloc::{AllocError, Global};
+use std::fmt::Write as _;
 
 // Room for the text of a message with few params, which then grows in no step.
 const USUAL_LENGTH: usize = 256;
@@ -26,26 +28,46 @@ fn value_text(alloc: Global, value: &Value) -> Result<String, AllocError>
     value.to_string(alloc)
 }
 
-// A text in quotes, with JSON's escapes.
-fn quoted(alloc: Global, text: &str) -> Result<String, AllocError>
-    ensures { IfOk result (λ s. string_bytes s ≡ compact_text (string text.now)) }
+// Whether a text stands in JSON as it is (RFC 8259, section 7).
+fn is_plain(text: &str) -> bool
+    ensures { result ≡ list_all is_plain_byte text.now }
 {
-    Value::try_from_str(alloc, text)?.to_string(alloc)
+    text.as_bytes()
+        .iter()
+        .all(|&byte| byte >= b' ' && byte != b'"' && byte != b'\\')
 }
 
-fn id_text(alloc: Global, id: &RequestId) -> Result<String, AllocError>
-    ensures text { IfOk result (λ s. string_bytes s ≡ compact_text (id_tree id.now)) }
-    ensures range { OnOk result (IsIdInRange id.now) }
+// Adds a text in quotes, with JSON's escapes. Where there are none, it is copied once.
+pub(super) fn push_quoted(out: &mut String, alloc: Global, text: &str) -> Result<(), AllocError>
+    ensures { OnOk result (string_bytes out.new ≡ string_bytes out.old ++ compact_text (string text.now)) }
 {
-    id.to_value(alloc)?.to_string(alloc)
+    if is_plain(text) {
+        out.push_str("\"")?;
+        out.push_str(text)?;
+        return out.push_str("\"");
+    }
+    let quoted = Value::try_from_str(alloc, text)?.to_string(alloc)?;
+    out.push_str(quoted.as_str())
 }
 
-fn number_text(alloc: Global, number: i32) -> Result<String, AllocError>
-    ensures text { IfOk result (λ s. string_bytes s ≡ compact_text (json_number (of_integer number))) }
+// Adds a whole number.
+pub(super) fn push_decimal(out: &mut String, number: i32) -> Result<(), AllocError>
+    ensures text { OnOk result (string_bytes out.new
+        ≡ string_bytes out.old ++ compact_text (json_number (of_integer number))) }
     ensures range { is_i32 number ≡ true }
 {
-    let value = Value::from(number);
-    value.to_string(alloc)
+    write!(out, "{number}").map_err(|_| AllocError)
+}
+
+// Adds the name of a member, which needs no escape.
+fn push_name(out: &mut String, before: &str, name: &str) -> Result<(), AllocError>
+    ensures { OnOk result (string_bytes out.new
+        ≡ string_bytes out.old ++ (before.now ++ codes "\"" ++ name.now ++ codes "\":")) }
+{
+    out.push_str(before)?;
+    out.push_str("\"")?;
+    out.push_str(name)?;
+    out.push_str("\":")
 }
 
 // Adds a member.
@@ -53,16 +75,12 @@ fn push_named(out: &mut String, before: &str, name: &str, value: &str) -> Result
     ensures { OnOk result (string_bytes out.new
         ≡ string_bytes out.old ++ named before.now name.now value.now) }
 {
-    out.push_str(before)?;
-    out.push_str("\"")?;
-    out.push_str(name)?;
-    out.push_str("\":")?;
+    push_name(out, before, name)?;
     out.push_str(value)
 }
 
 fn push_number(
     out: &mut String,
-    alloc: Global,
     before: &str,
     name: &str,
     number: i32,
@@ -71,8 +89,8 @@ fn push_number(
         ++ named before.now name.now (compact_text (json_number (of_integer number)))) }
     ensures range { OnOk result (is_i32 number ≡ true) }
 {
-    let text = number_text(alloc, number)?;
-    push_named(out, before, name, text.as_str())
+    push_name(out, before, name)?;
+    push_decimal(out, number)
 }
 
 fn push_text(
@@ -85,8 +103,8 @@ fn push_text(
     ensures { OnOk result (string_bytes out.new ≡ string_bytes out.old
         ++ named before.now name.now (compact_text (string value.now))) }
 {
-    let text = quoted(alloc, value)?;
-    push_named(out, before, name, text.as_str())
+    push_name(out, before, name)?;
+    push_quoted(out, alloc, value)
 }
 
 fn push_id(out: &mut String, alloc: Global, before: &str, id: &RequestId) -> Result<(), AllocError>
@@ -94,8 +112,8 @@ fn push_id(out: &mut String, alloc: Global, before: &str, id: &RequestId) -> Res
         ++ named before.now (codes "id") (compact_text (id_tree id.now))) }
     ensures range { OnOk result (IsIdInRange id.now) }
 {
-    let text = id_text(alloc, id)?;
-    push_named(out, before, "id", text.as_str())
+    push_name(out, before, "id")?;
+    id.push_text(out, alloc)
 }
 
 // Adds a member after others, where there is a value.
@@ -131,7 +149,7 @@ fn push_error(out: &mut String, alloc: Global, error: &ResponseError) -> Result<
         (string_bytes out.old) (string_bytes out.new)) }
     ensures range { OnOk result (is_i32 error.now.code ≡ true) }
 {
-    push_number(out, alloc, "{", "code", error.code)?;
+    push_number(out, "{", "code", error.code)?;
     push_text(out, alloc, ",", "message", error.message.as_str())?;
     push_later_member(out, alloc, "data", error.data.as_ref())?;
     out.push_str("}")?;
