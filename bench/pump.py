@@ -20,7 +20,7 @@ from streams import write_streams
 
 HERE = Path(__file__).resolve().parent
 PUMP = HERE.parent / "crates" / "lsp_demo" / "out" / "lsp_demo"
-BASELINE = HERE.parent / "crates" / "json_alone" / "out" / "json_alone"
+BASELINE = HERE.parent / "crates" / "bench_json" / "out" / "bench_json"
 COMPARED_MESSAGES = 20_000
 MEGABYTE = 1_000_000
 

@@ -17,7 +17,7 @@ from compare import BadFrame, frames
 from pump import MEGABYTE, PUMP, Failure, Program, best_timings, machine, run_to_file
 from streams import SOURCE_LINES, compact
 
-SESSION = PUMP.parents[2] / "session_echo" / "out" / "session_echo"
+SESSION = PUMP.parents[2] / "bench_session" / "out" / "bench_session"
 BEFORE = [b'{"jsonrpc":"2.0","id":"start","method":"initialize"}', b'{"jsonrpc":"2.0","method":"initialized"}']
 AFTER = [b'{"jsonrpc":"2.0","id":"end","method":"shutdown"}', b'{"jsonrpc":"2.0","method":"exit"}']
 

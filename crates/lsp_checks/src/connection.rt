@@ -108,13 +108,7 @@ fn exit_ends_the_handshake(rt: HostRuntime) -> Result<(), Fail> {
     let Err(error) = server.initialize_start(&rt) else {
         return Err(Fail::from("no error"));
     };
-    is_error(
-        &rt,
-        alloc,
-        &error,
-        EXPECTED_INITIALIZE,
-        false,
-    )?;
+    is_error(&rt, alloc, &error, EXPECTED_INITIALIZE, false)?;
     assert!(rt; client.receiver.is_empty());
     Ok(())
 }

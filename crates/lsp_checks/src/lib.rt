@@ -1,11 +1,10 @@
-//! Tests of the public surface of `lsp_server` that the program `lsp_demo` has no part in: how much of a message has come,
-//! the queues, the handshake and end of a session, whole sessions, the loop that writes, and connections in memory and over TCP; and the
-//! examples of the README. They stand in a crate of their own, beside the other tests.
+//! Tests of the public surface of `lsp_server`: ids and messages, reading and writing over devices that fail, the loops, the
+//! queues, the handshake and the end of a session, whole sessions, and connections in memory and over TCP. What the bytes
+//! mean is in the stored run of `message_rows`.
 #![tactic(auto)]
 
 #[cfg(test)]
 mod connection;
-pub mod example;
 #[cfg(test)]
 mod ids;
 #[cfg(test)]
@@ -14,12 +13,10 @@ mod lifecycle;
 mod loops;
 #[cfg(test)]
 mod messages;
-pub mod question;
 #[cfg(test)]
 mod queues;
 #[cfg(test)]
 mod reading;
-pub mod server;
 #[cfg(test)]
 mod session;
 #[cfg(test)]

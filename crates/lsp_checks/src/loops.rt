@@ -236,7 +236,11 @@ fn nothing_follows_a_failed_write(rt: HostRuntime) -> Result<(), Fail> {
     for room in 0..EXIT_LENGTH {
         let mut writer = LimitedWriter::new(rt.alloc(), room, AtLimit::FailsOnce(kind));
         takes_none(&rt, rt.alloc(), &mut writer, kind)?;
-        assert_eq!(rt; Some(writer.taken.as_slice()), EXIT.as_bytes().get(..room), "{room}");
+        assert_eq!(rt;
+            Some(writer.taken.as_slice()),
+            EXIT.as_bytes().get(..room),
+            "{room}"
+        );
         assert_eq!(rt; writer.flushes, 0, "{room}");
     }
     Ok(())

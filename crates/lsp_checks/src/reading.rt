@@ -58,8 +58,7 @@ fn a_failing_reader(rt: HostRuntime) -> Result<(), Fail> {
             for before in 0..=bytes.len() {
                 let mut reader = StepReader::failing(bytes, step, before, kind);
                 let fault = ReadFault::Input(kind);
-                let is_read =
-                    reads_up_to(rt.alloc(), &mut reader, before / EXIT_LENGTH, fault)?;
+                let is_read = reads_up_to(rt.alloc(), &mut reader, before / EXIT_LENGTH, fault)?;
                 assert!(rt; is_read, "{before}");
                 assert!(rt; bytes.ends_with(reader.left), "{before}");
                 assert!(rt;

@@ -146,7 +146,11 @@ fn fails_after(
     writer.step = step;
     let answer = write_exit(alloc, &mut writer)?;
     assert_eq!(rt; answer, Err(WriteFault::Output(kind)), "{room}");
-    assert_eq!(rt; Some(writer.taken.as_slice()), EXIT.as_bytes().get(..room), "{room}");
+    assert_eq!(rt;
+        Some(writer.taken.as_slice()),
+        EXIT.as_bytes().get(..room),
+        "{room}"
+    );
     assert_eq!(rt; writer.flushes, 0, "{room}");
     Ok(())
 }

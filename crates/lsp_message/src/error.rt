@@ -1,5 +1,6 @@
 //! Why a message was not extracted.
 use crate::msg::{Notification, Request};
+use std::error::Error;
 use std::fmt;
 
 /// Why a message was not extracted.
@@ -51,3 +52,7 @@ impl fmt::Display for ExtractError<Notification> {
         }
     }
 }
+
+impl Error for ExtractError<Request> {}
+
+impl Error for ExtractError<Notification> {}

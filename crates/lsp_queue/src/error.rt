@@ -1,4 +1,5 @@
 //! Why a registration was refused.
+use std::error::Error;
 use std::fmt;
 
 /// Why a request was not registered. It hands the data back, and the queue is unchanged.
@@ -37,3 +38,5 @@ impl<T> fmt::Display for RegisterFault<T> {
         write!(f, "register fault {}", self.number())
     }
 }
+
+impl<T: fmt::Debug> Error for RegisterFault<T> {}

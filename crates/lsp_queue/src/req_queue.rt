@@ -19,7 +19,7 @@ use std::collections::BTreeMap;
 use std::marker::Model;
 
 /// The requests that have no reply yet: those of the other side and those of this one.
-#[derive(Drop)]
+#[derive(Debug, Drop)]
 pub struct ReqQueue<I, O> {
     /// The other side's requests, which this side has to answer.
     pub incoming: Incoming<I>,
@@ -48,7 +48,7 @@ impl<I, O> ReqQueue<I, O> {
 }
 
 /// The other side's requests that have no reply yet, each under its id with some data.
-#[derive(Drop)]
+#[derive(Debug, Drop)]
 pub struct Incoming<I> {
     alloc: Global,
     pending: BTreeMap<RequestId, I>,
@@ -145,7 +145,7 @@ impl<I: Drop> Incoming<I> {
 const ALL_IDS: u32 = 2147483648;
 
 /// This side's requests that have no reply yet, each under its id with some data, and the next id.
-#[derive(Drop)]
+#[derive(Debug, Drop)]
 pub struct Outgoing<O> {
     alloc: Global,
     next: u32,

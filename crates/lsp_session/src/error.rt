@@ -4,6 +4,7 @@ ghost use Rattle.lsp_session.specs.ProtocolError.{disconnected, expected_initial
 
 use lsp_message::Message;
 use std::alloc::{AllocError, Global};
+use std::error::Error;
 use std::fmt;
 use std::marker::Model;
 
@@ -185,6 +186,8 @@ impl fmt::Display for ProtocolError {
         write!(f, "{fixed}{open}")
     }
 }
+
+impl Error for ProtocolError {}
 
 impl PartialEq for ProtocolError {
     ghost use Rattle.std.specs.Cmp.{partial_equiv_from_equiv};

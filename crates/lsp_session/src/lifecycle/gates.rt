@@ -16,7 +16,7 @@ impl Gate for OpenGate {
 }
 
 /// Says what a closure answers, of which nothing is known.
-#[derive(Drop)]
+#[derive(Debug, Drop)]
 pub struct CallGate<C: Fn() -> bool> {
     /// Whether to go on.
     pub running: C,

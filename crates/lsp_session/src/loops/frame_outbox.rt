@@ -6,7 +6,7 @@ use std::io::Write;
 
 /// Writes each message to a writer as a frame (LSP 3.17, "Base Protocol"). After a fault, which it keeps, it is closed
 /// and writes nothing more.
-#[derive(Drop)]
+#[derive(Debug, Drop)]
 pub struct FrameOutbox<'a, W> {
     alloc: Global,
     writer: &'a mut W,

@@ -12,7 +12,7 @@ use std::io::BufRead;
 
 /// Gives a reader's messages (LSP 3.17, "Base Protocol"). It is closed after an `exit`, at the end of the input and after
 /// a fault, keeps which of them it was, and reads nothing more. It has no timeouts: a receive waits as the reader does.
-#[derive(Drop)]
+#[derive(Debug, Drop)]
 pub struct StreamInbox<'a, R> {
     alloc: Global,
     reader: &'a mut R,

@@ -1,4 +1,4 @@
-//! The example of the README, so that it is compiled, proved and run.
+//! A loop over messages, with no session.
 use lsp_server::{Message, Response};
 use serde_json::Value;
 use std::alloc::Global;

@@ -1,4 +1,4 @@
-//! A small server, the README's example of `session`. It knows how many documents its client has open.
+//! A small server by `session`. It knows how many documents its client has open.
 use lsp_server::{ErrorCode, Handler, Notification, Request, ResponseError, SessionEnd, session};
 use serde_json::{Value, json};
 use std::alloc::{AllocError, Global};

@@ -1,4 +1,4 @@
-//! A small test client over TCP, an example of the README: it holds a session with one question in it.
+//! A small test client over TCP: it holds a session with one question in it.
 use anyhow::{Result, bail};
 use lsp_server::{Connection, Message, Notification, ReqQueue, ResponseError};
 use serde_json::{Value, json};
