@@ -3,7 +3,7 @@ use Rattle.std.specs.Prelude.{◌≡◌, ℕ, List, [], ◌∷◌, Bool, true, f
 use Rattle.std.specs.Str.{bytes_eq}
 use Rattle.std.specs.declared.alloc.Global.{Global}
 use Rattle.lsp_server.specs.Pump.{Pumps}
-use Rattle.lsp_session.specs.declared.relay.PumpFault.{PumpFault}
+use Rattle.lsp_threads.specs.declared.pumping.PumpFault.{PumpFault}
 
 -- the one word `pump`
 abbrev pub asks_pump : List (String Global) → Bool

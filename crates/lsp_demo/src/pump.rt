@@ -6,13 +6,15 @@ use crate::report::{report, report_usage};
 use lsp_server::pump;
 use std::alloc::Global;
 use std::io::{BufRead, Write};
+use std::sync::Wait;
+use std::thread::Threads;
 
 /// Runs the program on its words, and gives the exit status.
 ///
 /// `pump` alone writes each message of the reader again, as a frame. The status is 0 where all were passed on, and 1 after
 /// a fault, whose text goes to `errors`. Other words, and none, are answered by how the program is called, and status 1.
 /// A fault of `errors` is ignored. `main` comes here with all words that do not ask for the server.
-pub fn pump_words<T, R: BufRead + Drop, W: Write, E: Write>(
+pub fn pump_words<T, R, W, E>(
     rt: &T,
     alloc: Global,
     words: &[String],
@@ -20,6 +22,11 @@ pub fn pump_words<T, R: BufRead + Drop, W: Write, E: Write>(
     writer: &mut W,
     errors: &mut E,
 ) -> u8
+where
+    T: Threads + Wait + Copy + Drop + Send + 'static,
+    R: BufRead + Drop + Send + 'static,
+    W: Write,
+    E: Write,
     ensures pumped { asks_pump words.now ≡ true → IfSome (R.remaining reader)
         (λ text. PumpsTo text (W.contents writer.old) (W.contents writer.new) result) }
     ensures status { result ≤ 1 }

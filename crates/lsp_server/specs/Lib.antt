@@ -25,6 +25,7 @@ pub use Rattle.lsp_message.specs.Written
 pub use Rattle.lsp_queue.specs.Queue
 pub use Rattle.lsp_queue.specs.QueueRun
 pub use Rattle.lsp_queue.specs.Registering
+pub use Rattle.lsp_relay.specs.Relay
 pub use Rattle.lsp_session.specs.Answered
 pub use Rattle.lsp_session.specs.Boxes
 pub use Rattle.lsp_session.specs.Event
@@ -33,7 +34,6 @@ pub use Rattle.lsp_session.specs.FrameBoxes
 pub use Rattle.lsp_session.specs.Lists
 pub use Rattle.lsp_session.specs.ProtocolError
 pub use Rattle.lsp_session.specs.ProtocolErrorLaws
-pub use Rattle.lsp_session.specs.Pump
 pub use Rattle.lsp_session.specs.ReadLoop
 pub use Rattle.lsp_session.specs.Replies
 pub use Rattle.lsp_session.specs.Session
@@ -47,4 +47,6 @@ pub use Rattle.lsp_session.specs.StreamBoxes
 pub use Rattle.lsp_session.specs.Streams
 pub use Rattle.lsp_session.specs.Turns
 pub use Rattle.lsp_session.specs.WriteLoop
+pub use Rattle.lsp_threads.specs.Pump
+pub use Rattle.lsp_threads.specs.Threads
 pub mod IoFault

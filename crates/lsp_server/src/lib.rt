@@ -12,10 +12,12 @@ pub use lsp_message::{
     ResponseError, WriteFault, front,
 };
 pub use lsp_queue::{Incoming, Outgoing, RegisterFault, ReqQueue};
+pub use lsp_relay::{Parcel, RelayRx, RelayTx, relay};
 pub use lsp_session::{
     CallGate, Event, FrameOutbox, Gate, Handler, Inbox, ListGate, ListInbox, ListOutbox, OpenGate,
-    Outbox, ProtocolError, PumpFault, ReadEnd, SendFault, SessionEnd, SessionFault, StartFault,
-    StreamInbox, WriteEnd, finish, finish_within, pump, read_loop, serve, session, shutdown,
-    start_within, wait_within, write_loop,
+    Outbox, ProtocolError, ReadEnd, SendFault, SessionEnd, SessionFault, StreamInbox, WriteEnd,
+    finish, finish_within, read_loop, serve, session, shutdown, start_within, wait_within,
+    write_loop,
 };
+pub use lsp_threads::{PumpFault, StartFault, Threaded, pump, run_threads};
 pub use stdio::{IoFault, IoThreads};

@@ -23,13 +23,19 @@ GetsFrames-push : (ms : List Message) (m : Message) (a b c : Option (List ℕ)) 
 GetsFrames-push ms m a b c frames last =
     (frames.0 ++ last.0, AreFramesOf-push ms frames.0 m last.0 frames.1 last.1, Appends-trans a b c frames.0 last.0 frames.2 last.2)
 
+module _ {O : Type 0} (sends : O → Message → Result (Unit {0}) SendFault → O → Type 0) where
+  pub OffersAll-push : (ms : List Message) (m : Message) (old mid new : O) → OffersAll sends old ms mid → Offers sends m mid new → OffersAll sends old (ms ++ m ∷ []) new
+  OffersAll-push ms m old mid new offered next = FoldsTo-push (λ from m to. Offers sends m from to) old ms mid m new offered next
+
+  -- one message more was offered
+  pub offers_more : (m : Message) (outcome : Result (Unit {0}) SendFault) (old mid new : O) → (ms : List Message) × OffersAll sends old ms mid → sends mid m outcome new
+      → (ms : List Message) × OffersAll sends old ms new
+  offers_more m outcome old mid new so_far sent = (so_far.0 ++ m ∷ [], OffersAll-push so_far.0 m old mid new so_far.1 (record { outcome = outcome; sent = sent }))
+
 module _ {I O : Type 0} (receives : I → Event → I → Type 0) (sends : O → Message → Result (Unit {0}) SendFault → O → Type 0) where
   GivesAll-push : (ms : List Message) (m : Message) (old mid new : I) → GivesAll receives old ms mid → WaitsFor receives mid (message m) new → GivesAll receives old (ms ++ m ∷ []) new
   GivesAll-push ms m old mid new given next =
       rw (map-append message ms (m ∷ [])) (FoldsTo-push (WaitsFor receives) old (map message ms) mid (message m) new given next)
-
-  OffersAll-push : (ms : List Message) (m : Message) (old mid new : O) → OffersAll sends old ms mid → Offers sends m mid new → OffersAll sends old (ms ++ m ∷ []) new
-  OffersAll-push ms m old mid new offered next = FoldsTo-push (λ from m to. Offers sends m from to) old ms mid m new offered next
 
   -- so many messages were received, written and offered
   pub record Carries (count : ℕ) (old new : I × Option (List ℕ) × O) : Type 0 where
@@ -46,7 +52,7 @@ module _ {I O : Type 0} (receives : I → Event → I → Type 0) (sends : O →
       counted = length_push so_far.ms m ∙ ap (λ n. n + 1) so_far.counted;
       given = GivesAll-push so_far.ms m old.0 mid.0 new.0 so_far.given came;
       frames = GetsFrames-push so_far.ms m old.1 mid.1 new.1 so_far.frames written;
-      offered = OffersAll-push so_far.ms m old.2 mid.2 new.2 so_far.offered offers;
+      offered = OffersAll-push sends so_far.ms m old.2 mid.2 new.2 so_far.offered offers;
     }
 
     pub writes_until_fault : (m : Message) (fault : WriteFault) → WaitsFor receives mid.0 (message m) new.0 → Writes m mid.1 (Err fault) new.1 → Offers sends m mid.2 new.2
@@ -56,7 +62,7 @@ module _ {I O : Type 0} (receives : I → Event → I → Type 0) (sends : O →
       m,
       GivesAll-push so_far.ms m old.0 mid.0 new.0 so_far.given came,
       (mid.1, so_far.frames, broken),
-      OffersAll-push so_far.ms m old.2 mid.2 new.2 so_far.offered offers,
+      OffersAll-push sends so_far.ms m old.2 mid.2 new.2 so_far.offered offers,
     )
 
   pub writes_until_closed : (count : ℕ) (old mid : I × Option (List ℕ) × O) (last : I) → Carries count old mid → WaitsFor receives mid.0 closed last

@@ -2,9 +2,9 @@ pub mod Answering
 pub mod Carrying
 pub mod Deciding
 pub mod Finishing
+pub mod FrameSteps
 pub mod Handing
 pub mod ListSteps
-pub mod Pumping
 pub mod SameTexts
 pub mod Sending
 pub mod SessionFacts

@@ -38,12 +38,12 @@ unread_at : (fault : ReadFault) (at : List ℕ) → (reading_of at).outcome ≡ 
 unread_at fault at is = ap (λ o. record { outcome = o; rest = (reading_of at).rest }) is
 
 -- the answer of a session that was refused a growth
-ran_out_answer : (answer : SessionAnswer) → ran_out answer ≡ true → answer ≡ Err out_of_memory
+pub ran_out_answer : (answer : SessionAnswer) → ran_out answer ≡ true → answer ≡ Err out_of_memory
 ran_out_answer (Ok end) is = absurd (cc (is))
 ran_out_answer (Err out_of_memory) is = refl
 ran_out_answer (Err fault) is = absurd (cc (is))
 
-ran_out_gives : (end : Option ReadEnd) → read_answer (Err out_of_memory) end ≡ Err Memory
+pub ran_out_gives : (end : Option ReadEnd) → read_answer (Err out_of_memory) end ≡ Err Memory
 ran_out_gives None = refl
 ran_out_gives (Some (Fault fault)) = refl
 ran_out_gives (Some end) = refl

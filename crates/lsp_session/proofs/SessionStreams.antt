@@ -11,7 +11,7 @@ use Rattle.lsp_message.specs.Written.{IsFrameOf, AreFramesOf, GetsFrames, Writes
 use Rattle.lsp_message.specs.declared.frame.WriteFault.{WriteFault}
 use Rattle.lsp_message.specs.declared.frame.WriteFault.TheVariants.{Output, Memory as NoMemory}
 use Rattle.lsp_session.proofs.Handing.{begins}
-use Rattle.lsp_session.proofs.Pumping.{taken_frames, taken_keeps, Appends-Keeps}
+use Rattle.lsp_session.proofs.FrameSteps.{taken_frames, taken_keeps, Appends-Keeps}
 use Rattle.lsp_session.proofs.SessionFacts.{is_no_exit}
 use Rattle.lsp_session.specs.Boxes.{Takes}
 use Rattle.lsp_session.specs.Event.{Event, message, timeout, closed}

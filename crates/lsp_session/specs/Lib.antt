@@ -6,7 +6,6 @@ pub mod FrameBoxes
 pub mod Lists
 pub mod ProtocolError
 pub mod ProtocolErrorLaws
-pub mod Pump
 pub mod ReadLoop
 pub mod Replies
 pub mod Session

@@ -6,7 +6,6 @@ mod error;
 pub mod laws;
 mod lifecycle;
 mod loops;
-mod relay;
 
 pub use error::ProtocolError;
 pub use lifecycle::{
@@ -15,6 +14,5 @@ pub use lifecycle::{
 };
 pub use loops::{
     FrameOutbox, Handler, ReadEnd, SessionEnd, SessionFault, StreamInbox, WriteEnd,
-    initialize_result, read_loop, serve, session, write_loop,
+    initialize_result, read_loop, serve, session, session_answer, write_loop,
 };
-pub use relay::{PumpFault, StartFault, pump};

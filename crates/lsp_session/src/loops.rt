@@ -1,6 +1,8 @@
 //! Loops over messages: from a reader to an outbox, and from an inbox to a writer (LSP 3.17, "Base Protocol").
-ghost use Rattle.std.specs.Prelude.{◌≡◌, IfSome};
+ghost use Rattle.std.specs.Prelude.{◌≡◌, IfSome, List};
+ghost use Rattle.lsp_message.specs.Message as plain;
 ghost use Rattle.lsp_session.specs.ReadLoop.{Hands, refused_end};
+ghost use Rattle.lsp_session.specs.WriteLoop.{OffersAll};
 
 use crate::lifecycle::{Outbox, SendFault, is_exit};
 use lsp_message::{Message, ReadFault};
@@ -17,7 +19,7 @@ pub use frame_outbox::FrameOutbox;
 
 pub use serving::{Handler, SessionEnd, initialize_result, serve};
 pub use stream_inbox::StreamInbox;
-pub use stream_session::{SessionFault, session};
+pub use stream_session::{SessionFault, session, session_answer};
 pub use write::{WriteEnd, write_loop};
 
 /// How a loop over a reader's messages ended.
@@ -35,10 +37,12 @@ pub enum ReadEnd {
     Memory,
 }
 
-/// Hands on a reader's messages, up to and with the first `exit`.
+/// Hands on a reader's messages, up to and with the first `exit`. Of any reader it is known that each change of the outbox is that
+/// of a send.
 pub fn read_loop<R: BufRead, O: Outbox>(alloc: Global, reader: &mut R, outbox: &mut O) -> ReadEnd
-    ensures { IfSome (R.remaining reader.old) (λ text.
+    ensures handed { IfSome (R.remaining reader.old) (λ text.
         Hands O.sends text outbox.old outbox.new (R.remaining reader.new) result) }
+    ensures offered { (ms : List plain.Message) × OffersAll O.sends outbox.old ms outbox.new }
 {
     for _ in 0..u64::MAX {
         let message = match Message::read(alloc, reader) {

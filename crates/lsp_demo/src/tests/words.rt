@@ -4,9 +4,11 @@ use crate::devices::{AtLimit, LimitedWriter, StepReader};
 use crate::pump::pump_words;
 use lsp_server::{PumpFault, ReadFault, StartFault, WriteFault, pump};
 use std::alloc::{AllocError, Global};
-use std::io::{BufRead, ErrorKind, Write};
+use std::io::{BufRead, ErrorKind, Read, Write};
 use std::process::Abort;
+use std::sync::Wait;
 use std::test::Fail;
+use std::thread::Threads;
 
 const USAGE: &str = "usage: lsp_demo pump | serve | tcp ADDR\n";
 
@@ -31,15 +33,19 @@ fn words_of(alloc: Global, text: &str) -> Result<Vec<String>, AllocError> {
 }
 
 // The program on its words writes this, says this, and ends with this status.
-fn runs(
-    rt: &impl Abort,
+fn runs<T, R>(
+    rt: &T,
     alloc: Global,
     words: &[String],
-    reader: StepReader,
+    reader: R,
     output: &[u8],
     said: &str,
     status: u8,
-) {
+)
+where
+    T: Threads + Wait + Abort + Copy + Drop + Send + 'static,
+    R: BufRead + Drop + Send + 'static,
+{
     let mut writer = Vec::new(alloc);
     let mut errors = Vec::new(alloc);
     let found = pump_words(rt, alloc, words, reader, &mut writer, &mut errors);
@@ -50,18 +56,22 @@ fn runs(
     );
 }
 
-// Runs `pump` on the input as a whole and in pieces.
-fn pumps(
-    rt: &impl Abort,
+// Runs `pump` on two parts of an input, each as a whole and in pieces.
+fn pumps<T>(
+    rt: &T,
     alloc: Global,
-    input: &[u8],
+    first: &'static [u8],
+    then: &'static [u8],
     output: &[u8],
     said: &str,
     status: u8,
-) -> Result<(), Fail> {
+) -> Result<(), Fail>
+where
+    T: Threads + Wait + Abort + Copy + Drop + Send + 'static,
+{
     let pump_word = words_of(alloc, "pump")?;
     for step in [1, 1000] {
-        let reader = StepReader::new(input, step);
+        let reader = StepReader::new(first, step).chain(StepReader::new(then, step));
         runs(
             rt,
             alloc,
@@ -78,10 +88,10 @@ fn pumps(
 #[test]
 fn messages_are_passed_on(rt: HostRuntime) -> Result<(), Fail> {
     let alloc = rt.alloc();
-    pumps(&rt, alloc, b"", b"", "", 0)?;
-    pumps(&rt, alloc, NOTE, NOTE_FRAME, "", 0)?;
-    pumps(&rt, alloc, TWO_EXITS, EXIT, "", 0)?;
-    pumps(&rt, alloc, EACH_KIND, EACH_KIND_FRAMES, "", 0)
+    pumps(&rt, alloc, b"", b"", b"", "", 0)?;
+    pumps(&rt, alloc, NOTE, b"", NOTE_FRAME, "", 0)?;
+    pumps(&rt, alloc, TWO_EXITS, NOTE, EXIT, "", 0)?;
+    pumps(&rt, alloc, EACH_KIND, b"", EACH_KIND_FRAMES, "", 0)
 }
 
 // Each fault of reading that bytes alone can make.
@@ -105,10 +115,8 @@ static FAULTS: [(&[u8], &str); 10] = [
 fn faults_are_told(rt: HostRuntime) -> Result<(), Fail> {
     let alloc = rt.alloc();
     for (text, said) in &FAULTS {
-        pumps(&rt, alloc, text, b"", said, 1)?;
-        let mut input = Vec::from_slice(alloc, NOTE)?;
-        input.extend_from_slice(text)?;
-        pumps(&rt, alloc, input.as_slice(), NOTE_FRAME, said, 1)?;
+        pumps(&rt, alloc, text, b"", b"", said, 1)?;
+        pumps(&rt, alloc, NOTE, text, NOTE_FRAME, said, 1)?;
     }
     Ok(())
 }
@@ -118,13 +126,18 @@ const NOTES_AND_FAULT: &[u8] =
     b"Content-Length: 14\r\n\r\n{\"method\":\"a\"}Content-Length: 14\r\n\r\n{\"method\":\"b\"}Content-Length:2\r\n\r\n{}";
 
 // The program `pump` says this, and ends with status 1.
-fn fails<R: BufRead + Drop, W: Write>(
-    rt: &impl Abort,
+fn fails<T, R, W>(
+    rt: &T,
     alloc: Global,
     reader: R,
     writer: &mut W,
     said: &str,
-) -> Result<(), AllocError> {
+) -> Result<(), AllocError>
+where
+    T: Threads + Wait + Abort + Copy + Drop + Send + 'static,
+    R: BufRead + Drop + Send + 'static,
+    W: Write,
+{
     let words = words_of(alloc, "pump")?;
     let mut errors = Vec::new(alloc);
     let status = pump_words(rt, alloc, words.as_slice(), reader, writer, &mut errors);
@@ -185,37 +198,20 @@ fn a_failing_reader(rt: HostRuntime) -> Result<(), Fail> {
 #[test]
 fn one_write_and_one_flush_a_message(rt: HostRuntime) -> Result<(), Fail> {
     let alloc = rt.alloc();
-    let mut reader = EACH_KIND;
     let mut writer = LimitedWriter::unlimited(alloc);
-    assert_eq!(rt; pump(&rt, alloc, &mut reader, &mut writer), Ok(()));
+    assert_eq!(rt; pump(&rt, alloc, EACH_KIND, &mut writer), Ok(()));
     assert_eq!(rt; writer.taken.as_slice(), EACH_KIND_FRAMES);
     assert_eq!(rt; writer.writes, 4);
     assert_eq!(rt; writer.flushes, 4);
-    assert!(rt; reader.is_empty());
     Ok(())
 }
 
-#[test]
-fn the_bytes_after_an_exit_are_left(rt: HostRuntime) -> Result<(), Fail> {
-    let alloc = rt.alloc();
-    let mut reader = TWO_EXITS;
-    let mut writer = Vec::new(alloc);
-    assert_eq!(rt; pump(&rt, alloc, &mut reader, &mut writer), Ok(()));
-    assert_eq!(rt; writer.as_slice(), EXIT);
-    assert_eq!(rt; reader, EXIT);
-    Ok(())
-}
-
-// Nothing is read or written.
-fn refuses(rt: &impl Abort, alloc: Global, words: &[String]) {
-    let mut reader = NOTE;
-    let mut writer = Vec::new(alloc);
-    let mut errors = Vec::new(alloc);
-    let status = pump_words(rt, alloc, words, &mut reader, &mut writer, &mut errors);
-    assert_eq!(rt; status, 1);
-    assert_eq!(rt; errors.as_slice(), USAGE.as_bytes());
-    assert_eq!(rt; reader, NOTE);
-    assert!(rt; writer.is_empty());
+// Nothing is written.
+fn refuses<T>(rt: &T, alloc: Global, words: &[String])
+where
+    T: Threads + Wait + Abort + Copy + Drop + Send + 'static,
+{
+    runs(rt, alloc, words, NOTE, b"", USAGE, 1);
 }
 
 #[test]

@@ -70,8 +70,9 @@ pub fn session<R: BufRead, W: Write, H: Handler>(
     session_answer(answer, inbox.end(), outbox.fault())
 }
 
-/// The answer of a session whose messages ended so, and whose outbox kept this fault.
-fn session_answer(
+/// The answer of a session whose messages ended so, and whose outbox kept this fault of writing: of several faults that fit it is
+/// the first of `Write`, `Memory`, `Read` and `Protocol`. A session in threads asks it too.
+pub fn session_answer(
     answer: Result<SessionEnd, ProtocolError>,
     end: Option<ReadEnd>,
     unwritten: Option<WriteFault>,

@@ -10,10 +10,10 @@ use Rattle.lsp_message.specs.declared.frame.WriteFault.TheVariants.{Output, Memo
 use Rattle.lsp_message.specs.declared.frame.WriteFault.{WriteFault}
 use Rattle.lsp_session.specs.declared.loops.ReadEnd.{ReadEnd}
 use Rattle.lsp_session.specs.declared.loops.ReadEnd.TheVariants.{Exit, End, Fault, Closed, Memory as Full}
-use Rattle.lsp_session.specs.declared.relay.PumpFault.{PumpFault}
-use Rattle.lsp_session.specs.declared.relay.PumpFault.TheVariants.{Read, Write, Start}
-use Rattle.lsp_session.specs.declared.relay.StartFault.{StartFault}
-use Rattle.lsp_session.specs.declared.relay.StartFault.TheVariants.{Memory as StartMemory, Thread}
+use Rattle.lsp_threads.specs.declared.pumping.PumpFault.{PumpFault}
+use Rattle.lsp_threads.specs.declared.pumping.PumpFault.TheVariants.{Read, Write, Start}
+use Rattle.lsp_threads.specs.declared.workers.StartFault.{StartFault}
+use Rattle.lsp_threads.specs.declared.workers.StartFault.TheVariants.{Memory as StartMemory, Thread}
 
 module _ (text : List ℕ) (old new : Option (List ℕ)) where
   -- the writer got frames of all messages of the text, in order, which ended so

@@ -1,0 +1,23 @@
+use Rattle.std.proofs.Common.{rules, ap, sym, subst, ◌∙◌}
+use Rattle.lsp_relay.specs.declared.account.Account.{Account}
+use Rattle.lsp_relay.specs.Relay.{Sending, IsOpen, EndsAtMostOnce, sender_account}
+use Rattle.lsp_relay.proofs.Accounts.{sends, ends_after, sender_after}
+use Rattle.lsp_relay.proofs.ends.RelayTx.send.Goals as goal
+use Rattle.lsp_relay.proofs.ends.RelayTx.send.Goals.{in-Ok, in-Err}
+
+pub send_as-requires-clause-rule : goal.send_as-requires-clause-rule
+send_as-requires-clause-rule g c = (sends _ _ _ _ (ap (λ (v : Account _). v.sends) c.self.invariant.1), λ held accounts h at. tt)
+
+pub invariant_of-self : goal.invariant_of-self
+invariant_of-self g c = elim c.match-send_as.branch [
+  | in-Ok w ↦ let step = w.in-Ok.ensures.rule in let unended = subst (λ (s : Sending _). IsOpen s.sent) (sym c.self.view_is) c.requires.open in (
+    search rules,
+    sender_after _ _ _ c.self.invariant.1 step,
+    subst EndsAtMostOnce (sym (ap (λ (v : Account _). v.sent) step)) (ends_after c.self.inside.pass.me.0.client.sent c.args.parcel unended),
+  )
+  | in-Err w ↦ let same = w.in-Err.ensures.rule.1 in (
+    search rules,
+    same ∙ c.self.invariant.1 ∙ ap sender_account (sym (ap (λ (v : Account _). v.sent) same)),
+    subst EndsAtMostOnce (sym (ap (λ (v : Account _). v.sent) same)) c.self.invariant.2,
+  )
+]

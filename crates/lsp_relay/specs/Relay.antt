@@ -1,0 +1,89 @@
+-- A relay between two threads: what was taken, and then what is held, is what was sent.
+use Rattle.std.specs.Prelude.{◌≡◌, ℕ, Bool, true, false, List, [], ◌∷◌, ◌++◌, map}
+use mathlib.Core.Option.{some}
+use lib.ListN.{get_elem?}
+use Rattle.atomic_table.specs.Seated.{TableId}
+use Rattle.atomic_table.specs.declared.badge.Badge.{Badge}
+use Rattle.crossbeam_channel.specs.declared.flavors.array.Key.{Key}
+use Rattle.crossbeam_channel.specs.Claims.{Pass}
+use Rattle.lsp_relay.specs.declared.ends.Parcel.{Parcel}
+use Rattle.lsp_relay.specs.declared.ends.Parcel.TheVariants as parcel
+use Rattle.lsp_relay.specs.declared.account.Account.{Account}
+
+-- which relay an end belongs to
+abbrev pub Relay : Type 0 → Type 0
+Relay M = TableId × Badge (Key (Parcel M))
+
+module _ {M : Type 0} where
+  abbrev pub sender_account : List (Parcel M) → Account M
+  sender_account sent = record { sends = true; takes = false; sent = sent; taken = [] }
+
+  abbrev pub receiver_account : List (Parcel M) → Account M
+  receiver_account taken = record { sends = false; takes = true; sent = []; taken = taken }
+
+  abbrev pub both_account : List (Parcel M) → List (Parcel M) → Account M
+  both_account sent taken = record { sends = true; takes = true; sent = sent; taken = taken }
+
+  abbrev pub no_account : Account M
+  no_account = record { sends = false; takes = false; sent = []; taken = [] }
+
+  -- a send tells that the parcel joined what was sent
+  abbrev pub sends_one : Account M → Parcel M → Account M → Type 0
+  sends_one before x after = after ≡ record before { sent = before.sent ++ x ∷ [] }
+
+  -- a take tells that the parcel joined what was taken
+  abbrev pub takes_one : Account M → Parcel M → Account M → Type 0
+  takes_one before x after = after ≡ record before { taken = before.taken ++ x ∷ [] }
+
+  -- one pass at most may send, and its account has what was sent; the same for takes
+  abbrev pub Agrees : ℕ → ℕ → List (Parcel M) → List (Parcel M) → ℕ → Account M → Type 0
+  Agrees sender receiver sent taken pass account =
+      (account.sends ≡ true → (pass ≡ sender) × (account.sent ≡ sent)) × (account.takes ≡ true → (pass ≡ receiver) × (account.taken ≡ taken))
+
+  -- The rule of a relay: what was taken, and then what is held, is what was sent.
+  pub record TakenThenHeldIsSent (held : List (Parcel M)) (accounts : List (Account M)) : Type 0 where
+    pub sender : ℕ
+    pub receiver : ℕ
+    pub sent : List (Parcel M)
+    pub taken : List (Parcel M)
+    pub whole : sent ≡ taken ++ held
+    pub agree : (pass : ℕ) (account : Account M) → get_elem? accounts pass ≡ some account → Agrees sender receiver sent taken pass account
+
+  -- no End was sent
+  abbrev pub IsOpen : List (Parcel M) → Type 0
+  IsOpen [] = Unit {0}
+  IsOpen (parcel.Message m ∷ rest) = IsOpen rest
+  IsOpen (parcel.End ∷ rest) = ⊥
+
+  -- there is at most one End, in the last place
+  abbrev pub EndsAtMostOnce : List (Parcel M) → Type 0
+  EndsAtMostOnce [] = Unit {0}
+  EndsAtMostOnce (parcel.Message m ∷ rest) = EndsAtMostOnce rest
+  EndsAtMostOnce (parcel.End ∷ rest) = rest ≡ []
+
+  -- the messages as parcels, and then End
+  abbrev pub ended : List M → List (Parcel M)
+  ended xs = map parcel.Message xs ++ parcel.End ∷ []
+
+  -- End is among the parcels
+  abbrev pub has_end : List (Parcel M) → Bool
+  has_end [] = false
+  has_end (parcel.Message x ∷ rest) = has_end rest
+  has_end (parcel.End ∷ rest) = true
+
+  -- what a pass knows
+  abbrev pub account_of : Pass (Parcel M) (Account M) → Account M
+  account_of pass = pass.me.0.client
+
+  abbrev pub relay_of : Pass (Parcel M) (Account M) → Relay M
+  relay_of pass = (pass.table_id, pass.me.0.of)
+
+-- the sender's end, as callers see it
+pub record Sending (M : Type 0) : Type 0 where
+  pub relay : Relay M
+  pub sent : List (Parcel M)
+
+-- the receiver's end, as callers see it
+pub record Taking (M : Type 0) : Type 0 where
+  pub relay : Relay M
+  pub taken : List (Parcel M)

@@ -1,0 +1,94 @@
+//! What each end of a relay knows, and how the two ends share it. It exists in the proofs alone.
+use crate::ends::Parcel;
+use crossbeam_channel::protocol::{Join, Lesson, Outcome, Protocol, Split};
+use std::collections::LinkedList;
+
+/// What a pass knows: whether it may send and take, and what was sent and taken with it. No value of it is made.
+pub struct Account<M> {
+    /// Whether it may send.
+    pub sends: bool,
+    /// Whether it may take.
+    pub takes: bool,
+    /// What was sent with it, in order.
+    pub sent: LinkedList<Parcel<M>>,
+    /// What was taken with it, in order.
+    pub taken: LinkedList<Parcel<M>>,
+}
+
+/// The rule of a relay: what was taken, and then what is held, is what was sent.
+pub(crate) struct InOrder;
+
+impl<M> Protocol<Parcel<M>, Account<M>> for InOrder {
+    ghost use Rattle.lsp_relay.specs.Relay.{both_account, TakenThenHeldIsSent};
+    ghost use Rattle.std.specs.Prelude.{[]};
+
+    ghost holds = { TakenThenHeldIsSent };
+
+    ghost first = { both_account [] [] };
+}
+
+/// The two roles are given to two passes, and come together again.
+pub(crate) struct Roles;
+
+impl<M> Split<Account<M>> for Roles {
+    ghost use Rattle.lsp_relay.specs.Relay.{sender_account, receiver_account};
+
+    ghost left = { λ v. sender_account v.sent };
+
+    ghost right = { λ v. receiver_account v.taken };
+}
+
+impl<M> Join<Account<M>> for Roles {
+    ghost use Rattle.lsp_relay.specs.Relay.{both_account, no_account};
+
+    ghost both = { λ v w. both_account v.sent w.taken };
+
+    ghost spent = { no_account };
+}
+
+/// The receiver's role moves to a pass of its own.
+pub(crate) struct Lend;
+
+impl<M> Split<Account<M>> for Lend {
+    ghost use Rattle.lsp_relay.specs.Relay.{receiver_account, no_account};
+
+    ghost left = { λ v. no_account };
+
+    ghost right = { λ v. receiver_account v.taken };
+}
+
+/// A parcel was added at the back.
+pub(crate) struct Sent;
+
+impl<M> Outcome<Parcel<M>, Account<M>> for Sent {
+    ghost use Rattle.std.specs.Prelude.{◌++◌, ◌∷◌, []};
+    ghost use Rattle.lsp_relay.specs.Relay.{sends_one};
+
+    ghost then = { sends_one };
+}
+
+impl<M> Lesson<Parcel<M>, Account<M>> for Sent {
+    ghost fact = { λ v items. Unit {0} };
+}
+
+/// The parcel at the front was taken.
+pub(crate) struct Taken;
+
+impl<M> Outcome<Parcel<M>, Account<M>> for Taken {
+    ghost use Rattle.lsp_relay.specs.Relay.{takes_one};
+
+    ghost then = { takes_one };
+}
+
+impl<M> Lesson<Parcel<M>, Account<M>> for Taken {
+    ghost fact = { λ v items. Unit {0} };
+}
+
+/// What was sent is what was taken and what is held.
+pub(crate) struct Whole;
+
+impl<M> Lesson<Parcel<M>, Account<M>> for Whole {
+    ghost use Rattle.std.specs.Prelude.{◌≡◌, ◌++◌};
+
+    ghost fact = { λ v items. v.sent ≡ v.taken ++ items };
+}

@@ -1,0 +1,4 @@
+pub mod Handed
+pub mod Passing
+pub mod Pumped
+pub mod Sessions

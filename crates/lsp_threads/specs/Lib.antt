@@ -1,0 +1,5 @@
+pub mod Pump
+pub mod RelayBoxes
+pub mod Threads
+pub mod Workers
+pub use Rattle.lsp_relay.specs.Relay

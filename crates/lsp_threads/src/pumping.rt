@@ -1,0 +1,108 @@
+//! Messages passed on from a reader, in a thread of its own, to a writer.
+ghost use Rattle.std.specs.Prelude.{◌≡◌, IfSome, Option};
+ghost use Rattle.lsp_threads.specs.Pump.{Pumps, pump_answer};
+ghost use Rattle.lsp_threads.specs.Workers.{write_fault};
+
+use crate::workers::{StartFault, start_reader, write_from};
+use lsp_message::{Message, ReadFault, WriteFault};
+use lsp_relay::{relay, settle_all};
+use lsp_session::{ReadEnd, WriteEnd};
+use std::alloc::Global;
+use std::error::Error;
+use std::fmt;
+use std::io::{BufRead, Write};
+use std::sync::Wait;
+use std::thread::{Builder, Threads};
+
+/// How many parcels may wait between two threads. It decides speed and memory alone: no answer depends on it.
+pub(crate) const ROOM: usize = 8;
+
+/// Why not all messages were passed on. Of several that fit it is the one with the greatest number.
+#[derive(Clone, Copy, Debug, PartialEq, Eq)]
+pub enum PumpFault {
+    /// 1: a message was not read. Those before it were written.
+    Read(ReadFault),
+    /// 2: a message was not written.
+    Write(WriteFault),
+    /// 3: nothing was read or written.
+    Start(StartFault),
+}
+
+impl fmt::Display for PumpFault {
+    ghost use Rattle.lsp_threads.specs.Pump.{pump_fault_text};
+
+    ghost output = { pump_fault_text };
+
+    fn fmt<W: fmt::Write>(&self, f: &mut fmt::Formatter<W>) -> fmt::Result {
+        match self {
+            PumpFault::Read(fault) => write!(f, "{fault}"),
+            PumpFault::Write(fault) => write!(f, "{fault}"),
+            PumpFault::Start(fault) => write!(f, "{fault}"),
+        }
+    }
+}
+
+impl Error for PumpFault {}
+
+/// Writes each message of a reader again, as a frame, up to and with the first `exit` (LSP 3.17, "Base Protocol"). A thread
+/// reads, and the caller writes.
+///
+/// `Ok` comes where the messages end in `exit` or in the end of the input. After a failed write nothing more is written, and
+/// the rest of the messages is read and dropped: the call returns only where the reader comes to its end.
+pub fn pump<T, R, W>(rt: &T, alloc: Global, reader: R, writer: &mut W) -> Result<(), PumpFault>
+where
+    T: Threads + Wait + Copy + Drop + Send + 'static,
+    R: BufRead + Drop + Send + 'static,
+    W: Write,
+    ensures { IfSome (R.remaining reader) (λ text. Pumps text (W.contents writer.old) (W.contents writer.new) result) }
+{
+    pump_with(rt, Builder::new(), alloc, reader, writer)
+}
+
+/// `pump` with the thread that reads started by this builder, which sets its stack's size, for one.
+pub fn pump_with<T, R, W>(
+    rt: &T,
+    builder: Builder,
+    alloc: Global,
+    reader: R,
+    writer: &mut W,
+) -> Result<(), PumpFault>
+where
+    T: Threads + Wait + Copy + Drop + Send + 'static,
+    R: BufRead + Drop + Send + 'static,
+    W: Write,
+    ensures { IfSome (R.remaining reader) (λ text. Pumps text (W.contents writer.old) (W.contents writer.new) result) }
+{
+    let Ok((tx, rx)) = relay::<Message>(alloc, ROOM) else {
+        return Err(PumpFault::Start(StartFault::Memory));
+    };
+    let reading = match start_reader::<Message, T, R>(rt, builder, alloc, reader, tx) {
+        Ok(reading) => reading,
+        Err(fault) => return Err(PumpFault::Start(fault)),
+    };
+    let (rx, wrote) = write_from(*rt, alloc, rx, writer);
+    let (tx, read) = reading.join(rt);
+    settle_all(rt, rx, tx);
+    answer_of(read, fault_of(wrote))
+}
+
+/// The fault of the writing that ended so.
+pub(crate) fn fault_of(end: WriteEnd) -> Option<WriteFault>
+    ensures { result ≡ write_fault end }
+{
+    match end {
+        WriteEnd::Closed => None,
+        WriteEnd::Fault(fault) => Some(fault),
+    }
+}
+
+/// What comes of reading that ended so, and of this fault of writing.
+fn answer_of(end: ReadEnd, unwritten: Option<WriteFault>) -> Result<(), PumpFault>
+    ensures { result ≡ pump_answer end unwritten }
+{
+    match (unwritten, end) {
+        (Some(fault), _) => Err(PumpFault::Write(fault)),
+        (None, ReadEnd::Fault(fault)) => Err(PumpFault::Read(fault)),
+        (None, ReadEnd::Exit | ReadEnd::End | ReadEnd::Closed | ReadEnd::Memory) => Ok(()),
+    }
+}

@@ -1,0 +1,209 @@
+//! A session of a server whose reader and writer run in threads of their own.
+ghost use Rattle.serde_json.specs.View.{view};
+ghost use Rattle.std.specs.Prelude.{◌≡◌, [], IfOk, IfSome};
+ghost use Rattle.lsp_session.specs.Session.{SessionOut};
+ghost use Rattle.lsp_threads.specs.Threads.{ThreadsGive, session_end as session_end_spec};
+
+use crate::boxes::{RelayInbox, RelayOutbox, deliver};
+use crate::pumping::{ROOM, fault_of};
+use crate::workers::{Reader, StartFault, Writer, start_reader, start_writer};
+use lsp_message::Message;
+use lsp_relay::{Parcel, RelayRx, RelayTx, relay, settle_all};
+use lsp_session::{Handler, ReadEnd, SessionEnd, SessionFault, WriteEnd, serve, session_answer};
+use serde_json::Value;
+use std::alloc::Global;
+use std::io::{BufRead, Write};
+use std::sync::Wait;
+use std::thread::{Builder, PromisedHandle, Threads};
+
+/// What a session in threads leaves.
+#[derive(Drop)]
+pub struct Threaded<W> {
+    /// The writer that was handed in.
+    pub writer: W,
+    /// How the session ended.
+    pub answer: Result<SessionEnd, SessionFault>,
+}
+
+/// Runs a session of a server (LSP 3.17, "Server lifecycle") with a thread that reads, a thread that writes and the handler on
+/// the caller's thread: in every schedule it comes to what `session` comes to.
+///
+/// The thread that writes is started first. The fault is a refused start: nothing was read or written then. A read fault counts
+/// only where the session came to it. After its answer the session still takes what is read, and drops it: the call returns
+/// only where the reader comes to its end, to a fault or to an `exit`. After a failed write nothing more is written, and the
+/// session goes on.
+pub fn run_threads<T, R, W, H>(
+    rt: &T,
+    alloc: Global,
+    reader: R,
+    writer: W,
+    capabilities: Value,
+    handler: &mut H,
+) -> Result<Threaded<W>, StartFault>
+where
+    T: Threads + Wait + Copy + Drop + Send + 'static,
+    R: BufRead + Drop + Send + 'static,
+    W: Write + Drop + Send + 'static,
+    H: Handler,
+    ensures { IfSome (R.remaining reader) (λ text. IfOk result (λ done.
+        ThreadsGive (SessionOut H.answers H.notes (view capabilities) handler.old handler.new) text (W.contents writer) (W.contents done.writer) done.answer)) }
+{
+    let builders = Builders {
+        writer: Builder::new(),
+        reader: Builder::new(),
+    };
+    run_threads_with(rt, builders, alloc, reader, writer, capabilities, handler)
+}
+
+/// How the two threads of a session are started.
+#[derive(Drop)]
+pub struct Builders {
+    /// The thread that writes.
+    pub writer: Builder,
+    /// The thread that reads.
+    pub reader: Builder,
+}
+
+/// `run_threads` with the threads started by these builders, which set the sizes of their stacks, for one.
+pub fn run_threads_with<T, R, W, H>(
+    rt: &T,
+    builders: Builders,
+    alloc: Global,
+    reader: R,
+    writer: W,
+    capabilities: Value,
+    handler: &mut H,
+) -> Result<Threaded<W>, StartFault>
+where
+    T: Threads + Wait + Copy + Drop + Send + 'static,
+    R: BufRead + Drop + Send + 'static,
+    W: Write + Drop + Send + 'static,
+    H: Handler,
+    ensures { IfSome (R.remaining reader) (λ text. IfOk result (λ done.
+        ThreadsGive (SessionOut H.answers H.notes (view capabilities) handler.old handler.new) text (W.contents writer) (W.contents done.writer) done.answer)) }
+{
+    match start_both(rt, builders, alloc, reader, writer) {
+        Ok(workers) => Ok(serve_between(rt, alloc, workers, capabilities, handler)),
+        Err(fault) => Err(fault),
+    }
+}
+
+/// The two threads, and the caller's ends of their relays.
+#[derive(Drop)]
+struct Workers<R: BufRead + Drop, W: Write + Drop> {
+    rx: RelayRx<Message>,
+    replies: RelayTx<Message>,
+    reading: PromisedHandle<(RelayTx<Message>, ReadEnd), Reader<R, Message>>,
+    writing: PromisedHandle<(RelayRx<Message>, W, WriteEnd), Writer<W, Message>>,
+}
+
+/// Starts the thread that writes and then the one that reads.
+fn start_both<T, R, W>(
+    rt: &T,
+    builders: Builders,
+    alloc: Global,
+    reader: R,
+    writer: W,
+) -> Result<Workers<R, W>, StartFault>
+where
+    T: Threads + Wait + Copy + Drop + Send + 'static,
+    R: BufRead + Drop + Send + 'static,
+    W: Write + Drop + Send + 'static,
+    ensures reading { IfOk result (λ workers. (workers.rx.taken ≡ []) × (workers.reading.promise.tx.value.relay ≡ workers.rx.relay)
+        × (workers.reading.promise.tx.value.sent ≡ []) × (workers.reading.promise.reader.value ≡ reader)) }
+    ensures writing { IfOk result (λ workers. (workers.replies.sent ≡ []) × (workers.writing.promise.rx.value.relay ≡ workers.replies.relay)
+        × (workers.writing.promise.writer.value ≡ writer)) }
+{
+    let Ok((replies, replies_rx)) = relay::<Message>(alloc, ROOM) else {
+        return Err(StartFault::Memory);
+    };
+    let Ok((tx, rx)) = relay::<Message>(alloc, ROOM) else {
+        return Err(StartFault::Memory);
+    };
+    let writing = match start_writer::<Message, T, W>(
+        rt,
+        builders.writer,
+        alloc,
+        replies_rx,
+        writer,
+    ) {
+        Ok(writing) => writing,
+        Err(fault) => return Err(fault),
+    };
+    match start_reader::<Message, T, R>(rt, builders.reader, alloc, reader, tx) {
+        Ok(reading) => Ok(Workers {
+            rx,
+            replies,
+            reading,
+            writing,
+        }),
+        Err(fault) => {
+            end_writing(rt, replies, writing);
+            Err(fault)
+        }
+    }
+}
+
+/// Ends the thread that writes where nothing is to be written.
+fn end_writing<T: Threads + Wait, W: Write + Drop>(
+    rt: &T,
+    replies: RelayTx<Message>,
+    writing: PromisedHandle<(RelayRx<Message>, W, WriteEnd), Writer<W, Message>>,
+)
+    requires { replies.sent ≡ [] }
+{
+    let mut replies = replies;
+    deliver(rt, &mut replies, Parcel::End);
+    let _ = writing.join(rt);
+}
+
+/// The session between the two threads.
+fn serve_between<T, R, W, H>(
+    rt: &T,
+    alloc: Global,
+    workers: Workers<R, W>,
+    capabilities: Value,
+    handler: &mut H,
+) -> Threaded<W>
+where
+    T: Threads + Wait + Copy + Drop,
+    R: BufRead + Drop,
+    W: Write + Drop,
+    H: Handler,
+    requires reading { (workers.rx.taken ≡ []) × (workers.reading.promise.tx.value.relay ≡ workers.rx.relay) × (workers.reading.promise.tx.value.sent ≡ []) }
+    requires writing { (workers.replies.sent ≡ []) × (workers.writing.promise.rx.value.relay ≡ workers.replies.relay) }
+    ensures { IfSome (R.remaining workers.reading.promise.reader.value) (λ text.
+        ThreadsGive (SessionOut H.answers H.notes (view capabilities) handler.old handler.new) text
+        (W.contents workers.writing.promise.writer.value) (W.contents result.writer) result.answer) }
+{
+    let Workers {
+        rx,
+        replies,
+        reading,
+        writing,
+    } = workers;
+    let mut inbox = RelayInbox::new(*rt, rx);
+    let mut outbox = RelayOutbox::new(*rt, replies);
+    let answer = serve(alloc, &mut inbox, &mut outbox, capabilities, handler);
+    let closed = inbox.is_closed();
+    let exited = inbox.gave_exit();
+    let replies = outbox.finish();
+    let rx = inbox.drain();
+    let (tx, read) = reading.join(rt);
+    let (replies_rx, writer, wrote) = writing.join(rt);
+    settle_all(rt, rx, tx);
+    settle_all(rt, replies_rx, replies);
+    let answer = session_answer(answer, session_end(closed, exited, read), fault_of(wrote));
+    Threaded { writer, answer }
+}
+
+/// What ended the messages of a session.
+fn session_end(closed: bool, exited: bool, read: ReadEnd) -> Option<ReadEnd>
+    ensures { result ≡ session_end_spec closed exited read }
+{
+    match (closed, exited) {
+        (true, _) => Some(read),
+        (false, true) => Some(ReadEnd::Exit),
+        (false, false) => None,
+    }
+}
