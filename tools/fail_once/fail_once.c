@@ -10,8 +10,8 @@
 //   pieces K            no read or write moves more than K bytes
 //
 // FAIL_ONCE_COUNTS names a file of 64 bytes. It holds, as 8 numbers of 64 bits, how many calls there were of memory, threads,
-// sockets, reads and writes, and then how many calls were made to fail. It is kept up to date while the program runs, since
-// a program may end in any way.
+// sockets, reads and writes, how many calls were made to fail, and how many threads still ran a second after `main` had
+// returned, where one was not started. It is kept up to date while the program runs, since a program may end in any way.
 #define _GNU_SOURCE
 #include <dlfcn.h>
 #include <errno.h>
@@ -30,7 +30,7 @@
 #include <sys/uio.h>
 #include <unistd.h>
 
-enum kind { MEMORY, THREAD, SOCKET, READ, WRITE, FAILED, NUMBERS = 8 };
+enum kind { MEMORY, THREAD, SOCKET, READ, WRITE, FAILED, LEFT, NUMBERS = 8 };
 enum how { IS_ERROR, IS_INTERRUPT, IS_SHORT };
 
 static _Atomic uint64_t not_shared[NUMBERS];
@@ -45,6 +45,7 @@ extern void *__libc_malloc(size_t);
 extern void *__libc_calloc(size_t, size_t);
 extern void *__libc_realloc(void *, size_t);
 extern void *__libc_memalign(size_t, size_t);
+extern void __libc_free(void *);
 
 static void share_counts(const char *path) {
     int file = open(path, O_RDWR | O_CLOEXEC);
@@ -122,13 +123,46 @@ int posix_memalign(void **block, size_t align, size_t size) {
 
 // Threads.
 
+struct job {
+    void *(*run)(void *);
+    void *argument;
+};
+
+static _Atomic uint64_t running;
+
+static void *run_job(void *given) {
+    struct job job = *(struct job *)given;
+    __libc_free(given);
+    void *result = job.run(job.argument);
+    atomic_fetch_sub(&running, 1);
+    return result;
+}
+
 int pthread_create(pthread_t *thread, const pthread_attr_t *attributes, void *(*run)(void *), void *argument) {
     static int (*real)(pthread_t *, const pthread_attr_t *, void *(*)(void *), void *);
     if (fails(THREAD))
         return EAGAIN;
     if (!real)
         *(void **)&real = dlsym(RTLD_NEXT, "pthread_create");
-    return real(thread, attributes, run, argument);
+    struct job *job = __libc_malloc(sizeof *job);
+    if (!job)
+        return EAGAIN;
+    *job = (struct job){run, argument};
+    atomic_fetch_add(&running, 1);
+    int refused = real(thread, attributes, run_job, job);
+    if (refused) {
+        atomic_fetch_sub(&running, 1);
+        __libc_free(job);
+    }
+    return refused;
+}
+
+__attribute__((destructor)) static void end(void) {
+    if (kind_to_fail != THREAD)
+        return;
+    for (int waited = 0; running && waited < 1000; waited++)
+        usleep(1000);
+    counts[LEFT] = running;
 }
 
 // Reads and writes.

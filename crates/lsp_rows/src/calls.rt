@@ -94,7 +94,9 @@ fn session_answer(
     let ended = session(alloc, &mut reader, &mut writer, capabilities, &mut echo);
     let written = escape(alloc, writer.taken.as_slice())?;
     match ended {
-        Ok(SessionEnd::ShutDown) => Ok(Answer::of(format!(in alloc; "shut down; wrote {written}")?)),
+        Ok(SessionEnd::ShutDown) => Ok(Answer::of(format!(in alloc;
+            "shut down; wrote {written}"
+        )?)),
         Ok(SessionEnd::Closed) => Ok(Answer::of(format!(in alloc; "closed; wrote {written}")?)),
         Err(fault) => Ok(Answer {
             text: format!(in alloc; "{fault}; wrote {written}")?,

@@ -75,7 +75,10 @@ fn run_at<R: Print>(
     count: usize,
     last: String,
 ) -> Result<String> {
-    let Answer { text: came, is_memory } = answer_of(rt, alloc, case, text, step, count)?;
+    let Answer {
+        text: came,
+        is_memory,
+    } = answer_of(rt, alloc, case, text, step, count)?;
     if came.as_str() != last.as_str() {
         rt.println(format!(in alloc; "  {count}: {came}")?.as_str())?;
     }

@@ -44,7 +44,10 @@ fn sent(alloc: Global, queue: &mut Outgoing<char>, data: char) -> Result<String>
         Ok(request) => Ok(request_text(alloc, request)?),
         Err(RegisterFault::Memory(back) | RegisterFault::Unwritable(back)) => {
             ensure!(back == data, "other data came back");
-            ensure!(queue.has_pending() == was_pending, "a refused registration is pending");
+            ensure!(
+                queue.has_pending() == was_pending,
+                "a refused registration is pending"
+            );
             match queue.register(String::from_str(alloc, "m")?, 5, data) {
                 Ok(request) => Ok(request_text(alloc, request)?),
                 Err(_) => bail!("refused twice"),
@@ -62,7 +65,10 @@ fn sent_value(alloc: Global, queue: &mut Outgoing<char>, data: char) -> Result<S
         Ok(request) => Ok(request_text(alloc, request)?),
         Err(RegisterFault::Memory(back)) => {
             ensure!(back == data, "other data came back");
-            ensure!(queue.has_pending() == was_pending, "a refused registration is pending");
+            ensure!(
+                queue.has_pending() == was_pending,
+                "a refused registration is pending"
+            );
             match queue.register_value(String::from_str(alloc, "m")?, Value::Null, data) {
                 Ok(request) => Ok(request_text(alloc, request)?),
                 Err(_) => bail!("refused twice"),
@@ -81,7 +87,10 @@ fn received(queue: &mut Incoming<char>, number: i32, data: char) -> Result<()> {
         Ok(()) => Ok(()),
         Err(RegisterFault::Memory(back)) => {
             ensure!(back == data, "other data came back");
-            ensure!(queue.is_completed(&id) == was_completed, "a refused registration is pending");
+            ensure!(
+                queue.is_completed(&id) == was_completed,
+                "a refused registration is pending"
+            );
             match queue.register(id, data) {
                 Ok(()) => Ok(()),
                 Err(_) => bail!("refused twice"),
