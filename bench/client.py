@@ -31,7 +31,7 @@ SHUTDOWN = b'{"jsonrpc":"2.0","id":2,"method":"shutdown"}'
 SHUTDOWN_REPLY = b'{"jsonrpc":"2.0","id":2,"result":null}'
 EXIT = b'{"jsonrpc":"2.0","method":"exit"}'
 
-USAGE = "usage: lsp_demo pump | serve | tcp ADDR\n"
+USAGE = "usage: lsp_demo pump [LIMIT] | serve | tcp ADDR\n"
 
 NESTED = {
     "emoji": "\U0001f600",

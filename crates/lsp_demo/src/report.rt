@@ -16,6 +16,6 @@ pub fn report<E: Write, D: Display + Drop>(errors: &mut E, text: D) -> u8
 pub fn report_usage<E: Write>(errors: &mut E) -> u8
     ensures { result ≡ 1 }
 {
-    let _ = writeln!(errors, "usage: lsp_demo pump | serve | tcp ADDR");
+    let _ = writeln!(errors, "usage: lsp_demo pump [LIMIT] | serve | tcp ADDR");
     1
 }

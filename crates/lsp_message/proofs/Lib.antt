@@ -5,7 +5,7 @@ mod HeaderSteps
 mod Joined
 mod KnownLines
 mod Members
-mod Numerals
+pub mod Numerals
 mod Places
 mod Plain
 mod Printed

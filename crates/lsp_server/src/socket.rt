@@ -5,7 +5,7 @@ ghost use Rattle.lsp_server.specs.IoFault.{is_connect_fault};
 ghost use Rattle.lsp_server.specs.declared.stdio.IoFault.TheVariants.{Socket};
 
 use crate::channels::Connection;
-use crate::stdio::{IoFault, IoThreads, start};
+use crate::stdio::{IoFault, IoThreads};
 use std::io;
 use std::io::Write;
 use std::net::{Net, OpenListener, OpenStream, Shutdown, TcpListener, TcpStream, ToSocketAddrs};
@@ -30,8 +30,24 @@ impl Connection {
         A: ToSocketAddrs,
         ensures { IfErr result (λ fault. is_connect_fault fault ≡ true) }
     {
+        Connection::connect_within(rt, addr, u64::MAX)
+    }
+
+    /// `connect` with a limit on what is read: a message whose content part has more than `limit` bytes is read fault 12, which
+    /// `IoThreads::join` answers, and no room is reserved for it.
+    pub fn connect_within<R, A>(
+        rt: &R,
+        addr: A,
+        limit: u64,
+    ) -> Result<(Connection, IoThreads), IoFault>
+    where
+        R: Net + Threads + Wait + Clock + AllocGlobal + Copy + Drop + Send + 'static,
+        R::Stream: Send + 'static,
+        A: ToSocketAddrs,
+        ensures { IfErr result (λ fault. is_connect_fault fault ≡ true) }
+    {
         let stream = TcpStream::connect(rt, addr).map_err(socket_fault)?;
-        over_stream(rt, stream)
+        Connection::over_stream(rt, stream, limit)
     }
 
     /// Listens at the address, waits for a peer, and gives the connection to the first that comes. From then on nobody
@@ -45,26 +61,49 @@ impl Connection {
         A: ToSocketAddrs,
         ensures { IfErr result (λ fault. is_connect_fault fault ≡ true) }
     {
+        Connection::listen_within(rt, addr, u64::MAX)
+    }
+
+    /// `listen` with a limit on what is read: a message whose content part has more than `limit` bytes is read fault 12, which
+    /// `IoThreads::join` answers, and no room is reserved for it. So a stranger's header costs no memory.
+    pub fn listen_within<R, A>(
+        rt: &R,
+        addr: A,
+        limit: u64,
+    ) -> Result<(Connection, IoThreads), IoFault>
+    where
+        R: Net + Threads + Wait + Clock + AllocGlobal + Copy + Drop + Send + 'static,
+        R::Stream: Send + 'static,
+        A: ToSocketAddrs,
+        ensures { IfErr result (λ fault. is_connect_fault fault ≡ true) }
+    {
         let listener = TcpListener::bind(rt, addr).map_err(socket_fault)?;
         let (stream, _peer) = listener.accept().map_err(socket_fault)?;
         drop(listener);
-        over_stream(rt, stream)
+        Connection::over_stream(rt, stream, limit)
     }
-}
 
-/// A connection over a stream, of which each of two threads has a handle.
-fn over_stream<R>(rt: &R, stream: R::Stream) -> Result<(Connection, IoThreads), IoFault>
-where
-    R: Net + Threads + Wait + Clock + AllocGlobal + Copy + Drop + Send + 'static,
-    R::Stream: Send + 'static,
-    ensures { IfErr result (λ fault. is_connect_fault fault ≡ true) }
-{
-    // A frame is one write, so holding it back gathers nothing. Where the option is refused, frames are only slower.
-    let _ = stream.set_nodelay(true);
-    let limit = Duration::from_secs(WRITE_SECONDS);
-    stream.set_write_timeout(Some(limit)).map_err(socket_fault)?;
-    let reader = stream.try_clone().map_err(socket_fault)?;
-    start(rt, rt.alloc(), reader, WriteHalf { stream })
+    /// A connection over a stream that was accepted, as by a listener at a port that the system chose. Two threads have a handle
+    /// of it each. A content part may have at most `limit` bytes, and with `u64::MAX` any number.
+    ///
+    /// The faults are 4, 5 and 6, as at `connect`.
+    pub fn over_stream<R>(
+        rt: &R,
+        stream: R::Stream,
+        limit: u64,
+    ) -> Result<(Connection, IoThreads), IoFault>
+    where
+        R: Net + Threads + Wait + Clock + AllocGlobal + Copy + Drop + Send + 'static,
+        R::Stream: Send + 'static,
+        ensures { IfErr result (λ fault. is_connect_fault fault ≡ true) }
+    {
+        // A frame is one write, so holding it back gathers nothing. Where the option is refused, frames are only slower.
+        let _ = stream.set_nodelay(true);
+        let patience = Duration::from_secs(WRITE_SECONDS);
+        stream.set_write_timeout(Some(patience)).map_err(socket_fault)?;
+        let reader = stream.try_clone().map_err(socket_fault)?;
+        Connection::over(rt, reader, WriteHalf { stream }, limit)
+    }
 }
 
 fn socket_fault(error: io::Error) -> IoFault

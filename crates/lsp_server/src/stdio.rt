@@ -5,7 +5,7 @@ ghost use Rattle.lsp_server.specs.IoFault.{is_start_fault, reader_answer, writer
 use crate::channels::{ChannelInbox, ChannelOutbox, Connection};
 use crossbeam_channel::{Receiver, Sender, bounded};
 use lsp_message::{Message, ReadFault, WriteFault};
-use lsp_session::{Outbox, ReadEnd, SendFault, WriteEnd, read_loop, write_loop};
+use lsp_session::{Outbox, ReadEnd, SendFault, WriteEnd, read_loop_within, write_loop};
 use std::alloc::{AllocError, Global};
 use std::cell::Cell;
 use std::error::Error;
@@ -171,7 +171,44 @@ impl Connection {
         R::Reader: Send + 'static,
         ensures { IfErr result (λ fault. is_start_fault fault ≡ true) }
     {
-        start(rt, rt.alloc(), rt.reader(), Output(*rt))
+        Connection::stdio_within(rt, u64::MAX)
+    }
+
+    /// `stdio` with a limit on what is read: a message whose content part has more than `limit` bytes is read fault 12, which
+    /// `IoThreads::join` answers, and no room is reserved for it (LSP 3.17, "Base Protocol").
+    pub fn stdio_within<R>(rt: &R, limit: u64) -> Result<(Connection, IoThreads), IoFault>
+    where
+        R: Threads + Wait + Clock + AllocGlobal + Input + Print + Copy + Drop + Send + 'static,
+        R::Reader: Send + 'static,
+        ensures { IfErr result (λ fault. is_start_fault fault ≡ true) }
+    {
+        Connection::over(rt, rt.reader(), Output(*rt), limit)
+    }
+
+    /// A connection over any reader and writer, such as the pipes of a child process. A content part may have at most `limit`
+    /// bytes, and with `u64::MAX` any number.
+    ///
+    /// Only the reader gets a buffer: a frame is one write. The faults are 4 and 6, as at `stdio`.
+    pub fn over<R, S, W>(
+        rt: &R,
+        reader: S,
+        writer: W,
+        limit: u64,
+    ) -> Result<(Connection, IoThreads), IoFault>
+    where
+        R: Threads + Wait + Clock + AllocGlobal + Copy + Drop + Send + 'static,
+        S: Read + Drop + Send + 'static,
+        W: Write + Drop + Send + 'static,
+        ensures { IfErr result (λ fault. is_start_fault fault ≡ true) }
+    {
+        let alloc = rt.alloc();
+        let Ok(reader) = BufReader::with_capacity(alloc, READ_AHEAD, reader) else {
+            return Err(IoFault::Memory);
+        };
+        let ((sender, receiver), threads) = start_threads::<Message, R, BufReader<S>, W>(
+            rt, alloc, reader, limit, writer,
+        )?;
+        Ok((Connection { sender, receiver }, threads))
     }
 }
 
@@ -189,36 +226,15 @@ impl<R: Print> Write for Output<R> {
     }
 }
 
-/// A connection over a reader and a writer, of which only the reader gets a buffer: a frame is one write.
-pub(crate) fn start<R, S, W>(
-    rt: &R,
-    alloc: Global,
-    reader: S,
-    writer: W,
-) -> Result<(Connection, IoThreads), IoFault>
-where
-    R: Threads + Wait + Clock + Copy + Drop + Send + 'static,
-    S: Read + Drop + Send + 'static,
-    W: Write + Drop + Send + 'static,
-    ensures { IfErr result (λ fault. is_start_fault fault ≡ true) }
-{
-    let Ok(reader) = BufReader::with_capacity(alloc, READ_AHEAD, reader) else {
-        return Err(IoFault::Memory);
-    };
-    let ((sender, receiver), threads) = start_threads::<Message, R, BufReader<S>, W>(
-        rt, alloc, reader, writer,
-    )?;
-    Ok((Connection { sender, receiver }, threads))
-}
-
 /// What a connection carries. The threads are started for any such type, since the check finds that they may own the ends
 /// of its channels only where it need not look into the type.
 trait Carried {
-    /// The thread that reads.
+    /// The thread that reads, with a limit on content parts.
     fn read_all<R: Wait + Drop, B: BufRead + Drop>(
         rt: R,
         alloc: Global,
         reader: B,
+        limit: u64,
         incoming: Sender<Self>,
     ) -> Result<(), IoFault>;
 
@@ -240,6 +256,7 @@ fn start_threads<M, R, B, W>(
     rt: &R,
     alloc: Global,
     reader: B,
+    limit: u64,
     writer: W,
 ) -> Result<((Sender<M>, Receiver<M>), IoThreads), IoFault>
 where
@@ -261,7 +278,7 @@ where
     let Ok(dropper) = thread::spawn(rt, move || drop_all(theirs, spent)) else {
         return Err(IoFault::Start);
     };
-    let Ok(reader) = thread::spawn(rt, move || { M::read_all(theirs, alloc, reader, incoming) })
+    let Ok(reader) = thread::spawn(rt, move || { M::read_all(theirs, alloc, reader, limit, incoming) })
     else {
         return Err(IoFault::Start);
     };
@@ -285,13 +302,14 @@ impl Carried for Message {
         rt: R,
         alloc: Global,
         mut reader: B,
+        limit: u64,
         incoming: Sender<Message>,
     ) -> Result<(), IoFault> {
         let mut outbox = ChannelOutbox {
             rt: &rt,
             sender: &incoming,
         };
-        reader_end(read_loop(alloc, &mut reader, &mut outbox))
+        reader_end(read_loop_within(alloc, &mut reader, &mut outbox, limit))
     }
 
     fn write_all<R: Wait + Clock + Drop, W: Write + Drop>(

@@ -10,7 +10,7 @@ use std::thread::Threads;
 use test_support::devices::{AtLimit, LimitedWriter, StepReader};
 use test_support::frames::{EXIT, TWO_EXITS};
 
-const USAGE: &str = "usage: lsp_demo pump | serve | tcp ADDR\n";
+const USAGE: &str = "usage: lsp_demo pump [LIMIT] | serve | tcp ADDR\n";
 
 const NOTE: &[u8] = b"Content-Length: 34\r\n\r\n{\"method\":\"a\",\"x\":1,\"params\":null}";
 
@@ -214,6 +214,27 @@ where
     runs(rt, alloc, words, NOTE, b"", USAGE, 1);
 }
 
+// A content part as long as the limit is passed on, and a longer one and a list are refused.
+#[test]
+fn a_limit(rt: HostRuntime) -> Result<(), Fail> {
+    let alloc = rt.alloc();
+    let input = EXIT.as_bytes();
+    let too_long = "lsp_demo: read fault 12\n";
+    for (words, output, said, status) in [
+        ("pump 33", input, "", 0),
+        ("pump +33", input, "", 0),
+        ("pump 32", b"".as_slice(), too_long, 1),
+    ] {
+        let words = words_of(alloc, words)?;
+        runs(&rt, alloc, words.as_slice(), input, output, said, status);
+    }
+    let pump_word = words_of(alloc, "pump")?;
+    let list = b"Content-Length: 5\r\n\r\n[\"m\"]".as_slice();
+    let batch = "lsp_demo: read fault 13\n";
+    runs(&rt, alloc, pump_word.as_slice(), list, b"", batch, 1);
+    Ok(())
+}
+
 #[test]
 fn wrong_words(rt: HostRuntime) -> Result<(), Fail> {
     let alloc = rt.alloc();
@@ -223,6 +244,10 @@ fn wrong_words(rt: HostRuntime) -> Result<(), Fail> {
         "pumps",
         "--help",
         "pump pump",
+        "pump x",
+        "pump -1",
+        "pump 18446744073709551616",
+        "pump 1 2",
         "pump serve",
         "tcp",
         "tcp 127.0.0.1 9257",
