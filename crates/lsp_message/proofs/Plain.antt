@@ -1,5 +1,5 @@
 -- A text that needs no escape.
-use Rattle.std.proofs.Common.{◌≡◌, ℕ, List, [], ◌∷◌, ◌++◌, true, not, ◌==◌, refl, sym, ap, ap₂, subst}
+use Rattle.std.proofs.Common.{◌≡◌, ℕ, List, [], ◌∷◌, ◌++◌, true, not, ◌==◌, Result, Ok, Err, OnOk, is_ok, if◌then◌else◌, refl, sym, ap, ap₂, ◌∙◌, subst, append_assoc}
 use Rattle.std.proofs.lemmas.Bool.{and_parts, false≢true, leb-true}
 use Rattle.std.specs.List.{list_all}
 use Rattle.json.specs.Print.{escape, quoted}
@@ -16,5 +16,11 @@ escape-plain (x ∷ xs) h =
     let backslash = λ (e : x ≡ 92). false≢true (subst (λ y. not (y == 92) ≡ true) e apart.1) in
     ap₂ (λ (a b : List ℕ). a ++ b) (escape_byte_plain x quote backslash (leb-true 32 x space.0)) (escape-plain xs here.1)
 
-pub quoted-plain : (s : List ℕ) → list_all is_plain_byte s ≡ true → 34 ∷ (s ++ 34 ∷ []) ≡ quoted s
+quoted-plain : (s : List ℕ) → list_all is_plain_byte s ≡ true → 34 ∷ (s ++ 34 ∷ []) ≡ quoted s
 quoted-plain s h = ap (λ t. 34 ∷ (t ++ 34 ∷ [])) (sym (escape-plain s h))
+
+-- the last of several texts that are added, where it was added
+pub last-plain : {X E : Type 0} (r : Result X E) (old text two three : List ℕ) → list_all is_plain_byte text ≡ true → two ≡ old ++ 34 ∷ text
+    → three ≡ if is_ok r then two ++ 34 ∷ [] else two → OnOk r (three ≡ old ++ quoted text)
+last-plain (Ok x) old text two three plain p q = q ∙ ap (λ s. s ++ 34 ∷ []) p ∙ append_assoc old (34 ∷ text) (34 ∷ []) ∙ ap (λ s. old ++ s) (quoted-plain text plain)
+last-plain (Err e) old text two three plain p q = tt

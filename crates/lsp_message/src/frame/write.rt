@@ -1,5 +1,5 @@
 // A frame, written to a writer.
-ghost use Rattle.std.specs.Prelude.{◌≡◌, Err, IfOk, IfErr, OnOk, string_bytes};
+ghost use Rattle.std.specs.Prelude.{◌≡◌, ◌<◌, ◌^◌, length, Err, IfOk, IfErr, OnOk, string_bytes};
 ghost use Rattle.std.specs.Io.KnownBytes.{Appends};
 ghost use Rattle.lsp_message.specs.Written.{frame_text, AppendsBeginning, IsOutput};
 
@@ -20,6 +20,7 @@ pub(crate) fn write_body<W: Write>(
     ensures ok { OnOk result (Appends (W.contents writer.old) (W.contents writer.new) (frame_text (string_bytes body))) }
     ensures begun { AppendsBeginning (W.contents writer.old) (W.contents writer.new) (frame_text (string_bytes body)) }
     ensures memory { result ≡ Err WriteFault.Memory → writer.new ≡ writer.old }
+    ensures length { OnOk result (length (string_bytes body) < 2 ^ 64) }
 {
     let frame = with_header(alloc, body)?;
     write_bytes(writer, frame.as_bytes())?;
@@ -31,7 +32,8 @@ pub(crate) fn write_body<W: Write>(
 
 /// Puts the header part before the body, in the body's own room.
 fn with_header(alloc: Global, body: String) -> Result<String, AllocError>
-    ensures { IfOk result (λ frame. string_bytes frame ≡ frame_text (string_bytes body)) }
+    ensures text { IfOk result (λ frame. string_bytes frame ≡ frame_text (string_bytes body)) }
+    ensures length { OnOk result (length (string_bytes body) < 2 ^ 64) }
 {
     let mut frame = body;
     let length = frame.len();
