@@ -365,12 +365,12 @@ fn write_between<'a, R: Wait + Clock, W: Write>(
 
 /// Counts the bytes that its writer takes.
 #[derive(Drop)]
-struct CountedWriter<'a, W> {
+struct CountedWriter<'a, 'c, W> {
     writer: &'a mut W,
-    written: &'a Cell<usize>,
+    written: &'c Cell<usize>,
 }
 
-impl<'a, W: Write> Write for CountedWriter<'a, W> {
+impl<'a, 'c, W: Write> Write for CountedWriter<'a, 'c, W> {
     fn write(&mut self, buf: &[u8]) -> io::Result<usize> {
         let count = self.writer.write(buf)?;
         self.written.set(self.written.get().saturating_add(count));
@@ -384,13 +384,13 @@ impl<'a, W: Write> Write for CountedWriter<'a, W> {
 
 /// Takes what was written: it drops a small message, and sends on a large one.
 #[derive(Drop)]
-struct SpentOutbox<'a, R> {
+struct SpentOutbox<'a, 'c, R> {
     large: ChannelOutbox<'a, R>,
     /// How many bytes were written since the message before.
-    written: &'a Cell<usize>,
+    written: &'c Cell<usize>,
 }
 
-impl<'a, R: Wait> Outbox for SpentOutbox<'a, R> {
+impl<'a, 'c, R: Wait> Outbox for SpentOutbox<'a, 'c, R> {
     ghost use Rattle.std.specs.Prelude.{⊤};
 
     ghost sends = { λ _ _ _ _. ⊤ };

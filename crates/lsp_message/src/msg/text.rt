@@ -79,12 +79,7 @@ fn push_named(out: &mut String, before: &str, name: &str, value: &str) -> Result
     out.push_str(value)
 }
 
-fn push_number(
-    out: &mut String,
-    before: &str,
-    name: &str,
-    number: i32,
-) -> Result<(), AllocError>
+fn push_number(out: &mut String, before: &str, name: &str, number: i32) -> Result<(), AllocError>
     ensures text { OnOk result (string_bytes out.new ≡ string_bytes out.old
         ++ named before.now name.now (compact_text (json_number (of_integer number)))) }
     ensures range { OnOk result (is_i32 number ≡ true) }
