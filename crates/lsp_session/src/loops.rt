@@ -14,6 +14,7 @@ mod stream_session;
 mod write;
 
 pub use frame_outbox::FrameOutbox;
+
 pub use serving::{Handler, SessionEnd, initialize_result, serve};
 pub use stream_inbox::StreamInbox;
 pub use stream_session::{SessionFault, session};
