@@ -21,17 +21,13 @@ fn main(rt: HostRuntime) -> Result<()> {
 /// From `initialize` to `exit`. The connection is dropped at the end, so that its threads end too.
 fn serve<R: Wait + Clock + AllocGlobal>(rt: &R, connection: Connection) -> Result<()> {
     let capabilities = json!(in rt.alloc(); { "hoverProvider": true })?;
-    if let Err(error) = connection.initialize(rt, capabilities) {
-        bail!("{error}");
-    }
+    connection.initialize(rt, capabilities)?;
     for message in connection.receiver.iter(rt) {
         let Message::Request(request) = message else {
             continue;
         };
-        match connection.handle_shutdown(rt, &request) {
-            Ok(true) => return Ok(()),
-            Ok(false) => {}
-            Err(error) => bail!("{error}"),
+        if connection.handle_shutdown(rt, &request)? {
+            return Ok(());
         }
         let reply = Message::from(answer(rt.alloc(), request)?);
         if connection.sender.send(rt, reply).is_err() {

@@ -58,9 +58,7 @@ fn ask<R: Wait + AllocGlobal>(
     params: Value,
 ) -> Result<Result<Value, ResponseError>> {
     let method = String::from_str(rt.alloc(), method)?;
-    let Ok(request) = queue.outgoing.register_value(method, params, ()) else {
-        bail!("no request");
-    };
+    let request = queue.outgoing.register_value(method, params, ())?;
     if connection.sender.send(rt, Message::from(request)).is_err() {
         bail!("the server is gone");
     }

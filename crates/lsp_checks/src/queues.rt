@@ -89,6 +89,22 @@ fn the_last_registration_counts(rt: HostRuntime) -> Result<(), Fail> {
 }
 
 #[test]
+fn a_queue_shows_what_is_pending(rt: HostRuntime) -> Result<(), Fail> {
+    let alloc = rt.alloc();
+    let mut queue: ReqQueue<char, char> = ReqQueue::default(alloc);
+    queue.incoming.register(RequestId::from(7), 'a')?;
+    let shown = format!(in alloc; "{queue:?}")?;
+    assert!(rt;
+        shown
+            .as_str()
+            .starts_with("ReqQueue { incoming: Incoming { "),
+        "{shown}"
+    );
+    assert!(rt; shown.as_str().contains("'a'"), "{shown}");
+    Ok(())
+}
+
+#[test]
 fn the_two_sides_share_no_table(rt: HostRuntime) -> Result<(), Fail> {
     let alloc = rt.alloc();
     let mut queue: ReqQueue<char, char> = ReqQueue::default(alloc);

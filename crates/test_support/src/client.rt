@@ -3,13 +3,12 @@ use crate::PATIENCE;
 use crate::messages::{has_text, message};
 use crossbeam_channel::{Receiver, Sender};
 use lsp_message::Message;
-use std::io;
 use std::io::ErrorKind;
 use std::net::{Net, SocketAddr, TcpStream};
 use std::sync::Wait;
-use std::thread;
 use std::thread::{JoinHandle, Threads};
 use std::time::{Clock, Duration};
+use std::{io, thread};
 
 /// One thing that a client does.
 #[derive(Clone, Copy)]

@@ -24,11 +24,7 @@ pub struct CountingWriter<'a> {
 
 impl<'a> CountingWriter<'a> {
     /// A writer that was given no byte yet.
-    pub fn new(
-        alloc: Global,
-        count: &'a Cell<usize>,
-        counted_at: CountedAt,
-    ) -> CountingWriter<'a> {
+    pub fn new(alloc: Global, count: &'a Cell<usize>, counted_at: CountedAt) -> CountingWriter<'a> {
         CountingWriter {
             taken: Vec::new(alloc),
             count,
