@@ -71,7 +71,7 @@ pub record MatchLetters (tokens : List Token) (outbound inbound : List Letter) :
 abbrev pub AllReadBack : List Letter → Type 0
 AllReadBack letters = AllByRecursion (λ letter. ReadsBack letter.message) letters
 
--- of both sides
+-- Both sides' tokens match the letters that wait, and each message that waits is read back as it was written.
 pub record InOnePlace (p : Accounts) : Type 0 where
   pub here_once : MatchLetters p.here.tokens p.there.post.waiting p.here.post.waiting
   pub there_once : MatchLetters p.there.tokens p.here.post.waiting p.there.post.waiting

@@ -39,4 +39,4 @@ impl<T> fmt::Display for RegisterFault<T> {
     }
 }
 
-impl<T: fmt::Debug> Error for RegisterFault<T> {}
+impl<T: fmt::Debug + Drop> Error for RegisterFault<T> {}

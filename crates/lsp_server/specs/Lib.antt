@@ -30,6 +30,16 @@ pub use Rattle.lsp_message.specs.Text
 pub use Rattle.lsp_message.specs.Tree
 pub use Rattle.lsp_message.specs.View
 pub use Rattle.lsp_message.specs.Written
+pub use Rattle.lsp_peers.specs.Agreement
+pub use Rattle.lsp_peers.specs.Exchange
+pub use Rattle.lsp_peers.specs.History
+pub use Rattle.lsp_peers.specs.Ids
+pub use Rattle.lsp_peers.specs.InOnePlace
+pub use Rattle.lsp_peers.specs.Post
+pub use Rattle.lsp_peers.specs.Settling
+pub use Rattle.lsp_peers.specs.Steps
+pub use Rattle.lsp_peers.specs.Token
+pub use Rattle.lsp_peers.specs.WorldFault
 pub use Rattle.lsp_queue.specs.Queue
 pub use Rattle.lsp_queue.specs.QueueRun
 pub use Rattle.lsp_queue.specs.Registering

@@ -12,6 +12,7 @@ pub use lsp_message::{
     ErrorCode, ExtractError, Front, Message, Notification, ReadFault, Request, RequestId, Response,
     ResponseError, WriteFault, front,
 };
+pub use lsp_peers::{Link, Outcome, Side, Step, World, WorldFault};
 pub use lsp_queue::{Incoming, Outgoing, RegisterFault, ReqQueue};
 pub use lsp_relay::{Parcel, RelayRx, RelayTx, relay};
 pub use lsp_session::{
