@@ -3,9 +3,9 @@ ghost use Rattle.std.specs.Prelude.{◌≡◌, true, IfErr};
 ghost use Rattle.lsp_server.specs.IoFault.{is_start_fault, reader_answer, writer_answer};
 
 use crate::channels::{ChannelInbox, ChannelOutbox, Connection};
-use lsp_session::{ReadEnd, WriteEnd, read_loop, write_loop};
 use crossbeam_channel::{Receiver, Sender, bounded};
 use lsp_message::{Message, ReadFault, WriteFault};
+use lsp_session::{ReadEnd, WriteEnd, read_loop, write_loop};
 use std::alloc::{AllocError, Global};
 use std::error::Error;
 use std::io::{BufRead, BufReader, ErrorKind, Read, Write};
