@@ -1,10 +1,12 @@
 //! Tests of the public surface of `lsp_server`: ids and messages, reading and writing over devices that fail, the loops, the
-//! queues, the handshake and the end of a session, whole sessions, and connections in memory and over TCP. What the bytes
+//! queues, the dispatcher, the handshake and the end of a session, whole sessions, and connections in memory and over TCP. What the bytes
 //! mean is in the stored run of `message_rows`.
 #![tactic(auto)]
 
 #[cfg(test)]
 mod connection;
+#[cfg(test)]
+mod dispatch;
 #[cfg(test)]
 mod ids;
 #[cfg(test)]
