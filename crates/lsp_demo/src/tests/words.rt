@@ -16,7 +16,7 @@ const NOTE_FRAME: &[u8] = b"Content-Length: 30\r\n\r\n{\"jsonrpc\":\"2.0\",\"met
 
 // A request, a reply, an error and a notification, in other forms than they are written in.
 const EACH_KIND: &[u8] =
-    b"Content-Length: 50\r\n\r\n{\"method\":\"m\",\"params\":[1],\"id\":1,\"jsonrpc\":\"2.0\"}Content-Length: 24\r\n\r\n{\"result\":null,\"id\":\"a\"}Content-Length: 25\r\n\r\n{\"error\":[-1,\"x\"],\"id\":2}Content-Length: 5\r\n\r\n[\"n\"]";
+    b"Content-Length: 50\r\n\r\n{\"method\":\"m\",\"params\":[1],\"id\":1,\"jsonrpc\":\"2.0\"}Content-Length: 24\r\n\r\n{\"result\":null,\"id\":\"a\"}Content-Length: 25\r\n\r\n{\"error\":[-1,\"x\"],\"id\":2}Content-Length: 14\r\n\r\n{\"method\":\"n\"}";
 
 const EACH_KIND_FRAMES: &[u8] =
     b"Content-Length: 50\r\n\r\n{\"jsonrpc\":\"2.0\",\"id\":1,\"method\":\"m\",\"params\":[1]}Content-Length: 40\r\n\r\n{\"jsonrpc\":\"2.0\",\"id\":\"a\",\"result\":null}Content-Length: 58\r\n\r\n{\"jsonrpc\":\"2.0\",\"id\":2,\"error\":{\"code\":-1,\"message\":\"x\"}}Content-Length: 30\r\n\r\n{\"jsonrpc\":\"2.0\",\"method\":\"n\"}";
@@ -85,7 +85,7 @@ fn messages_are_passed_on(rt: HostRuntime) -> Result<(), Fail> {
 }
 
 // Each fault of reading that bytes alone can make.
-static FAULTS: [(&[u8], &str); 10] = [
+static FAULTS: [(&[u8], &str); 11] = [
     (b"\xff\r\n", "lsp_demo: read fault 2\n"),
     (b"Content-Length: 9\n\r\n", "lsp_demo: read fault 3\n"),
     (b"Content-Length:2\r\n\r\n{}", "lsp_demo: read fault 4\n"),
@@ -98,6 +98,10 @@ static FAULTS: [(&[u8], &str); 10] = [
     (
         b"Content-Length: 18446744073709551615\r\n\r\n{}",
         "lsp_demo: read fault 11\n",
+    ),
+    (
+        b"Content-Length: 5\r\n\r\n[\"m\"]",
+        "lsp_demo: read fault 13\n",
     ),
 ];
 
