@@ -228,7 +228,7 @@ module _ (limit : ℕ) (P : List Message → Stop → List Message → Option Me
       (replies comes.letters comes.stop comes.output comes.null answer comes.part)
 
   -- what became of a session's requests
-  answers_requests : (answer : Result SessionEnd SessionFault) → Gives limit P text left a b answer → AnswersRequests limit text left a b answer
+  pub answers_requests : (answer : Result SessionEnd SessionFault) → Gives limit P text left a b answer → AnswersRequests limit text left a b answer
   answers_requests (Ok end) comes = elim (comes_answered (Ok end) comes) [ inl all ↦ all | inr last ↦ absurd (cc (last.0)) ]
   answers_requests (Err (Protocol fault)) comes = elim (comes_answered (Err fault) comes) [ inl all ↦ inl all | inr last ↦ inr last.1 ]
   answers_requests (Err (Read fault)) fails =

@@ -13,7 +13,7 @@ use Rattle.lsp_session.specs.declared.lifecycle.SendFault.{SendFault}
 use Rattle.lsp_session.specs.declared.loops.write.WriteEnd.TheVariants.{Closed, Fault}
 
 -- frames, and one more
-AreFramesOf-push : (ms : List Message) (text : List ℕ) (m : Message) (frame : List ℕ) → AreFramesOf ms text → IsFrameOf m frame → AreFramesOf (ms ++ m ∷ []) (text ++ frame)
+pub AreFramesOf-push : (ms : List Message) (text : List ℕ) (m : Message) (frame : List ℕ) → AreFramesOf ms text → IsFrameOf m frame → AreFramesOf (ms ++ m ∷ []) (text ++ frame)
 AreFramesOf-push [] text m frame none last = rw none (frame, [], last, refl, sym (append-nil frame))
 AreFramesOf-push (x ∷ xs) text m frame frames last =
     let more = AreFramesOf-push xs frames.1 m frame frames.3 last in

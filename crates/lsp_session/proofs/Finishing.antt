@@ -1,5 +1,5 @@
 -- Laws of the wait for `initialized`.
-use Rattle.std.proofs.Common.{◌≡◌, refl, ℕ, ◌+◌, ◌<◌, Bool, true, List, [], ◌∷◌, ◌++◌, length, length-append, arith, Some, None}
+use Rattle.std.proofs.Common.{◌≡◌, refl, ℕ, ◌+◌, ◌<◌, Bool, true, List, [], ◌∷◌, ◌++◌, length, length-append, arith, Some}
 use Rattle.std.specs.List.{FoldsTo, list_all}
 use Rattle.std.proofs.lemmas.Fn.{FoldsTo-push}
 use Rattle.lsp_session.proofs.Waiting.{list_all-push}
@@ -15,24 +15,12 @@ module _ {G I : Type 0} (asks : G → Bool → G → Type 0) (receives : I → E
     pub taken : FoldsTo (TakesTurn asks receives) old turns new
     pub idle : list_all is_idle turns ≡ true
 
-  pub idles_none : (old : G × I) → Idles 0 old old
-  idles_none old = record { turns = []; count_is = refl; taken = refl; idle = refl }
-
   pub idles_more : (count : ℕ) (old mid new : G × I) → Idles count old mid → asks mid.0 true new.0 → receives mid.1 timeout new.1 → Idles (count + 1) old new
   idles_more count old mid new so_far go_on nothing = record {
     turns = so_far.turns ++ got timeout ∷ [];
     count_is = rw (length-append so_far.turns (got timeout ∷ [])) (omega (arith, so_far.count_is));
     taken = FoldsTo-push _ old so_far.turns mid (got timeout) new so_far.taken (go_on, nothing);
     idle = list_all-push is_idle so_far.turns (got timeout) so_far.idle refl;
-  }
-
-  pub awaits_undecided : (limit : ℕ) (old new : G × I) → Idles limit old new → AwaitsWithin asks receives limit old None new
-  awaits_undecided limit old new so_far = record {
-    turns = so_far.turns;
-    taken = so_far.taken;
-    few = omega (arith, so_far.count_is);
-    none_after_all = λ _. so_far.count_is;
-    awaits = record { before = so_far.turns; idle = so_far.idle; end = refl };
   }
 
   pub awaits_answered : (limit count : ℕ) (old mid new : G × I) (turn : Turn) (answer : FinishAnswer)

@@ -1,5 +1,5 @@
 -- A session over an inbox that reads and an outbox that writes, in bytes.
-use Rattle.std.proofs.Common.{◌≡◌, refl, sym, ◌∙◌, ap, ℕ, Bool, true, false, List, [], ◌∷◌, ◌++◌, append_assoc, append-nil, Some, None, Option}
+use Rattle.std.proofs.Common.{◌≡◌, refl, sym, ◌∙◌, ap, ℕ, Bool, true, false, List, [], ◌∷◌, ◌++◌, append-nil, Some, None, Option}
 use Rattle.std.proofs.KnownBytes.{Appends-trans}
 use Rattle.std.specs.Io.KnownBytes.{Keeps}
 use Rattle.std.specs.List.{FoldsTo, list_all, filter_map}
@@ -7,9 +7,10 @@ use Rattle.std.specs.Prelude.{Result, Ok, Err, MatchOption, if◌then◌else◌}
 use Rattle.lsp_message.specs.Frame.{reading_within}
 use Rattle.lsp_message.specs.Letters.{is_exit}
 use Rattle.lsp_message.specs.Message.{Message}
-use Rattle.lsp_message.specs.Written.{IsFrameOf, AreFramesOf, GetsFrames, Writes}
+use Rattle.lsp_message.specs.Written.{GetsFrames, Writes}
 use Rattle.lsp_message.specs.declared.frame.WriteFault.{WriteFault}
 use Rattle.lsp_message.specs.declared.frame.WriteFault.TheVariants.{Output, Memory as NoMemory}
+use Rattle.lsp_session.proofs.Carrying.{AreFramesOf-push}
 use Rattle.lsp_session.proofs.Handing.{begins}
 use Rattle.lsp_session.proofs.FrameSteps.{taken_frames, taken_keeps, Appends-Keeps}
 use Rattle.lsp_session.proofs.SessionFacts.{is_no_exit}
@@ -107,12 +108,6 @@ module _ (limit : ℕ) where
       at (Some end) gives = cc (gives.0)
   no_timeout (event ∷ earlier) old new run = no_timeout earlier run.0 new run.2
 
--- frames of one more message
-frames_push : (ms : List Message) (m : Message) (frames frame : List ℕ) → AreFramesOf ms frames → IsFrameOf m frame → AreFramesOf (ms ++ m ∷ []) (frames ++ frame)
-frames_push [] m frames frame none last = rw none (frame, [], last, refl, rw append-nil refl)
-frames_push (x ∷ xs) m frames frame some last =
-    (some.0, some.1 ++ frame, some.2, frames_push xs m some.1 frame some.3 last, rw (some.4, append_assoc) refl)
-
 -- all of it was written
 pub whole_first : (ms : List Message) (old new : Option (List ℕ)) → GetsFrames ms old new → GetsFirst ms old new
 whole_first ms old new got = (ms, [], rw append-nil refl, got)
@@ -136,7 +131,7 @@ module _ {W : Type 0} (contents : W → Option (List ℕ)) where
       → Writes m b (kept_write fault) c → Told outcome fault
       → MatchOption fault ((outcome ≡ Ok tt) × GetsFrames (ms ++ m ∷ []) a c) (λ f. GetsPart f (ms ++ m ∷ []) a c)
   offered ms m a b c (Ok done) None got writes told =
-      (refl, (got.0 ++ writes.0, frames_push ms m got.0 writes.0 got.1 writes.1, Appends-trans a b c got.0 writes.0 got.2 writes.2))
+      (refl, (got.0 ++ writes.0, AreFramesOf-push ms got.0 m writes.0 got.1 writes.1, Appends-trans a b c got.0 writes.0 got.2 writes.2))
   offered ms m a b c (Err (Shut back)) None got writes told = absurd told
   offered ms m a b c (Err (Full back)) None got writes told = absurd told
   offered ms m a b c outcome (Some (Output kind)) got writes told =

@@ -1,5 +1,5 @@
 -- Laws of the wait for `initialize`.
-use Rattle.std.proofs.Common.{◌≡◌, refl, inl, inr, ℕ, ◌+◌, ◌<◌, Bool, false, List, [], ◌∷◌, ◌++◌, length, length-append, arith, Some, None, codes}
+use Rattle.std.proofs.Common.{◌≡◌, refl, inl, inr, ℕ, ◌+◌, ◌<◌, Bool, false, List, [], ◌∷◌, ◌++◌, length, length-append, arith, Some, codes}
 use Rattle.std.specs.Prelude.{Result, Ok, Err}
 use Rattle.std.specs.List.{FoldsTo, AllZip}
 use Rattle.std.specs.Str.{bytes_eq}
@@ -78,17 +78,6 @@ module _ {G I O : Type 0} (asks : G → Bool → G → Type 0) (receives : I →
     taken = FoldsTo-push _ (old.0, old.1) so_far.turns (mid.0, mid.1) turn (new.0, new.1) so_far.taken step;
     replies = so_far.replies ++ passed.0;
     passed = passes_both sends old.2 mid.2 new.2 so_far.turns (turn ∷ []) so_far.replies passed.0 so_far.passed passed.1;
-  }
-
-  -- no turn of so many decided
-  pub starts_undecided : (limit : ℕ) (old new : G × I × O) → Undecided limit old new → StartsWithin asks receives sends limit old None new
-  starts_undecided limit old new so_far = record {
-    turns = so_far.turns;
-    taken = so_far.taken;
-    few = omega (arith, so_far.count_is);
-    none_after_all = λ _. so_far.count_is;
-    replies = so_far.replies;
-    starts = record { before = so_far.turns; mid = new.2; passed = so_far.passed; end = (refl, refl) };
   }
 
   -- the next turn ended the handshake

@@ -95,7 +95,7 @@ fn messages_are_passed_on(rt: HostRuntime) -> Result<(), Fail> {
 }
 
 // Each fault of reading that bytes alone can make.
-static FAULTS: [(&[u8], &str); 10] = [
+static FAULTS: [(&[u8], &str); 11] = [
     (b"\xff\r\n", "lsp_demo: read fault 2\n"),
     (b"Content-Length: 9\n\r\n", "lsp_demo: read fault 3\n"),
     (b"Content-Length:2\r\n\r\n{}", "lsp_demo: read fault 4\n"),
@@ -108,6 +108,10 @@ static FAULTS: [(&[u8], &str); 10] = [
     (
         b"Content-Length: 18446744073709551615\r\n\r\n{}",
         "lsp_demo: read fault 11\n",
+    ),
+    (
+        b"Content-Length: 5\r\n\r\n[\"m\"]",
+        "lsp_demo: read fault 13\n",
     ),
 ];
 

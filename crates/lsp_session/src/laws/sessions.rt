@@ -1,12 +1,25 @@
 //! What a session does with the requests of its client.
-ghost use Rattle.std.specs.Prelude.{IfSome};
+ghost use Rattle.serde_json.specs.Data.{Data};
+ghost use Rattle.std.specs.Prelude.{ℕ, List, Option, Result, IfSome};
 ghost use Rattle.lsp_message.specs.Frame.{no_limit};
 ghost use Rattle.lsp_session.specs.Answered.{AnswersRequests};
+ghost use Rattle.lsp_session.specs.Session.{SessionOut};
+ghost use Rattle.lsp_session.specs.SessionBytes.{Gives};
+ghost use Rattle.lsp_session.specs.declared.loops.serving.SessionEnd.{SessionEnd as EndOfSession};
+ghost use Rattle.lsp_session.specs.declared.loops.stream_session.SessionFault.{SessionFault as FaultOfSession};
 
 use crate::loops::{Handler, SessionEnd, SessionFault, session};
 use serde_json::Value;
 use std::alloc::Global;
 use std::io::{BufRead, Write};
+
+/// What `session` and `session_within` say of the bytes that they read and wrote implies that each request got exactly one
+/// reply, under its id, in order: a fact of each session that was run.
+pub fn session_answers_requests<H: Handler>()
+    ensures { (limit : ℕ) (capabilities : Data) (before after : H) (text : List ℕ) (left old new : Option (List ℕ)) (answer : Result EndOfSession FaultOfSession)
+        → Gives limit (SessionOut H.answers H.notes capabilities before after) text left old new answer
+        → AnswersRequests limit text left old new answer }
+{}
 
 /// Each request of a session gets exactly one reply, under its id, in order, and no reply goes to anything else (JSON-RPC
 /// 2.0, section 5).
