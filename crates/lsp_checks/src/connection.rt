@@ -12,6 +12,7 @@ use std::test::Fail;
 use std::thread::{JoinHandle, Threads};
 use std::time::{Clock, Duration, Instant};
 use test_support::client::{Act, Part, client_thread, receives, sends};
+use test_support::frames::EXIT as EXIT_FRAME;
 use test_support::messages::message;
 use test_support::texts::{
     ABORTED, DISCONNECTED, EXPECTED_INITIALIZE, NO_EXIT, TIMED_OUT, UNEXPECTED, agrees,
@@ -271,6 +272,27 @@ fn another_request_is_no_shutdown(rt: HostRuntime) -> Result<(), Fail> {
     let answer = server.handle_shutdown(&rt, &request);
     assert!(rt; matches!(&answer, Ok(false)));
     assert!(rt; client.receiver.is_empty());
+    Ok(())
+}
+
+// A content part as long as the limit is read, over any reader and writer, and a longer one ends the reading.
+#[test]
+fn a_connection_has_a_limit(rt: HostRuntime) -> Result<(), Fail> {
+    let too_long = Err(IoFault::Read(ReadFault::TooLong));
+    for (limit, count, end) in [(33, 1, Ok(())), (32, 0, too_long)] {
+        let writer: Vec<u8> = Vec::new(rt.alloc());
+        let reader = EXIT_FRAME.as_bytes();
+        let Ok((connection, threads)) = Connection::over(&rt, reader, writer, limit) else {
+            return Err(Fail::from("no connection"));
+        };
+        let mut received = 0u32;
+        for _message in connection.receiver.iter(&rt) {
+            received = received.saturating_add(1);
+        }
+        assert_eq!(rt; received, count, "{limit}");
+        drop(connection);
+        assert_eq!(rt; threads.join(&rt), end, "{limit}");
+    }
     Ok(())
 }
 
