@@ -1,5 +1,5 @@
 //! Tests of the public surface of `lsp_server` that the program `lsp_demo` has no part in: how much of a message has come,
-//! the queues, the handshake and end of a session, whole sessions, the loop that writes, and connections in memory and over TCP; and the
+//! the queues, the dispatcher, the handshake and end of a session, whole sessions, the loop that writes, and connections in memory and over TCP; and the
 //! examples of the README. They stand in a crate of their own, beside the other tests.
 #![tactic(auto)]
 
@@ -7,6 +7,8 @@
 mod client;
 #[cfg(test)]
 mod connection;
+#[cfg(test)]
+mod dispatch;
 pub mod example;
 #[cfg(test)]
 mod fronts;

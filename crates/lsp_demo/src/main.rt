@@ -11,6 +11,7 @@ mod report;
 mod serve;
 #[cfg(test)]
 mod tests;
+mod work;
 
 use pump::pump_words;
 use report::{report, report_usage};

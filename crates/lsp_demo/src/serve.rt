@@ -1,15 +1,11 @@
-// The server that answers `demo/echo`.
-ghost use Rattle.std.specs.Prelude.{◌≡◌, ◌≤◌, IfOk, string_bytes};
-ghost use Rattle.serde_json.specs.View.{view};
-ghost use Rattle.lsp_server.specs.View.{message_view};
-ghost use Rattle.lsp_demo.specs.Server.{demo_reply};
+// The server that answers `demo/echo` at once, and `demo/hold` at `demo/release`.
+ghost use Rattle.std.specs.Prelude.{◌≡◌, ◌≤◌};
 
 use crate::report::report;
-use lsp_server::{
-    Connection, ErrorCode, IoFault, IoThreads, Message, ProtocolError, Request, Response,
-};
+use crate::work::{Work, WorkFault};
+use lsp_server::dispatch::Answer;
+use lsp_server::{Connection, IoFault, IoThreads, Message, ProtocolError};
 use serde_json::{Map, Value};
-use std::alloc::{AllocError, Global};
 use std::io::Write;
 use std::net::{Net, ToSocketAddrs};
 use std::sync::Wait;
@@ -24,15 +20,18 @@ enum ServeEnd {
     Ended,
     /// With an error of the handshake or of the shutdown.
     Refused(ProtocolError),
-    /// A growth was refused.
-    Memory,
+    /// With a message that was not taken.
+    Failed(WorkFault),
 }
 
 /// Serves one connection, and gives the exit status: 0 after `shutdown` and `exit`, where the threads of the connection
 /// ended without a fault, and else 1. Why it is 1 goes to `errors`, whose faults are ignored.
 ///
-/// The request `demo/echo` is answered with its params, and every other with code -32601. Notifications other than
-/// `exit`, and responses, are dropped. Without threads nothing is waited for at the end.
+/// The request `demo/echo` is answered with its params at once, and `demo/hold` is kept: it is answered with its params at
+/// the notification `demo/release`, with the others that are kept and in the order in which they came, or with code -32800
+/// where the notification `$/cancelRequest` names it before. Every other request is answered with code -32601. A request
+/// under the id of one that is kept replaces it, which then gets no reply, and neither does what is kept at `shutdown`. Other
+/// notifications than these and `exit`, and responses, are dropped. Without threads nothing is waited for at the end.
 pub fn serve_on<R: Threads + Wait + Clock + AllocGlobal, E: Write>(
     rt: &R,
     connection: Connection,
@@ -59,7 +58,8 @@ pub fn serve_on<R: Threads + Wait + Clock + AllocGlobal, E: Write>(
             }
             report(errors, error)
         }
-        ServeEnd::Memory => report(errors, "out of memory"),
+        ServeEnd::Failed(WorkFault::Dispatch(fault)) => report(errors, fault),
+        ServeEnd::Failed(WorkFault::Memory) => report(errors, "out of memory"),
     }
 }
 
@@ -93,8 +93,9 @@ fn serve_messages<'a, R: Wait + Clock + AllocGlobal>(
     rt: &'a R,
     connection: &'a Connection,
 ) -> ServeEnd {
+    let mut work = Work::new(rt.alloc());
     for message in connection.receiver.iter(rt) {
-        if let Some(end) = serve_message(rt, connection, message) {
+        if let Some(end) = serve_message(rt, connection, &mut work, message) {
             return end;
         }
     }
@@ -105,53 +106,56 @@ fn serve_messages<'a, R: Wait + Clock + AllocGlobal>(
 fn serve_message<R: Wait + Clock + AllocGlobal>(
     rt: &R,
     connection: &Connection,
+    work: &mut Work,
     message: Message,
 ) -> Option<ServeEnd> {
-    match message {
-        Message::Request(request) => serve_request(rt, connection, request),
-        Message::Notification(notification) => {
-            if notification.method.as_str() == "exit" {
-                return Some(ServeEnd::Ended);
-            }
-            None
+    if let Message::Request(request) = &message {
+        match connection.handle_shutdown(rt, request) {
+            Ok(true) => return Some(ServeEnd::ShutDown),
+            Ok(false) => {}
+            Err(error) => return Some(ServeEnd::Refused(error)),
         }
-        Message::Response(_) => None,
+    }
+    match work.take(message) {
+        Ok(Answer::Note(notification)) => {
+            serve_notification(rt, connection, work, notification.method.as_str())
+        }
+        Ok(answer) => reply(rt, connection, answer),
+        Err(fault) => Some(ServeEnd::Failed(fault)),
     }
 }
 
-/// Answers a request.
-fn serve_request<R: Wait + Clock + AllocGlobal>(
+/// Serves a notification by its method.
+fn serve_notification<R: Wait>(
     rt: &R,
     connection: &Connection,
-    request: Request,
+    work: &mut Work,
+    method: &str,
 ) -> Option<ServeEnd> {
-    match connection.handle_shutdown(rt, &request) {
-        Ok(true) => return Some(ServeEnd::ShutDown),
-        Ok(false) => {}
-        Err(error) => return Some(ServeEnd::Refused(error)),
+    match method {
+        "exit" => Some(ServeEnd::Ended),
+        "demo/release" => release_all(rt, connection, work),
+        _ => None,
     }
-    let Ok(reply) = reply_to(rt.alloc(), request) else {
-        return Some(ServeEnd::Memory);
-    };
-    match connection.sender.send(rt, reply) {
+}
+
+/// Answers every request that is kept, in the order in which they came.
+fn release_all<R: Wait>(rt: &R, connection: &Connection, work: &mut Work) -> Option<ServeEnd> {
+    for (ticket, request) in work.release() {
+        let answer = work.finish(ticket, request);
+        if let Some(end) = reply(rt, connection, answer) {
+            return Some(end);
+        }
+    }
+    None
+}
+
+/// Sends the reply that an answer has, if it has one.
+fn reply<R: Wait>(rt: &R, connection: &Connection, answer: Answer) -> Option<ServeEnd> {
+    match connection.sender.send(rt, answer.into_reply()?) {
         Ok(()) => None,
         Err(_) => Some(ServeEnd::Ended),
     }
-}
-
-/// The reply to a request other than `shutdown`.
-fn reply_to(alloc: Global, request: Request) -> Result<Message, AllocError>
-    ensures { IfOk result (λ reply. message_view reply ≡ demo_reply request.id (string_bytes request.method) (view request.params)) }
-{
-    if request.method.as_str() == "demo/echo" {
-        return Ok(Message::Response(Response {
-            id: request.id,
-            response_result: Ok(request.params),
-        }));
-    }
-    let text = String::from_str(alloc, "method not found")?;
-    let code = ErrorCode::MethodNotFound.number();
-    Ok(Message::Response(Response::new_err(request.id, code, text)))
 }
 
 /// Serves standard input and output, and gives the exit status, as `serve_on`.

@@ -29,6 +29,9 @@ pub(super) const RESULT_FRAME: &str =
 pub(super) const ALL_FRAMES: &str =
     "Content-Length: 53\r\n\r\n{\"jsonrpc\":\"2.0\",\"id\":1,\"result\":{\"capabilities\":{}}}Content-Length: 37\r\n\r\n{\"jsonrpc\":\"2.0\",\"id\":5,\"result\":[1]}Content-Length: 79\r\n\r\n{\"jsonrpc\":\"2.0\",\"id\":\"x\",\"error\":{\"code\":-32601,\"message\":\"method not found\"}}Content-Length: 38\r\n\r\n{\"jsonrpc\":\"2.0\",\"id\":2,\"result\":null}";
 
+const KEPT_FRAMES: &str =
+    "Content-Length: 53\r\n\r\n{\"jsonrpc\":\"2.0\",\"id\":1,\"result\":{\"capabilities\":{}}}Content-Length: 79\r\n\r\n{\"jsonrpc\":\"2.0\",\"id\":5,\"error\":{\"code\":-32800,\"message\":\"canceled by client\"}}Content-Length: 77\r\n\r\n{\"jsonrpc\":\"2.0\",\"id\":7,\"error\":{\"code\":-32601,\"message\":\"method not found\"}}Content-Length: 37\r\n\r\n{\"jsonrpc\":\"2.0\",\"id\":6,\"result\":[2]}Content-Length: 38\r\n\r\n{\"jsonrpc\":\"2.0\",\"id\":2,\"result\":null}";
+
 // The message with this member text.
 fn message(alloc: Global, text: &str) -> Option<Message> {
     let Ok(tree) = Value::from_str(alloc, text) else {
@@ -76,6 +79,25 @@ fn serves<R: Threads + Wait + Clock + AllocGlobal + Abort>(
 fn each_request_is_answered(rt: HostRuntime) -> Result<(), Fail> {
     let texts = [INITIALIZE, INITIALIZED, ECHO, OTHER, SHUTDOWN, EXIT];
     serves(&rt, &texts, ALL_FRAMES, "", 0)?;
+    Ok(())
+}
+
+// What is kept is answered where it is cancelled or released, and nothing is answered twice.
+#[test]
+fn kept_requests(rt: HostRuntime) -> Result<(), Fail> {
+    let texts = [
+        INITIALIZE,
+        INITIALIZED,
+        "{\"id\":5,\"method\":\"demo/hold\",\"params\":[1]}",
+        "{\"id\":6,\"method\":\"demo/hold\",\"params\":[2]}",
+        "{\"method\":\"$/cancelRequest\",\"params\":{\"id\":5}}",
+        "{\"id\":7,\"method\":\"$/x\"}",
+        "{\"method\":\"$/y\"}",
+        "{\"method\":\"demo/release\"}",
+        SHUTDOWN,
+        EXIT,
+    ];
+    serves(&rt, &texts, KEPT_FRAMES, "", 0)?;
     Ok(())
 }
 
