@@ -16,7 +16,7 @@ pub fn session_with<R: BufRead, W: Write, S: Speaker + Opener>(
     speaker: &mut S,
 ) -> Result<SessionEnd, SessionFault>
     ensures { IfSome (R.remaining reader.old) (λ text.
-        Gives (SpeechOut S.gives S.initializes speaker.old speaker.new)
+        Gives (SpeechOut S.gives S.initializes S.opens S.starves speaker.old speaker.new)
         text (R.remaining reader.new) (W.contents writer.old) (W.contents writer.new) result) }
 {
     let mut inbox = StreamInbox::new(alloc, reader);
