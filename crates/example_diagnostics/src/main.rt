@@ -8,9 +8,8 @@ use lsp_message::{Notification, Request, RequestId, ResponseError};
 use lsp_service::{Act, Server, Working, session_with};
 use serde_json::{Value, json};
 use std::alloc::{AllocError, Global};
-use std::io;
 use std::io::BufReader;
-use std::mem;
+use std::{io, mem};
 
 /// What a document is checked against, and which hovers wait.
 #[derive(Drop)]
@@ -73,7 +72,11 @@ impl Server for Checker {
             return Ok(acts);
         }
         let message = String::from_str(self.alloc, "method not found")?;
-        let error = ResponseError { code: -32601, message, data: None };
+        let error = ResponseError {
+            code: -32601,
+            message,
+            data: None,
+        };
         acts.push(Act::Reply(request.id, Err(error)))?;
         Ok(acts)
     }
@@ -91,7 +94,11 @@ impl Server for Checker {
         Ok(acts)
     }
 
-    fn response(&mut self, asked: Asked, outcome: Result<Value, ResponseError>) -> Result<Acts, AllocError> {
+    fn response(
+        &mut self,
+        asked: Asked,
+        outcome: Result<Value, ResponseError>,
+    ) -> Result<Acts, AllocError> {
         let mut acts = Vec::new(self.alloc);
         let Asked::Configuration = asked;
         let Ok(values) = outcome else {
@@ -135,7 +142,10 @@ fn document_in(alloc: Global, notification: &Notification) -> Result<Option<Docu
     let Some(text) = text.and_then(|text| text.as_str()) else {
         return Ok(None);
     };
-    let Some(uri) = params.pointer("/textDocument/uri").and_then(|uri| uri.as_str()) else {
+    let Some(uri) = params
+        .pointer("/textDocument/uri")
+        .and_then(|uri| uri.as_str())
+    else {
         return Ok(None);
     };
     Ok(Some(Document {
@@ -172,7 +182,12 @@ fn marks(alloc: Global, longest: u64, document: &Document) -> Result<Act<Asked>,
 fn main(rt: HostRuntime) -> Answer<()> {
     let alloc: Global = rt.alloc();
     let mut reader = BufReader::with_capacity(alloc, 65536, rt.reader())?;
-    let checker = Checker { alloc, longest: 80, open: Vec::new(alloc), waiting: Vec::new(alloc) };
+    let checker = Checker {
+        alloc,
+        longest: 80,
+        open: Vec::new(alloc),
+        waiting: Vec::new(alloc),
+    };
     let mut working = Working::new(alloc, checker);
     match session_with(alloc, &mut reader, &mut io::writer(&rt), &mut working) {
         Ok(_) => Ok(()),

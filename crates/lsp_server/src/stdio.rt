@@ -278,8 +278,9 @@ where
     let Ok(dropper) = thread::spawn(rt, move || drop_all(theirs, spent)) else {
         return Err(IoFault::Start);
     };
-    let Ok(reader) = thread::spawn(rt, move || { M::read_all(theirs, alloc, reader, limit, incoming) })
-    else {
+    let Ok(reader) = thread::spawn(rt, move || {
+        M::read_all(theirs, alloc, reader, limit, incoming)
+    }) else {
         return Err(IoFault::Start);
     };
     let threads = IoThreads {
