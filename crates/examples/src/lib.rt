@@ -4,4 +4,4 @@
 
 pub mod client;
 pub mod message_loop;
-pub mod session;
+pub mod quiet;
