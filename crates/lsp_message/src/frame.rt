@@ -121,7 +121,7 @@ pub enum WriteFault {
     /// 1: the writer failed in this call, with this kind, or took no byte of a write that wasn't empty (kind
     /// `WriteZero`). It got a beginning of the frame, and all of it where the flush failed.
     Output(ErrorKind),
-    /// 2: a growth was refused. The writer is as it was.
+    /// 2: an allocation failed. The writer is as it was.
     Memory,
 }
 

@@ -5,7 +5,7 @@ use std::fmt;
 /// Why a request was not registered. It hands the data back, and the queue is unchanged.
 #[derive(Debug, Drop)]
 pub enum RegisterFault<T> {
-    /// 1: a growth of the queue was refused.
+    /// 1: an allocation of the queue failed.
     Memory(T),
     /// 2: `serde_json` did not convert the params, want of memory included.
     Unwritable(T),

@@ -124,7 +124,7 @@ impl<I: Drop> Incoming<I> {
     /// Takes a request out and gives the reply to it, where it was pending (LSP 3.17, "Cancellation Support"). Its data is
     /// dropped.
     ///
-    /// Otherwise it gives `None` and takes no memory. A refused growth leaves the queue unchanged.
+    /// Otherwise it gives `None` and takes no memory. A failed allocation leaves the queue unchanged.
     pub fn cancel(&mut self, id: RequestId) -> Result<Option<Response>, AllocError>
         ensures reply { IfOk result (λ reply. option_map response_view reply ≡ option_map (λ _. cancelled id) (map.get self.old id)) }
         ensures absent { map.get self.old id ≡ None → result ≡ Ok None }
@@ -212,8 +212,8 @@ impl<O> Outgoing<O> {
 impl<O: Drop> Outgoing<O> {
     /// Makes a request pending with this data, and gives the request to send. Its id is the next of 0, 1, 2, .. 2147483647.
     ///
-    /// `RegisterFault::Spent` comes exactly where all ids were given out, else `RegisterFault::Memory` where a growth was
-    /// refused. Each hands the data back, and the queue is unchanged.
+    /// `RegisterFault::Spent` comes exactly where all ids were given out, else `RegisterFault::Memory` where an allocation
+    /// failed. Each hands the data back, and the queue is unchanged.
     pub fn register_value(
         &mut self,
         method: String,
@@ -280,7 +280,7 @@ impl<O: Drop> Outgoing<O> {
     }
 }
 
-/// Keeps the data under the id, in the place of what was there. Where a growth is refused it comes back.
+/// Keeps the data under the id, in the place of what was there. Where an allocation fails it comes back.
 fn keep<D: Drop>(pending: &mut BTreeMap<RequestId, D>, id: RequestId, data: D) -> Result<(), D>
     ensures ok { OnOk result (map.from_entries pending.new.entries ≡ map.insert (map.from_entries {R = id_cmp} pending.old.entries) id «data») }
     ensures err { OnErr result (pending.new.entries ≡ pending.old.entries) }

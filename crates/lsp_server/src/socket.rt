@@ -21,8 +21,8 @@ impl Connection {
     /// A connection to the peer that listens at the address: an IP address or a host's name, and a port, such as
     /// `"127.0.0.1:9257"`. Of a name's addresses the first that answers is taken.
     ///
-    /// The faults are 4, 5 and 6: a thread was not started; the address is none, or no connection came about; a growth was
-    /// refused. A peer that stays and reads nothing for half a minute is a write fault, which `IoThreads::join` answers.
+    /// The faults are 4, 5 and 6: a thread was not started; the address is none, or no connection came about; an allocation
+    /// failed. A peer that stays and reads nothing for half a minute is a write fault, which `IoThreads::join` answers.
     pub fn connect<R, A>(rt: &R, addr: A) -> Result<(Connection, IoThreads), IoFault>
     where
         R: Net + Threads + Wait + Clock + AllocGlobal + Copy + Drop + Send + 'static,

@@ -41,7 +41,7 @@ pub enum IoFault {
     Start,
     /// 5: the socket was not opened, or the system refused a part of it, with this kind.
     Socket(ErrorKind),
-    /// 6: a growth was refused: of a channel or a buffer.
+    /// 6: an allocation failed: of a channel or a buffer.
     Memory,
 }
 
@@ -164,7 +164,7 @@ impl IoThreads {
 impl Connection {
     /// A connection over standard input and output.
     ///
-    /// The faults are 4 and 6: a thread was not started, a growth was refused.
+    /// The faults are 4 and 6: a thread was not started, an allocation failed.
     pub fn stdio<R>(rt: &R) -> Result<(Connection, IoThreads), IoFault>
     where
         R: Threads + Wait + Clock + AllocGlobal + Input + Print + Copy + Drop + Send + 'static,

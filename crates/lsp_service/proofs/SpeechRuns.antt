@@ -118,7 +118,7 @@ module _ {I O : Type 0} (receives : I → Event → I → Type 0) (sends : O →
       still_awaits events None awaited = tt
       still_awaits events (Some null) awaited = (events0 ++ awaited.0, awaited.1, awaited.2, rw (awaited.3, append_assoc) refl, awaited.4)
 
-  -- a growth is refused at a message that was waited for
+  -- an allocation fails at a message that was waited for
   pub waited_exhausted : (P : List Message → Stop → List Message → Option Message → SessionAnswer → Type 0) (i i' : I) (o : O) (m : Message) (answer : SessionAnswer)
       → WaitsFor receives i (message m) i' → P [] exhausted [] None answer → Runs receives sends P (i, o) answer (i', o)
   waited_exhausted P i i' o m answer waits part = record {
@@ -341,7 +341,7 @@ module _ {H I O : Type 0} (gives : H → Message → List Message → H → Type
   pub speaks_on : (h h' : H) (i : I) (o o' : O) (m : Message) → is_served m ≡ true → Utters gives sends m (h, o) (Ok tt) (h', o') → SpeaksOn gives receives sends m (h, i, o) (h', i, o')
   speaks_on h h' i o o' m served uttered = record { served = served; said = uttered.0; given = uttered.1; unread = refl; taken = uttered.2 }
 
-  -- it is refused, or a growth is
+  -- it is refused, or an allocation fails
   pub fails_on : (h h' : H) (i : I) (o o' : O) (m : Message) (fault : ProtocolFault) → is_served m ≡ true → Utters gives sends m (h, o) (Err fault) (h', o')
       → EndsAt gives receives sends m (h, i, o) (Err fault) (h', i, o')
   fails_on h h' i o o' m fault served uttered = elim uttered [
@@ -460,7 +460,7 @@ module _ {H I O : Type 0} (gives : H → Message → List Message → H → Type
           let passed = passes_other (bytes_eq method (codes "shutdown")) refl shuts in
           rw passed.1 (speaks_on h h' i o o'' (request id method params) (rw passed.0 refl) (rw passed.2 at uttered))
 
-      -- a request of which a message is refused, or at which a growth is
+      -- a request of which a message is refused, or at which an allocation fails
       pub fails_request : (fault : ProtocolFault) → ShutsDown receives sends id method (i, o) (Ok false) (i', o')
           → Utters gives sends (request id method params) (h, o') (Err fault) (h', o'')
           → EndsAt gives receives sends (request id method params) (h, i, o) (Err fault) (h', i', o'')
@@ -468,7 +468,7 @@ module _ {H I O : Type 0} (gives : H → Message → List Message → H → Type
           let passed = passes_other (bytes_eq method (codes "shutdown")) refl shuts in
           rw passed.1 (fails_on h h' i o o'' (request id method params) fault (rw passed.0 refl) (rw passed.2 at uttered))
 
-  -- a message that was waited for ends the session, or a growth is refused at it
+  -- a message that was waited for ends the session, or an allocation fails at it
   pub ends_waited : (h h' : H) (i i' i'' : I) (o o' : O) (m : Message) (answer : SessionAnswer)
       → WaitsFor receives i (message m) i' → EndsAt gives receives sends m (h, i', o) answer (h', i'', o')
       → Runs receives sends (Speaks gives h h') (i, o) answer (i'', o')

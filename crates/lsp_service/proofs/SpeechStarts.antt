@@ -56,7 +56,7 @@ module _ {H I O : Type 0} (gives : H → Message → List Message → H → Type
       runs_after receives sends (Opened gives initializes opens starves h h') (Speaks gives mid h') (i, o) (i, o') new answer
       [] [] opened.0 refl refl refl opened.2 (λ letters stop output null part. inl (opened.0, mid, output, opened.1, refl, part)) run
 
-  -- it is refused, or a growth is
+  -- it is refused, or an allocation fails
   pub opened_fault : (h h' : H) (i : I) (o o' : O) (fault : ProtocolFault) → Opens opens starves sends (h, o) (Err fault) (h', o')
       → OpensOn gives initializes opens starves receives sends (h, i, o) (Err fault) (h', i, o')
   opened_fault h h' i o o' fault opened = elim opened [
@@ -291,7 +291,7 @@ module _ {H I O : Type 0} (gives : H → Message → List Message → H → Type
       waited_decided receives sends (Out h h) i i' o (notification method params) (Err fault) (at_once i i' _ received)
       (rw decides.0 ((refl, refl), decides.1, (refl, refl, refl)))
 
-  -- `initialize` is answered, or a growth is refused in the place of the reply
+  -- `initialize` is answered, or an allocation fails in the place of the reply
   answered : (h h' : H) (i i' i'' : I) (o o'' : O) (id : Id) (method : List ℕ) (params : Data) (answer : SessionAnswer)
       → receives i (message (request id method params)) i' → is_initialize (request id method params) ≡ true
       → StartsOn gives initializes opens starves receives sends id params (h, i', o) answer (h', i'', o'')
@@ -392,7 +392,7 @@ module _ {H I O : Type 0} (gives : H → Message → List Message → H → Type
               (letters_early all undecided) (rw (requests_same all) at replied) (refl, (refl, refl, refl));
         }
 
-    -- the last turn decides against the session, or a growth is refused at its message
+    -- the last turn decides against the session, or an allocation fails at its message
     ends_run : (h : H) (g g' : G) (i i' : I) (o : O) (last : Turn) (fault : ProtocolFault)
         → TakesTurn (AlwaysYes {G = G}) receives (g, i) last (g', i') → Decides last (Err fault)
         → Runs receives sends (Out h h) (i, o) (Err fault) (i', o)

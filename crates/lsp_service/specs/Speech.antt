@@ -56,7 +56,7 @@ module _ {S : Type 0} (gives : S → Message → List Message → S → Type 0) 
 
 module _ {S : Type 0} (gives : S → Message → List Message → S → Type 0) (initializes : S → Data → Result Data ErrorObject → S → Type 0)
     (opens : S → List Message → S → Type 0) (starves : S → S → Type 0) where
-  -- Nothing more is sent. The speaker is as it was, or a growth was refused to it.
+  -- Nothing more is sent. The speaker is as it was, or an allocation failed to it.
   abbrev pub IsSilent : Stop → S → S → List Message → Option Message → Type 0
   IsSilent exhausted s s' output null = ((s' ≡ s) ⊎ starves s s') × (output ≡ []) × (null ≡ None)
   IsSilent stop s s' output null = (s' ≡ s) × (output ≡ []) × (null ≡ None)

@@ -50,14 +50,14 @@ module _ {S I O : Type 0} (gives : S → Message → List Message → S → Type
     pub unread : new.1 ≡ old.1
     pub taken : FoldsTo (Takes sends) old.2 said new.2
 
-  -- A message that was received is the first of the letters that the session ends with, or a growth is refused at it.
+  -- A message that was received is the first of the letters that the session ends with, or an allocation fails at it.
   abbrev pub EndsAt : Message → S × I × O → SessionAnswer → S × I × O → Type 0
   EndsAt m old answer new =
       RunsAwaiting receives sends (AwaitsLast m) (λ letters. Speaks gives old.0 new.0 (m ∷ letters)) (old.1, old.2) answer (new.1, new.2)
       ⊎ ((answer ≡ Err out_of_memory) × (new.1 ≡ old.1) × (new.2 ≡ old.2))
 
 module _ {S O : Type 0} (opens : S → List Message → S → Type 0) (starves : S → S → Type 0) (sends : O → Message → Result (Unit {0}) SendFault → O → Type 0) where
-  -- the speaker says messages to `initialized`, and they are sent; or a growth is refused to it
+  -- the speaker says messages to `initialized`, and they are sent; or an allocation fails to it
   abbrev pub Opens : S × O → Result (Unit {0}) ProtocolFault → S × O → Type 0
   Opens old (Ok done) new = (said : List Message) × opens old.0 said new.0 × FoldsTo (Takes sends) old.1 said new.1
   Opens old (Err fault) new =
@@ -67,7 +67,7 @@ module _ {S O : Type 0} (opens : S → List Message → S → Type 0) (starves :
 module _ {S I O : Type 0} (gives : S → Message → List Message → S → Type 0) (initializes : S → Data → Result Data ErrorObject → S → Type 0)
     (opens : S → List Message → S → Type 0) (starves : S → S → Type 0)
     (receives : I → Event → I → Type 0) (sends : O → Message → Result (Unit {0}) SendFault → O → Type 0) where
-  -- a growth was refused to the speaker, and the boxes were left alone
+  -- an allocation failed to the speaker, and the boxes were left alone
   abbrev pub Starves : S × I × O → SessionAnswer → S × I × O → Type 0
   Starves old answer new = (answer ≡ Err out_of_memory) × starves old.0 new.0 × (new.1 ≡ old.1) × (new.2 ≡ old.2)
 
@@ -98,7 +98,7 @@ module _ {S I O : Type 0} (gives : S → Message → List Message → S → Type
     pub is : answer ≡ Err (fault_of_refusal refusal)
 
   -- From `initialize` on: the speaker gives its result, which is offered, and the session goes on; or its error is refused;
-  -- or a growth is.
+  -- or an allocation fails.
   abbrev pub StartsOn : Id → Data → S × I × O → SessionAnswer → S × I × O → Type 0
   StartsOn id params old answer new =
       ((result : Data) × (mid : S) × initializes old.0 params (Ok result) mid

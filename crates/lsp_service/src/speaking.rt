@@ -25,8 +25,8 @@ pub trait Speaker {
     /// A message may give these messages, in order, and change the speaker so.
     ghost gives: { Self → Message → List Message → Self → Type 0 };
 
-    /// What comes of a message: all messages that the session is to send for it, in order. An `Err` says that a growth was
-    /// refused, and ends the session; nothing is sent.
+    /// What comes of a message: all messages that the session is to send for it, in order. An `Err` says that an allocation
+    /// failed, and ends the session; nothing is sent.
     fn turn(&mut self, message: Message) -> Result<Vec<Message>, AllocError>
         ensures { IfOk result (λ said. gives self.old (message_view message) (map message_view said.items) self.new) };
 }

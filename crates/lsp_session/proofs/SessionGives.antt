@@ -33,7 +33,7 @@ use Rattle.lsp_session.specs.declared.loops.frame_outbox.FrameOutbox.{FrameOutbo
 use Rattle.lsp_session.specs.declared.loops.stream_inbox.StreamInbox.{StreamInbox}
 use Rattle.lsp_session.specs.declared.loops.stream_session.SessionFault.TheVariants.{Memory}
 
--- the answer of a session that was refused a growth
+-- the answer of a session in which an allocation failed
 pub ran_out_answer : (answer : SessionAnswer) → ran_out answer ≡ true → answer ≡ Err out_of_memory
 ran_out_answer (Ok end) is = absurd (cc (is))
 ran_out_answer (Err out_of_memory) is = refl
@@ -51,7 +51,7 @@ module _ (limit : ℕ) where
 
   module _ (P : List Message → Stop → List Message → Option Message → SessionAnswer → Type 0) (text : List ℕ) (a b : Option (List ℕ))
       (letters : List Message) (output : List Message) (null : Option Message) where
-    -- a growth was refused
+    -- an allocation failed
     runs_out : (left : Option (List ℕ)) (stop : Stop) (answer : SessionAnswer) → P letters stop output null answer
         → (at : List ℕ) × BeginsWith limit text letters at × StopsWithin left (reading_within limit at) → GetsFirst (all_of output null) a b → RunsOut limit P text left a b
     runs_out left stop answer part read written =

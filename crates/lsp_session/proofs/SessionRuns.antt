@@ -116,7 +116,7 @@ module _ {I O : Type 0} (receives : I → Event → I → Type 0) (sends : O →
       still_awaits events None awaited = tt
       still_awaits events (Some null) awaited = (events0 ++ awaited.0, awaited.1, awaited.2, rw (awaited.3, append_assoc) refl, awaited.4)
 
-  -- a growth is refused at a message that was waited for
+  -- an allocation fails at a message that was waited for
   pub waited_exhausted : (P : List Message → Stop → List Message → Option Message → SessionAnswer → Type 0) (i i' : I) (o : O) (m : Message) (answer : SessionAnswer)
       → WaitsFor receives i (message m) i' → P [] exhausted [] None answer → Runs receives sends P (i, o) answer (i', o)
   waited_exhausted P i i' o m answer waits part = record {
@@ -387,7 +387,7 @@ module _ {H I O : Type 0} (answers : H → Id → List ℕ → Data → Result D
             taken = (o'', rw passed.2 at replied.2, refl);
           }
 
-      -- a request whose reply is refused, or at which a growth is
+      -- a request whose reply is refused, or at which an allocation fails
       pub fails_request : (fault : ProtocolFault) → ShutsDown receives sends id method (i, o) (Ok false) (i', o')
           → Replies answers notes sends (request id method params) (h, o') (Err fault) (h', o'')
           → EndsAt answers notes receives sends (request id method params) (h, i, o) (Err fault) (h', i', o'')
@@ -418,7 +418,7 @@ module _ {H I O : Type 0} (answers : H → Id → List ℕ → Data → Result D
             | inr memory ↦ inr (ap (λ (x : ProtocolFault). Err x) memory.0, passed.1, memory.1 ∙ passed.2)
           ]
 
-  -- a message that was waited for ends the session, or a growth is refused at it
+  -- a message that was waited for ends the session, or an allocation fails at it
   pub ends_waited : (h h' : H) (i i' i'' : I) (o o' : O) (m : Message) (answer : SessionAnswer)
       → WaitsFor receives i (message m) i' → EndsAt answers notes receives sends m (h, i', o) answer (h', i'', o')
       → Runs receives sends (Serves answers notes h h') (i, o) answer (i'', o')

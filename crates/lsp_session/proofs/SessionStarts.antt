@@ -191,7 +191,7 @@ module _ {H I O : Type 0} (answers : H → Id → List ℕ → Data → Result D
       waited_decided receives sends (AfterEarly answers notes capabilities h h) i i' o (notification method params) (Err fault) (at_once i i' _ received)
       (rw decides.0 refl, (refl, refl), decides.1, (refl, refl, refl))
 
-  -- `initialize` is answered, or a growth is refused in the place of the reply
+  -- `initialize` is answered, or an allocation fails in the place of the reply
   answered : (h h' : H) (i i' i'' : I) (o o'' : O) (id : Id) (method : List ℕ) (params : Data) (answer : SessionAnswer)
       → receives i (message (request id method params)) i' → is_initialize (request id method params) ≡ true
       → RunsFrom receives sends (AfterInitialize answers notes h h') (ok_reply id (initialize_result capabilities)) (i', o) answer (i'', o'')
@@ -305,7 +305,7 @@ module _ {H I O : Type 0} (answers : H → Id → List ℕ → Data → Result D
           };
         }
 
-    -- the last turn decides against the session, or a growth is refused at its message
+    -- the last turn decides against the session, or an allocation fails at its message
     ends_run : (h : H) (g g' : G) (i i' : I) (o : O) (last : Turn) (fault : ProtocolFault)
         → TakesTurn (AlwaysYes {G = G}) receives (g, i) last (g', i') → Decides last (Err fault)
         → Runs receives sends (AfterEarly answers notes capabilities h h) (i, o) (Err fault) (i', o)

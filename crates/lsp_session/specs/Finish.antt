@@ -26,7 +26,7 @@ abbrev pub is_idle : Turn → Bool
 is_idle (got timeout) = true
 is_idle turn = false
 
--- the fault shows another message, or a growth was refused in its place
+-- the fault shows another message, or an allocation failed in its place
 abbrev pub IsUninvited : ProtocolFault → Type 0
 IsUninvited fault = Shows expected_initialized fault ⊎ (fault ≡ out_of_memory)
 

@@ -6,7 +6,7 @@ use Rattle.lsp_session.specs.declared.lifecycle.SendFault.{SendFault}
 use Rattle.lsp_session.specs.declared.lifecycle.SendFault.TheVariants.{Closed, Memory}
 
 -- A message is taken while there is room, and refused as by a closed outbox from then on.
--- Only a growth that was refused makes an exception.
+-- Only a failed allocation makes an exception.
 abbrev pub TakesUpToRoom : ℕ → ℕ → List Message → Message → Result (Unit {0}) SendFault → List Message → Type 0
 TakesUpToRoom room room' old message (Ok done) new = (length old < room) × (new ≡ old ++ message ∷ []) × (room' ≡ room)
 TakesUpToRoom room room' old message (Err (Closed back)) new = (room ≤ length old) × (new ≡ old) × (room' ≡ room)

@@ -34,7 +34,7 @@ module _ {O : Type 0} (limit : ℕ) (sends : O → Message → Result (Unit {0})
   Refuses refusal = (ms : List Message) × (at : List ℕ) × (m : Message) × (rest : List ℕ) × (mid : O) × (back : msg.Message)
       × PassesAll limit text ms at × Begins limit at m rest × FoldsTo (Takes sends) old ms mid × sends mid m (Err (refusal back)) new × (left ≡ Some rest)
 
-  -- what was handed on where reading ended so; a reader that fails and a growth that is refused end it within a message
+  -- what was handed on where reading ended so; a reader that fails and an allocation that fails end it within a message
   abbrev pub Hands : ReadEnd → Type 0
   Hands Exit = HandsAll exited
   Hands End = HandsAll ended

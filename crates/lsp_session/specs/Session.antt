@@ -28,7 +28,7 @@ pub data Stop : Type 0 where
   timed_out : Stop
   -- the outbox refused the last reply
   refused : SendFault → Stop
-  -- a growth was refused at the message that came next
+  -- an allocation failed at the message that came next
   exhausted : Stop
 
 -- the id of the request that a message is

@@ -93,7 +93,7 @@ module _ (limit : ℕ) (P : List Message → Stop → List Message → Option Me
     pub part : P letters stop output null answer
     pub written : BreaksOffLast (all_of output null) old new
 
-  -- A growth was refused. The first messages of the output were written, each whole.
+  -- An allocation failed. The first messages of the output were written, each whole.
   pub record RunsOut : Type 0 where
     pub letters : List Message
     pub at : List ℕ

@@ -14,7 +14,7 @@ use Rattle.lsp_session.specs.declared.loops.serving.SessionEnd.TheVariants.{Shut
 use Rattle.lsp_session.specs.declared.loops.stream_session.SessionFault.{SessionFault}
 use Rattle.lsp_session.specs.declared.loops.stream_session.SessionFault.TheVariants.{Protocol, Read, Write, Memory}
 
--- a growth was refused
+-- an allocation failed
 abbrev pub ran_out : SessionAnswer → Bool
 ran_out (Ok end) = false
 ran_out (Err fault) = is_memory fault

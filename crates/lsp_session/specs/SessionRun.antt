@@ -19,7 +19,7 @@ is_open (message m) = true
 is_open timeout = true
 is_open closed = false
 
--- The events brought these letters and no other message, and ended as the letters did. At a refused growth one more
+-- The events brought these letters and no other message, and ended as the letters did. At a failed allocation one more
 -- message came. After 2^64 - 1 events or more a session may end as if no more came.
 abbrev pub Brings : List Event → List Message → Stop → Type 0
 Brings events letters decided = (filter_map message_in events ≡ letters) × (list_all is_open events ≡ true)

@@ -13,7 +13,7 @@ use Rattle.lsp_session.specs.Start.{fault_of_refusal}
 use Rattle.lsp_session.specs.declared.lifecycle.SendFault.{SendFault}
 
 module _ {I O : Type 0} (receives : I → Event → I → Type 0) (sends : O → Message → Result (Unit {0}) SendFault → O → Type 0) where
-  -- From the reply to `initialize` on: it is offered and the session goes on, or a growth is refused in its place.
+  -- From the reply to `initialize` on: it is offered and the session goes on, or an allocation fails in its place.
   abbrev pub RunsFrom : (List Message → Stop → List Message → Option Message → SessionAnswer → Type 0) → Message → I × O → SessionAnswer → I × O → Type 0
   RunsFrom P reply old answer new =
       Runs receives sends (λ letters stop output null answer. (later : List Message) × (output ≡ reply ∷ later) × P letters stop later null answer) old answer new
@@ -34,7 +34,7 @@ module _ {H I O : Type 0} (answers : H → Id → List ℕ → Data → Result D
     pub unread : new.1 ≡ old.1
     pub taken : FoldsTo (Takes sends) old.2 replies new.2
 
-  -- A message that was received is the first of the letters that the session ends with, or a growth is refused at it.
+  -- A message that was received is the first of the letters that the session ends with, or an allocation fails at it.
   abbrev pub EndsAt : Message → H × I × O → SessionAnswer → H × I × O → Type 0
   EndsAt m old answer new =
       RunsAwaiting receives sends (AwaitsLast m) (λ letters. Serves answers notes old.0 new.0 (m ∷ letters)) (old.1, old.2) answer (new.1, new.2)

@@ -14,7 +14,7 @@ use Rattle.lsp_session.specs.declared.lifecycle.SendFault.{SendFault}
 abbrev pub ShutdownAnswer : Type 0
 ShutdownAnswer = Result Bool ProtocolFault
 
--- the fault shows another message, or a growth was refused in its place
+-- the fault shows another message, or an allocation failed in its place
 abbrev pub IsNoExit : ProtocolFault → Type 0
 IsNoExit fault = Shows unexpected_in_shutdown fault ⊎ (fault ≡ out_of_memory)
 

@@ -89,7 +89,7 @@ module _ {O : Type 0} (sends : O → Message → Result (Unit {0}) SendFault →
     pub replies : IsEarlyReply id reply
     pub refuses : sends old reply (Err fault) new
 
-  -- A turn ends the handshake. It decides; or the outbox refuses the reply to it; or a growth was refused in the place of
+  -- A turn ends the handshake. It decides; or the outbox refuses the reply to it; or an allocation failed in the place of
   -- the text that shows its message.
   abbrev pub Ends : O → Turn → StartAnswer → O → Type 0
   Ends old turn answer new =

@@ -62,7 +62,7 @@ impl ProtocolError {
         )
     }
 
-    /// Whether a growth was refused.
+    /// Whether an allocation failed.
     pub fn is_out_of_memory(&self) -> bool
         ensures { result ≡ is_memory self.now }
     {

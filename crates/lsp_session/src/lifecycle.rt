@@ -14,7 +14,7 @@
 //! | the end of the messages | `disconnected channel` | `disconnected channel` | `channel disconnected waiting for exit notification` |
 //! | a gate that says no | `Initialization has been aborted during initialization` | the same | no gate is asked |
 //!
-//! A closed outbox ends the handshake with `disconnected channel`, and a growth that is refused with `out of memory`.
+//! A closed outbox ends the handshake with `disconnected channel`, and an allocation that fails with `out of memory`.
 //! `shutdown` takes no notice of a null that was not sent, and waits for `exit`.
 ghost use Rattle.std.specs.Prelude.{◌≡◌, ◌≢◌, IfErr};
 ghost use Rattle.lsp_message.specs.View.{message_view};
@@ -72,7 +72,7 @@ pub trait Inbox {
 pub enum SendFault {
     /// The outbox is closed.
     Closed(Message),
-    /// A growth was refused.
+    /// An allocation failed.
     Memory(Message),
 }
 

@@ -33,7 +33,7 @@ pub enum ReadEnd {
     Fault(ReadFault),
     /// The outbox is closed. The message that it refused is dropped.
     Closed,
-    /// The outbox was refused a growth. The message is dropped.
+    /// An allocation of the outbox failed. The message is dropped.
     Memory,
 }
 

@@ -78,7 +78,7 @@ module _ (limit : ℕ) (P : List Message → Stop → List Message → Option Me
     pub part : P letters stop output null answer
     pub written : BreaksOffWithin (all_of output null) old new
 
-  -- A growth was refused. The writer got frames of the first messages of such an output.
+  -- An allocation failed. The writer got frames of the first messages of such an output.
   pub record RunsOut : Type 0 where
     pub letters : List Message
     pub at : List ℕ

@@ -37,12 +37,12 @@ pub trait Handler {
     ghost notes: { Self → List ℕ → Data → Self → Type 0 };
 
     /// What came of a request: its result, or an error (JSON-RPC 2.0, section 5). The session sends it under the
-    /// request's id. An outer `Err` says that a growth was refused, and ends the session.
+    /// request's id. An outer `Err` says that an allocation failed, and ends the session.
     fn answer(&mut self, request: &Request) -> Result<Result<Value, ResponseError>, AllocError>
         ensures { IfOk result (λ outcome.
             answers self.old request.now.id (string_bytes request.now.method) (view request.now.params) (outcome_view outcome) self.new) };
 
-    /// Takes notice of a notification (JSON-RPC 2.0, section 4.1). An `Err` says that a growth was refused, and ends the
+    /// Takes notice of a notification (JSON-RPC 2.0, section 4.1). An `Err` says that an allocation failed, and ends the
     /// session.
     fn note(&mut self, notification: &Notification) -> Result<(), AllocError>
         ensures { IfOk result (λ _. notes self.old (string_bytes notification.now.method) (view notification.now.params) self.new) };
@@ -55,7 +55,7 @@ pub trait Handler {
 /// with null, and `exit` then gives `ShutDown`. `Closed` comes where, from `initialized` on, `exit` comes without a
 /// `shutdown` or no more messages come. What comes at the wrong time is in the table of `lifecycle`.
 ///
-/// An outbox that is closed to a reply ends the session with `disconnected channel`, and a growth that is refused with
+/// An outbox that is closed to a reply ends the session with `disconnected channel`, and an allocation that fails with
 /// `out of memory`; that the null could not be sent is ignored. After 2^64 - 1 events it ends as if no more messages came.
 pub fn serve<I: Inbox, O: Outbox, H: Handler>(
     alloc: Global,

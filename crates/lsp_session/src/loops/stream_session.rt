@@ -26,7 +26,7 @@ pub enum SessionFault {
     Read(ReadFault),
     /// 3: the writer failed.
     Write(WriteFault),
-    /// 4: a growth was refused: in reading, in writing, in the handler or in the session itself.
+    /// 4: an allocation failed: in reading, in writing, in the handler or in the session itself.
     Memory,
 }
 
@@ -131,7 +131,7 @@ fn read_answer(
     }
 }
 
-/// Whether a growth was refused.
+/// Whether an allocation failed.
 fn ran_out(answer: &Result<SessionEnd, ProtocolError>) -> bool
     ensures { result ≡ ran_out_spec answer.now }
 {
