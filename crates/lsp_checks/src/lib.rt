@@ -16,6 +16,8 @@ mod loops;
 #[cfg(test)]
 mod messages;
 #[cfg(test)]
+mod peers;
+#[cfg(test)]
 mod queues;
 #[cfg(test)]
 mod reading;

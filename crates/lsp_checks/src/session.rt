@@ -181,8 +181,14 @@ fn sessions_within_a_limit(rt: HostRuntime) -> Result<(), Fail> {
         let mut written = Vec::new(alloc);
         let capabilities = Value::Object(Map::new(alloc));
         let mut handler = Echo::new(alloc);
-        let answer =
-            session_within(alloc, &mut reader, &mut written, capabilities, &mut handler, limit);
+        let answer = session_within(
+            alloc,
+            &mut reader,
+            &mut written,
+            capabilities,
+            &mut handler,
+            limit,
+        );
         assert_eq!(rt; end_text(alloc, answer)?.as_str(), end, "{limit}");
         assert_eq!(rt; written.as_slice(), output.as_bytes(), "{limit}");
     }

@@ -1,6 +1,7 @@
 // Connections over TCP. Both ends are in this process, on 127.0.0.1, and a message is awaited only so long.
 use lsp_server::{
-    CHANNEL_ROOM, Connection, Handler, IoFault, IoThreads, Message, Notification, Request, Response, SessionEnd,
+    CHANNEL_ROOM, Connection, Handler, IoFault, IoThreads, Message, Notification, Request,
+    Response, SessionEnd,
 };
 use serde_json::{Map, Value};
 use std::alloc::{AllocError, Global};

@@ -179,6 +179,13 @@ impl<O> Outgoing<O> {
         }
     }
 
+    /// Whether the request isn't pending, also for one that never was. It takes no memory.
+    pub fn is_completed(&self, id: &RequestId) -> bool
+        ensures { result ≡ not (map.contains_key (pending_of self.now) id.now) }
+    {
+        !self.pending.contains_key(id)
+    }
+
     /// Whether some request is pending. It takes no memory.
     pub fn has_pending(&self) -> bool
         ensures { result ≡ not (map.len (pending_of self.now) == 0) }

@@ -1,8 +1,10 @@
 //! A connection of two channels, and the lifecycle of a session over them.
-use lsp_session::ProtocolError;
-use lsp_session::{CallGate, finish, finish_within, initialize_result, shutdown, start_within, wait_within};
 use crossbeam_channel::{Receiver, Sender, unbounded};
 use lsp_message::{Message, Request, RequestId};
+use lsp_session::{
+    CallGate, ProtocolError, finish, finish_within, initialize_result, shutdown, start_within,
+    wait_within,
+};
 use serde_json::Value;
 use std::alloc::{AllocError, Global};
 use std::sync::Wait;

@@ -100,7 +100,9 @@ impl Connection {
         // A frame is one write, so holding it back gathers nothing. Where the option is refused, frames are only slower.
         let _ = stream.set_nodelay(true);
         let patience = Duration::from_secs(WRITE_SECONDS);
-        stream.set_write_timeout(Some(patience)).map_err(socket_fault)?;
+        stream
+            .set_write_timeout(Some(patience))
+            .map_err(socket_fault)?;
         let reader = stream.try_clone().map_err(socket_fault)?;
         Connection::over(rt, reader, WriteHalf { stream }, limit)
     }

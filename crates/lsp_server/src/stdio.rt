@@ -3,13 +3,9 @@ ghost use Rattle.std.specs.Prelude.{◌≡◌, true, IfErr, IfSome, IsSome};
 ghost use Rattle.lsp_server.specs.IoFault.{is_start_fault, reader_answer, writer_answer, ended_answer};
 
 use crate::channels::{ChannelInbox, ChannelOutbox, Connection};
-use lsp_session::{ReadEnd, WriteEnd, read_loop, write_loop};
 use crossbeam_channel::{Receiver, Sender, bounded};
 use lsp_message::{Message, ReadFault, WriteFault};
-<<<<<<< ours
 use lsp_session::{Outbox, ReadEnd, SendFault, WriteEnd, read_loop_within, write_loop};
-=======
->>>>>>> theirs
 use std::alloc::{AllocError, Global};
 use std::cell::Cell;
 use std::error::Error;
@@ -282,8 +278,9 @@ where
     let Ok(dropper) = thread::spawn(rt, move || drop_all(theirs, spent)) else {
         return Err(IoFault::Start);
     };
-    let Ok(reader) = thread::spawn(rt, move || { M::read_all(theirs, alloc, reader, limit, incoming) })
-    else {
+    let Ok(reader) = thread::spawn(rt, move || {
+        M::read_all(theirs, alloc, reader, limit, incoming)
+    }) else {
         return Err(IoFault::Start);
     };
     let threads = IoThreads {

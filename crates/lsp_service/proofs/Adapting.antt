@@ -1,35 +1,13 @@
 -- A session of a handler, from that of the speaker over it.
-use Rattle.std.proofs.Common.{◌≡◌, refl, sym, ◌∙◌, ap, ℕ, List, [], ◌∷◌, ◌++◌, append_assoc, append-nil, Option, Some, None}
-use Rattle.std.specs.List.{list_all}
+use Rattle.std.proofs.Common.{◌≡◌, refl, ◌∙◌, ap, ℕ, List, [], ◌∷◌, ◌++◌, append_assoc, append-nil, Option, Some, None}
 use Rattle.std.specs.Prelude.{Result}
 use Rattle.serde_json.specs.Data.{Data}
 use Rattle.lsp_message.specs.Id.{Id}
 use Rattle.lsp_message.specs.Message.{Message, ErrorObject, request, notification, response}
-use Rattle.lsp_session.specs.Event.{Event}
 use Rattle.lsp_session.specs.Session.{SessionAnswer, Stop, decided, no_more, timed_out, refused, exhausted, Handles, HandlesAll, Serves, IsLeft as IsLeftOver}
-use Rattle.lsp_session.specs.SessionRun.{RunsAwaiting, Runs}
-use Rattle.lsp_session.specs.declared.lifecycle.SendFault.{SendFault}
 use Rattle.lsp_service.specs.Adapter.{AnsweringGives}
-use Rattle.lsp_service.specs.Speech.{GivesAll, BreaksOff, GivesTo, IsLeft, Speaks}
+use Rattle.lsp_service.specs.Speech.{GivesAll, GivesTo, IsLeft, Speaks}
 use Rattle.lsp_service.specs.declared.adapter.Answering.{Answering}
-
--- a part of a session that is described otherwise
-pub runs_as : {I O : Type 0} (receives : I → Event → I → Type 0) (sends : O → Message → Result (Unit {0}) SendFault → O → Type 0)
-    (P Q : List Message → Stop → List Message → Option Message → SessionAnswer → Type 0) (old new : I × O) (answer : SessionAnswer)
-    → ((letters : List Message) (stop : Stop) (output : List Message) (null : Option Message) → P letters stop output null answer → Q letters stop output null answer)
-    → Runs receives sends P old answer new → Runs receives sends Q old answer new
-runs_as receives sends P Q old new answer turns run = record {
-  events = run.events;
-  received = run.received;
-  letters = run.letters;
-  stop = run.stop;
-  brought = run.brought;
-  output = run.output;
-  null = run.null;
-  awaited = run.awaited;
-  got = run.got;
-  part = turns run.letters run.stop run.output run.null run.part;
-}
 
 -- of a list of one message nothing is left after one of it
 whole_one : (part more : List Message) (unsaid r : Message) → part ++ unsaid ∷ more ≡ r ∷ [] → part ++ unsaid ∷ [] ≡ r ∷ []
@@ -76,8 +54,8 @@ module _ {H : Type 0} (answers : H → Id → List ℕ → Data → Result Data 
   handles_to (refused fault) s s' letters output broken =
       let before = handles_all s broken.mid broken.earlier broken.before broken.given in (
         rw (broken.cut, broken.sent)
-          (handles_more s.handler.now broken.mid.handler.now s'.handler.now broken.earlier broken.before (broken.part ++ broken.unsaid ∷ []) broken.last before.0
-          (offered_one broken.mid.handler.now s'.handler.now broken.last broken.part broken.more broken.unsaid broken.gave.0)),
+            (handles_more s.handler.now broken.mid.handler.now s'.handler.now broken.earlier broken.before (broken.part ++ broken.unsaid ∷ []) broken.last before.0
+            (offered_one broken.mid.handler.now s'.handler.now broken.last broken.part broken.more broken.unsaid broken.gave.0)),
         broken.gave.1 ∙ before.1,
       )
 

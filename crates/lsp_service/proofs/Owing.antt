@@ -1,18 +1,17 @@
 -- Each request of the client is answered once, or still held.
-use Rattle.std.proofs.Common.{◌≡◌, refl, sym, ◌∙◌, ap, inl, inr, ◌⊎◌, ℕ, zero, suc, ◌+◌, ◌≤◌, Bool, true, false, cond, is_some, List, [], ◌∷◌, ◌++◌, arith, Option, Some, None, fold}
+use Rattle.std.proofs.Common.{◌≡◌, refl, ◌∙◌, ap, ℕ, zero, suc, ◌+◌, ◌≤◌, Bool, true, false, cond, is_some, List, [], ◌∷◌, ◌++◌, arith, Option, Some, None}
 use Rattle.std.specs.FinMap as map
 use Rattle.std.specs.FinMap.{get-insert, get-remove, get-empty}
 use Rattle.std.specs.Ordering.{eq_by_cmp}
-use Rattle.std.specs.Prelude.{Result, if◌then◌else◌}
+use Rattle.std.specs.Prelude.{Result, Err, if◌then◌else◌}
 use Rattle.serde_json.specs.Data.{Data}
-use Rattle.lsp_message.specs.Id.{Id, id_cmp}
+use Rattle.lsp_message.specs.Id.{Id, id_cmp, number}
 use Rattle.lsp_message.specs.IdLaws.{id_total, id_decides}
 use Rattle.lsp_message.specs.Message.{Message, ErrorObject, request, notification, response}
 use Rattle.lsp_queue.specs.Queue.{Pending, pending_of}
-use Rattle.lsp_service.specs.Desk.{Act, tells, asks, replies, Desk, does, does_all, holds, given, cleared, Acts, Works, WorksGiving}
-use Rattle.lsp_service.specs.Law.{one_if, is_request_under, is_reply_under, how_many, held_under, OnceOrHeld, EachOnce, EachOnceAt, AnswersEach}
-use Rattle.lsp_session.specs.Session.{SessionAnswer, Stop, decided, no_more, timed_out, refused, exhausted}
-use Rattle.lsp_service.specs.Speech.{GivesAll, GivesTo, Speaks}
+use Rattle.lsp_service.specs.Desk.{Act, tells, asks, replies, cancels, settles, canceled, cancelled_by, cancel_method, cancel_params, Desk, does, does_all, holds, given, cleared, says, Acts, Works, WorksGiving}
+use Rattle.lsp_service.specs.Law.{one_if, is_request_under, is_reply_under, how_many, held_under}
+use Rattle.lsp_service.specs.Speech.{GivesAll}
 use Rattle.lsp_service.specs.Working.{seen, desk_of}
 use Rattle.lsp_service.specs.declared.desk.Working.{Working}
 
@@ -21,7 +20,7 @@ how_many-append p [] ys = omega arith
 how_many-append p (x ∷ xs) ys = let more = how_many-append p xs ys in omega (arith, more)
 
 -- how many replies under the id were given, together with the request that is still held
-abbrev due : {P : Type 0} → Id → Desk P → ℕ
+abbrev pub due : {P : Type 0} → Id → Desk P → ℕ
 due id d = how_many (is_reply_under id) d.said + held_under id d.held
 
 module _ (id : Id) where
@@ -58,26 +57,31 @@ module _ {P : Type 0} (id : Id) where
           let one = answered id d.held i (eq_by_cmp id_cmp id i) refl there in
           rw (how_many-append (is_reply_under id) d.said (response i outcome ∷ []), held_remove id d.held i) (omega (arith, one))
       at false there = refl
+  due_act d (cancels z) = at (map.contains_key (pending_of d.asked) (number z))
+    where
+      at : (b : Bool) → due id (if b then says d (notification cancel_method (cancel_params z)) else d) ≡ due id d
+      at true = rw (how_many-append (is_reply_under id) d.said (notification cancel_method (cancel_params z) ∷ [])) (omega arith)
+      at false = refl
 
-  due_acts : (d : Desk P) (acts : List (Act P)) → due id (does_all d acts) ≡ due id d
+  -- nor does the default answer
+  due_settled : (d : Desk P) (cancelled : Option Id) → due id (settles d cancelled) ≡ due id d
+  due_settled d None = refl
+  due_settled d (Some i) = due_act d (replies i (Err canceled))
+
+  pub due_acts : (d : Desk P) (acts : List (Act P)) → due id (does_all d acts) ≡ due id d
   due_acts d [] = refl
   due_acts d (act ∷ acts) = due_acts (does d act) acts ∙ due_act d act
 
 -- what was due after some letters: no more than there were requests, and none is lost
-record Due (id : Id) (letters output : List Message) (held held' : Pending (Unit {0})) : Type 0 where
-  most : how_many (is_reply_under id) output + held_under id held' ≤ held_under id held + how_many (is_request_under id) letters
-  least : 1 ≤ held_under id held + how_many (is_request_under id) letters → 1 ≤ how_many (is_reply_under id) output + held_under id held'
+pub record Due (id : Id) (letters output : List Message) (held held' : Pending (Unit {0})) : Type 0 where
+  pub most : how_many (is_reply_under id) output + held_under id held' ≤ held_under id held + how_many (is_request_under id) letters
+  pub least : 1 ≤ held_under id held + how_many (is_request_under id) letters → 1 ≤ how_many (is_reply_under id) output + held_under id held'
 
 -- a server at its desk, as a speaker
 abbrev pub gives : {S P : Type 0} (requested : S → Id → List ℕ → Data → List (Act P) → S → Type 0)
     (notified : S → List ℕ → Data → List (Act P) → S → Type 0)
     (replied : S → P → Result Data ErrorObject → List (Act P) → S → Type 0) → Working S P → Message → List Message → Working S P → Type 0
 gives requested notified replied old m said new = WorksGiving requested notified replied (seen old) m said (seen new)
-
--- a count that is one of two
-split_one : (r h : ℕ) → r + h ≡ 1 → ((r ≡ 1) × (h ≡ 0)) ⊎ ((r ≡ 0) × (h ≡ 1))
-split_one zero h e = inr (refl, omega (arith, e))
-split_one (suc r) h e = inl ((omega (arith, e)), (omega (arith, e)))
 
 module _ {S P : Type 0}
     (requested : S → Id → List ℕ → Data → List (Act P) → S → Type 0)
@@ -88,7 +92,8 @@ module _ {S P : Type 0}
       → due id after.1 ≡ how_many (is_reply_under id) d.said + cond (is_request_under id m) 1 (held_under id d.held)
   due_work s d (request i method params) after works =
       ap (due id) works.2 ∙ due_acts id (holds d i) works.0 ∙ ap (λ n. how_many (is_reply_under id) d.said + n) (held_insert id d.held i)
-  due_work s d (notification method params) after works = ap (due id) works.2 ∙ due_acts id d works.0
+  due_work s d (notification method params) after works =
+      ap (due id) works.2 ∙ due_settled id (does_all d works.0) (cancelled_by method params) ∙ due_acts id d works.0
   due_work s d (response i outcome) after works = at (map.get (pending_of d.asked) i) works
     where
       at : (o : Option P)
@@ -97,7 +102,7 @@ module _ {S P : Type 0}
       at None same = ap (λ (x : S × Desk P). due id x.1) same
       at (Some payload) did = ap (due id) did.2 ∙ due_acts id (given d i) did.0
 
-  due_all : (w w' : Working S P) (letters output : List Message) → (desk_of w.client).said ≡ [] → GivesAll (gives requested notified replied) w letters output w'
+  pub due_all : (w w' : Working S P) (letters output : List Message) → (desk_of w.client).said ≡ [] → GivesAll (gives requested notified replied) w letters output w'
       → Due id letters output (desk_of w.client).held (desk_of w'.client).held
   due_all w w' [] output clear all =
       rw (all.1, all.0) (record { most = omega arith; least = λ some. omega (arith, some) })
@@ -106,16 +111,16 @@ module _ {S P : Type 0}
       let desk : desk_of all.0.client ≡ cleared step.0.1 = ap (λ (x : S × Desk P). x.1) step.3 in
       let more = due_all all.0 w' letters all.2 (ap (λ (d : Desk P). d.said) desk) all.4 in
       let one : due id step.0.1 ≡ cond (is_request_under id m) 1 (held_under id (desk_of w.client).held) =
-          (let raw = due_work w.server (desk_of w.client) m step.0 step.1 in
-          let none : how_many (is_reply_under id) (desk_of w.client).said ≡ 0 = ap (how_many (is_reply_under id)) clear in
-          omega (arith, raw, none)) in
+      (let raw = due_work w.server (desk_of w.client) m step.0 step.1 in
+      let none : how_many (is_reply_under id) (desk_of w.client).said ≡ 0 = ap (how_many (is_reply_under id)) clear in
+      omega (arith, raw, none)) in
       let kept : held_under id (desk_of all.0.client).held ≡ held_under id step.0.1.held = ap (λ (d : Desk P). held_under id d.held) desk in
       let sent : how_many (is_reply_under id) output ≡ how_many (is_reply_under id) step.0.1.said + how_many (is_reply_under id) all.2 =
-          ap (how_many (is_reply_under id)) all.5 ∙ how_many-append (is_reply_under id) all.1 all.2 ∙ ap (λ (x : List Message). how_many (is_reply_under id) x + how_many (is_reply_under id) all.2) step.2 in
+      ap (how_many (is_reply_under id)) all.5 ∙ how_many-append (is_reply_under id) all.1 all.2 ∙ ap (λ (x : List Message). how_many (is_reply_under id) x + how_many (is_reply_under id) all.2) step.2 in
       let both = due_more (is_request_under id m) (held_under id (desk_of w.client).held) (held_under id (desk_of all.0.client).held) (held_under id (desk_of w'.client).held)
-            (how_many (is_reply_under id) step.0.1.said) (how_many (is_reply_under id) all.2) (how_many (is_request_under id) letters)
-            (how_many (is_reply_under id) output)
-            (ap (λ n. how_many (is_reply_under id) step.0.1.said + n) kept ∙ one) sent more.most more.least in
+      (how_many (is_reply_under id) step.0.1.said) (how_many (is_reply_under id) all.2) (how_many (is_request_under id) letters)
+      (how_many (is_reply_under id) output)
+      (ap (λ n. how_many (is_reply_under id) step.0.1.said + n) kept ∙ one) sent more.most more.least in
       record { most = both.0; least = both.1 }
     where
       due_more : (b : Bool) (h h1 h' r1 r c total : ℕ) → r1 + h1 ≡ cond b 1 h → total ≡ r1 + r → r + h' ≤ h1 + c → (1 ≤ h1 + c → 1 ≤ r + h')
@@ -128,41 +133,3 @@ module _ {S P : Type 0}
           at : 1 ≤ h + (one_if false + c) → (n : ℕ) → r1 ≡ n → 1 ≤ total + h'
           at some zero e = let rest : 1 ≤ r + h' = least (omega (arith, one, some, e)) in omega (arith, sent, rest)
           at some (suc n) e = omega (arith, sent, e)
-
-module _ {S P : Type 0}
-    (requested : S → Id → List ℕ → Data → List (Act P) → S → Type 0)
-    (notified : S → List ℕ → Data → List (Act P) → S → Type 0)
-    (replied : S → P → Result Data ErrorObject → List (Act P) → S → Type 0) where
-  each_once : (w w' : Working S P) (letters output : List Message) → desk_of w.client ≡ record { held = map.empty; asked = (desk_of w.client).asked; said = [] }
-      → GivesAll (gives requested notified replied) w letters output w' → EachOnce letters output (desk_of w'.client).held
-  each_once w w' letters output fresh all = record {
-    once = λ id one. let d = due id in split_one _ _ (let most = d.most in let least = d.least (omega (arith, one)) in omega (arith, most, least, one, none_held id));
-    none = λ id zero. let most = (due id).most in omega (arith, most, zero, none_held id);
-  }
-    where
-      due : (id : Id) → Due id letters output (desk_of w.client).held (desk_of w'.client).held
-      due id = due_all requested notified replied id w w' letters output (ap (λ (d : Desk P). d.said) fresh) all
-
-      none_held : (id : Id) → held_under id (desk_of w.client).held ≡ 0
-      none_held id = ap (λ (d : Desk P). held_under id d.held) fresh ∙ ap (λ o. one_if (is_some o)) (get-empty id_cmp id)
-
-  -- a session of a server answers each request once
-  pub answers_each : (w w' : Working S P) → desk_of w.client ≡ record { held = map.empty; asked = (desk_of w.client).asked; said = [] }
-      → (letters : List Message) (stop : Stop) (output : List Message) (null : Option Message) (answer : SessionAnswer)
-      → Speaks (gives requested notified replied) w w' letters stop output null answer
-      → AnswersEach (desk_of w'.client).held letters stop output null answer
-  answers_each w w' fresh letters stop output null answer speaks =
-      record { middle = speaks.middle; rest = speaks.rest; cut = speaks.cut; served = speaks.served; each = at stop speaks.given speaks.left; end = speaks.end }
-    where
-      same : (middle : List Message) → GivesAll (gives requested notified replied) w middle output speaks.after → w' ≡ speaks.after
-          → EachOnce middle output (desk_of w'.client).held
-      same middle all left = rw left (each_once w speaks.after middle output fresh all)
-
-      at : (stop : Stop) → GivesTo (gives requested notified replied) stop w speaks.middle output speaks.after
-          → Rattle.lsp_service.specs.Speech.IsLeft (gives requested notified replied) stop null speaks.after w'
-          → EachOnceAt stop speaks.middle output (desk_of w'.client).held
-      at decided all left = same speaks.middle all left
-      at no_more all left = same speaks.middle all left
-      at timed_out all left = same speaks.middle all left
-      at (refused fault) all left = tt
-      at exhausted all left = tt

@@ -1,5 +1,5 @@
 -- Laws of a session over boxes: its parts one after another, and what the handler serves.
-use Rattle.std.proofs.Common.{◌≡◌, refl, sym, ◌∙◌, ap, inl, inr, ◌⊎◌, ℕ, ◌+◌, ◌-◌, ◌^◌, ◌≤◌, Bool, true, false, List, [], ◌∷◌, ◌++◌, length, length-append, append_assoc, append-nil, arith, Some, None, Option}
+use Rattle.std.proofs.Common.{◌≡◌, refl, sym, ap, inl, inr, ◌⊎◌, ℕ, ◌+◌, ◌-◌, ◌^◌, ◌≤◌, Bool, true, false, List, [], ◌∷◌, ◌++◌, length, length-append, append_assoc, append-nil, arith, Some, None, Option}
 use Rattle.std.specs.Bool.{MatchBool}
 use Rattle.std.specs.List.{FoldsTo, list_all, filter_map}
 use Rattle.std.specs.Prelude.{Result, Ok, Err, IsErrAnd, codes}
@@ -9,7 +9,7 @@ use Rattle.std.proofs.lemmas.List.Folds.{list_all-append}
 use Rattle.serde_json.specs.Data.{Data}
 use Rattle.lsp_message.specs.Id.{Id}
 use Rattle.lsp_message.specs.Letters.{is_exit}
-use Rattle.lsp_message.specs.Message.{Message, ErrorObject, request, notification}
+use Rattle.lsp_message.specs.Message.{Message, request, notification}
 use Rattle.lsp_session.proofs.Waiting.{FoldsTo-append, list_all-push}
 use Rattle.lsp_session.specs.Boxes.{Offers, Takes, WaitsFor, is_timeout}
 use Rattle.lsp_session.specs.Event.{Event, message, timeout, closed}
@@ -18,7 +18,7 @@ use Rattle.lsp_session.specs.Replies.{null_reply}
 use Rattle.lsp_session.specs.Session.{SessionAnswer, Stop, decided, no_more, timed_out, refused, exhausted, is_served, AfterShutdown, AfterServed}
 use Rattle.lsp_session.specs.SessionRun.{message_in, is_open, Brings, Gets, AwaitsExit, RunsAwaiting, Runs}
 use Rattle.lsp_session.specs.SessionSteps.{AwaitsLast}
-use Rattle.lsp_service.specs.Speech.{GivesAll, BreaksOff, GivesTo, IsLeft, Speaks}
+use Rattle.lsp_service.specs.Speech.{GivesAll, GivesTo, IsLeft, Speaks}
 use Rattle.lsp_service.specs.SpeechSteps.{Utters, SpeaksOn, EndsAt}
 use Rattle.lsp_session.specs.Shutdown.{ShutdownAnswer, IsNoExit, EventShutsDown, OffersNull, ShutsDown}
 use Rattle.lsp_session.specs.declared.lifecycle.SendFault.{SendFault}
@@ -265,7 +265,7 @@ module _ {I O : Type 0} (receives : I → Event → I → Type 0) (sends : O →
 
 module _ {H : Type 0} (gives : H → Message → List Message → H → Type 0) where
   -- one more letter handled
-  handles_more : (h h' h'' : H) (letters output replies : List Message) (m : Message)
+  pub handles_more : (h h' h'' : H) (letters output replies : List Message) (m : Message)
       → GivesAll gives h letters output h' → gives h' m replies h'' → GivesAll gives h (letters ++ m ∷ []) (output ++ replies) h''
   handles_more h h' h'' [] output replies m all one = (h'', replies, [], rw all.0 at one, (refl, refl), rw (all.1, append-nil) refl)
   handles_more h h' h'' (x ∷ xs) output replies m all one =

@@ -1,14 +1,15 @@
--- What a server that speaks sends, from `initialized` on (LSP 3.17, "Server lifecycle").
+-- What a server that speaks sends (LSP 3.17, "Server lifecycle"), over the letters of its session: the messages that it
+-- used, in order.
 use Rattle.serde_json.specs.Data.{Data}
 use Rattle.std.specs.Bool.{MatchBool}
-use Rattle.std.specs.List.{AllZip, list_all, filter_map}
-use Rattle.std.specs.Prelude.{◌≡◌, true, false, List, [], ◌∷◌, ◌++◌, Option, Some, None, Err, IsErrAnd}
-use Rattle.lsp_message.specs.Message.{Message, request}
+use Rattle.std.specs.List.{list_all}
+use Rattle.std.specs.Prelude.{◌≡◌, ◌⊎◌, true, List, [], ◌∷◌, ◌++◌, Option, None, Result, Err, IsErrAnd, MatchResult}
+use Rattle.lsp_message.specs.Message.{Message, ErrorObject, request, notification, response}
 use Rattle.lsp_session.specs.Finish.{is_initialized}
 use Rattle.lsp_session.specs.ProtocolError.{disconnected, expected_initialize, expected_initialized, Shows}
-use Rattle.lsp_session.specs.Replies.{ok_reply}
-use Rattle.lsp_session.specs.Start.{is_early, IsEarlyReply}
-use Rattle.lsp_session.specs.Session.{IsLast, Undecided, is_initialize, request_id, SessionAnswer, Stop, decided, no_more, timed_out, refused, exhausted, is_served, AfterServed}
+use Rattle.lsp_session.specs.Start.{is_early, IsEarlyReply, fault_of_refusal}
+use Rattle.lsp_session.specs.Session.{IsLast, Undecided, is_initialize, SessionAnswer, Stop, refused, exhausted, is_served, AfterServed}
+use Rattle.lsp_session.specs.declared.lifecycle.SendFault.{SendFault}
 
 module _ {S : Type 0} (gives : S → Message → List Message → S → Type 0) where
   -- Letters, in order, take the speaker from old to new, and this is all that it gives for them, in the same order.
@@ -53,36 +54,53 @@ module _ {S : Type 0} (gives : S → Message → List Message → S → Type 0) 
     pub left : IsLeft stop null after s'
     pub end : AfterServed rest stop null answer
 
-  -- nothing is sent, and the speaker isn't called
+module _ {S : Type 0} (gives : S → Message → List Message → S → Type 0) (initializes : S → Data → Result Data ErrorObject → S → Type 0)
+    (opens : S → List Message → S → Type 0) (starves : S → S → Type 0) where
+  -- Nothing more is sent. The speaker is as it was, or a growth was refused to it.
   abbrev pub IsSilent : Stop → S → S → List Message → Option Message → Type 0
-  IsSilent stop s s' output null = IsLeft stop None s s' × (output ≡ []) × (null ≡ None)
+  IsSilent exhausted s s' output null = ((s' ≡ s) ⊎ starves s s') × (output ≡ []) × (null ≡ None)
+  IsSilent stop s s' output null = (s' ≡ s) × (output ≡ []) × (null ≡ None)
 
-  -- After `initialize` was answered, the next letter is `initialized`.
+  -- the outbox refused the last message of the output, which is said to `initialized`, and the rest of that was not offered
+  pub record OpensInPart (s s' : S) (letters : List Message) (stop : Stop) (output : List Message) (null : Option Message) (answer : SessionAnswer) : Type 0 where
+    pub part : List Message
+    pub unsaid : Message
+    pub more : List Message
+    pub opened : opens s (part ++ unsaid ∷ more) s'
+    pub sent : output ≡ part ++ unsaid ∷ []
+    pub none_after : letters ≡ []
+    pub no_null : null ≡ None
+    pub fault : SendFault
+    pub stopped : stop ≡ refused fault
+    pub is : answer ≡ Err (fault_of_refusal fault)
+
+  -- What the speaker says to `initialized` comes first, and then what it gives for the letters after that.
+  abbrev pub Opened : S → S → List Message → Stop → List Message → Option Message → SessionAnswer → Type 0
+  Opened s s' letters stop output null answer =
+      ((said : List Message) × (mid : S) × (later : List Message)
+      × opens s said mid × (output ≡ said ++ later) × Speaks gives mid s' letters stop later null answer)
+      ⊎ OpensInPart s s' letters stop output null answer
+
+  -- After `initialize` got its result, the next letter is `initialized`.
   abbrev pub AfterInitialize : S → S → List Message → Stop → List Message → Option Message → SessionAnswer → Type 0
   AfterInitialize s s' [] stop output null answer = Undecided stop (Err disconnected) answer × IsSilent stop s s' output null
   AfterInitialize s s' (m ∷ rest) stop output null answer =
-      MatchBool (is_initialized m) (Speaks s s' rest stop output null answer)
+      MatchBool (is_initialized m) (Opened s s' rest stop output null answer)
       (IsLast rest stop × IsErrAnd answer (Shows expected_initialized) × IsSilent stop s s' output null)
 
-  module _ (initializes : S → Data → Data → S → Type 0) where
-    -- After the early letters, `initialize` is answered with the server's result, and `exit` or a response ends the session.
-    abbrev pub AfterEarly : S → S → List Message → Stop → List Message → Option Message → SessionAnswer → Type 0
-    AfterEarly s s' [] stop output null answer = Undecided stop (Err disconnected) answer × IsSilent stop s s' output null
-    AfterEarly s s' (request i method params ∷ rest) stop output null answer =
-        (is_initialize (request i method params) ≡ true)
-        × ((result : Data) × (mid : S) × (later : List Message)
-        × initializes s params result mid × (output ≡ ok_reply i result ∷ later) × AfterInitialize mid s' rest stop later null answer)
-    AfterEarly s s' (m ∷ rest) stop output null answer =
-        (is_early m ≡ false) × IsLast rest stop × IsErrAnd answer (Shows expected_initialize) × IsSilent stop s s' output null
-
-    -- What a session sends and answers. The null of `shutdown`, which comes last, stands apart.
-    pub record SpeechOut (s s' : S) (letters : List Message) (stop : Stop) (output : List Message) (null : Option Message) (answer : SessionAnswer) : Type 0 where
-      pub before : List Message
-      pub rest : List Message
-      pub cut : letters ≡ before ++ rest
-      pub early : list_all is_early before ≡ true
-      pub replies : List Message
-      pub later : List Message
-      pub written : output ≡ replies ++ later
-      pub each_replied : AllZip IsEarlyReply (filter_map request_id before) replies
-      pub end : AfterEarly s s' rest stop later null answer
+  -- What a session sends and answers. Up to `initialize` each request is answered with an error, and each notification but
+  -- `exit` is dropped; `exit` or a response ends the session. `initialize` is answered with the speaker's result, or with
+  -- its error, and then the session goes on as before it. The null of `shutdown`, which comes last, stands apart.
+  abbrev pub SpeechOut : S → S → List Message → Stop → List Message → Option Message → SessionAnswer → Type 0
+  SpeechOut s s' [] stop output null answer = Undecided stop (Err disconnected) answer × IsSilent stop s s' output null
+  SpeechOut s s' (request i method params ∷ rest) stop output null answer =
+      MatchBool (is_initialize (request i method params))
+      ((outcome : Result Data ErrorObject) × (mid : S) × (later : List Message)
+      × initializes s params outcome mid × (output ≡ response i outcome ∷ later)
+      × MatchResult outcome (λ result. AfterInitialize mid s' rest stop later null answer) (λ error. SpeechOut mid s' rest stop later null answer))
+      ((reply : Message) × (later : List Message) × IsEarlyReply i reply × (output ≡ reply ∷ later) × SpeechOut s s' rest stop later null answer)
+  SpeechOut s s' (notification method params ∷ rest) stop output null answer =
+      MatchBool (is_early (notification method params)) (SpeechOut s s' rest stop output null answer)
+      (IsLast rest stop × IsErrAnd answer (Shows expected_initialize) × IsSilent stop s s' output null)
+  SpeechOut s s' (response i outcome ∷ rest) stop output null answer =
+      IsLast rest stop × IsErrAnd answer (Shows expected_initialize) × IsSilent stop s s' output null

@@ -1,20 +1,18 @@
 -- The steps of a session of a server that speaks. For private clauses.
+use Rattle.serde_json.specs.Data.{Data}
 use Rattle.std.specs.List.{FoldsTo}
-use Rattle.std.specs.Prelude.{◌≡◌, ◌⊎◌, true, List, [], ◌∷◌, ◌++◌, Option, Result, Ok, Err}
-use Rattle.lsp_message.specs.Message.{Message}
+use Rattle.std.specs.Prelude.{◌≡◌, ◌⊎◌, true, List, ◌∷◌, ◌++◌, Option, Result, Ok, Err}
+use Rattle.lsp_message.specs.Id.{Id}
+use Rattle.lsp_message.specs.Message.{Message, ErrorObject, response}
 use Rattle.lsp_session.specs.Boxes.{Takes}
 use Rattle.lsp_session.specs.Event.{Event}
 use Rattle.lsp_session.specs.ProtocolError.{ProtocolFault, out_of_memory}
-use Rattle.lsp_session.specs.Session.{SessionAnswer, is_served}
-use Rattle.lsp_session.specs.SessionRun.{RunsAwaiting}
+use Rattle.lsp_session.specs.Session.{SessionAnswer, Stop, is_served}
+use Rattle.lsp_session.specs.SessionRun.{RunsAwaiting, Runs}
 use Rattle.lsp_session.specs.SessionSteps.{AwaitsLast}
 use Rattle.lsp_session.specs.Start.{fault_of_refusal}
 use Rattle.lsp_session.specs.declared.lifecycle.SendFault.{SendFault}
-use Rattle.serde_json.specs.Data.{Data}
-use Rattle.lsp_message.specs.Id.{Id}
-use Rattle.lsp_session.specs.Replies.{ok_reply}
-use Rattle.lsp_session.specs.SessionSteps.{RunsFrom}
-use Rattle.lsp_service.specs.Speech.{Speaks, AfterInitialize}
+use Rattle.lsp_service.specs.Speech.{Speaks, Opened, AfterInitialize}
 
 module _ {O : Type 0} (sends : O → Message → Result (Unit {0}) SendFault → O → Type 0) where
   -- the outbox took some of these messages, and refused the next one
@@ -58,9 +56,52 @@ module _ {S I O : Type 0} (gives : S → Message → List Message → S → Type
       RunsAwaiting receives sends (AwaitsLast m) (λ letters. Speaks gives old.0 new.0 (m ∷ letters)) (old.1, old.2) answer (new.1, new.2)
       ⊎ ((answer ≡ Err out_of_memory) × (new.1 ≡ old.1) × (new.2 ≡ old.2))
 
-  -- From `initialize` on: the server gives its result, which is offered, and the session goes on; or a growth is refused.
-  abbrev pub StartsOn : (S → Data → Data → S → Type 0) → Id → Data → S × I × O → SessionAnswer → S × I × O → Type 0
-  StartsOn initializes id params old answer new =
-      ((result : Data) × (mid : S) × initializes old.0 params result mid
-      × RunsFrom receives sends (AfterInitialize gives mid new.0) (ok_reply id result) (old.1, old.2) answer (new.1, new.2))
-      ⊎ ((answer ≡ Err out_of_memory) × (new.1 ≡ old.1) × (new.2 ≡ old.2))
+module _ {S O : Type 0} (opens : S → List Message → S → Type 0) (starves : S → S → Type 0) (sends : O → Message → Result (Unit {0}) SendFault → O → Type 0) where
+  -- the speaker says messages to `initialized`, and they are sent; or a growth is refused to it
+  abbrev pub Opens : S × O → Result (Unit {0}) ProtocolFault → S × O → Type 0
+  Opens old (Ok done) new = (said : List Message) × opens old.0 said new.0 × FoldsTo (Takes sends) old.1 said new.1
+  Opens old (Err fault) new =
+      ((said : List Message) × opens old.0 said new.0 × RefusesOne sends old.1 said fault new.1)
+      ⊎ ((fault ≡ out_of_memory) × starves old.0 new.0 × (new.1 ≡ old.1))
+
+module _ {S I O : Type 0} (gives : S → Message → List Message → S → Type 0) (initializes : S → Data → Result Data ErrorObject → S → Type 0)
+    (opens : S → List Message → S → Type 0) (starves : S → S → Type 0)
+    (receives : I → Event → I → Type 0) (sends : O → Message → Result (Unit {0}) SendFault → O → Type 0) where
+  -- a growth was refused to the speaker, and the boxes were left alone
+  abbrev pub Starves : S × I × O → SessionAnswer → S × I × O → Type 0
+  Starves old answer new = (answer ≡ Err out_of_memory) × starves old.0 new.0 × (new.1 ≡ old.1) × (new.2 ≡ old.2)
+
+  -- the session from `initialized` on, which came
+  abbrev pub OpensOn : S × I × O → SessionAnswer → S × I × O → Type 0
+  OpensOn old answer new =
+      Runs receives sends (Opened gives initializes opens starves old.0 new.0) (old.1, old.2) answer (new.1, new.2) ⊎ Starves old answer new
+
+  -- the session from the reply to `initialize` on
+  abbrev pub AfterReply : S → S → Message → List Message → Stop → List Message → Option Message → SessionAnswer → Type 0
+  AfterReply s s' reply letters stop output null answer =
+      (later : List Message) × (output ≡ reply ∷ later) × AfterInitialize gives initializes opens starves s s' letters stop later null answer
+
+  -- `initialize` is answered with an error, which the outbox takes.
+  pub record Declines (id : Id) (params : Data) (old new : S × I × O) : Type 0 where
+    pub error : ErrorObject
+    pub declined : initializes old.0 params (Err error) new.0
+    pub unread : new.1 ≡ old.1
+    pub taken : Takes sends old.2 (response id (Err error)) new.2
+
+  -- the outbox refuses that error
+  pub record DeclinesUnsent (id : Id) (params : Data) (old : S × I × O) (answer : SessionAnswer) (new : S × I × O) : Type 0 where
+    pub error : ErrorObject
+    pub declined : initializes old.0 params (Err error) new.0
+    pub unread : new.1 ≡ old.1
+    pub refusal : SendFault
+    pub refuses : sends old.2 (response id (Err error)) (Err refusal) new.2
+    pub is : answer ≡ Err (fault_of_refusal refusal)
+
+  -- From `initialize` on: the speaker gives its result, which is offered, and the session goes on; or its error is refused;
+  -- or a growth is.
+  abbrev pub StartsOn : Id → Data → S × I × O → SessionAnswer → S × I × O → Type 0
+  StartsOn id params old answer new =
+      ((result : Data) × (mid : S) × initializes old.0 params (Ok result) mid
+      × Runs receives sends (AfterReply mid new.0 (response id (Ok result))) (old.1, old.2) answer (new.1, new.2))
+      ⊎ DeclinesUnsent id params old answer new
+      ⊎ Starves old answer new

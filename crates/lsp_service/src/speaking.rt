@@ -1,16 +1,18 @@
 // A session of a server that speaks, from `initialized` on (LSP 3.17, "Server lifecycle").
 ghost use Rattle.serde_json.specs.View.{view};
-ghost use Rattle.std.specs.Prelude.{◌≡◌, map, string_bytes, IfOk, MatchOption, MatchResult, Ok, Err, false};
+ghost use Rattle.std.specs.Prelude.{◌≡◌, map, string_bytes, IfOk, OnErr, MatchOption, MatchResult, Ok, Err, false};
 ghost use Rattle.lsp_message.specs.Letters.{is_exit as exit_spec};
-ghost use Rattle.lsp_message.specs.View.{message_view, request_view};
+ghost use Rattle.lsp_message.specs.Message.{response};
+ghost use Rattle.lsp_message.specs.View.{message_view, request_view, outcome_view, error_view};
 ghost use Rattle.lsp_session.specs.SessionRun.{Runs};
 ghost use Rattle.lsp_session.specs.Start.{fault_of_refusal};
 ghost use Rattle.lsp_service.specs.Speech.{Speaks, SpeechOut};
-ghost use Rattle.lsp_service.specs.SpeechSteps.{SendsAll, Utters, SpeaksOn, EndsAt, StartsOn};
+ghost use Rattle.lsp_service.specs.SpeechSteps.{SendsAll, Utters, SpeaksOn, EndsAt, Opens, OpensOn, AfterReply, Declines, StartsOn};
 
-use lsp_message::{Message, Request, RequestId};
+use lsp_message::{Message, Request, RequestId, Response, ResponseError};
 use lsp_session::{
-    Event, Inbox, OpenGate, Outbox, ProtocolError, SendFault, SessionEnd, finish, shutdown, start_within,
+    Event, Inbox, OpenGate, Outbox, ProtocolError, SendFault, SessionEnd, finish, shutdown,
+    start_within,
 };
 use serde_json::Value;
 use std::alloc::{AllocError, Global};
@@ -29,38 +31,75 @@ pub trait Speaker {
         ensures { IfOk result (λ said. gives self.old (message_view message) (map message_view said.items) self.new) };
 }
 
-/// What answers `initialize`.
+/// What opens a session: it answers `initialize`, and speaks first after `initialized`.
 pub trait Opener {
     ghost use Rattle.serde_json.specs.Data.{Data};
+    ghost use Rattle.std.specs.Prelude.{List, Result};
+    ghost use Rattle.lsp_message.specs.Message.{Message, ErrorObject};
 
-    /// For these params it may give this result, and change so.
-    ghost initializes: { Self → Data → Data → Self → Type 0 };
+    /// For these params it may give this outcome, and change so.
+    ghost initializes: { Self → Data → Result Data ErrorObject → Self → Type 0 };
 
-    /// The result of `initialize`: the capabilities, the server's name and version. An `Err` says that a growth was
-    /// refused.
-    fn initialize(&mut self, params: Value) -> Result<Value, AllocError>
-        ensures { IfOk result (λ value. initializes self.old (view params) (view value) self.new) };
+    /// At `initialized` it may give these messages, in order, and change so.
+    ghost opens: { Self → List Message → Self → Type 0 };
+
+    /// What it may be where an allocation failed.
+    ghost starves: { Self → Self → Type 0 };
+
+    /// What comes of `initialize` (LSP 3.17, "Initialize Request"): the result, with the capabilities, the server's name and
+    /// version; or an error, which is sent as the reply, and the session goes on waiting for another `initialize`. An outer
+    /// `Err` is a failed allocation, and ends the session.
+    fn initialize(&mut self, params: Value) -> Result<Result<Value, ResponseError>, AllocError>
+        ensures outcome { IfOk result (λ outcome. initializes self.old (view params) (outcome_view outcome) self.new) }
+        ensures err { OnErr result (starves self.old self.new) };
+
+    /// What it says when `initialized` came, before the next message: all messages, in order. An `Err` is a failed
+    /// allocation, and ends the session; nothing is sent.
+    fn initialized(&mut self) -> Result<Vec<Message>, AllocError>
+        ensures said { IfOk result (λ said. opens self.old (map message_view said.items) self.new) }
+        ensures err { OnErr result (starves self.old self.new) };
 }
 
 /// Runs a session of a server that speaks: the handshake, what it says at each message, and the shutdown (LSP 3.17,
 /// "Server lifecycle").
+///
+/// Before `initialize` each request is answered with `ServerNotInitialized`, and each notification but `exit` is dropped.
+/// `initialize` is answered with the speaker's result. Where the speaker gives an error, that is the reply, and the session
+/// goes on as before `initialize`: a client may send it again (LSP 3.17, "Initialize Request", `retry`). When `initialized`
+/// came, what the speaker says to it is sent. From then on each message goes to the speaker, a reply too, and what it gives is
+/// sent in order before the next message is received. `shutdown` is answered with null, and nothing follows it; `exit` then
+/// gives `ShutDown`. `Closed` comes where, from `initialized` on, `exit` comes without a `shutdown` or no more messages come.
+/// What comes at the wrong time is in the table of `lifecycle`.
+///
+/// An outbox that is closed to a message ends the session with `disconnected channel`, and a failed allocation with
+/// `out of memory`; what was to follow for that message is not sent. That the null could not be sent is ignored. After
+/// 2^64 - 1 events it ends as if no more messages came.
 pub fn serve_with<I: Inbox, O: Outbox, S: Speaker + Opener>(
     alloc: Global,
     inbox: &mut I,
     outbox: &mut O,
     speaker: &mut S,
 ) -> Result<SessionEnd, ProtocolError>
-    ensures { Runs I.receives O.sends (SpeechOut S.gives S.initializes speaker.old speaker.new)
+    ensures { Runs I.receives O.sends (SpeechOut S.gives S.initializes S.opens S.starves speaker.old speaker.new)
         (inbox.old, outbox.old) result (inbox.new, outbox.new) }
 {
-    match start_within(alloc, inbox, outbox, &mut OpenGate, u64::MAX) {
-        Some(Ok((id, params))) => speak_started(alloc, inbox, outbox, id, params, speaker),
-        Some(Err(error)) => Err(error),
-        None => Err(ProtocolError::disconnected()),
+    for _attempt in 0..u64::MAX {
+        match start_within(alloc, inbox, outbox, &mut OpenGate, u64::MAX) {
+            Some(Ok((id, params))) => {
+                match speak_started(alloc, inbox, outbox, id, params, speaker) {
+                    Ok(None) => {}
+                    Ok(Some(end)) => return Ok(end),
+                    Err(error) => return Err(error),
+                }
+            }
+            Some(Err(error)) => return Err(error),
+            None => return Err(ProtocolError::disconnected()),
+        }
     }
+    Err(ProtocolError::disconnected())
 }
 
-/// The session from `initialize` on.
+/// The session from `initialize` on: `None` where the speaker answers it with an error, and another may come.
 fn speak_started<I: Inbox, O: Outbox, S: Speaker + Opener>(
     alloc: Global,
     inbox: &mut I,
@@ -68,16 +107,78 @@ fn speak_started<I: Inbox, O: Outbox, S: Speaker + Opener>(
     id: RequestId,
     params: Value,
     speaker: &mut S,
-) -> Result<SessionEnd, ProtocolError>
-    ensures { StartsOn S.gives I.receives O.sends S.initializes id (view params) (speaker.old, inbox.old, outbox.old) result (speaker.new, inbox.new, outbox.new) }
+) -> Result<Option<SessionEnd>, ProtocolError>
+    ensures { MatchResult result
+        (λ end. MatchOption end
+        (Declines S.gives S.initializes S.opens S.starves I.receives O.sends id (view params) (speaker.old, inbox.old, outbox.old) (speaker.new, inbox.new, outbox.new))
+        (λ by. StartsOn S.gives S.initializes S.opens S.starves I.receives O.sends id (view params) (speaker.old, inbox.old, outbox.old) (Ok by) (speaker.new, inbox.new, outbox.new)))
+        (λ error. StartsOn S.gives S.initializes S.opens S.starves I.receives O.sends id (view params) (speaker.old, inbox.old, outbox.old) (Err error) (speaker.new, inbox.new, outbox.new)) }
 {
-    let Ok(initialized) = speaker.initialize(params) else {
-        return Err(ProtocolError::out_of_memory());
-    };
+    match speaker.initialize(params) {
+        Ok(Ok(initialized)) => match speak_replied(alloc, inbox, outbox, id, initialized, speaker) {
+            Ok(end) => Ok(Some(end)),
+            Err(error) => Err(error),
+        },
+        Ok(Err(error)) => match decline(outbox, id, error) {
+            Ok(()) => Ok(None),
+            Err(fault) => Err(refused(fault)),
+        },
+        Err(_) => Err(ProtocolError::out_of_memory()),
+    }
+}
+
+/// Answers `initialize` with an error.
+fn decline<O: Outbox>(outbox: &mut O, id: RequestId, error: ResponseError) -> Result<(), SendFault>
+    ensures { O.sends outbox.old (response id (Err (error_view error))) result outbox.new }
+{
+    outbox.send(Message::Response(Response {
+        id,
+        response_result: Err(error),
+    }))
+}
+
+/// The session from the reply to `initialize` on.
+fn speak_replied<I: Inbox, O: Outbox, S: Speaker + Opener>(
+    alloc: Global,
+    inbox: &mut I,
+    outbox: &mut O,
+    id: RequestId,
+    initialized: Value,
+    speaker: &mut S,
+) -> Result<SessionEnd, ProtocolError>
+    ensures { Runs I.receives O.sends
+        (AfterReply S.gives S.initializes S.opens S.starves I.receives O.sends speaker.old speaker.new (response id (Ok (view initialized))))
+        (inbox.old, outbox.old) result (inbox.new, outbox.new) }
+{
     match finish(alloc, inbox, outbox, id, initialized) {
+        Ok(()) => speak_opened(alloc, inbox, outbox, speaker),
+        Err(error) => Err(error),
+    }
+}
+
+/// The session when `initialized` came.
+fn speak_opened<I: Inbox, O: Outbox, S: Speaker + Opener>(
+    alloc: Global,
+    inbox: &mut I,
+    outbox: &mut O,
+    speaker: &mut S,
+) -> Result<SessionEnd, ProtocolError>
+    ensures { OpensOn S.gives S.initializes S.opens S.starves I.receives O.sends (speaker.old, inbox.old, outbox.old) result (speaker.new, inbox.new, outbox.new) }
+{
+    match open(outbox, speaker) {
         Ok(()) => speak(alloc, inbox, outbox, speaker),
         Err(error) => Err(error),
     }
+}
+
+/// Sends what the speaker says to `initialized`.
+fn open<O: Outbox, S: Opener>(outbox: &mut O, speaker: &mut S) -> Result<(), ProtocolError>
+    ensures { Opens S.opens S.starves O.sends (speaker.old, outbox.old) result (speaker.new, outbox.new) }
+{
+    let Ok(said) = speaker.initialized() else {
+        return Err(ProtocolError::out_of_memory());
+    };
+    send_all(outbox, said)
 }
 
 /// Runs a session from `initialized` on: each message goes to the speaker, up to the first `shutdown` or `exit`, and what

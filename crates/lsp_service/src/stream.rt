@@ -17,7 +17,7 @@ pub fn session_with<R: BufRead, W: Write, S: Speaker + Opener>(
     speaker: &mut S,
 ) -> Result<SessionEnd, SessionFault>
     ensures { IfSome (R.remaining reader.old) (λ text.
-        Gives no_limit (SpeechOut S.gives S.initializes speaker.old speaker.new)
+        Gives no_limit (SpeechOut S.gives S.initializes S.opens S.starves speaker.old speaker.new)
         text (R.remaining reader.new) (W.contents writer.old) (W.contents writer.new) result) }
 {
     session_with_within(alloc, reader, writer, speaker, u64::MAX)
@@ -33,7 +33,7 @@ pub fn session_with_within<R: BufRead, W: Write, S: Speaker + Opener>(
     limit: u64,
 ) -> Result<SessionEnd, SessionFault>
     ensures { IfSome (R.remaining reader.old) (λ text.
-        Gives limit (SpeechOut S.gives S.initializes speaker.old speaker.new)
+        Gives limit (SpeechOut S.gives S.initializes S.opens S.starves speaker.old speaker.new)
         text (R.remaining reader.new) (W.contents writer.old) (W.contents writer.new) result) }
 {
     let mut inbox = StreamInbox::within(alloc, reader, limit);

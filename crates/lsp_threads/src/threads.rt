@@ -75,7 +75,16 @@ where
         writer: Builder::new(),
         reader: Builder::new(),
     };
-    run_threads_with(rt, builders, alloc, reader, writer, capabilities, handler, limit)
+    run_threads_with(
+        rt,
+        builders,
+        alloc,
+        reader,
+        writer,
+        capabilities,
+        handler,
+        limit,
+    )
 }
 
 /// How the two threads of a session are started.

@@ -132,7 +132,11 @@ where
         tx: Snapshot::of(&tx),
     };
     let theirs = *rt;
-    match builder.spawn_with(rt, promise, move || M::read_into(theirs, alloc, reader, limit, tx)) {
+    match builder.spawn_with(
+        rt,
+        promise,
+        move || M::read_into(theirs, alloc, reader, limit, tx),
+    ) {
         Ok(handle) => Ok(handle),
         Err(_) => Err(StartFault::Thread),
     }

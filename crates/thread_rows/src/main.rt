@@ -60,7 +60,11 @@ where
         println!(rt; "in threads the same")?;
         return Ok(());
     }
-    println!(rt; "in threads: {}, {} bytes written", many.said, many.written.len())?;
+    println!(rt;
+        "in threads: {}, {} bytes written",
+        many.said,
+        many.written.len()
+    )?;
     say_text(rt, alloc, many.written.as_slice())
 }
 

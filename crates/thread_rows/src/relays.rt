@@ -2,9 +2,7 @@
 use crate::devices::{Bytes, Short};
 use crate::runs::said;
 use anyhow::Result;
-use lsp_server::{
-    Handler, Message, Notification, Parcel, Request, ResponseError, relay,
-};
+use lsp_server::{Handler, Message, Notification, Parcel, Request, ResponseError, relay};
 use lsp_threads::{Builders, pump_with, run_threads_with};
 use serde_json::{Map, Value};
 use std::alloc::{AllocError, Global};
@@ -39,7 +37,10 @@ fn say_relay<R: Wait + Print + AllocGlobal>(rt: &R) -> Result<()> {
         method: String::from_str(alloc, "a")?,
         params: Value::Null,
     });
-    println!(rt; "relay: sent a: {}", tx.send(rt, Parcel::Message(note)).is_ok())?;
+    println!(rt;
+        "relay: sent a: {}",
+        tx.send(rt, Parcel::Message(note)).is_ok()
+    )?;
     println!(rt; "relay: sent the end: {}", tx.send(rt, Parcel::End).is_ok())?;
     println!(rt; "relay: taken: {}", name_of(rx.take(rt)))?;
     println!(rt; "relay: settled: {}", name_of(rx.settle(rt, &mut tx)))?;

@@ -58,7 +58,11 @@ where
 {
     let one: Ran = alone(alloc, input)?;
     let many = in_threads(rt, alloc, input)?;
-    let same = if one.is_same(&many) { "the same" } else { "different" };
+    let same = if one.is_same(&many) {
+        "the same"
+    } else {
+        "different"
+    };
     let count = one.written.len();
     Ok(format!(in alloc; "{}, {count} bytes written, in threads {same}", one.said)?)
 }

@@ -90,7 +90,15 @@ fn messages_are_passed_on(rt: HostRuntime) -> Result<(), Fail> {
     let alloc = rt.alloc();
     pumps(&rt, alloc, b"", b"", b"", "", 0)?;
     pumps(&rt, alloc, NOTE, b"", NOTE_FRAME, "", 0)?;
-    pumps(&rt, alloc, TWO_EXITS.as_bytes(), NOTE, EXIT.as_bytes(), "", 0)?;
+    pumps(
+        &rt,
+        alloc,
+        TWO_EXITS.as_bytes(),
+        NOTE,
+        EXIT.as_bytes(),
+        "",
+        0,
+    )?;
     pumps(&rt, alloc, EACH_KIND, b"", EACH_KIND_FRAMES, "", 0)
 }
 

@@ -1,7 +1,7 @@
 // Boxes over plain channels. No clause says what a channel delivers, so their relations allow everything.
-use lsp_session::{Event, Inbox, Outbox, SendFault};
 use crossbeam_channel::{Receiver, RecvTimeoutError, SendError, Sender};
 use lsp_message::Message;
+use lsp_session::{Event, Inbox, Outbox, SendFault};
 use std::sync::Wait;
 use std::time::{Clock, Duration};
 

@@ -1,5 +1,4 @@
-use Rattle.std.proofs.Common.{◌≡◌, refl, sym, ◌∙◌, ap, subst, List, [], ◌∷◌, ◌++◌, map, append_assoc}
-use Rattle.std.specs.List.{FoldsTo}
+use Rattle.std.proofs.Common.{◌≡◌, refl, sym, ◌∙◌, ap, List, [], ◌∷◌, ◌++◌, map, append_assoc}
 use Rattle.std.specs.Vec.Iter.{into_iter_items}
 use Rattle.std.proofs.lemmas.List.{map-append}
 use Rattle.lsp_message.specs.View.{message_view}
@@ -17,7 +16,7 @@ loop-message-preserved g c =
       tt,
       append_assoc c.loop-message.yielded (c.in-Some.message ∷ []) rest ∙ (ap (λ (l : List msg.Message). c.loop-message.yielded ++ l) (sym turn) ∙ before.2),
       rw (map-append message_view c.loop-message.yielded (c.in-Some.message ∷ []))
-        (FoldsTo-append (Takes g.O.Outbox.sends) (map message_view c.loop-message.yielded) (message_view c.in-Some.message ∷ []) c.args.outbox.now c.loop-message.outbox c.send.new.self before.3
+          (FoldsTo-append (Takes g.O.Outbox.sends) (map message_view c.loop-message.yielded) (message_view c.in-Some.message ∷ []) c.args.outbox.now c.loop-message.outbox c.send.new.self before.3
           (c.send.new.self, c.in-Ok.ensures.sends, refl)),
     )
 

@@ -1,0 +1,19 @@
+use Rattle.lsp_message.specs.Frame.{no_limit}
+use Rattle.lsp_service.specs.Law.{KeepsLaws}
+use Rattle.lsp_service.specs.Working.{desk_of}
+use Rattle.lsp_service.proofs.Describing.{known_as}
+use Rattle.lsp_service.proofs.Keeping.{Out, keeps_laws}
+use Rattle.lsp_service.proofs.laws.session_keeps_laws.Goals as goal
+
+pub returns : goal.returns
+returns g c =
+    let requested = g.S.Server.requested in
+    let notified = g.S.Server.notified in
+    let replied = g.S.Server.replied in
+    let begins = g.S.Server.begins in
+    let initializes = g.S.Server.initializes in
+    let old = c.new-working.result in
+    let new = c.session_with-answer.new.speaker in
+    known_as no_limit (Out requested notified replied begins initializes old new) (KeepsLaws (desk_of new.client).held)
+    (keeps_laws requested notified replied begins initializes old new c.new-working.ensures.fresh)
+    _ _ _ _ _ c.session_with-answer.ensures
