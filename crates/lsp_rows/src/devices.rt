@@ -1,7 +1,7 @@
-// A reader that cuts and fails, and a writer that fails. Each fails once and goes on, so that a call that tries again is seen.
+// A reader that cuts and fails, and that a thread may own. It fails once and goes on, so that a call that tries again is seen.
 use std::alloc::{AllocError, Global};
 use std::io;
-use std::io::{BufRead, ErrorKind, Read, Write};
+use std::io::{BufRead, ErrorKind, Read};
 
 /// Gives its bytes, at most so many at a time.
 #[derive(Drop)]
@@ -66,61 +66,5 @@ impl BufRead for CuttingReader {
 
     fn consume(&mut self, amount: usize) {
         self.given = self.given.saturating_add(amount);
-    }
-}
-
-/// Keeps what is written.
-#[derive(Drop)]
-pub struct FailingWriter {
-    /// The bytes that were taken.
-    pub taken: Vec<u8>,
-    room: usize,
-    flushes: usize,
-    bad_flush: usize,
-}
-
-impl FailingWriter {
-    /// A writer that never fails.
-    pub fn new(alloc: Global) -> FailingWriter {
-        FailingWriter {
-            taken: Vec::new(alloc),
-            room: usize::MAX,
-            flushes: 0,
-            bad_flush: 0,
-        }
-    }
-
-    /// A writer of which one write fails, after so many bytes.
-    pub fn filling(alloc: Global, room: usize) -> FailingWriter {
-        let mut writer = FailingWriter::new(alloc);
-        writer.room = room;
-        writer
-    }
-
-    /// A writer of which the flush of this number fails, from 1.
-    pub fn flushing(alloc: Global, bad_flush: usize) -> FailingWriter {
-        let mut writer = FailingWriter::new(alloc);
-        writer.bad_flush = bad_flush;
-        writer
-    }
-}
-
-impl Write for FailingWriter {
-    fn write(&mut self, buf: &[u8]) -> io::Result<usize> {
-        let count = buf.len().min(self.room.saturating_sub(self.taken.len()));
-        if count == 0 && !buf.is_empty() {
-            self.room = usize::MAX;
-            return Err(io::Error::from(ErrorKind::BrokenPipe));
-        }
-        self.taken.extend_from_slice(&buf[..count])?;
-        Ok(count)
-    }
-
-    fn flush(&mut self) -> io::Result<()> {
-        self.flushes = self.flushes.saturating_add(1);
-        if self.flushes == self.bad_flush {
-            return Err(io::Error::from(ErrorKind::BrokenPipe));
-        }
-        Ok(())
     }
 }

@@ -9,26 +9,28 @@ use std::alloc::{AllocError, Global};
 
 /// A whole handshake and a whole shutdown.
 pub fn run_engines<R: Print>(rt: &R, alloc: Global) -> Result<()> {
-    let mut inbox = ListInbox::new(alloc);
+    let mut inbox = inbox_of(alloc)?;
     let mut outbox = ListOutbox::new(alloc, 9);
-    inbox.events.push_back(note(alloc, "initialized")?)?;
-    inbox.events.push_back(asked(alloc, 7, "x")?)?;
-    inbox.events.push_back(Event::Timeout)?;
-    inbox.events.push_back(asked(alloc, 234, "initialize")?)?;
-    inbox.events.push_back(note(alloc, "initialized")?)?;
-    inbox.events.push_back(note(alloc, "exit")?)?;
-    let started = start_within(alloc, &mut inbox, &mut outbox, &mut OpenGate, 10);
-    let id = print_start(rt, alloc, started, &outbox)?;
-    let result = json!(in alloc; { "capabilities": {} })?;
-    let finished = finish(alloc, &mut inbox, &mut outbox, id, result);
-    print_answer(rt, alloc, "finish", finished.map(|()| true), &outbox)?;
-    let last = Request {
-        id: RequestId::from(String::from_str(alloc, "last")?),
-        method: String::from_str(alloc, "shutdown")?,
-        params: Value::Null,
-    };
-    let ended = shutdown(alloc, &mut inbox, &mut outbox, &last);
-    print_answer(rt, alloc, "shutdown", ended, &outbox)
+    let id = run_start(rt, alloc, &mut inbox, &mut outbox)?;
+    run_finish(rt, alloc, &mut inbox, &mut outbox, id)?;
+    run_shutdown(rt, alloc, &mut inbox, &mut outbox)
+}
+
+/// What a client sends, with a request and a notification that come too early.
+fn inbox_of(alloc: Global) -> Result<ListInbox, AllocError> {
+    let mut inbox = ListInbox::new(alloc);
+    add(&mut inbox, note(alloc, "initialized")?)?;
+    add(&mut inbox, asked(alloc, 7, "x")?)?;
+    add(&mut inbox, Event::Timeout)?;
+    add(&mut inbox, asked(alloc, 234, "initialize")?)?;
+    add(&mut inbox, note(alloc, "initialized")?)?;
+    add(&mut inbox, note(alloc, "exit")?)?;
+    Ok(inbox)
+}
+
+fn add(inbox: &mut ListInbox, event: Event) -> Result<(), AllocError> {
+    inbox.events.push_back(event)?;
+    Ok(())
 }
 
 fn note(alloc: Global, method: &str) -> Result<Event, AllocError> {
@@ -46,13 +48,14 @@ fn asked(alloc: Global, number: i32, method: &str) -> Result<Event, AllocError> 
     })))
 }
 
-/// Prints what `start_within` answered and how many replies were sent, and gives the id.
-fn print_start<R: Print>(
+/// Prints what `start_within` answers and how many replies were sent, and gives the id.
+fn run_start<R: Print>(
     rt: &R,
     alloc: Global,
-    started: Option<Result<(RequestId, Value), ProtocolError>>,
-    outbox: &ListOutbox,
+    inbox: &mut ListInbox,
+    outbox: &mut ListOutbox,
 ) -> Result<RequestId> {
+    let started = start_within(alloc, inbox, outbox, &mut OpenGate, 10);
     let sent = outbox.sent.len();
     match started {
         Some(Ok((id, params))) => {
@@ -66,6 +69,35 @@ fn print_start<R: Print>(
         }
         None => bail!("undecided"),
     }
+}
+
+fn run_finish<R: Print>(
+    rt: &R,
+    alloc: Global,
+    inbox: &mut ListInbox,
+    outbox: &mut ListOutbox,
+    id: RequestId,
+) -> Result<()> {
+    let result = json!(in alloc; { "capabilities": {} })?;
+    match finish(alloc, inbox, outbox, id, result) {
+        Ok(()) => print_answer(rt, alloc, "finish", Ok(true), outbox),
+        Err(error) => print_answer(rt, alloc, "finish", Err(error), outbox),
+    }
+}
+
+fn run_shutdown<R: Print>(
+    rt: &R,
+    alloc: Global,
+    inbox: &mut ListInbox,
+    outbox: &mut ListOutbox,
+) -> Result<()> {
+    let last = Request {
+        id: RequestId::from(String::from_str(alloc, "last")?),
+        method: String::from_str(alloc, "shutdown")?,
+        params: Value::Null,
+    };
+    let ended = shutdown(alloc, inbox, outbox, &last);
+    print_answer(rt, alloc, "shutdown", ended, outbox)
 }
 
 /// Prints what an engine answered, and how many messages were sent.

@@ -4,7 +4,6 @@
 
 mod calls;
 mod devices;
-mod echo;
 mod engines;
 mod escapes;
 mod queues;
@@ -18,6 +17,8 @@ use escapes::unescape;
 use queues::run_queues;
 use std::alloc::Global;
 use std::io;
+use std::sync::Wait;
+use std::thread::Threads;
 use table::{Case, Line, Place, line_of};
 use values::run_values;
 
@@ -28,7 +29,10 @@ fn main(rt: HostRuntime) -> Result<()> {
 }
 
 /// Runs the lines of a table, one after another.
-fn run_table<R: Print>(rt: &R, alloc: Global, table: &str) -> Result<()> {
+fn run_table<R>(rt: &R, alloc: Global, table: &str) -> Result<()>
+where
+    R: Print + Threads + Wait + Copy + Drop + Send + 'static,
+{
     let mut text = Vec::new(alloc);
     for line in table.lines() {
         rt.println(format!(in alloc; "{line}")?.as_str())?;
@@ -48,7 +52,10 @@ fn run_table<R: Print>(rt: &R, alloc: Global, table: &str) -> Result<()> {
 static STEPS: [usize; 5] = [1, 2, 3, 7, 65536];
 
 /// Runs a case at each of its places. What came is printed where it is another than at the place before.
-fn run_case<R: Print>(rt: &R, alloc: Global, case: Case, text: &[u8]) -> Result<()> {
+fn run_case<R>(rt: &R, alloc: Global, case: Case, text: &[u8]) -> Result<()>
+where
+    R: Print + Threads + Wait + Copy + Drop + Send + 'static,
+{
     let mut last = String::new(alloc);
     match case.place {
         Place::Nowhere => {
@@ -66,7 +73,7 @@ fn run_case<R: Print>(rt: &R, alloc: Global, case: Case, text: &[u8]) -> Result<
 }
 
 /// Runs a case at one place, whose number is printed with what came, and gives what came. Want of memory ends the program.
-fn run_at<R: Print>(
+fn run_at<R>(
     rt: &R,
     alloc: Global,
     case: Case,
@@ -74,7 +81,10 @@ fn run_at<R: Print>(
     step: usize,
     count: usize,
     last: String,
-) -> Result<String> {
+) -> Result<String>
+where
+    R: Print + Threads + Wait + Copy + Drop + Send + 'static,
+{
     let Answer {
         text: came,
         is_memory,

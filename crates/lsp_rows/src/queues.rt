@@ -9,30 +9,36 @@ use std::alloc::{AllocError, Global};
 /// Two requests of this side, which are completed, and two of the other, of which one is cancelled.
 pub fn run_queues<R: Print>(rt: &R, alloc: Global) -> Result<()> {
     let mut queue: ReqQueue<char, char> = ReqQueue::default(alloc);
-    let first = sent(alloc, &mut queue.outgoing, 'a')?;
-    let second = sent_value(alloc, &mut queue.outgoing, 'b')?;
-    rt.println(format!(in alloc; "  sent {first} and {second}")?.as_str())?;
-    let outgoing = &mut queue.outgoing;
-    let came = [
-        outgoing.complete(RequestId::from(0)),
-        outgoing.complete(RequestId::from(0)),
-        outgoing.complete(RequestId::from(1)),
-    ];
-    let pending = outgoing.has_pending();
-    rt.println(format!(in alloc; "  completed {came:?}, pending {pending}")?.as_str())?;
-    received(&mut queue.incoming, 7, 'a')?;
-    received(&mut queue.incoming, 7, 'b')?;
-    received(&mut queue.incoming, 8, 'c')?;
-    let reply = cancelled(alloc, &mut queue.incoming, 8)?;
-    let again = cancelled(alloc, &mut queue.incoming, 8)?;
-    rt.println(format!(in alloc; "  cancelled {reply}, then {again}")?.as_str())?;
-    let incoming = &mut queue.incoming;
-    let came = [
-        incoming.complete(&RequestId::from(7)),
-        incoming.complete(&RequestId::from(7)),
-    ];
+    run_outgoing(rt, alloc, &mut queue.outgoing)?;
+    run_incoming(rt, alloc, &mut queue.incoming)?;
     let pending = queue.has_pending();
-    rt.println(format!(in alloc; "  completed {came:?}, pending {pending}")?.as_str())?;
+    rt.println(format!(in alloc; "  pending {pending}")?.as_str())?;
+    Ok(())
+}
+
+fn run_outgoing<R: Print>(rt: &R, alloc: Global, queue: &mut Outgoing<char>) -> Result<()> {
+    let first = sent(alloc, queue, 'a')?;
+    rt.println(format!(in alloc; "  sent {first}")?.as_str())?;
+    let second = sent_value(alloc, queue, 'b')?;
+    rt.println(format!(in alloc; "  sent {second}")?.as_str())?;
+    let came = queue.complete(RequestId::from(0));
+    let again = queue.complete(RequestId::from(0));
+    let other = queue.complete(RequestId::from(1));
+    rt.println(format!(in alloc; "  completed {came:?} {again:?} {other:?}")?.as_str())?;
+    Ok(())
+}
+
+fn run_incoming<R: Print>(rt: &R, alloc: Global, queue: &mut Incoming<char>) -> Result<()> {
+    received(queue, 7, 'a')?;
+    received(queue, 7, 'b')?;
+    received(queue, 8, 'c')?;
+    let reply = cancelled(alloc, queue, 8)?;
+    rt.println(format!(in alloc; "  cancelled {reply}")?.as_str())?;
+    let reply = cancelled(alloc, queue, 8)?;
+    rt.println(format!(in alloc; "  cancelled {reply}")?.as_str())?;
+    let came = queue.complete(&RequestId::from(7));
+    let again = queue.complete(&RequestId::from(7));
+    rt.println(format!(in alloc; "  completed {came:?} {again:?}")?.as_str())?;
     Ok(())
 }
 

@@ -34,6 +34,8 @@ pub enum Call {
     Front,
     /// `session`, with no capabilities and an echo.
     Session,
+    /// `run_threads`, in the same way.
+    Threads,
     /// `pump`.
     Pump,
 }
@@ -109,6 +111,7 @@ fn call_of(word: &str) -> Option<Call> {
         "read" => Some(Call::Read),
         "front" => Some(Call::Front),
         "session" => Some(Call::Session),
+        "threads" => Some(Call::Threads),
         "pump" => Some(Call::Pump),
         _ => None,
     }
