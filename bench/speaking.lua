@@ -26,6 +26,7 @@ local function marks(text)
   return table.concat(shown, ', ') == text
 end
 
+vim.api.nvim_buf_set_name(0, vim.fn.tempname() .. '.txt')
 vim.api.nvim_buf_set_lines(0, 0, -1, false, { 'short', string.rep('x', 30), string.rep('x', 90) })
 vim.lsp.start_client({
   name = 'lines',
