@@ -16,7 +16,7 @@ use std::sync::Wait;
 use std::thread::{Builder, Threads};
 
 /// How many parcels may wait between two threads. It decides speed and memory alone: no answer depends on it.
-pub(crate) const ROOM: usize = 8;
+pub(crate) const ROOM: usize = 32;
 
 /// Why not all messages were passed on. Of several that fit it is the one with the greatest number.
 #[derive(Clone, Copy, Debug, PartialEq, Eq)]
