@@ -7,7 +7,9 @@
 //   socket N            the Nth call that makes a socket or sets it up fails
 //   read N HOW          of the Nth read: `error` fails it, `interrupt` interrupts it, `short` lets it move one byte
 //   write N HOW         the same of the Nth write
-//   pieces K            no read or write moves more than K bytes
+//   none 0              nothing fails
+//
+// Two more words, `in K`, say that no read or write moves more than K bytes.
 //
 // FAIL_ONCE_COUNTS names a file of 64 bytes. It holds, as 8 numbers of 64 bits, how many calls there were of memory, threads,
 // sockets, reads and writes, how many calls were made to fail, and how many threads still ran a second after `main` had
@@ -65,15 +67,16 @@ __attribute__((constructor)) static void start(void) {
         share_counts(path);
     const char *plan = getenv("FAIL_ONCE");
     char word[32] = "", manner[32] = "";
-    unsigned long long number = 0;
+    unsigned long long number = 0, most = 0;
     if (!plan || sscanf(plan, "%31s %llu %31s", word, &number, manner) < 2)
         return;
     place = number;
+    const char *pieces = strstr(plan, " in ");
+    if (pieces && sscanf(pieces, " in %llu", &most) == 1)
+        piece = most;
     lasts = is(word, "memory-from");
     how = is(manner, "interrupt") ? IS_INTERRUPT : is(manner, "short") ? IS_SHORT : IS_ERROR;
-    if (is(word, "pieces"))
-        piece = number;
-    else if (is(word, "memory") || lasts)
+    if (is(word, "memory") || lasts)
         kind_to_fail = MEMORY;
     else if (is(word, "thread"))
         kind_to_fail = THREAD;
