@@ -4,8 +4,9 @@
 #![tactic(auto)]
 
 use anyhow::{Result as Answer, bail};
-use lsp_message::{Notification, Request, RequestId, ResponseError};
-use lsp_service::{Act, Server, Working, session_with};
+use lsp_server::{
+    Act, Notification, Request, RequestId, ResponseError, Server, Working, session_with,
+};
 use serde_json::{Value, json};
 use std::alloc::{AllocError, Global};
 use std::io::BufReader;

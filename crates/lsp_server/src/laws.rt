@@ -5,4 +5,5 @@ pub use lsp_message::laws::{
     front_of_frame, kinds_print_apart,
 };
 pub use lsp_queue::laws::pending_is_last_registered;
+pub use lsp_service::laws::{serving_keeps_laws, session_keeps_laws};
 pub use lsp_session::laws::{sessions, streams, turns};
