@@ -113,7 +113,7 @@ where
     let reader = reader_of(alloc, &calls)?;
     let mut writer = writer_of(alloc, &calls)?;
     let builder = Builder::new().stack_size(usize::MAX);
-    let answer = match pump_with(rt, builder, alloc, reader, &mut writer) {
+    let answer = match pump_with(rt, builder, alloc, reader, &mut writer, u64::MAX) {
         Ok(()) => String::from_str(alloc, "passed on")?,
         Err(fault) => fault.to_string(alloc)?,
     };
@@ -148,6 +148,7 @@ where
         writer,
         capabilities,
         &mut handler,
+        u64::MAX,
     ) {
         Ok(done) => said(alloc, done.answer)?,
         Err(fault) => fault.to_string(alloc)?,
