@@ -3,8 +3,8 @@
 
     compare_speed.py --crate FOLDER     the folder of the Rust crate's sources
 
-The programs take turns, round after round, over the same streams of requests, and every byte that they write is compared.
-What counts is user and system time of the program alone, in microseconds a request, as the median of the rounds.
+The programs take turns, round after round, over the same streams, and every byte that they write is compared. What counts is
+user and system time of the program alone, in microseconds a message, as the median of the rounds.
 """
 import argparse
 import os
@@ -59,7 +59,7 @@ class Row:
 def expected(program, stream, way):
     """All that a program has to write."""
     if way == "pump":
-        return stream.whole
+        return stream.notes
     if program.copies:
         return frame(INITIALIZE) + b"".join(stream.requests) + frame(SHUTDOWN)
     return frame(INITIALIZE_REPLY) + b"".join(stream.replies) + frame(SHUTDOWN_REPLY)
@@ -92,10 +92,10 @@ def peak_memory(process):
 
 def through(program, row):
     """A whole stream from a file, into a pipe that is emptied at once."""
-    word = "pump" if row.way == "pump" else "serve"
+    is_pump = row.way == "pump"
     read_end, write_end = os.pipe()
-    with open(row.stream.path, "rb") as source:
-        process = start(program, [word], source, write_end)
+    with open(row.stream.notes_path if is_pump else row.stream.path, "rb") as source:
+        process = start(program, ["pump" if is_pump else "serve"], source, write_end)
     os.close(write_end)
     pieces = []
     while piece := os.read(read_end, PIECE):
