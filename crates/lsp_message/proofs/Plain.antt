@@ -4,7 +4,7 @@ use Rattle.std.proofs.lemmas.Bool.{and_parts, false≢true, leb-true}
 use Rattle.std.specs.List.{list_all}
 use Rattle.json.specs.Print.{escape, quoted}
 use Rattle.json.proofs.Printed.Strings.{escape_byte_plain}
-use Rattle.lsp_message.specs.Text.{is_plain_byte}
+use Rattle.lsp_message.specs.Composing.{is_plain_byte}
 
 escape-plain : (s : List ℕ) → list_all is_plain_byte s ≡ true → escape s ≡ s
 escape-plain [] h = refl

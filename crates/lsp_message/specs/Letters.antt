@@ -1,16 +1,10 @@
 -- The messages of a stream of bytes, up to and with the first `exit` (LSP 3.17, "Base Protocol" and "Exit Notification").
 use Rattle.std.specs.List.{FoldsTo}
-use Rattle.std.specs.Prelude.{◌≡◌, ℕ, List, [], ◌∷◌, ◌++◌, Bool, true, false, Some, None, Ok, Err, codes}
-use Rattle.std.specs.Str.{bytes_eq}
+use Rattle.std.specs.Prelude.{◌≡◌, ℕ, List, [], ◌∷◌, ◌++◌, true, false, Some, None, Ok, Err}
 use Rattle.lsp_message.specs.Frame.{reading_within}
-use Rattle.lsp_message.specs.Message.{Message, request, notification, response}
+use Rattle.lsp_message.specs.Message.{Message}
+pub use Rattle.lsp_message.specs.Methods.{is_exit}
 use Rattle.lsp_message.specs.declared.frame.ReadFault.{ReadFault}
-
--- the notification that asks a server to end
-abbrev pub is_exit : Message → Bool
-is_exit (request i method params) = false
-is_exit (notification method params) = bytes_eq method (codes "exit")
-is_exit (response i outcome) = false
 
 -- what ends the messages of a text
 pub data Ending : Type 0 where

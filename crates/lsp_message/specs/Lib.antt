@@ -1,4 +1,5 @@
 pub mod Body
+pub mod Composing
 pub mod Converted
 pub mod ErrorCode
 pub mod Extract
@@ -15,6 +16,7 @@ pub mod Lines
 pub mod Listed
 pub mod Meaning
 pub mod Message
+pub mod Methods
 pub mod Ranges
 pub mod Readable
 pub mod Reading

@@ -1,5 +1,5 @@
 -- The text of a message (JSON-RPC 2.0, sections 4 and 5), and the content part that carries it (LSP 3.17, base protocol).
-use Rattle.std.specs.Prelude.{◌≡◌, ◌≤◌, ℕ, List, [], ◌++◌, Bool, false, not, ◌&&◌, ◌==◌, nat_le, Option, Some, None, Ok, Err, codes}
+use Rattle.std.specs.Prelude.{◌≡◌, ◌≤◌, ℕ, List, [], ◌++◌, false, Option, Some, None, Ok, Err, codes}
 use Rattle.json.specs.Lex.{tokens}
 use Rattle.json.specs.Print.{print}
 use Rattle.serde_json.specs.Data.{Data, number, string, depth}
@@ -9,10 +9,6 @@ use Rattle.serde_json.specs.Written.{has_float, compact_text, IsInOrder}
 use Rattle.lsp_message.specs.Meaning.{unless_null}
 use Rattle.lsp_message.specs.Message.{ErrorObject, Message, request, notification, response}
 use Rattle.lsp_message.specs.Tree.{id_tree}
-
--- the byte stands for itself between quotes (RFC 8259, section 7)
-abbrev pub is_plain_byte : ℕ → Bool
-is_plain_byte b = nat_le 32 b && (not (b == 34) && not (b == 92))
 
 -- A text that `serde_json` may write for a value, with no space. There is one where the value has no float. The digits of a float are
 -- the choice of `serde_json`: they are read back as that float, as far as a value is read back at all, which nests at most 127 levels.
@@ -54,7 +50,3 @@ IsMemberText m text = IsTextFrom (codes "{") m text
 -- the content part of a message's frame
 abbrev pub IsBodyOf : Message → List ℕ → Type 0
 IsBodyOf m text = IsTextFrom (codes "{\"jsonrpc\":\"2.0\",") m text
-
--- such a text was added; for private clauses
-abbrev pub Adds : (List ℕ → Type 0) → List ℕ → List ℕ → Type 0
-Adds Is old new = (text : List ℕ) × Is text × (new ≡ old ++ text)

@@ -28,6 +28,17 @@ AppendsBeginning old new text = (part : List ℕ) × (rest : List ℕ) × (text 
 abbrev pub GetsFrames : List Message → Option (List ℕ) → Option (List ℕ) → Type 0
 GetsFrames ms old new = (text : List ℕ) × AreFramesOf ms text × Appends old new text
 
+-- the writer got frames of these messages, in order, and a beginning of a frame of one more
+pub record GetsFramesAndPart (whole : List Message) (next : Message) (old new : Option (List ℕ)) : Type 0 where
+  pub frames : List ℕ
+  pub frames_of_whole : AreFramesOf whole frames
+  pub frame : List ℕ
+  pub frame_of_next : IsFrameOf next frame
+  pub part : List ℕ
+  pub missing : List ℕ
+  pub split : frame ≡ part ++ missing
+  pub got : Appends old new (frames ++ part)
+
 -- what one write of a message does: a frame of it, or a beginning of one, or nothing
 abbrev pub Writes : Message → Option (List ℕ) → Result (Unit {0}) WriteFault → Option (List ℕ) → Type 0
 Writes m old (Ok done) new = (text : List ℕ) × IsFrameOf m text × Appends old new text

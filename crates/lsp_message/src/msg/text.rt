@@ -7,11 +7,12 @@ ghost use Rattle.serde_json.specs.Read.{max_depth};
 ghost use Rattle.serde_json.specs.View.{view};
 ghost use Rattle.serde_json.specs.Written.{compact_text};
 ghost use Rattle.lsp_message.specs.Body.{body_means};
+ghost use Rattle.lsp_message.specs.Composing.{is_plain_byte, Adds};
 ghost use Rattle.lsp_message.specs.Meaning.{is_i32, unless_null};
 ghost use Rattle.lsp_message.specs.Message.{response};
 ghost use Rattle.lsp_message.specs.Ranges.{IsIdInRange, IsInRange, nesting};
 ghost use Rattle.lsp_message.specs.Tree.{id_tree, without_null_details};
-ghost use Rattle.lsp_message.specs.Text.{is_plain_byte, IsValueText, named, Adds, IsLaterMember, IsErrorText, IsTextFrom, IsMemberText, IsBodyOf};
+ghost use Rattle.lsp_message.specs.Text.{IsValueText, named, IsLaterMember, IsErrorText, IsTextFrom, IsMemberText, IsBodyOf};
 ghost use Rattle.lsp_message.specs.View.{error_view, request_view, notification_view, response_view, message_view};
 
 use crate::msg::{Message, Notification, Request, RequestId, Response, ResponseError};

@@ -3,8 +3,9 @@ ghost use Rattle.std.specs.Prelude.{◌≡◌, Some, IfOk, OnOk, option_map, str
 ghost use Rattle.serde_json.specs.Data.{number, object, member, no_members, put as with_member};
 ghost use Rattle.serde_json.specs.Find.{of_integer};
 ghost use Rattle.serde_json.specs.View.{view, members_view};
+ghost use Rattle.lsp_message.specs.Composing.{with_params};
 ghost use Rattle.lsp_message.specs.Meaning.{as_id, code_of, meaning};
-ghost use Rattle.lsp_message.specs.Tree.{id_tree, tree_of, error_tree as error_tree_of, with_params, without_null_details};
+ghost use Rattle.lsp_message.specs.Tree.{id_tree, tree_of, error_tree as error_tree_of, without_null_details};
 ghost use Rattle.lsp_message.specs.View.{error_view, request_view, notification_view, response_view, message_view};
 
 use crate::msg::{Message, Notification, Request, RequestId, Response, ResponseError};

@@ -3,7 +3,8 @@ use Rattle.serde_json.specs.Data.{number, string}
 use Rattle.serde_json.specs.Find.{of_integer}
 use Rattle.serde_json.specs.Written.{compact_text}
 use Rattle.serde_json.specs.View.{view}
-use Rattle.lsp_message.specs.Text.{named, Adds, IsLaterMember}
+use Rattle.lsp_message.specs.Composing.{Adds}
+use Rattle.lsp_message.specs.Text.{named, IsLaterMember}
 use Rattle.lsp_message.proofs.Joined.{joined_four}
 use Rattle.lsp_message.proofs.msg.text.push_error.Goals as goal
 

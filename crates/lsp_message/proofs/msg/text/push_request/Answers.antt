@@ -4,7 +4,8 @@ use Rattle.serde_json.specs.Written.{compact_text}
 use Rattle.serde_json.specs.View.{view}
 use Rattle.lsp_message.specs.Meaning.{unless_null}
 use Rattle.lsp_message.specs.Tree.{id_tree}
-use Rattle.lsp_message.specs.Text.{named, Adds, IsLaterMember}
+use Rattle.lsp_message.specs.Composing.{Adds}
+use Rattle.lsp_message.specs.Text.{named, IsLaterMember}
 use Rattle.lsp_message.proofs.Joined.{joined_four}
 use Rattle.lsp_message.proofs.msg.text.push_request.Goals as goal
 
