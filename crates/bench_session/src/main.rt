@@ -3,7 +3,7 @@
 #![tactic(auto)]
 
 use anyhow::{Result, bail};
-use lsp_server::{Handler, Notification, Request, ResponseError, session};
+use lsp_server::{Handler, Notification, Request, Response, ResponseError, session};
 use serde_json::{Map, Value};
 use std::alloc::{AllocError, Global};
 use std::io::{BufReader, Write};
@@ -35,6 +35,18 @@ impl Handler for Echo {
 
     fn note(&mut self, _notification: &Notification) -> Result<(), AllocError> {
         Ok(())
+    }
+
+    fn respond(&mut self, request: Request) -> Result<Response, AllocError> {
+        let value = if self.is_null {
+            Value::Null
+        } else {
+            request.params
+        };
+        Ok(Response {
+            id: request.id,
+            response_result: Ok(value),
+        })
     }
 }
 

@@ -6,8 +6,8 @@
 
 use anyhow::{Result, bail};
 use lsp_server::{
-    FrameOutbox, Handler, Notification, ReadEnd, Request, ResponseError, pump, read_loop,
-    run_threads, session,
+    FrameOutbox, Handler, Notification, ReadEnd, Request, Response, ResponseError, pump,
+    read_loop, run_threads, session,
 };
 use serde_json::{Map, Value};
 use std::alloc::{AllocError, Global};
@@ -36,6 +36,13 @@ impl Handler for Echo {
 
     fn note(&mut self, _notification: &Notification) -> Result<(), AllocError> {
         Ok(())
+    }
+
+    fn respond(&mut self, request: Request) -> Result<Response, AllocError> {
+        Ok(Response {
+            id: request.id,
+            response_result: Ok(request.params),
+        })
     }
 }
 

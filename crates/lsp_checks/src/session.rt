@@ -1,7 +1,7 @@
 // Sessions of a server, from bytes to bytes (LSP 3.17, "Base Protocol" and "Server lifecycle").
 use lsp_server::{
-    Event, Handler, Inbox, ListInbox, ListOutbox, SessionEnd, StreamInbox, serve, session,
-    session_within,
+    Event, Handler, Inbox, ListInbox, ListOutbox, Notification, Request, Response, ResponseError,
+    SessionEnd, StreamInbox, serve, session, session_within,
 };
 use serde_json::{Map, Value};
 use std::alloc::{AllocError, Global};
@@ -263,6 +263,40 @@ fn the_handler_answers_in_order(rt: HostRuntime) -> Result<(), Fail> {
         assert_eq!(rt; echo.asked, 2);
         assert_eq!(rt; echo.told, 1);
     }
+    Ok(())
+}
+
+// Gives each request its params back, and can answer no request that is only lent.
+#[derive(Drop)]
+struct Returns;
+
+impl Handler for Returns {
+    ghost answers = { λ _ _ _ _ _ _. Unit };
+
+    ghost notes = { λ _ _ _ _. Unit };
+
+    fn answer(&mut self, _request: &Request) -> Result<Result<Value, ResponseError>, AllocError> {
+        Err(AllocError)
+    }
+
+    fn note(&mut self, _notification: &Notification) -> Result<(), AllocError> {
+        Ok(())
+    }
+
+    fn respond(&mut self, request: Request) -> Result<Response, AllocError> {
+        Ok(Response {
+            id: request.id,
+            response_result: Ok(request.params),
+        })
+    }
+}
+
+#[test]
+fn a_handler_keeps_the_request(rt: HostRuntime) -> Result<(), Fail> {
+    let frames = [INITIALIZE, INITIALIZED, ECHO, SHUTDOWN, EXIT];
+    let outcome = run_parts(rt.alloc(), &frames, "", 1000, &mut Returns)?;
+    assert_eq!(rt; outcome.end.as_str(), SHUT_DOWN);
+    assert!(rt; consists_of(outcome.written.as_slice(), &[CAPABILITIES, ECHO_REPLY, NULL]));
     Ok(())
 }
 

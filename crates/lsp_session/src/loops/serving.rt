@@ -46,6 +46,20 @@ pub trait Handler {
     /// session.
     fn note(&mut self, notification: &Notification) -> Result<(), AllocError>
         ensures { IfOk result (λ _. notes self.old (string_bytes notification.now.method) (view notification.now.params) self.new) };
+
+    /// The reply to a request that is given to keep: under its id, with an outcome that `answer` may give. The session calls
+    /// this method, which calls `answer`. A handler that gives the params back writes it as well, and moves them.
+    fn respond(&mut self, request: Request) -> Result<Response, AllocError>
+        ensures id { IfOk result (λ response. response.id ≡ request.id) }
+        ensures outcome { IfOk result (λ response.
+            answers self.old request.id (string_bytes request.method) (view request.params) (outcome_view response.response_result) self.new) }
+    {
+        let response_result = self.answer(&request)?;
+        Ok(Response {
+            id: request.id,
+            response_result,
+        })
+    }
 }
 
 /// Runs a session of a server: the handshake, the handler's answers, and the shutdown (LSP 3.17, "Server lifecycle").
@@ -189,12 +203,8 @@ fn reply<O: Outbox, H: Handler>(
 ) -> Result<(), ProtocolError>
     ensures { Replies H.answers H.notes O.sends (request_view request) (handler.old, outbox.old) result (handler.new, outbox.new) }
 {
-    let Ok(response_result) = handler.answer(&request) else {
+    let Ok(response) = handler.respond(request) else {
         return Err(ProtocolError::out_of_memory());
-    };
-    let response = Response {
-        id: request.id,
-        response_result,
     };
     match outbox.send(Message::Response(response)) {
         Ok(()) => Ok(()),
