@@ -194,7 +194,15 @@ module _ (limit : ℕ) (P : List Message → Stop → List Message → Option Me
     (text : List ℕ) (left a b : Option (List ℕ)) where
   module _ (letters : List Message) (at : List ℕ) (output : List Message) (answer : SessionAnswer) (read : BeginsWith limit text letters at) (written : GetsFrames output a b) where
     all_answered : (Left : List ℕ → Type 0) (stop : Stop) → Left at → (replied : Replied stop letters output answer) → replied.extra ≡ [] → AnswersAll limit text left a b Left
-    all_answered Left stop rest replied none = (letters, at, output, read, rest, rw (replied.all, none, append-nil) replied.each, written)
+    all_answered Left stop rest replied none = record {
+      letters = letters;
+      at = at;
+      read = read;
+      rest = rest;
+      replies = output;
+      replied = rw (replied.all, none, append-nil) replied.each;
+      written = written;
+    }
 
     stopped_answered : (stop : Stop) → LeftAfter limit stop at left → Replied stop letters output answer
         → AnswersAll limit text left a b (ReadsNoMore limit text left a b) ⊎ (IsErr answer × AnswersAllButLast limit text left a b)
@@ -202,18 +210,18 @@ module _ (limit : ℕ) (P : List Message → Stop → List Message → Option Me
       | inl none ↦ inl (all_answered (ReadsNoMore limit text left a b) decided (decided, rest) replied none)
       | inr last ↦ inr (
         last.0,
-        (
-          last.1.0,
-          last.1.1,
-          last.1.2,
-          last.1.3,
-          at,
-          output,
-          rw last.1.4 at read,
-          rest,
-          rw last.1.5 at replied.each,
-          written,
-        ),
+        record {
+          before = last.1.0;
+          id = last.1.1;
+          method = last.1.2;
+          params = last.1.3;
+          at = at;
+          read = rw last.1.4 at read;
+          rest = rest;
+          replies = output;
+          replied = rw last.1.5 at replied.each;
+          written = written;
+        },
       )
     ]
     stopped_answered no_more rest replied = inl (all_answered (ReadsNoMore limit text left a b) no_more (no_more, rest) replied replied.few)

@@ -6,7 +6,8 @@ use Rattle.std.proofs.lemmas.List.{length_push, map-append}
 use Rattle.lsp_message.specs.Message.{Message}
 use Rattle.lsp_message.specs.Written.{IsFrameOf, AreFramesOf, GetsFrames, Writes}
 use Rattle.lsp_message.specs.declared.frame.WriteFault.{WriteFault}
-use Rattle.lsp_session.specs.Boxes.{Offers, WaitsFor}
+use Rattle.lsp_session.proofs.FrameSteps.{breaks_off}
+use Rattle.lsp_session.specs.Boxes.{Sends, Receives, Offers, WaitsFor}
 use Rattle.lsp_session.specs.Event.{Event, message, closed}
 use Rattle.lsp_session.specs.WriteLoop.{GivesAll, OffersAll, WritesOut}
 use Rattle.lsp_session.specs.declared.lifecycle.SendFault.{SendFault}
@@ -23,7 +24,7 @@ GetsFrames-push : (ms : List Message) (m : Message) (a b c : Option (List ℕ)) 
 GetsFrames-push ms m a b c frames last =
     (frames.0 ++ last.0, AreFramesOf-push ms frames.0 m last.0 frames.1 last.1, Appends-trans a b c frames.0 last.0 frames.2 last.2)
 
-module _ {O : Type 0} (sends : O → Message → Result (Unit {0}) SendFault → O → Type 0) where
+module _ {O : Type 0} (sends : Sends O) where
   pub OffersAll-push : (ms : List Message) (m : Message) (old mid new : O) → OffersAll sends old ms mid → Offers sends m mid new → OffersAll sends old (ms ++ m ∷ []) new
   OffersAll-push ms m old mid new offered next = FoldsTo-push (λ from m to. Offers sends m from to) old ms mid m new offered next
 
@@ -32,7 +33,7 @@ module _ {O : Type 0} (sends : O → Message → Result (Unit {0}) SendFault →
       → (ms : List Message) × OffersAll sends old ms new
   offers_more m outcome old mid new so_far sent = (so_far.0 ++ m ∷ [], OffersAll-push so_far.0 m old mid new so_far.1 (record { outcome = outcome; sent = sent }))
 
-module _ {I O : Type 0} (receives : I → Event → I → Type 0) (sends : O → Message → Result (Unit {0}) SendFault → O → Type 0) where
+module _ {I O : Type 0} (receives : Receives I) (sends : Sends O) where
   GivesAll-push : (ms : List Message) (m : Message) (old mid new : I) → GivesAll receives old ms mid → WaitsFor receives mid (message m) new → GivesAll receives old (ms ++ m ∷ []) new
   GivesAll-push ms m old mid new given next =
       rw (map-append message ms (m ∷ [])) (FoldsTo-push (WaitsFor receives) old (map message ms) mid (message m) new given next)
@@ -61,7 +62,7 @@ module _ {I O : Type 0} (receives : I → Event → I → Type 0) (sends : O →
       so_far.ms,
       m,
       GivesAll-push so_far.ms m old.0 mid.0 new.0 so_far.given came,
-      (mid.1, so_far.frames, broken),
+      breaks_off so_far.ms m fault old.1 mid.1 new.1 so_far.frames broken,
       OffersAll-push sends so_far.ms m old.2 mid.2 new.2 so_far.offered offers,
     )
 

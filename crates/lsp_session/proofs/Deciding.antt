@@ -2,23 +2,15 @@
 use Rattle.std.proofs.Common.{◌≡◌, ℕ, ◌+◌, ◌≤◌, ◌<◌, Bool, true, false, ◌&&◌, List, [], ◌∷◌, map, length, arith, Some, None, Option, refl, inl, inr}
 use Rattle.std.proofs.lemmas.List.{length-map}
 use Rattle.std.specs.List.{FoldsTo, list_all}
-use Rattle.std.specs.Option.{option_map}
-use Rattle.std.specs.Prelude.{IsSome, Result}
-use Rattle.serde_json.specs.declared.value.Value.{Value}
-use Rattle.lsp_message.specs.Id.{Id}
+use Rattle.std.specs.Prelude.{IsSome}
 use Rattle.lsp_message.specs.Message.{Message}
+use Rattle.lsp_session.specs.Boxes.{Sends}
 use Rattle.lsp_session.specs.Event.{Event, closed, event_view}
 use Rattle.lsp_session.specs.Finish.{FinishAnswer, is_idle, AwaitsWithin, FinishesWithin}
-use Rattle.lsp_session.specs.Lists.{GivesNext}
-use Rattle.lsp_session.specs.ProtocolError.{ProtocolFault}
-use Rattle.lsp_session.specs.Start.{start_view, is_undecided, StartsWithin}
+use Rattle.lsp_session.specs.Lists.{GivesNext, ListGives}
+use Rattle.lsp_session.specs.Start.{StartAnswer, is_undecided, StartsWithin}
 use Rattle.lsp_session.specs.Turns.{Turn, stopped, got, TakesTurn}
-use Rattle.lsp_session.specs.declared.lifecycle.SendFault.{SendFault}
 use Rattle.lsp_session.specs.declared.lifecycle.lists.ListInbox.{ListInbox}
-
--- what a receive does to a list of events
-abbrev Receives : ListInbox → Event → ListInbox → Type 0
-Receives old event new = GivesNext (map event_view old.events.items) event (map event_view new.events.items)
 
 both : (a b : Bool) → (a && b) ≡ true → (a ≡ true) × (b ≡ true)
 both true b holds = (refl, holds)
@@ -31,7 +23,7 @@ module _ (passes : Turn → Bool) (not_stopped : passes stopped ≡ false) (not_
 
   module _ {G : Type 0} (asks : G → Bool → G → Type 0) where
     -- the turns that leave it undecided are no more than the events
-    few_turns : (turns : List Turn) (g g' : G) (i i' : ListInbox) → FoldsTo (TakesTurn asks Receives) (g, i) turns (g', i')
+    few_turns : (turns : List Turn) (g g' : G) (i i' : ListInbox) → FoldsTo (TakesTurn asks ListGives) (g, i) turns (g', i')
         → list_all passes turns ≡ true → length turns ≤ length (map event_view i.events.items)
     few_turns [] g g' i i' run all = omega arith
     few_turns (stopped ∷ turns) g g' i i' run all = let here = (both (passes stopped) (list_all passes turns) all).0 in cc
@@ -43,16 +35,16 @@ module _ (passes : Turn → Bool) (not_stopped : passes stopped ≡ false) (not_
 
 module _ {G : Type 0} (asks : G → Bool → G → Type 0) (limit : ℕ) where
   pub wait_decides : (old new : G × ListInbox) (answer : Option FinishAnswer)
-      → AwaitsWithin asks Receives limit old answer new → length old.1.events.items < limit → IsSome answer
+      → AwaitsWithin asks ListGives limit old answer new → length old.1.events.items < limit → IsSome answer
   wait_decides old new None awaits more =
       let few = few_turns is_idle refl refl asks awaits.awaits.before old.0 new.0 old.1 new.1 (rw awaits.awaits.end at awaits.taken) awaits.awaits.idle in
       let all = rw awaits.awaits.end at (awaits.none_after_all refl) in
       absurd (omega (arith, few, all, length-map old.1.events.items event_view))
   wait_decides old new (Some answer) awaits more = refl
 
-  module _ {O : Type 0} (sends : O → Message → Result (Unit {0}) SendFault → O → Type 0) where
-    pub start_decides : (old new : G × ListInbox × O) (answer : Option (Result (Id × Value) ProtocolFault))
-        → StartsWithin asks Receives sends limit old (option_map start_view answer) new → length old.1.events.items < limit → IsSome answer
+  module _ {O : Type 0} (sends : Sends O) where
+    pub start_decides : (old new : G × ListInbox × O) (answer : Option StartAnswer)
+        → StartsWithin asks ListGives sends limit old answer new → length old.1.events.items < limit → IsSome answer
     start_decides old new None starts more =
         let few = few_turns is_undecided refl refl asks starts.starts.before old.0 new.0 old.1 new.1 (rw starts.starts.end.0 at starts.taken) starts.starts.passed.undecided in
         let all = rw starts.starts.end.0 at (starts.none_after_all refl) in
@@ -60,6 +52,6 @@ module _ {G : Type 0} (asks : G → Bool → G → Type 0) (limit : ℕ) where
     start_decides old new (Some answer) starts more = refl
 
     pub finish_decides : (old new : G × ListInbox × O) (reply : Message) (answer : Option FinishAnswer)
-        → FinishesWithin asks Receives sends limit reply old answer new → length old.1.events.items < limit → IsSome answer
+        → FinishesWithin asks ListGives sends limit reply old answer new → length old.1.events.items < limit → IsSome answer
     finish_decides old new reply answer (inl sent) more = wait_decides (old.0, old.1) (new.0, new.1) answer sent.1 more
     finish_decides old new reply answer (inr refused) more = rw refused.2 refl

@@ -3,11 +3,12 @@ use Rattle.std.proofs.Common.{◌≡◌, refl, ℕ, ◌+◌, ◌<◌, Bool, true
 use Rattle.std.specs.List.{FoldsTo, list_all}
 use Rattle.std.proofs.lemmas.Fn.{FoldsTo-push}
 use Rattle.lsp_session.proofs.Waiting.{list_all-push}
+use Rattle.lsp_session.specs.Boxes.{Receives}
 use Rattle.lsp_session.specs.Event.{Event, timeout}
 use Rattle.lsp_session.specs.Finish.{FinishAnswer, is_idle, Finishes, AwaitsWithin}
 use Rattle.lsp_session.specs.Turns.{Turn, got, TakesTurn}
 
-module _ {G I : Type 0} (asks : G → Bool → G → Type 0) (receives : I → Event → I → Type 0) where
+module _ {G I : Type 0} (asks : G → Bool → G → Type 0) (receives : Receives I) where
   -- so many turns were taken, and nothing came
   pub record Idles (count : ℕ) (old new : G × I) : Type 0 where
     pub turns : List Turn

@@ -1,5 +1,5 @@
 -- What an outbox that writes frames took.
-use Rattle.std.proofs.Common.{◌≡◌, ℕ, List, [], ◌∷◌, ◌++◌, Option, Some, None, MatchOption, Result, Ok, refl, sym, ap, subst, ◌∙◌}
+use Rattle.std.proofs.Common.{◌≡◌, ℕ, List, [], ◌∷◌, ◌++◌, Option, Some, None, MatchOption, Result, Ok, Err, refl, sym, ap, subst, ◌∙◌}
 use Rattle.std.proofs.KnownBytes.{Appends-nil, Appends-trans}
 use Rattle.std.specs.Io.KnownBytes.{Keeps, Appends}
 use Rattle.std.specs.List.{FoldsTo}
@@ -7,9 +7,11 @@ use Rattle.lsp_message.specs.Letters.{failed}
 use Rattle.lsp_message.specs.Message.{Message}
 use Rattle.lsp_message.specs.Written.{IsFrameOf, GetsFrames, Writes}
 use Rattle.lsp_message.specs.declared.frame.WriteFault.{WriteFault}
+use Rattle.lsp_message.specs.declared.frame.WriteFault.TheVariants.{Output, Memory}
 use Rattle.lsp_message.specs.declared.msg.Message as msg
 use Rattle.lsp_session.specs.Boxes.{Takes}
 use Rattle.lsp_session.specs.FrameBoxes.{FrameOutboxSends, IsClosed, Told, kept_write}
+use Rattle.lsp_session.specs.WriteLoop.{BreaksOffAt}
 use Rattle.lsp_session.specs.declared.lifecycle.SendFault.{SendFault}
 use Rattle.lsp_session.specs.declared.loops.frame_outbox.FrameOutbox.{FrameOutbox}
 
@@ -28,6 +30,22 @@ Appends-Keeps None b c text first second = tt
 Appends-Keeps (Some xs) None c text first second = absurd first
 Appends-Keeps (Some xs) (Some ys) None text first second = absurd second
 Appends-Keeps (Some xs) (Some ys) (Some zs) text first second = second ∙ first
+
+-- frames, and what a write that failed left
+pub breaks_off : (ms : List Message) (m : Message) (fault : WriteFault) (a b c : Option (List ℕ)) → GetsFrames ms a b → Writes m b (Err fault) c → BreaksOffAt ms m fault a c
+breaks_off ms m (Output kind) a b c frames broken =
+    let part = broken.2 in
+    record {
+      frames = frames.0;
+      frames_of_whole = frames.1;
+      frame = broken.0;
+      frame_of_next = broken.1;
+      part = part.0;
+      missing = part.1;
+      split = part.2;
+      got = Appends-trans a b c frames.0 part.0 frames.2 part.3;
+    }
+breaks_off ms m Memory a b c frames broken = (frames.0, frames.1, Appends-Keeps a b c frames.0 frames.2 broken)
 
 module _ {W : Type 0} (contents : W → Option (List ℕ)) where
   abbrev at : FrameOutbox W → Option (List ℕ)

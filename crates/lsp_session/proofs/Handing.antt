@@ -11,7 +11,7 @@ use Rattle.lsp_message.specs.declared.frame.ReadFault.{ReadFault}
 use Rattle.lsp_message.specs.declared.frame.ReadFault.TheVariants.{Input, Memory as NoMemory}
 use Rattle.lsp_message.specs.declared.msg.Message as msg
 use Rattle.lsp_message.proofs.Contents.{frame_unread}
-use Rattle.lsp_session.specs.Boxes.{Takes}
+use Rattle.lsp_session.specs.Boxes.{Sends, Takes}
 use Rattle.lsp_session.specs.ReadLoop.{HandsBefore, Refuses, Hands, refused_end}
 use Rattle.lsp_session.specs.declared.lifecycle.SendFault.{SendFault}
 use Rattle.lsp_session.specs.declared.lifecycle.SendFault.TheVariants.{Closed as IsClosed, Memory as IsFull}
@@ -22,7 +22,7 @@ module _ (limit : ℕ) where
   pub begins : (at : List ℕ) (m : Message) → (reading_within limit at).outcome ≡ Ok (Some m) → Begins limit at m (reading_within limit at).rest
   begins at m outcome = ap (λ o. record { outcome = o; rest = (reading_within limit at).rest }) outcome
 
-  module _ {S : Type 0} (sends : S → Message → Result (Unit {0}) SendFault → S → Type 0) where
+  module _ {S : Type 0} (sends : Sends S) where
     -- of the messages that the first bytes begin with, those before the second bytes were handed on
     abbrev pub Handed : Option (List ℕ) → Option (List ℕ) → S → S → Type 0
     Handed a b old new = IfSome a (λ text. IsSomeAnd b (λ at. (ms : List Message) × PassesAll limit text ms at × FoldsTo (Takes sends) old ms new))
@@ -48,7 +48,13 @@ module _ (limit : ℕ) where
           at (Some text) None so_far read = absurd so_far
           at (Some text) (Some left) so_far read =
               let taken = FoldsTo-push (Takes sends) old so_far.0 mid (view x) new so_far.2 sent in
-              (so_far.0 ++ view x ∷ [], (reading_within limit left).rest, (so_far.0, view x, left, refl, so_far.1, begins left (view x) read.0, last), taken, read.1)
+              record {
+                messages = so_far.0 ++ view x ∷ [];
+                rest = (reading_within limit left).rest;
+                letters = (so_far.0, view x, left, refl, so_far.1, begins left (view x) read.0, last);
+                taken = taken;
+                unread = read.1;
+              }
 
       refuses : (refusal : msg.Message → SendFault) (back : msg.Message) → sends mid (view x) (Err (refusal back)) new
           → IfSome a (λ text. Refuses limit sends text old new c refusal)
@@ -58,7 +64,19 @@ module _ (limit : ℕ) where
           at None b so_far read = tt
           at (Some text) None so_far read = absurd so_far
           at (Some text) (Some left) so_far read =
-              (so_far.0, left, view x, (reading_within limit left).rest, mid, back, so_far.1, begins left (view x) read.0, so_far.2, refused, read.1)
+              record {
+                messages = so_far.0;
+                at = left;
+                passed = so_far.1;
+                next = view x;
+                rest = (reading_within limit left).rest;
+                begins = begins left (view x) read.0;
+                mid = mid;
+                taken = so_far.2;
+                back = back;
+                refused = refused;
+                unread = read.1;
+              }
 
       pub hands_refused : (fault : SendFault) → sends mid (view x) (Err fault) new → IfSome a (λ text. Hands limit sends text old new c (refused_end fault))
       hands_refused (IsClosed back) refused = refuses IsClosed back refused
@@ -70,10 +88,16 @@ module _ (limit : ℕ) where
       hands_end (Some text) None so_far read = absurd so_far
       hands_end (Some text) (Some left) so_far read =
           let end = ap (λ o. record { outcome = o; rest = (reading_within limit left).rest }) read.0 in
-          (so_far.0, (reading_within limit left).rest, (left, so_far.1, end), so_far.2, read.1)
+          record {
+            messages = so_far.0;
+            rest = (reading_within limit left).rest;
+            letters = (left, so_far.1, end);
+            taken = so_far.2;
+            unread = read.1;
+          }
 
       hands_before : (text left : List ℕ) → Handed (Some text) (Some left) old new → StopsWithin c (reading_within limit left) → HandsBefore limit sends text old new c
-      hands_before text left so_far stops = (so_far.0, left, so_far.1, so_far.2, stops)
+      hands_before text left so_far stops = record { messages = so_far.0; at = left; passed = so_far.1; taken = so_far.2; unread = stops }
 
       pub hands_fault : (fault : ReadFault) (a b : Option (List ℕ)) → Handed a b old new → IfSome b (λ at. Answers view (Err fault) c (reading_within limit at))
           → IfSome a (λ text. Hands limit sends text old new c (Fault fault))
@@ -83,10 +107,16 @@ module _ (limit : ℕ) where
       hands_fault NoMemory (Some text) (Some left) so_far read = hands_before text left so_far read
       hands_fault fault (Some text) (Some left) so_far read =
           let end = ap (λ o. record { outcome = o; rest = (reading_within limit left).rest }) read.0 in
-          (so_far.0, (reading_within limit left).rest, (left, so_far.1, end), so_far.2, read.1)
+          record {
+            messages = so_far.0;
+            rest = (reading_within limit left).rest;
+            letters = (left, so_far.1, end);
+            taken = so_far.2;
+            unread = read.1;
+          }
 
     -- and where no more messages are read
     pub hands_on : (old new : S) (a b : Option (List ℕ)) → Handed a b old new → IfSome a (λ text. HandsBefore limit sends text old new b)
     hands_on old new None b so_far = tt
     hands_on old new (Some text) None so_far = absurd so_far
-    hands_on old new (Some text) (Some left) so_far = (so_far.0, left, so_far.1, so_far.2, frame_unread body_means limit left)
+    hands_on old new (Some text) (Some left) so_far = record { messages = so_far.0; at = left; passed = so_far.1; taken = so_far.2; unread = frame_unread body_means limit left }

@@ -12,7 +12,7 @@ use Rattle.lsp_message.specs.declared.frame.WriteFault.{WriteFault}
 use Rattle.lsp_message.specs.declared.frame.WriteFault.TheVariants.{Output, Memory as NoMemory}
 use Rattle.lsp_session.proofs.Carrying.{AreFramesOf-push}
 use Rattle.lsp_session.proofs.Handing.{begins}
-use Rattle.lsp_session.proofs.FrameSteps.{taken_frames, taken_keeps, Appends-Keeps}
+use Rattle.lsp_session.proofs.FrameSteps.{breaks_off, taken_frames, taken_keeps, Appends-Keeps}
 use Rattle.lsp_session.proofs.SessionFacts.{is_no_exit}
 use Rattle.lsp_session.specs.Boxes.{Takes}
 use Rattle.lsp_session.specs.Event.{Event, message, timeout, closed}
@@ -134,9 +134,7 @@ module _ {W : Type 0} (contents : W → Option (List ℕ)) where
       (refl, (got.0 ++ writes.0, AreFramesOf-push ms got.0 m writes.0 got.1 writes.1, Appends-trans a b c got.0 writes.0 got.2 writes.2))
   offered ms m a b c (Err (Shut back)) None got writes told = absurd told
   offered ms m a b c (Err (Full back)) None got writes told = absurd told
-  offered ms m a b c outcome (Some (Output kind)) got writes told =
-      let part = writes.2 in
-      (ms, m, got.0, writes.0, part.0, part.1, refl, got.1, writes.1, part.2, Appends-trans a b c got.0 part.0 got.2 part.3)
+  offered ms m a b c outcome (Some (Output kind)) got writes told = record { whole = ms; last = m; cut = refl; got = breaks_off ms m (Output kind) a b c got writes }
   offered ms m a b c outcome (Some NoMemory) got writes told = (ms, m ∷ [], refl, (got.0, got.1, Appends-Keeps a b c got.0 got.2 writes))
 
   -- the same, of an outbox that no write has failed in

@@ -10,6 +10,7 @@ use Rattle.serde_json.specs.Data.{Data}
 use Rattle.lsp_message.specs.Id.{Id}
 use Rattle.lsp_message.specs.Message.{Message, request}
 use Rattle.lsp_session.proofs.Waiting.{FoldsTo-append}
+use Rattle.lsp_session.specs.Boxes.{Sends, Receives}
 use Rattle.lsp_session.specs.Event.{Event, message}
 use Rattle.lsp_session.specs.Start.{StartAnswer, is_undecided, request_of, IsEarlyReply, fault_of_refusal, PassesOver, Ends, StartsWithin}
 use Rattle.lsp_session.specs.Turns.{Turn, got, TakesTurn}
@@ -22,7 +23,7 @@ AllZip-append R [] xs' (y ∷ ys) ys' first second = absurd first
 AllZip-append R (x ∷ xs) xs' [] ys' first second = absurd first
 AllZip-append R (x ∷ xs) xs' (y ∷ ys) ys' first second = (first.0, AllZip-append R xs xs' ys ys' first.1 second)
 
-module _ {O : Type 0} (sends : O → Message → Result (Unit {0}) SendFault → O → Type 0) where
+module _ {O : Type 0} (sends : Sends O) where
   module _ (old : O) (i : Id) (method : List ℕ) (params : Data) (reply : Message) (new : O) (other : bytes_eq method (codes "initialize") ≡ false)
       (answers : IsEarlyReply i reply) where
     -- an early request whose reply the outbox took
@@ -56,7 +57,7 @@ module _ {O : Type 0} (sends : O → Message → Result (Unit {0}) SendFault →
     taken = FoldsTo-append _ replies replies' old mid new first.taken second.taken;
   }
 
-module _ {G I O : Type 0} (asks : G → Bool → G → Type 0) (receives : I → Event → I → Type 0) (sends : O → Message → Result (Unit {0}) SendFault → O → Type 0) where
+module _ {G I O : Type 0} (asks : G → Bool → G → Type 0) (receives : Receives I) (sends : Sends O) where
   -- so many turns were taken, and left the handshake undecided
   pub record Undecided (count : ℕ) (old new : G × I × O) : Type 0 where
     pub turns : List Turn

@@ -3,6 +3,7 @@ use Rattle.std.proofs.Common.{◌≡◌, ◌∙◌, ap, refl, inl, inr, ℕ, Lis
 use Rattle.std.specs.List.{FoldsTo}
 use Rattle.std.specs.Prelude.{Result}
 use Rattle.lsp_message.specs.Message.{Message}
+use Rattle.lsp_session.specs.Boxes.{Sends}
 use Rattle.lsp_session.specs.Event.{Event}
 use Rattle.lsp_session.specs.Finish.{FinishAnswer, FinishesAt}
 use Rattle.lsp_session.specs.StreamBoxes.{stream_of, StreamInboxGives}
@@ -21,7 +22,7 @@ module _ {R : Type 0} (remaining : R → Option (List ℕ)) (limit : ℕ) where
       let first = rw limited at run.1.0 in
       ((stream_of remaining run.0, first, rest.0), rest.1 ∙ run.1.1)
 
-  module _ {O : Type 0} (sends : O → Message → Result (Unit {0}) SendFault → O → Type 0) (first last : R) (old new : StreamInbox R) (before after : O)
+  module _ {O : Type 0} (sends : Sends O) (first last : R) (old new : StreamInbox R) (before after : O)
       (limited : old.limit ≡ limit) (same : old.reader.now ≡ first) (named : new.reader.ghost_name ≡ old.reader.ghost_name → last ≡ new.reader.now) where
     pub finishes_over : (reply : Message) (answer : FinishAnswer) → FinishesAt (StreamInboxGives remaining) sends reply (old, before) answer (new, after)
         → (end : Option ReadEnd) × FinishesAt (StreamGives limit) sends reply (record { remaining = remaining first; end = old.end }, before) answer (record { remaining = remaining last; end = end }, after)

@@ -3,7 +3,7 @@ use Rattle.std.proofs.Common.{◌≡◌, refl, Bool, true, List, [], ◌∷◌, 
 use Rattle.std.specs.List.{FoldsTo, list_all}
 use Rattle.std.proofs.lemmas.Fn.{FoldsTo-push}
 use Rattle.std.proofs.lemmas.List.Folds.{list_all-append}
-use Rattle.lsp_session.specs.Boxes.{PassesTimeouts, WaitsFor, is_timeout}
+use Rattle.lsp_session.specs.Boxes.{Receives, PassesTimeouts, WaitsFor, is_timeout}
 use Rattle.lsp_session.specs.Event.{Event, timeout}
 
 -- two runs, one after the other
@@ -15,7 +15,7 @@ FoldsTo-append R (x ∷ xs) ys s t u first second = (first.0, first.1, FoldsTo-a
 pub list_all-push : {A : Type 0} (p : A → Bool) (xs : List A) (x : A) → list_all p xs ≡ true → p x ≡ true → list_all p (xs ++ x ∷ []) ≡ true
 list_all-push p xs x all one = rw (list_all-append p xs (x ∷ []), all, one) refl
 
-module _ {I : Type 0} (receives : I → Event → I → Type 0) (old mid new : I) where
+module _ {I : Type 0} (receives : Receives I) (old mid new : I) where
   pub passes_none : PassesTimeouts receives old old
   passes_none = record { passed = []; only_timeouts = refl; received = refl }
 
@@ -36,5 +36,5 @@ module _ {I : Type 0} (receives : I → Event → I → Type 0) (old mid new : I
 pub ruleset box_runs = (passes_none, passes_more, waits_after)
 
 -- one receive that gives no timeout
-pub waits_none : {I : Type 0} (receives : I → Event → I → Type 0) (old new : I) (event : Event) → receives old event new → WaitsFor receives old event new
+pub waits_none : {I : Type 0} (receives : Receives I) (old new : I) (event : Event) → receives old event new → WaitsFor receives old event new
 waits_none receives old new event step = record { passed = []; only_timeouts = refl; received = (new, step, refl) }

@@ -4,8 +4,9 @@ use Rattle.std.specs.List.{AllZip, filter_map}
 use Rattle.std.specs.Prelude.{◌≡◌, ◌⊎◌, ℕ, List, [], ◌∷◌, ◌++◌, Option, Some, Result, Ok, Err}
 use Rattle.lsp_message.specs.Id.{Id}
 use Rattle.lsp_message.specs.Message.{Message, ErrorObject, request, response}
+use Rattle.lsp_message.specs.Methods.{request_id}
 use Rattle.lsp_message.specs.Written.{GetsFrames}
-use Rattle.lsp_session.specs.Session.{Stop, request_id}
+use Rattle.lsp_session.specs.Session.{Stop}
 use Rattle.lsp_session.specs.SessionBytes.{BeginsWith, LeftAfter, FailedAfter}
 use Rattle.lsp_session.specs.declared.loops.serving.SessionEnd.{SessionEnd}
 use Rattle.lsp_session.specs.declared.loops.stream_session.SessionFault.{SessionFault}
@@ -24,18 +25,31 @@ requests_of letters = filter_map request_id letters
 
 module _ (limit : ℕ) (text : List ℕ) (left old new : Option (List ℕ)) where
   -- Each request among the messages that were read got exactly one reply, under its id, in order. Nothing else was written.
-  abbrev pub AnswersAll : (List ℕ → Type 0) → Type 0
-  AnswersAll Left = (letters : List Message) × (at : List ℕ) × (replies : List Message)
-      × BeginsWith limit text letters at × Left at × RepliesToEach (requests_of letters) replies × GetsFrames replies old new
+  pub record AnswersAll (Left : List ℕ → Type 0) : Type 0 where
+    pub letters : List Message
+    pub at : List ℕ
+    pub read : BeginsWith limit text letters at
+    pub rest : Left at
+    pub replies : List Message
+    pub replied : RepliesToEach (requests_of letters) replies
+    pub written : GetsFrames replies old new
 
   -- no further message was read, but that the text ended
   abbrev pub ReadsNoMore : List ℕ → Type 0
   ReadsNoMore at = (stop : Stop) × LeftAfter limit stop at left
 
   -- The same but for the last message that was read, a request that the lifecycle does not allow.
-  abbrev pub AnswersAllButLast : Type 0
-  AnswersAllButLast = (before : List Message) × (id : Id) × (method : List ℕ) × (params : Data) × (at : List ℕ) × (replies : List Message)
-      × BeginsWith limit text (before ++ request id method params ∷ []) at × (left ≡ Some at) × RepliesToEach (requests_of before) replies × GetsFrames replies old new
+  pub record AnswersAllButLast : Type 0 where
+    pub before : List Message
+    pub id : Id
+    pub method : List ℕ
+    pub params : Data
+    pub at : List ℕ
+    pub read : BeginsWith limit text (before ++ request id method params ∷ []) at
+    pub rest : left ≡ Some at
+    pub replies : List Message
+    pub replied : RepliesToEach (requests_of before) replies
+    pub written : GetsFrames replies old new
 
   -- what became of a session's requests; where writing failed or memory ran out, this says nothing
   abbrev pub AnswersRequests : Result SessionEnd SessionFault → Type 0

@@ -3,9 +3,9 @@
 use Rattle.std.specs.Bool.{MatchBool}
 use Rattle.std.specs.List.{FoldsTo, list_all}
 use Rattle.std.specs.Prelude.{◌≡◌, ◌≤◌, ◌⊎◌, ℕ, Bool, true, false, List, [], ◌∷◌, ◌++◌, length, Option, Some, IsNone, MatchOption, Result, Ok, Err, IsErrAnd, codes}
-use Rattle.std.specs.Str.{bytes_eq}
-use Rattle.lsp_message.specs.Message.{Message, request, notification, response}
-use Rattle.lsp_session.specs.Boxes.{Takes, WaitsFor}
+use Rattle.lsp_message.specs.Message.{Message}
+pub use Rattle.lsp_message.specs.Methods.{is_initialized}
+use Rattle.lsp_session.specs.Boxes.{Sends, Receives, Takes, WaitsFor}
 use Rattle.lsp_session.specs.Event.{Event, message, timeout, closed}
 use Rattle.lsp_session.specs.ProtocolError.{ProtocolFault, disconnected, expected_initialized, aborted, out_of_memory, Shows}
 use Rattle.lsp_session.specs.Start.{fault_of_refusal}
@@ -14,12 +14,6 @@ use Rattle.lsp_session.specs.declared.lifecycle.SendFault.{SendFault}
 
 abbrev pub FinishAnswer : Type 0
 FinishAnswer = Result (Unit {0}) ProtocolFault
-
--- the notification `initialized`
-abbrev pub is_initialized : Message → Bool
-is_initialized (request i method params) = false
-is_initialized (notification method params) = bytes_eq method (codes "initialized")
-is_initialized (response i outcome) = false
 
 -- a turn in which nothing came
 abbrev pub is_idle : Turn → Bool
@@ -47,7 +41,7 @@ pub record Awaits (turns : List Turn) (answer : Option FinishAnswer) : Type 0 wh
   pub idle : list_all is_idle before ≡ true
   pub end : MatchOption answer (turns ≡ before) (λ a. (last : Turn) × (turns ≡ before ++ last ∷ []) × Finishes last a)
 
-module _ {G I : Type 0} (asks : G → Bool → G → Type 0) (receives : I → Event → I → Type 0) where
+module _ {G I : Type 0} (asks : G → Bool → G → Type 0) (receives : Receives I) where
   -- At most so many turns took the gate and the inbox from old to new, and gave this answer. None comes only after all.
   pub record AwaitsWithin (limit : ℕ) (old : G × I) (answer : Option FinishAnswer) (new : G × I) : Type 0 where
     pub turns : List Turn
@@ -56,14 +50,14 @@ module _ {G I : Type 0} (asks : G → Bool → G → Type 0) (receives : I → E
     pub none_after_all : IsNone answer → length turns ≡ limit
     pub awaits : Awaits turns answer
 
-  module _ {O : Type 0} (sends : O → Message → Result (Unit {0}) SendFault → O → Type 0) where
+  module _ {O : Type 0} (sends : Sends O) where
     -- The result is offered first. Where the outbox refuses it, no gate is asked and nothing is received.
     abbrev pub FinishesWithin : ℕ → Message → G × I × O → Option FinishAnswer → G × I × O → Type 0
     FinishesWithin limit reply old answer new =
         (Takes sends old.2 reply new.2 × AwaitsWithin limit (old.0, old.1) answer (new.0, new.1))
         ⊎ ((fault : SendFault) × sends old.2 reply (Err fault) new.2 × (answer ≡ Some (Err (fault_of_refusal fault))) × (new.0 ≡ old.0) × (new.1 ≡ old.1))
 
-module _ {I O : Type 0} (receives : I → Event → I → Type 0) (sends : O → Message → Result (Unit {0}) SendFault → O → Type 0) where
+module _ {I O : Type 0} (receives : Receives I) (sends : Sends O) where
   -- The result is offered, and where it is taken one event is awaited without limit.
   abbrev pub FinishesAt : Message → I × O → FinishAnswer → I × O → Type 0
   FinishesAt reply old answer new =

@@ -3,14 +3,13 @@ use Rattle.serde_json.specs.Data.{Data, object, member, no_members}
 use Rattle.std.specs.Bool.{MatchBool}
 use Rattle.std.specs.List.{AllZip, list_all, filter_map}
 use Rattle.std.specs.Prelude.{◌≡◌, ℕ, Bool, true, false, not, ◌&&◌, List, [], ◌∷◌, ◌++◌, Option, Some, None, Result, Ok, Err, IsErrAnd, codes}
-use Rattle.std.specs.Str.{bytes_eq}
 use Rattle.lsp_message.specs.Id.{Id}
-use Rattle.lsp_message.specs.Letters.{is_exit}
 use Rattle.lsp_message.specs.Message.{Message, ErrorObject, request, notification, response}
-use Rattle.lsp_session.specs.Finish.{is_initialized}
+use Rattle.lsp_message.specs.Methods.{is_early, is_initialized, is_exit}
+pub use Rattle.lsp_message.specs.Methods.{request_id, is_initialize, is_shutdown}
 use Rattle.lsp_session.specs.ProtocolError.{ProtocolFault, disconnected, expected_initialize, expected_initialized, unexpected_in_shutdown, shutdown_timeout, shutdown_disconnected, out_of_memory, Shows}
 use Rattle.lsp_session.specs.Replies.{ok_reply, null_reply}
-use Rattle.lsp_session.specs.Start.{is_early, IsEarlyReply, fault_of_refusal}
+use Rattle.lsp_session.specs.Start.{IsEarlyReply, fault_of_refusal}
 use Rattle.lsp_session.specs.declared.lifecycle.SendFault.{SendFault}
 use Rattle.lsp_session.specs.declared.loops.serving.SessionEnd.{SessionEnd}
 use Rattle.lsp_session.specs.declared.loops.serving.SessionEnd.TheVariants.{ShutDown, Closed}
@@ -31,21 +30,10 @@ pub data Stop : Type 0 where
   -- an allocation failed at the message that came next
   exhausted : Stop
 
--- the id of the request that a message is
-abbrev pub request_id : Message → Option Id
-request_id (request i method params) = Some i
-request_id (notification method params) = None
-request_id (response i outcome) = None
-
-abbrev pub is_initialize : Message → Bool
-is_initialize (request i method params) = bytes_eq method (codes "initialize")
-is_initialize (notification method params) = false
-is_initialize (response i outcome) = false
-
-abbrev pub is_shutdown : Message → Bool
-is_shutdown (request i method params) = bytes_eq method (codes "shutdown")
-is_shutdown (notification method params) = false
-is_shutdown (response i outcome) = false
+-- What is said of a session: its letters, why there is no further one, its output but for the null of `shutdown`, that null, and
+-- its answer.
+abbrev pub SessionPart : Type 1
+SessionPart = List Message → Stop → List Message → Option Message → SessionAnswer → Type 0
 
 -- the result of `initialize`
 abbrev pub initialize_result : Data → Data

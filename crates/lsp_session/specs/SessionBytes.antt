@@ -1,5 +1,4 @@
 -- A session over a reader and a writer: bytes in to bytes out (LSP 3.17, "Base Protocol" and "Server lifecycle").
-use Rattle.std.specs.Io.KnownBytes.{Appends}
 use Rattle.std.specs.List.{FoldsTo}
 use Rattle.std.specs.Prelude.{◌≡◌, ◌⊎◌, ℕ, List, [], ◌∷◌, ◌++◌, Option, Some, None, Result, Ok, Err}
 use Rattle.lsp_message.specs.Faults.{read_fault_text, write_fault_text}
@@ -7,11 +6,11 @@ use Rattle.lsp_message.specs.Frame.{reading_within}
 use Rattle.lsp_message.specs.Letters.{Begins}
 use Rattle.lsp_message.specs.Message.{Message}
 use Rattle.lsp_message.specs.Reading.{StopsWithin}
-use Rattle.lsp_message.specs.Written.{IsFrameOf, AreFramesOf, GetsFrames, IsOutput}
+use Rattle.lsp_message.specs.Written.{GetsFrames, GetsFramesAndPart, IsOutput}
 use Rattle.lsp_message.specs.declared.frame.ReadFault.{ReadFault}
 use Rattle.lsp_message.specs.declared.frame.ReadFault.TheVariants.{Input, Memory as NoMemoryToRead}
 use Rattle.lsp_session.specs.ProtocolError.{fault_text}
-use Rattle.lsp_session.specs.Session.{SessionAnswer, Stop, decided, no_more, refused}
+use Rattle.lsp_session.specs.Session.{SessionAnswer, SessionPart, Stop, decided, no_more, refused}
 use Rattle.lsp_session.specs.declared.loops.serving.SessionEnd.{SessionEnd}
 use Rattle.lsp_session.specs.declared.loops.stream_session.SessionFault.{SessionFault}
 use Rattle.lsp_session.specs.declared.loops.stream_session.SessionFault.TheVariants.{Protocol, Read, Write, Memory}
@@ -26,10 +25,11 @@ all_of output None = output
 all_of output (Some null) = output ++ null ∷ []
 
 -- the writer got frames of all but the last of these messages, and a beginning of a frame of that one
-abbrev pub BreaksOffLast : List Message → Option (List ℕ) → Option (List ℕ) → Type 0
-BreaksOffLast ms old new =
-    (whole : List Message) × (last : Message) × (frames : List ℕ) × (frame : List ℕ) × (part : List ℕ) × (more : List ℕ)
-    × (ms ≡ whole ++ last ∷ []) × AreFramesOf whole frames × IsFrameOf last frame × (frame ≡ part ++ more) × Appends old new (frames ++ part)
+pub record BreaksOffLast (ms : List Message) (old new : Option (List ℕ)) : Type 0 where
+  pub whole : List Message
+  pub last : Message
+  pub cut : ms ≡ whole ++ last ∷ []
+  pub got : GetsFramesAndPart whole last old new
 
 -- the writer got frames of the first of these messages, and nothing of the others
 abbrev pub GetsFirst : List Message → Option (List ℕ) → Option (List ℕ) → Type 0
@@ -53,7 +53,7 @@ FailedAfter limit (Input kind) at left = StopsWithin left (reading_within limit 
 FailedAfter limit NoMemoryToRead at left = ⊥
 FailedAfter limit fault at left = (rest : List ℕ) × (reading_within limit at ≡ record { outcome = Err fault; rest = rest }) × (left ≡ Some rest)
 
-module _ (limit : ℕ) (P : List Message → Stop → List Message → Option Message → SessionAnswer → Type 0) (text : List ℕ) (left old new : Option (List ℕ)) where
+module _ (limit : ℕ) (P : SessionPart) (text : List ℕ) (left old new : Option (List ℕ)) where
   -- The session came to its end: its letters are the first messages of the text, and all its output was written.
   pub record Comes (answer : SessionAnswer) : Type 0 where
     pub letters : List Message

@@ -3,9 +3,9 @@ use Rattle.std.specs.Bool.{MatchBool}
 use Rattle.std.specs.Prelude.{◌≡◌, ◌⊎◌, ℕ, List, Bool, true, false, Result, Ok, Err, IsErrAnd, codes}
 use Rattle.std.specs.Str.{bytes_eq}
 use Rattle.lsp_message.specs.Id.{Id}
-use Rattle.lsp_message.specs.Letters.{is_exit}
 use Rattle.lsp_message.specs.Message.{Message}
-use Rattle.lsp_session.specs.Boxes.{Offers}
+use Rattle.lsp_message.specs.Methods.{is_exit}
+use Rattle.lsp_session.specs.Boxes.{Sends, Receives, Offers}
 use Rattle.lsp_session.specs.Event.{Event, message, timeout, closed}
 use Rattle.lsp_session.specs.ProtocolError.{ProtocolFault, unexpected_in_shutdown, shutdown_timeout, shutdown_disconnected, out_of_memory, Shows}
 use Rattle.lsp_session.specs.Replies.{null_reply}
@@ -24,7 +24,7 @@ EventShutsDown (message m) answer = MatchBool (is_exit m) (answer ≡ Ok true) (
 EventShutsDown timeout answer = answer ≡ Err shutdown_timeout
 EventShutsDown closed answer = answer ≡ Err shutdown_disconnected
 
-module _ {I O : Type 0} (receives : I → Event → I → Type 0) (sends : O → Message → Result (Unit {0}) SendFault → O → Type 0) where
+module _ {I O : Type 0} (receives : Receives I) (sends : Sends O) where
   -- The null is offered, whatever the outbox answers, and one event gives the answer.
   pub record OffersNull (id : Id) (old : I × O) (answer : ShutdownAnswer) (new : I × O) : Type 0 where
     pub offered : Offers sends (null_reply id) old.1 new.1

@@ -9,8 +9,10 @@ use Rattle.std.specs.Str.{bytes_eq}
 use Rattle.lsp_message.specs.ErrorCode.{number_of}
 use Rattle.lsp_message.specs.Id.{Id}
 use Rattle.lsp_message.specs.Message.{Message, request, notification, response}
+use Rattle.lsp_message.specs.Methods.{request_id, is_shown}
+pub use Rattle.lsp_message.specs.Methods.{is_early}
 use Rattle.lsp_message.specs.declared.msg.code.ErrorCode.TheVariants.{ServerNotInitialized}
-use Rattle.lsp_session.specs.Boxes.{Takes}
+use Rattle.lsp_session.specs.Boxes.{Sends, Receives, Takes}
 use Rattle.lsp_session.specs.Event.{Event, message, timeout, closed}
 use Rattle.lsp_session.specs.ProtocolError.{ProtocolFault, disconnected, expected_initialize, aborted, out_of_memory, fault_text, Shows}
 use Rattle.lsp_session.specs.Turns.{Turn, stopped, got, TakesTurn}
@@ -24,12 +26,6 @@ StartAnswer = Result (Id × Data) ProtocolFault
 abbrev pub start_view : Result (Id × Value) ProtocolFault → StartAnswer
 start_view (Ok found) = Ok (found.0, view found.1)
 start_view (Err fault) = Err fault
-
--- the message is passed over: a request other than `initialize`, or a notification other than `exit`
-abbrev pub is_early : Message → Bool
-is_early (request i method params) = not (bytes_eq method (codes "initialize"))
-is_early (notification method params) = not (bytes_eq method (codes "exit"))
-is_early (response i outcome) = false
 
 -- the turn leaves the handshake undecided
 abbrev pub is_undecided : Turn → Bool
@@ -51,15 +47,9 @@ Decides (got closed) answer = answer ≡ Err disconnected
 Decides (got timeout) answer = ⊥
 Decides (got (message m)) answer = MessageDecides m answer
 
--- a text shows the message: that of the answer to it, or that of the reply
-abbrev pub is_shown : Message → Bool
-is_shown (request i method params) = not (bytes_eq method (codes "initialize"))
-is_shown (notification method params) = bytes_eq method (codes "exit")
-is_shown (response i outcome) = true
-
 -- the id of the request that a turn brings, where it brings one
 abbrev pub request_of : Turn → Option Id
-request_of (got (message (request i method params))) = Some i
+request_of (got (message m)) = request_id m
 request_of turn = None
 
 -- The reply to an early request, under its id: the error ServerNotInitialized, whose text begins as that of
@@ -73,7 +63,7 @@ abbrev pub fault_of_refusal : SendFault → ProtocolFault
 fault_of_refusal (Closed back) = disconnected
 fault_of_refusal (Memory back) = out_of_memory
 
-module _ {O : Type 0} (sends : O → Message → Result (Unit {0}) SendFault → O → Type 0) where
+module _ {O : Type 0} (sends : Sends O) where
   -- These turns leave the handshake undecided. The requests among them, in order, give the replies that the outbox takes.
   pub record PassesOver (old : O) (turns : List Turn) (replies : List Message) (new : O) : Type 0 where
     pub undecided : list_all is_undecided turns ≡ true
@@ -104,7 +94,7 @@ module _ {O : Type 0} (sends : O → Message → Result (Unit {0}) SendFault →
     pub passed : PassesOver old before replies mid
     pub end : MatchOption answer ((turns ≡ before) × (new ≡ mid)) (λ a. (last : Turn) × (turns ≡ before ++ last ∷ []) × Ends mid last a new)
 
-module _ {G I O : Type 0} (asks : G → Bool → G → Type 0) (receives : I → Event → I → Type 0) (sends : O → Message → Result (Unit {0}) SendFault → O → Type 0) where
+module _ {G I O : Type 0} (asks : G → Bool → G → Type 0) (receives : Receives I) (sends : Sends O) where
   -- At most so many turns took the contents of the boxes from old to new, and gave this answer. None comes only after all of them.
   pub record StartsWithin (limit : ℕ) (old : G × I × O) (answer : Option StartAnswer) (new : G × I × O) : Type 0 where
     pub turns : List Turn

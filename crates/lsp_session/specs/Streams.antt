@@ -3,8 +3,8 @@ use Rattle.std.specs.Io.KnownBytes.{Keeps}
 use Rattle.std.specs.Prelude.{◌≡◌, ℕ, List, Option, Some, None, IfSome, Result, Ok, Err, MatchOption, if◌then◌else◌}
 use Rattle.lsp_message.specs.Frame.{reading_within}
 use Rattle.lsp_message.specs.Gathering.{TakesFront}
-use Rattle.lsp_message.specs.Letters.{is_exit}
 use Rattle.lsp_message.specs.Message.{Message}
+use Rattle.lsp_message.specs.Methods.{is_exit}
 use Rattle.lsp_message.specs.Reading.{Answers}
 use Rattle.lsp_message.specs.declared.frame.ReadFault.{ReadFault}
 use Rattle.lsp_session.specs.Event.{Event, message, closed}

@@ -1,16 +1,17 @@
 -- What a loop over an inbox's messages writes (LSP 3.17, "Base Protocol").
 use Rattle.std.specs.List.{FoldsTo}
-use Rattle.std.specs.Prelude.{◌≡◌, ◌⊎◌, ◌-◌, ◌^◌, ℕ, List, [], ◌∷◌, ◌++◌, length, map, Option, Result, Err}
+use Rattle.std.specs.Prelude.{◌≡◌, ◌⊎◌, ◌-◌, ◌^◌, ℕ, List, [], ◌∷◌, ◌++◌, length, map, Option}
 use Rattle.lsp_message.specs.Message.{Message}
-use Rattle.lsp_message.specs.Written.{GetsFrames, Writes}
+use Rattle.lsp_message.specs.Written.{GetsFrames, GetsFramesAndPart}
 use Rattle.lsp_message.specs.declared.frame.WriteFault.{WriteFault}
-use Rattle.lsp_session.specs.Boxes.{Offers, WaitsFor}
+use Rattle.lsp_message.specs.declared.frame.WriteFault.TheVariants.{Output, Memory}
+use Rattle.lsp_session.specs.Boxes.{Sends, Receives, Offers, WaitsFor}
 use Rattle.lsp_session.specs.Event.{Event, message, closed}
 use Rattle.lsp_session.specs.declared.lifecycle.SendFault.{SendFault}
 use Rattle.lsp_session.specs.declared.loops.write.WriteEnd.{WriteEnd}
 use Rattle.lsp_session.specs.declared.loops.write.WriteEnd.TheVariants.{Closed, Fault}
 
-module _ {I : Type 0} (receives : I → Event → I → Type 0) where
+module _ {I : Type 0} (receives : Receives I) where
   -- the inbox gave these messages, one after another, and timeouts
   abbrev pub GivesAll : I → List Message → I → Type 0
   GivesAll old ms new = FoldsTo (WaitsFor receives) old (map message ms) new
@@ -20,14 +21,15 @@ module _ {I : Type 0} (receives : I → Event → I → Type 0) where
   GivesToEnd old ms new = FoldsTo (WaitsFor receives) old (map message ms ++ closed ∷ []) new ⊎ (GivesAll old ms new × (length ms ≡ 2 ^ 64 - 1))
 
 -- each of these messages was offered once, in order, whatever the outbox answered
-abbrev pub OffersAll : {O : Type 0} → (O → Message → Result (Unit {0}) SendFault → O → Type 0) → O → List Message → O → Type 0
+abbrev pub OffersAll : {O : Type 0} → Sends O → O → List Message → O → Type 0
 OffersAll sends = FoldsTo (λ old m new. Offers sends m old new)
 
--- the writer got frames of these messages, in order, and then what the failed write of one more left
+-- The writer got frames of these messages, in order, and of one more, whose write failed so, a beginning of its frame or nothing.
 abbrev pub BreaksOffAt : List Message → Message → WriteFault → Option (List ℕ) → Option (List ℕ) → Type 0
-BreaksOffAt ms m fault old new = (mid : Option (List ℕ)) × GetsFrames ms old mid × Writes m mid (Err fault) new
+BreaksOffAt ms m (Output kind) old new = GetsFramesAndPart ms m old new
+BreaksOffAt ms m Memory old new = GetsFrames ms old new
 
-module _ {I O : Type 0} (receives : I → Event → I → Type 0) (sends : O → Message → Result (Unit {0}) SendFault → O → Type 0) where
+module _ {I O : Type 0} (receives : Receives I) (sends : Sends O) where
   -- All that was received was written and offered; at a fault the last message was offered too, and its write is the one that failed.
   abbrev pub WritesOut : I × Option (List ℕ) × O → WriteEnd → I × Option (List ℕ) × O → Type 0
   WritesOut old Closed new =

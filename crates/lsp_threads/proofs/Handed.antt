@@ -43,18 +43,18 @@ module _ (limit : ℕ) where
         (all.0, finished ∙ ap (λ l. l ++ parcel.End ∷ []) (all.2 ∙ ap (λ l. l ++ map parcel.Message all.0) empty), all.1)
 
     pub sent_messages : (text : List ℕ) (end : ReadEnd) → HandsOn limit text tx end sent → (xs : List Message) × (sent ≡ ended xs) × ReadsTo text end (map message_view xs)
-    sent_messages text Exit (mid, left, (ms, rest, letters, run, same), finished) =
-        let all = all_sent ms mid run finished in (all.0, all.1, (rest, rw all.2 letters))
-    sent_messages text End (mid, left, (ms, rest, letters, run, same), finished) =
-        let all = all_sent ms mid run finished in (all.0, all.1, (rest, rw all.2 letters))
-    sent_messages text (Fault (Input kind)) (mid, left, (ms, at, passed, run, stops), finished) =
-        let all = all_sent ms mid run finished in (all.0, all.1, (at, rw all.2 passed))
-    sent_messages text (Fault NoMemory) (mid, left, (ms, at, passed, run, stops), finished) =
-        let all = all_sent ms mid run finished in (all.0, all.1, (at, rw all.2 passed))
-    sent_messages text (Fault fault) (mid, left, (ms, rest, letters, run, same), finished) =
-        let all = all_sent ms mid run finished in (all.0, all.1, (rest, rw all.2 letters))
-    sent_messages text Closed (mid, left, refused, finished) = absurd refused.9
-    sent_messages text Memory (mid, left, refused, finished) = absurd refused.9
+    sent_messages text Exit (mid, left, handed, finished) =
+        let all = all_sent handed.messages mid handed.taken finished in (all.0, all.1, (handed.rest, rw all.2 handed.letters))
+    sent_messages text End (mid, left, handed, finished) =
+        let all = all_sent handed.messages mid handed.taken finished in (all.0, all.1, (handed.rest, rw all.2 handed.letters))
+    sent_messages text (Fault (Input kind)) (mid, left, handed, finished) =
+        let all = all_sent handed.messages mid handed.taken finished in (all.0, all.1, (handed.at, rw all.2 handed.passed))
+    sent_messages text (Fault NoMemory) (mid, left, handed, finished) =
+        let all = all_sent handed.messages mid handed.taken finished in (all.0, all.1, (handed.at, rw all.2 handed.passed))
+    sent_messages text (Fault fault) (mid, left, handed, finished) =
+        let all = all_sent handed.messages mid handed.taken finished in (all.0, all.1, (handed.rest, rw all.2 handed.letters))
+    sent_messages text Closed (mid, left, refuses, finished) = absurd refuses.refused
+    sent_messages text Memory (mid, left, refuses, finished) = absurd refuses.refused
 
   -- of messages that passed, one and those before it
   pub passes_split : (whole : List plain.Message) (last : plain.Message) (more : List plain.Message) (text at : List ℕ) → PassesAll limit text (whole ++ last ∷ more) at

@@ -3,16 +3,18 @@ use Rattle.std.proofs.Common.{◌≡◌, inl, inr, ℕ, true, false, true≢fals
 use Rattle.std.proofs.KnownBytes.{Appends-nil, Appends-trans}
 use Rattle.std.proofs.lemmas.List.{append-nil, map-append}
 use Rattle.std.specs.Bool.{MatchBool}
+use Rattle.std.specs.Io.KnownBytes.{Appends}
 use Rattle.std.specs.List.{FoldsTo, list_all}
 use Rattle.lsp_message.specs.Message as plain
 use Rattle.lsp_message.specs.View.{message_view}
 use Rattle.lsp_message.specs.Written.{AreFramesOf, GetsFrames}
 use Rattle.lsp_message.specs.declared.frame.WriteFault.{WriteFault}
+use Rattle.lsp_message.specs.declared.frame.WriteFault.TheVariants.{Output, Memory}
 use Rattle.lsp_message.specs.declared.msg.Message.{Message}
 use Rattle.lsp_session.proofs.SessionStarts.{FoldsTo-split}
 use Rattle.lsp_session.specs.Boxes.{Takes, WaitsFor, is_timeout}
 use Rattle.lsp_session.specs.Event.{Event, message, timeout, closed}
-use Rattle.lsp_session.specs.WriteLoop.{OffersAll, WritesOut}
+use Rattle.lsp_session.specs.WriteLoop.{BreaksOffAt, OffersAll, WritesOut}
 use Rattle.lsp_session.specs.declared.lifecycle.SendFault.{SendFault}
 use Rattle.lsp_session.specs.declared.loops.write.WriteEnd.{WriteEnd}
 use Rattle.lsp_session.specs.declared.loops.write.WriteEnd.TheVariants.{Closed, Fault}
@@ -109,6 +111,21 @@ pub GetsFrames-append : (ms ns : List plain.Message) (a b c : Option (List ℕ))
 GetsFrames-append ms ns a b c first second =
     (first.0 ++ second.0, AreFramesOf-append ms ns first.0 second.0 first.1 second.1, Appends-trans a b c first.0 second.0 first.2 second.2)
 
+-- frames, and then others up to a write that failed
+breaks_off_after : (before ms : List plain.Message) (m : plain.Message) (fault : WriteFault) (a b c : Option (List ℕ)) → GetsFrames before a b → BreaksOffAt ms m fault b c
+    → BreaksOffAt (before ++ ms) m fault a c
+breaks_off_after before ms m (Output kind) a b c first broken = record {
+  frames = first.0 ++ broken.frames;
+  frames_of_whole = AreFramesOf-append before ms first.0 broken.frames first.1 broken.frames_of_whole;
+  frame = broken.frame;
+  frame_of_next = broken.frame_of_next;
+  part = broken.part;
+  missing = broken.missing;
+  split = broken.split;
+  got = subst (Appends a c) (sym (append_assoc first.0 broken.frames broken.part)) (Appends-trans a b c first.0 (broken.frames ++ broken.part) first.2 broken.got);
+}
+breaks_off_after before ms m Memory a b c first broken = GetsFrames-append before ms a b c first broken
+
 pub GetsFrames-none : (a : Option (List ℕ)) → GetsFrames [] a a
 GetsFrames-none a = ([], refl, Appends-nil a)
 
@@ -182,7 +199,7 @@ module _ {O : Type 0} (sends : O → plain.Message → Result (Unit {0}) SendFau
           map message_view so_far.xs ++ ms,
           m,
           more_views all.0 (ms ++ m ∷ []) all.1 ∙ sym (append_assoc (map message_view so_far.xs) ms (m ∷ [])),
-          (broken.0, GetsFrames-append (map message_view so_far.xs) ms a b broken.0 so_far.frames broken.1, broken.2),
+          breaks_off_after (map message_view so_far.xs) ms m fault a b c so_far.frames broken,
         ),
       )
 

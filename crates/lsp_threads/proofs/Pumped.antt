@@ -1,6 +1,5 @@
 -- What a reader's thread read and the caller wrote, as `pump` says it.
 use Rattle.std.proofs.Common.{◌≡◌, inl, inr, ℕ, List, [], sym, map, Option, Some, None, IfSome, subst}
-use Rattle.std.proofs.KnownBytes.{Appends-trans}
 use mathlib.Core.List.{IsPrefix}
 use Rattle.lsp_message.specs.Message as plain
 use Rattle.lsp_message.specs.View.{message_view}
@@ -9,7 +8,6 @@ use Rattle.lsp_message.specs.declared.frame.ReadFault.TheVariants.{Input, Memory
 use Rattle.lsp_message.specs.declared.frame.WriteFault.{WriteFault}
 use Rattle.lsp_message.specs.declared.frame.WriteFault.TheVariants.{Output, Memory as NoMemory}
 use Rattle.lsp_message.specs.declared.msg.Message.{Message}
-use Rattle.lsp_session.proofs.FrameSteps.{Appends-Keeps}
 use Rattle.lsp_threads.specs.Pump.{Pumps, pump_answer}
 use Rattle.lsp_session.specs.declared.loops.ReadEnd.{ReadEnd}
 use Rattle.lsp_session.specs.declared.loops.ReadEnd.TheVariants.{Exit, End, Fault, Closed, Memory}
@@ -25,11 +23,11 @@ module _ (limit : ℕ) where
   module _ (text : List ℕ) (a b : Option (List ℕ)) (ms : List plain.Message) where
     -- all was written
     whole_pumped : (end : ReadEnd) → ReadsTo limit text end ms → GetsFrames ms a b → Pumps limit text a b (pump_answer end None)
-    whole_pumped Exit (rest, letters) frames = inl (ms, rest, letters, frames)
-    whole_pumped End (rest, letters) frames = inr (ms, rest, letters, frames)
-    whole_pumped (Fault (Input kind)) (at, passed) frames = (ms, at, passed, frames)
-    whole_pumped (Fault NoMemoryToRead) (at, passed) frames = (ms, at, passed, frames)
-    whole_pumped (Fault fault) (rest, letters) frames = (ms, rest, letters, frames)
+    whole_pumped Exit (rest, letters) frames = inl (record { messages = ms; rest = rest; letters = letters; written = frames })
+    whole_pumped End (rest, letters) frames = inr (record { messages = ms; rest = rest; letters = letters; written = frames })
+    whole_pumped (Fault (Input kind)) (at, passed) frames = record { messages = ms; at = at; passed = passed; written = frames }
+    whole_pumped (Fault NoMemoryToRead) (at, passed) frames = record { messages = ms; at = at; passed = passed; written = frames }
+    whole_pumped (Fault fault) (rest, letters) frames = record { messages = ms; rest = rest; letters = letters; written = frames }
     whole_pumped Closed reads frames = absurd reads
     whole_pumped Memory reads frames = absurd reads
 
@@ -37,28 +35,10 @@ module _ (limit : ℕ) where
     broken_pumped : (end : ReadEnd) (fault : WriteFault) → ReadsTo limit text end ms → WritesAll ms (Unwritten fault) a b → Pumps limit text a b (pump_answer end (Some fault))
     broken_pumped end (Output kind) reads (whole, last, unwritten, cut, broken) =
         let read = reads_split limit text end ms whole last unwritten reads cut in
-        let frames = broken.1 in
-        let frame = broken.2 in
-        let part = frame.2 in (
-          whole,
-          read.0,
-          last,
-          read.1,
-          frames.0,
-          frame.0,
-          read.2,
-          read.3,
-          frames.1,
-          frame.1,
-          part.0,
-          part.1,
-          part.2,
-          Appends-trans a broken.0 b frames.0 part.0 frames.2 part.3,
-        )
+        record { messages = whole; at = read.0; passed = read.2; next = last; rest = read.1; begins = read.3; written = broken }
     broken_pumped end NoMemory reads (whole, last, unwritten, cut, broken) =
         let read = reads_split limit text end ms whole last unwritten reads cut in
-        let frames = broken.1 in
-        (whole, read.0, read.2, (frames.0, frames.1, Appends-Keeps a broken.0 b frames.0 frames.2 broken.2))
+        record { messages = whole; at = read.0; passed = read.2; written = broken }
 
     pumped : (read : ReadEnd) (wrote : WriteEnd) → ReadsTo limit text read ms → WritesAll ms wrote a b → Pumps limit text a b (pump_answer read (write_fault wrote))
     pumped read AllWritten reads written = whole_pumped read reads written

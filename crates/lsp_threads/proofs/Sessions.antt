@@ -16,7 +16,6 @@ use Rattle.lsp_message.specs.declared.frame.ReadFault.TheVariants.{Input, Memory
 use Rattle.lsp_message.specs.declared.frame.WriteFault.{WriteFault}
 use Rattle.lsp_message.specs.declared.frame.WriteFault.TheVariants.{Output, Memory as NoMemory}
 use Rattle.lsp_message.specs.declared.msg.Message.{Message}
-use Rattle.lsp_session.proofs.FrameSteps.{Appends-Keeps}
 use Rattle.lsp_session.proofs.SessionFacts.{is_no_exit, Facts}
 use Rattle.lsp_session.proofs.SessionGives.{ran_out_answer, ran_out_gives}
 use Rattle.lsp_session.proofs.SessionStarts.{FoldsTo-split, and-true}
@@ -34,7 +33,6 @@ use Rattle.lsp_session.specs.declared.loops.ReadEnd.TheVariants.{Exit, End, Faul
 use Rattle.lsp_session.specs.declared.loops.stream_session.SessionFault.TheVariants.{Memory as RanOut}
 use Rattle.lsp_session.specs.declared.loops.write.WriteEnd.{WriteEnd}
 use Rattle.lsp_session.specs.declared.loops.write.WriteEnd.TheVariants.{Closed as AllWritten, Fault as Unwritten}
-use Rattle.std.proofs.KnownBytes.{Appends-trans}
 use Rattle.lsp_threads.proofs.Handed.{ReadsTo, sent_messages}
 use Rattle.lsp_relay.proofs.Parcels.{ended_begins, ended_more, has_end_closed, has_end_messages, same_messages}
 use Rattle.lsp_threads.proofs.Passing.{posted, sends_relay}
@@ -184,49 +182,31 @@ module _ (limit : ℕ) where
     -- a write failed
     broken_gives : (stop : Stop) (at : List ℕ) → BeginsWith limit text letters at → P letters stop output null answer → (fault : WriteFault) (end : Option ReadEnd)
         → WritesAll (all_of output null) (Unwritten fault) a b → ThreadsGive limit P text a b (session_answer answer end (Some fault))
-    broken_gives stop at read part (Output kind) end (whole, last, unwritten, cut, broken) =
-        let frames = broken.1 in
-        let frame = broken.2 in
-        let got = frame.2 in (
-          tt,
-          record {
-            letters = letters;
-            at = at;
-            read = read;
-            stop = stop;
-            output = output;
-            null = null;
-            answer = answer;
-            part = part;
-            written = record {
-              whole = whole;
-              next = last;
-              unwritten = unwritten;
-              cut = cut;
-              frames = frames.0;
-              frames_of_whole = frames.1;
-              frame = frame.0;
-              frame_of_next = frame.1;
-              part = got.0;
-              missing = got.1;
-              split = got.2;
-              got = Appends-trans a broken.0 b frames.0 got.0 frames.2 got.3;
-            };
-          },
-        )
-    broken_gives stop at read part NoMemory end (whole, last, unwritten, cut, broken) =
-        let frames = broken.1 in
-        record {
-          letters = letters;
-          at = at;
-          read = read;
-          stop = stop;
-          output = output;
-          null = null;
-          answer = answer;
-          part = part;
-          written = (whole, last ∷ unwritten, cut, (frames.0, frames.1, Appends-Keeps a broken.0 b frames.0 frames.2 broken.2));
-        }
+    broken_gives stop at read part (Output kind) end (whole, last, unwritten, cut, broken) = (
+      tt,
+      record {
+        letters = letters;
+        at = at;
+        read = read;
+        stop = stop;
+        output = output;
+        null = null;
+        answer = answer;
+        part = part;
+        written = record { whole = whole; next = last; unwritten = unwritten; cut = cut; got = broken };
+      },
+    )
+    broken_gives stop at read part NoMemory end (whole, last, unwritten, cut, broken) = record {
+      letters = letters;
+      at = at;
+      read = read;
+      stop = stop;
+      output = output;
+      null = null;
+      answer = answer;
+      part = part;
+      written = (whole, last ∷ unwritten, cut, broken);
+    }
 
     module _ (written : GetsFrames (all_of output null) a b) where
       runs_out : (stop : Stop) (at : List ℕ) → BeginsWith limit text letters at → P letters stop output null answer → RunsOut limit P text a b

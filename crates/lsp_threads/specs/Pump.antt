@@ -1,10 +1,10 @@
 -- What is written of the messages of a text.
-use Rattle.std.specs.Io.KnownBytes.{Keeps, Appends}
-use Rattle.std.specs.Prelude.{◌≡◌, ◌⊎◌, ℕ, List, ◌++◌, Option, Some, None, Result, Ok, Err, codes}
+use Rattle.std.specs.Io.KnownBytes.{Keeps}
+use Rattle.std.specs.Prelude.{◌⊎◌, ℕ, List, Option, Some, None, Result, Ok, Err, codes}
 use Rattle.lsp_message.specs.Faults.{read_fault_text, write_fault_text}
 use Rattle.lsp_message.specs.Letters.{Begins, PassesAll, Ending, exited, ended, failed, Letters}
 use Rattle.lsp_message.specs.Message.{Message}
-use Rattle.lsp_message.specs.Written.{IsFrameOf, AreFramesOf, GetsFrames}
+use Rattle.lsp_message.specs.Written.{GetsFrames, GetsFramesAndPart}
 use Rattle.lsp_message.specs.declared.frame.ReadFault.TheVariants.{Input, Memory}
 use Rattle.lsp_message.specs.declared.frame.WriteFault.TheVariants.{Output, Memory as NoMemory}
 use Rattle.lsp_message.specs.declared.frame.WriteFault.{WriteFault}
@@ -18,18 +18,28 @@ use Rattle.lsp_threads.specs.declared.workers.StartFault.TheVariants.{Memory as 
 -- content parts have at most so many bytes
 module _ (limit : ℕ) (text : List ℕ) (old new : Option (List ℕ)) where
   -- the writer got frames of all messages of the text, in order, which ended so
-  abbrev pub PassesOn : Ending → Type 0
-  PassesOn ending = (ms : List Message) × (rest : List ℕ) × Letters limit text ms ending rest × GetsFrames ms old new
+  pub record PassesOn (ending : Ending) : Type 0 where
+    pub messages : List Message
+    pub rest : List ℕ
+    pub letters : Letters limit text messages ending rest
+    pub written : GetsFrames messages old new
 
   -- the writer got frames of the first messages of the text, in order
-  abbrev pub PassesOnSome : Type 0
-  PassesOnSome = (ms : List Message) × (at : List ℕ) × PassesAll limit text ms at × GetsFrames ms old new
+  pub record PassesOnSome : Type 0 where
+    pub messages : List Message
+    pub at : List ℕ
+    pub passed : PassesAll limit text messages at
+    pub written : GetsFrames messages old new
 
   -- the writer got frames of the first messages of the text, in order, and a beginning of a frame of the next
-  abbrev pub BreaksOff : Type 0
-  BreaksOff = (ms : List Message) × (at : List ℕ) × (m : Message) × (rest : List ℕ) × (frames : List ℕ) × (frame : List ℕ)
-      × PassesAll limit text ms at × Begins limit at m rest × AreFramesOf ms frames × IsFrameOf m frame
-      × (part : List ℕ) × (more : List ℕ) × (frame ≡ part ++ more) × Appends old new (frames ++ part)
+  pub record BreaksOff : Type 0 where
+    pub messages : List Message
+    pub at : List ℕ
+    pub passed : PassesAll limit text messages at
+    pub next : Message
+    pub rest : List ℕ
+    pub begins : Begins limit at next rest
+    pub written : GetsFramesAndPart messages next old new
 
   abbrev pub Pumps : Result (Unit {0}) PumpFault → Type 0
   Pumps (Ok done) = PassesOn exited ⊎ PassesOn ended

@@ -1,12 +1,11 @@
 -- A session whose reader and writer run in threads of their own: bytes in to bytes out (LSP 3.17, "Base Protocol" and "Server lifecycle").
-use Rattle.std.specs.Io.KnownBytes.{Appends}
 use Rattle.std.specs.Prelude.{◌≡◌, Bool, true, false, ℕ, List, ◌∷◌, ◌++◌, Option, Some, None, Result, Ok, Err}
 use Rattle.lsp_message.specs.Frame.{reading_within}
 use Rattle.lsp_message.specs.Message.{Message}
-use Rattle.lsp_message.specs.Written.{IsFrameOf, AreFramesOf, GetsFrames, IsOutput}
+use Rattle.lsp_message.specs.Written.{GetsFrames, GetsFramesAndPart, IsOutput}
 use Rattle.lsp_message.specs.declared.frame.ReadFault.{ReadFault}
 use Rattle.lsp_message.specs.declared.frame.ReadFault.TheVariants.{Input, Memory as NoMemoryToRead}
-use Rattle.lsp_session.specs.Session.{SessionAnswer, Stop, decided, no_more}
+use Rattle.lsp_session.specs.Session.{SessionAnswer, SessionPart, Stop, decided, no_more}
 use Rattle.lsp_session.specs.SessionBytes.{BeginsWith, all_of, GetsFirst}
 use Rattle.lsp_session.specs.declared.loops.ReadEnd.{ReadEnd}
 use Rattle.lsp_session.specs.declared.loops.ReadEnd.TheVariants.{Exit}
@@ -20,14 +19,7 @@ pub record BreaksOffWithin (ms : List Message) (old new : Option (List ℕ)) : T
   pub next : Message
   pub unwritten : List Message
   pub cut : ms ≡ whole ++ next ∷ unwritten
-  pub frames : List ℕ
-  pub frames_of_whole : AreFramesOf whole frames
-  pub frame : List ℕ
-  pub frame_of_next : IsFrameOf next frame
-  pub part : List ℕ
-  pub missing : List ℕ
-  pub split : frame ≡ part ++ missing
-  pub got : Appends old new (frames ++ part)
+  pub got : GetsFramesAndPart whole next old new
 
 -- The last letter decided, or the text ends after it.
 abbrev pub EndsSo : ℕ → Stop → List ℕ → Type 0
@@ -41,7 +33,7 @@ FailsAt limit (Input kind) at = Unit {0}
 FailsAt limit NoMemoryToRead at = ⊥
 FailsAt limit fault at = (rest : List ℕ) × (reading_within limit at ≡ record { outcome = Err fault; rest = rest })
 
-module _ (limit : ℕ) (P : List Message → Stop → List Message → Option Message → SessionAnswer → Type 0) (text : List ℕ) (old new : Option (List ℕ)) where
+module _ (limit : ℕ) (P : SessionPart) (text : List ℕ) (old new : Option (List ℕ)) where
   -- The session came to its end: its letters are the first messages of the text, and all its output was written.
   pub record Comes (answer : SessionAnswer) : Type 0 where
     pub letters : List Message

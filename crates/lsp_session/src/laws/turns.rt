@@ -1,51 +1,20 @@
-//! How many turns the engines of the lifecycle take over a list of events, whatever the gate says.
-ghost use Rattle.std.specs.Prelude.{◌<◌, length, IsSome};
+//! How many turns the engines of the lifecycle take over a list of events.
+ghost use Rattle.std.specs.Prelude.{◌<◌, ℕ, length, Option, IsSome};
+ghost use Rattle.lsp_message.specs.Message.{Message};
+ghost use Rattle.lsp_session.specs.Finish.{FinishAnswer, AwaitsWithin, FinishesWithin};
+ghost use Rattle.lsp_session.specs.Lists.{ListGives};
+ghost use Rattle.lsp_session.specs.Start.{StartAnswer, StartsWithin};
+ghost use Rattle.lsp_session.specs.declared.lifecycle.lists.ListInbox.{ListInbox};
 
-use crate::error::ProtocolError;
-use crate::lifecycle::{Gate, ListInbox, Outbox, finish_within, start_within, wait_within};
-use lsp_message::RequestId;
-use serde_json::Value;
-use std::alloc::Global;
+use crate::lifecycle::{Gate, Outbox};
 
-/// Over a list of events, `start_within` answers within one turn more than there are events.
-pub fn start_over_list<O: Outbox, G: Gate>(
-    alloc: Global,
-    inbox: &mut ListInbox,
-    outbox: &mut O,
-    gate: &mut G,
-    turns: u64,
-) -> Option<Result<(RequestId, Value), ProtocolError>>
-    requires { G.can_ask gate.old }
-    ensures { length inbox.old.events.items < turns → IsSome result }
-{
-    start_within(alloc, inbox, outbox, gate, turns)
-}
-
-/// Over a list of events, `wait_within` answers within one turn more than there are events.
-pub fn wait_over_list<G: Gate>(
-    alloc: Global,
-    inbox: &mut ListInbox,
-    gate: &mut G,
-    turns: u64,
-) -> Option<Result<(), ProtocolError>>
-    requires { G.can_ask gate.old }
-    ensures { length inbox.old.events.items < turns → IsSome result }
-{
-    wait_within(alloc, inbox, gate, turns)
-}
-
-/// Over a list of events, `finish_within` answers within one turn more than there are events.
-pub fn finish_over_list<O: Outbox, G: Gate>(
-    alloc: Global,
-    inbox: &mut ListInbox,
-    outbox: &mut O,
-    gate: &mut G,
-    id: RequestId,
-    initialize_result: Value,
-    turns: u64,
-) -> Option<Result<(), ProtocolError>>
-    requires { G.can_ask gate.old }
-    ensures { length inbox.old.events.items < turns → IsSome result }
-{
-    finish_within(alloc, inbox, outbox, gate, id, initialize_result, turns)
-}
+/// What `start_within`, `wait_within` and `finish_within` say of a call implies that the call answered, if its inbox was a
+/// list with fewer events than the call had turns, whatever gate and outbox it had: a fact of each call that was made.
+pub fn list_is_answered<G: Gate, O: Outbox>()
+    ensures start { (limit : ℕ) (old new : G × ListInbox × O) (answer : Option StartAnswer)
+        → StartsWithin G.asks ListGives O.sends limit old answer new → length old.1.events.items < limit → IsSome answer }
+    ensures wait { (limit : ℕ) (old new : G × ListInbox) (answer : Option FinishAnswer)
+        → AwaitsWithin G.asks ListGives limit old answer new → length old.1.events.items < limit → IsSome answer }
+    ensures finish { (limit : ℕ) (reply : Message) (old new : G × ListInbox × O) (answer : Option FinishAnswer)
+        → FinishesWithin G.asks ListGives O.sends limit reply old answer new → length old.1.events.items < limit → IsSome answer }
+{}

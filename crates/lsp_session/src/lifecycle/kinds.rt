@@ -1,8 +1,7 @@
 // The notifications that the lifecycle waits for (LSP 3.17, "Server lifecycle").
 ghost use Rattle.std.specs.Prelude.{◌≡◌};
-ghost use Rattle.lsp_message.specs.Letters.{is_exit as exit_spec};
+ghost use Rattle.lsp_message.specs.Methods.{is_exit as exit_spec, is_initialized as initialized_spec};
 ghost use Rattle.lsp_message.specs.View.{message_view};
-ghost use Rattle.lsp_session.specs.Finish.{is_initialized as initialized_spec};
 
 use lsp_message::Message;
 
