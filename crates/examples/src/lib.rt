@@ -3,5 +3,6 @@
 #![tactic(auto)]
 
 pub mod client;
+pub mod handshake;
 pub mod message_loop;
 pub mod quiet;

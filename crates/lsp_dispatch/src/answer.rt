@@ -1,29 +1,30 @@
-//! What a dispatcher answers.
+//! The answers of a dispatcher.
 use lsp_message::{Message, Notification, Request, Response};
 use std::fmt;
 
-/// What comes of a call of a dispatcher.
+/// What a dispatcher answers to a call: what to send, and what to do.
 #[derive(Debug, Drop)]
 pub enum Answer {
-    /// The reply to a request of the protocol's own, whose name begins with `$/` (LSP 3.17, "`$` Notifications and Requests").
+    /// Send this reply. It is the error -32601 to a request whose method begins with `$/` (LSP 3.17, "`$` Notifications and
+    /// Requests").
     Unknown(Response),
-    /// A request to be worked on, under this ticket.
+    /// Work on this request, and call `finish` with its id and its ticket.
     Work {
         /// The request.
         request: Request,
-        /// Its ticket: 0, 1, 2, .. in the order in which requests come.
+        /// Its ticket. Tickets are 0, 1, 2, .. in the order in which requests come.
         ticket: u64,
-        /// The ticket that was pending under the same id until now. It gets no reply any more, and its work can be dropped.
+        /// The ticket that was pending under the same id until now. It gets no reply any more: drop its work.
         replaced: Option<u64>,
     },
-    /// The reply to a request that its client cancelled (LSP 3.17, "Cancellation Support"). Its work can be dropped.
+    /// Send this reply, and drop the work: the client cancelled the request (LSP 3.17, "Cancellation Support").
     Cancelled {
         /// The reply, with code -32800.
         reply: Response,
         /// The ticket of the request.
         ticket: u64,
     },
-    /// The reply to a request whose work is done.
+    /// Send this reply: the work is done.
     Finished {
         /// The reply.
         reply: Response,
@@ -41,7 +42,7 @@ impl Answer {
     ghost use Rattle.lsp_message.specs.View.{message_view};
     ghost use Rattle.lsp_dispatch.specs.DispatchAnswers.{answer_view, reply_of};
 
-    /// The reply to be sent, where the answer has one: `Unknown`, `Cancelled` and `Finished`. It takes no memory.
+    /// The message to send, if there is one: for `Unknown`, `Cancelled` and `Finished`.
     pub fn into_reply(self) -> Option<Message>
         ensures { option_map message_view result ≡ reply_of (answer_view self) }
     {
@@ -54,7 +55,9 @@ impl Answer {
     }
 }
 
-/// Why a message was not delivered. It comes back, and the dispatcher is unchanged.
+/// Why a message was not delivered. It gives the message back, and the dispatcher is unchanged.
+///
+/// It prints `dispatch fault N`, where N is its `number`. To tell a person more, match on the variant.
 #[derive(Debug, Drop)]
 pub enum DispatchFault {
     /// 1: an allocation failed.

@@ -29,8 +29,9 @@ pub enum Call {
     },
 }
 
-/// Makes the calls on a new dispatcher, up to the end or the first fault, whose number it gives. Room for the answers is
-/// reserved first, and an allocation that fails is 1 here too. Fault 2 can't come, since no `Vec` has so many calls.
+/// Makes these calls on a new dispatcher, and gives the answers. It stops at the first fault and gives its number.
+///
+/// That number is always 1, a failed allocation: no `Vec` has as many calls as there are tickets.
 pub fn replay(alloc: Global, calls: Vec<Call>) -> Result<Vec<Answer>, u8>
     // Each answer is right for its place in the list of calls.
     ensures ok { IfOk result (λ answers. Dispatches [] (each call_view calls.items) (each answer_view answers.items)) }
@@ -38,7 +39,7 @@ pub fn replay(alloc: Global, calls: Vec<Call>) -> Result<Vec<Answer>, u8>
     ensures places { IfOk result (λ answers. AnswersEach (each call_view calls.items) (each answer_view answers.items)) }
     // Each request gets at most one reply, and none after it was replaced.
     ensures once { IfOk result (λ answers. RepliesOnce (each answer_view answers.items)) }
-    // Want of memory is the only fault.
+    // A failed allocation is the only fault.
     ensures err { IfErr result (λ number. number ≡ 1) }
 {
     let mut answers = match Vec::with_capacity(alloc, calls.len()) {

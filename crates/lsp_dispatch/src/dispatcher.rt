@@ -18,12 +18,14 @@ use serde_json::Value;
 use std::alloc::{AllocError, Global};
 use std::marker::Model;
 
-/// The requests that are worked on, each under its id with a ticket.
+/// Keeps account of the requests that a server works on, so that each gets one reply at most.
 ///
-/// `deliver` gives each request a ticket, and `finish` takes it back with what came of the work. Each ticket has one reply at
-/// most: where its work is finished, or where its client cancelled it (LSP 3.17, "Cancellation Support"). Work that was
-/// cancelled, or whose id came again, has none any more, whatever is finished later. Nothing is sent here: the caller sends
-/// what `Answer::into_reply` gives. For the shutdown of a session ask `shutdown` or `Connection::handle_shutdown` first.
+/// - `deliver` gives each request a ticket. Call `finish` with the ticket when the work is done.
+/// - A ticket has one reply: when its work is finished, or when the client cancels it (LSP 3.17, "Cancellation Support").
+/// - Work that was cancelled, or whose id came again, gets no reply any more, whenever it is finished.
+///
+/// A dispatcher sends nothing: send what `Answer::into_reply` gives. Before `deliver`, give each request to
+/// `Connection::handle_shutdown` or `shutdown`, which end the session.
 #[derive(Drop)]
 pub struct Dispatcher {
     alloc: Global,
@@ -45,7 +47,7 @@ impl Model for Dispatcher {
 }
 
 impl Dispatcher {
-    /// Nothing is pending, and no ticket was given out. It takes no memory.
+    /// Makes a dispatcher with no request. It does not allocate.
     pub fn default(alloc: Global) -> Dispatcher
         ensures { result ≡ (map.empty, 0) }
     {
@@ -56,20 +58,19 @@ impl Dispatcher {
         }
     }
 
-    /// Takes a message, and says what is to be done about it. The first line that fits counts:
+    /// Takes a message, and says what to do about it. The first line that fits counts:
     ///
     /// | Message | Answer |
     /// |---|---|
     /// | request, method begins with `$/` | `Unknown`: code -32601, `method not found` |
     /// | another request | `Work`: it is pending under its id with the next ticket; a ticket that was pending there is `replaced` |
-    /// | notification `$/cancelRequest`, params an object whose `id` is a good one that is pending | `Cancelled`: the reply of `Incoming::cancel`; the id is pending no more |
+    /// | notification `$/cancelRequest`, params an object whose `id` is a good id that is pending | `Cancelled`: the reply of `Incoming::cancel`; the id is pending no more |
     /// | another notification, method begins with `$/` | `Nothing` |
     /// | another notification | `Note` |
     /// | response | `Nothing` |
     ///
-    /// A good id is a text, or a whole number of 32 signed bits. `DispatchFault::Memory` says that an allocation failed,
-    /// and `DispatchFault::Spent` comes exactly for a request that would need a ticket past the last. Both hand the message
-    /// back, and nothing has changed.
+    /// A good id is a text, or a whole number that fits an `i32`. `DispatchFault::Memory` means that an allocation failed, and
+    /// `DispatchFault::Spent` that no ticket is left for the request. Both give the message back, and nothing has changed.
     pub fn deliver(&mut self, message: Message) -> Result<Answer, DispatchFault>
         ensures ok { IfOk result (λ answer. (answer_view answer, self.new) ≡ delivered self.old (message_view message)) }
         ensures replaced { IfOk result (λ answer. replaced_of answer ≡ replaced_in self.old (message_view message)) }
@@ -172,8 +173,8 @@ impl Dispatcher {
         self.queue.incoming.data(id).copied()
     }
 
-    /// Gives the reply to a request whose work is done, as `Finished`, where it is pending under this id with this ticket. It
-    /// is pending no more then. Else the answer is `Nothing`, and nothing changes. It takes no memory.
+    /// Says that the work of a ticket is done. If the ticket is still pending under this id, the answer is `Finished` with the
+    /// reply to send. Otherwise it was cancelled, replaced or finished before: the answer is `Nothing`, and nothing changes.
     pub fn finish(
         &mut self,
         id: RequestId,

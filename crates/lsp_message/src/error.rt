@@ -1,18 +1,21 @@
-//! Why a message was not extracted.
+//! Why no params were extracted.
 use crate::msg::{Notification, Request};
 use std::error::Error;
 use std::fmt;
 
-/// Why a message was not extracted.
+/// Why `Request::extract` or `Notification::extract` gave no params.
+///
+/// It prints `Method mismatch for request '..'` with the method, or `Invalid request`, the method and the error of
+/// `serde_json`, on three lines; for a notification it says `notification` in place of `request`.
 #[derive(Debug, Drop)]
 pub enum ExtractError<T> {
-    /// The message, which has another method.
+    /// The message has another method. Here it is, unchanged: try the next method with it.
     MethodMismatch(T),
-    /// The params did not convert.
+    /// The params do not convert to the type that was asked for, or an allocation failed.
     JsonError {
         /// The method of the message.
         method: String,
-        /// Why they did not.
+        /// Why not, by `serde_json`.
         error: serde_json::Error,
     },
 }

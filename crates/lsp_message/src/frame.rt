@@ -18,34 +18,38 @@ pub(crate) mod write;
 
 /// Why a message could not be read (LSP 3.17, "Base Protocol").
 ///
-/// Each fault but `Input` and `Memory` is a fact about the bytes, and what follows the bytes at fault is left unread.
+/// It prints `read fault N`, where N is its `number`. To tell a person more, match on the variant, and print the kind of
+/// `Input` by `{kind:?}`.
+///
+/// All but `Input` and `Memory` are facts about the bytes. What follows the bytes at fault stays unread.
 #[derive(Clone, Copy, Debug, PartialEq, Eq)]
 pub enum ReadFault {
-    /// 1: the reader failed in this call, with this kind, or the message has 2^64 - 1 header lines (kind `Other`).
+    /// 1: the reader failed in this call, with this kind. Or the message has 2^64 - 1 header lines (kind `Other`).
     Input(ErrorKind),
-    /// 2: a header line isn't UTF-8.
+    /// 2: a header line is not UTF-8.
     LineNotText,
-    /// 3: a header line doesn't end in `\r\n`.
+    /// 3: a header line does not end in `\r\n`.
     LineEnd,
     /// 4: a header line has no `: `.
     NoSeparator,
-    /// 5: the value of a `Content-Length` isn't a number from 0 to 18446744073709551615.
+    /// 5: the value of a `Content-Length` is not a number from 0 to 18446744073709551615.
     BadLength,
-    /// 6: the blank line came with no `Content-Length` before it.
+    /// 6: the header part has no `Content-Length`.
     NoLength,
-    /// 7: the input ended inside the content part. Nothing is left.
+    /// 7: the input ended inside the content part. Nothing is left to read.
     ShortBody,
-    /// 8: the content part isn't UTF-8.
+    /// 8: the content part is not UTF-8.
     BodyNotText,
-    /// 9: the content part isn't JSON that `serde_json` reads, which nests at most 127 levels.
+    /// 9: `serde_json` does not read the content part. It is not JSON, nests more than 127 levels, or has a number that is too
+    /// large. A `Content-Length` that is too short often ends here.
     NoJson,
-    /// 10: the content part is JSON, and neither a message nor a list.
+    /// 10: the content part is JSON, but neither a message nor a list.
     NoMessage,
-    /// 11: an allocation failed. Where it was the content part's room, that part is unread.
+    /// 11: an allocation failed. If it was the one for the content part, that part is unread.
     Memory,
-    /// 12: the content part has more bytes than the limit that was given. It is unread, and no room was reserved for it.
+    /// 12: the content part is longer than the limit that was given. It is unread, and no memory was reserved for it.
     TooLong,
-    /// 13: the content part is a list, which is a batch (JSON-RPC 2.0, section 6). Batches are not read, nor an empty list.
+    /// 13: the content part is a list. JSON-RPC 2.0 makes it a batch (section 6), and batches are not supported.
     Batch,
 }
 
@@ -71,7 +75,8 @@ impl ReadFault {
         }
     }
 
-    /// The kind of `std::io` that the fault falls under. That of `Input` is the reader's own.
+    /// The fault as an `ErrorKind`: the reader's own for `Input`, `UnexpectedEof` for `ShortBody`, `OutOfMemory` for `Memory`,
+    /// and `InvalidData` for the others.
     pub fn kind(self) -> ErrorKind
         ensures { result ≡ read_fault_kind self }
     {
@@ -116,10 +121,13 @@ impl From<AllocError> for ReadFault {
 }
 
 /// Why a message could not be written (LSP 3.17, "Base Protocol").
+///
+/// It prints `write fault N`, where N is its `number`. To tell a person more, match on the variant, and print the kind of
+/// `Output` by `{kind:?}`.
 #[derive(Clone, Copy, Debug, PartialEq, Eq)]
 pub enum WriteFault {
-    /// 1: the writer failed in this call, with this kind, or took no byte of a write that wasn't empty (kind
-    /// `WriteZero`). It got a beginning of the frame, and all of it where the flush failed.
+    /// 1: the writer failed in this call, with this kind, or took no byte (kind `WriteZero`). It got a beginning of the frame;
+    /// all of it if only the flush failed.
     Output(ErrorKind),
     /// 2: an allocation failed. The writer is as it was.
     Memory,

@@ -1,4 +1,4 @@
-//! Laws of messages, ids and frames, each as the contract of a function: the proofs of callers may rest on them.
+//! Laws of messages, ids and frames. Each is the contract of a function, so the proofs of callers can use it.
 ghost use Rattle.std.specs.Prelude.{◌≡◌, ◌≢◌, ◌++◌, ◌<◌, ◌^◌, ℕ, List, length, take, IfOk};
 ghost use Rattle.lsp_message.specs.Front.{front_of};
 ghost use Rattle.lsp_message.specs.Id.{printed, number as number_id, text as text_id};
@@ -44,7 +44,7 @@ pub fn clone_of_message(message: &Message) -> Result<Message, AllocError>
     message.clone()
 }
 
-/// An id that is a number and one that is a text never print the same. A text past ASCII has no stated print.
+/// An id that is a number and an id that is an ASCII text never print the same. What other texts print is not stated.
 pub fn kinds_print_apart(number: i32, text: &str)
     ensures { printed (number_id number) ≢ printed (text_id text.now) }
 {
@@ -52,7 +52,7 @@ pub fn kinds_print_apart(number: i32, text: &str)
     let _text = text;
 }
 
-/// The front of a frame, whatever follows it, is that frame, and that of a part of a frame is `More`.
+/// `front` finds a whole frame whatever follows it, and answers `More` to any proper part of a frame.
 pub fn front_of_frame()
     ensures whole { (body rest : List ℕ) → length body < 2 ^ 64 → front_of (frame_text body ++ rest) ≡ Front.Whole (length (frame_text body)) }
     ensures part { (body : List ℕ) (count : ℕ) → length body < 2 ^ 64 → count < length (frame_text body) → front_of (take count (frame_text body)) ≡ Front.More }

@@ -24,13 +24,15 @@ pub enum Message {
 }
 
 /// A call that wants a reply (JSON-RPC 2.0, section 4).
+///
+/// All fields are public, so make one from its parts, or by `new` from params of a type of your own.
 #[derive(Clone, Debug, Drop)]
 pub struct Request {
-    /// The id, under which the reply comes.
+    /// The id. The reply has the same one.
     pub id: RequestId,
     /// The name of the method.
     pub method: String,
-    /// The arguments. Null stands for none, and isn't written.
+    /// The arguments. Null means none, and is not written.
     pub params: Value,
 }
 
@@ -39,7 +41,7 @@ pub struct Request {
 pub struct Notification {
     /// The name of the method.
     pub method: String,
-    /// The arguments. Null stands for none, and isn't written.
+    /// The arguments. Null means none, and is not written.
     pub params: Value,
 }
 
@@ -48,18 +50,18 @@ pub struct Notification {
 pub struct Response {
     /// The id of the request.
     pub id: RequestId,
-    /// What came of the request: its result, also where that is null, or an error.
+    /// The result of the request, which may be null, or an error.
     pub response_result: Result<Value, ResponseError>,
 }
 
 /// Why a request has no result (JSON-RPC 2.0, section 5.1).
 #[derive(Clone, Debug, Drop)]
 pub struct ResponseError {
-    /// The number of the error. `ErrorCode` has those that are defined.
+    /// The number of the error. `ErrorCode` has those that the standards define.
     pub code: i32,
     /// A short text for people.
     pub message: String,
-    /// More on the error. It is written where it is `Some`, and null reads as `None`.
+    /// More about the error. `Some` is written, also if it is null; null is read as `None`.
     pub data: Option<Value>,
 }
 

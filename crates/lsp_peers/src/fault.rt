@@ -4,11 +4,13 @@ use std::error::Error;
 use std::fmt;
 
 /// Why a link wrote or took nothing, or why there is no world.
+///
+/// It prints `out of memory` or `body not read back`.
 #[derive(Clone, Copy, Debug, PartialEq, Eq)]
 pub enum WorldFault {
     /// 1: an allocation failed.
     Memory,
-    /// 2: a message wasn't read back from its frame. Its params or its result nest more than 126 levels.
+    /// 2: a message was not read back from its frame, because its params or its result nest more than 126 levels.
     NotReadBack,
 }
 

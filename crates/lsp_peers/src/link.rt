@@ -10,9 +10,9 @@ use lsp_message::{Front, Message, ReadFault, front};
 use std::alloc::Global;
 use std::marker::Model;
 
-/// The bytes of one direction: those that arrived and weren't taken, and then those on the way.
+/// The bytes of one direction between two peers: those that have arrived, and behind them those on the way.
 ///
-/// It holds frames (LSP 3.17, "Base Protocol") one behind another, whose bytes arrive in any pieces.
+/// They are frames (LSP 3.17, "Base Protocol"), one behind another. Their bytes arrive in any pieces.
 #[derive(Drop)]
 pub struct Link {
     alloc: Global,
@@ -33,7 +33,7 @@ impl Model for Link {
 }
 
 impl Link {
-    /// A link without bytes. It takes no memory.
+    /// Makes a link without bytes. It does not allocate.
     pub fn default(alloc: Global) -> Link
         ensures { Carries result empty_post }
     {
@@ -45,14 +45,14 @@ impl Link {
         }
     }
 
-    /// The bytes that arrived and weren't taken. It takes no memory.
+    /// The bytes that have arrived and were not taken.
     pub fn arrived(&self) -> &[u8]
         ensures { result.now ≡ self.now.arrived }
     {
         &self.bytes[self.start..self.end]
     }
 
-    /// The bytes on the way. It takes no memory.
+    /// The bytes on the way.
     pub fn on_way(&self) -> &[u8]
         ensures { result.now ≡ self.now.on_way }
     {
@@ -61,7 +61,7 @@ impl Link {
 
     /// Adds a frame of the message to the bytes on the way.
     ///
-    /// `WorldFault::Memory` is the only fault. The link is then as it was.
+    /// The only fault is `WorldFault::Memory`, and the link is then as it was.
     pub fn write(&mut self, message: &Message) -> Result<(), WorldFault>
         ensures ok { (post : Post) → Carries self.old post → OnOk result (
             (letter : Letter) × (letter.message ≡ message_view message.now) × Carries self.new (posted post letter)) }
@@ -78,8 +78,7 @@ impl Link {
         }
     }
 
-    /// Lets up to this many bytes arrive, in order, and says how many did: all, or as many as were on the way. It takes no memory
-    /// and always succeeds.
+    /// Lets this many bytes arrive, in order, or all that are on the way if these are fewer. Says how many arrived.
     pub fn pass(&mut self, bytes: usize) -> usize
         ensures { (post : Post) → Carries self.old post →
             (result ≡ min bytes (unpassed post)) × Carries self.new (passed_on post bytes) }
@@ -89,10 +88,10 @@ impl Link {
         count
     }
 
-    /// Takes the first message where all of its frame arrived, and gives `None` where it did not.
+    /// Takes the first message if its whole frame has arrived, and gives `None` otherwise.
     ///
-    /// `WorldFault::Memory` means that an allocation failed, and `WorldFault::NotReadBack` that the message isn't read from its
-    /// frame. A message that nests at most 127 levels is. After a fault the link is as it was.
+    /// `WorldFault::Memory` means that an allocation failed, and `WorldFault::NotReadBack` that the message nests more than 127
+    /// levels, so it is not read from its frame. After a fault the link is as it was.
     pub fn take(&mut self) -> Result<Option<Message>, WorldFault>
         ensures ok { (post : Post) → Carries self.old post → IfNext ReadsBack post → IfOk result (λ taken.
             (option_map message_view taken ≡ message_of (next post)) × Carries self.new (after_take post)) }
@@ -119,7 +118,7 @@ impl Link {
     }
 }
 
-/// Bytes in memory don't fail, so a fault of the reader counts as want of memory.
+/// Bytes in memory don't fail, so a fault of the reader counts as a failed allocation.
 fn fault_of_read(fault: ReadFault) -> WorldFault
     ensures { result ≡ fault_of fault }
 {

@@ -153,7 +153,7 @@ impl Peer {
     }
 }
 
-/// What a message that was taken does: a request becomes pending under the label, a reply completes its id.
+/// What a taken message does: a request becomes pending with the label, a reply completes its id.
 fn settle(
     queue: &mut ReqQueue<u64, u64>,
     message: &Message,

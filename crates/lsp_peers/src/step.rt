@@ -1,4 +1,4 @@
-//! What the two sides do, and what comes of it.
+//! The steps of two sides, and the outcome of each.
 use lsp_message::RequestId;
 use serde_json::Value;
 
@@ -11,7 +11,7 @@ pub enum Side {
     B,
 }
 
-/// What a side does.
+/// One step of a side.
 #[derive(Debug, Drop)]
 pub enum Step {
     /// The side registers a request with a payload under its next id, and writes the request to the other side (JSON-RPC 2.0,
@@ -23,22 +23,22 @@ pub enum Step {
         method: String,
         /// Its params. Null ones aren't written.
         params: Value,
-        /// What is pending under its id until the reply is taken.
+        /// What the side keeps under its id until it takes the reply.
         payload: u64,
     },
-    /// So many bytes arrive at a side, or all that are on the way to it, where these are fewer.
+    /// This many bytes arrive at a side, or all that are on the way to it if these are fewer.
     Pass {
         /// Where they arrive.
         to: Side,
         /// How many arrive at most.
         bytes: usize,
     },
-    /// The side takes the first message where all of its frame arrived. A request is held from then on; a reply gives back the
-    /// payload of its request.
+    /// The side takes its first message, if the whole frame has arrived. It then holds a request; a reply gives back the payload
+    /// of its request.
     Take {
         /// Who takes it.
         side: Side,
-        /// What a request is held under until it is answered, cancelled or given up.
+        /// What the side keeps with a request until it answers it, cancels it or gives it up.
         label: u64,
     },
     /// The side answers a request that it holds (JSON-RPC 2.0, section 5).
@@ -50,7 +50,7 @@ pub enum Step {
         /// The result.
         result: Value,
     },
-    /// The side replies to a request that it holds that it was cancelled (LSP 3.17, "Cancellation Support").
+    /// The side replies to a request that it holds, with the error that it was cancelled (LSP 3.17, "Cancellation Support").
     Cancel {
         /// Who replies.
         side: Side,
@@ -88,24 +88,24 @@ impl Step {
 /// What came of a step.
 #[derive(Debug, Drop, PartialEq, Eq)]
 pub enum Outcome {
-    /// The request has this id: 0, 1, 2, .. for the requests of a side.
+    /// The request was written, with this id. The requests of a side have the ids 0, 1, 2, ..
     Registered(RequestId),
     /// All of the side's 2147483648 ids were given out, and nothing happened.
     Spent,
-    /// So many bytes arrived.
+    /// This many bytes arrived.
     Passed(usize),
-    /// The request of this id was taken.
+    /// The request with this id was taken.
     Arrived(RequestId),
-    /// The reply of this id was taken, and this payload was pending under it.
+    /// The reply with this id was taken. It gives back this payload; `None` if the id was not pending.
     Returned(RequestId, Option<u64>),
     /// No frame has arrived whole, and nothing was taken.
     Waiting,
     /// The request was answered. It was held under this label.
     Answered(u64),
-    /// The reply says that the request was cancelled.
+    /// The reply was written. It says that the request was cancelled.
     Cancelled,
     /// The request is forgotten. It was held under this label.
     GaveUp(u64),
-    /// The side holds no request of this id, and nothing happened.
+    /// The side holds no request with this id, and nothing happened.
     Absent,
 }

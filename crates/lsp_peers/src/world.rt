@@ -30,14 +30,17 @@ impl World {
         }
     }
 
-    /// Takes the steps, one after another, from empty queues and empty links. It gives the world that they make, and what came of
-    /// each step.
+    /// Takes the steps one after another, from empty queues and empty links. Gives the world that they lead to, and the outcome
+    /// of each step.
     ///
-    /// Let the params and results of the steps nest at most 126 levels. Then each side takes exactly the messages that the other
-    /// one wrote, in order, and each reply gives back the payload of its own request, once: however the steps of the two sides
-    /// interleave, and whatever pieces the bytes arrive in. `WorldFault::Memory`, a failed allocation, is the only fault then.
+    /// If the params and results of the steps nest at most 126 levels:
     ///
-    /// A message that nests deeper is `WorldFault::NotReadBack` where it is taken. After a fault there is no world.
+    /// - Each side takes exactly the messages that the other side wrote, in order.
+    /// - Each reply gives back the payload of its own request, once.
+    /// - The only fault is `WorldFault::Memory`, a failed allocation.
+    ///
+    /// This holds however the steps of the two sides interleave, and whatever pieces the bytes arrive in. A message that nests
+    /// deeper ends the run with `WorldFault::NotReadBack` when it is taken. After a fault there is no world.
     pub fn run(alloc: Global, steps: Vec<Step>) -> Result<(World, Vec<Outcome>), WorldFault>
         // These steps do this, with these outcomes, to one token for each request and to the letters of two posts, each token in one
         // place; and the world agrees with the tokens and posts.
@@ -48,7 +51,7 @@ impl World {
         // Each side takes exactly the messages that the other wrote, in order, and each reply gives back the payload of its
         // own request, once.
         ensures exchanged { AllShallow steps.items → IfOk result (λ r. (side : Side) → Exchanges steps.items r.1.items r.0 side) }
-        // Want of memory is the only fault.
+        // A failed allocation is the only fault.
         ensures err { AllShallow steps.items → OnErr result (result ≡ Err WorldFault.Memory) }
     {
         let mut world = World::new(alloc);
@@ -74,28 +77,28 @@ impl World {
         }
     }
 
-    /// The queues of a side: what is pending there. It takes no memory.
+    /// The queues of a side: what is pending there.
     pub fn queue(&self, side: Side) -> &ReqQueue<u64, u64>
         ensures { result.now ≡ (peer_at side self.now).queue }
     {
         &self.peer(side).queue
     }
 
-    /// The bytes on the way to a side. It takes no memory.
+    /// The bytes on the way to a side.
     pub fn on_way(&self, to: Side) -> &[u8]
         ensures { result.now ≡ (peer_at to self.now).link.on_way }
     {
         self.peer(to).link.on_way()
     }
 
-    /// The bytes that arrived at a side and weren't taken. It takes no memory.
+    /// The bytes that have arrived at a side and were not taken.
     pub fn arrived(&self, side: Side) -> &[u8]
         ensures { result.now ≡ (peer_at side self.now).link.arrived }
     {
         self.peer(side).link.arrived()
     }
 
-    /// The messages that a side took, in order. It takes no memory.
+    /// The messages that a side took, in order.
     pub fn taken(&self, side: Side) -> &[Message]
         ensures { result.now ≡ (peer_at side self.now).taken.items }
     {

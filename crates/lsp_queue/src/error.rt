@@ -1,15 +1,17 @@
-//! Why a registration was refused.
+//! Why a request was not registered.
 use std::error::Error;
 use std::fmt;
 
-/// Why a request was not registered. It hands the data back, and the queue is unchanged.
+/// Why a request was not registered. Each variant gives the data back, and the queue is unchanged.
+///
+/// It prints `register fault N`, where N is its `number`. To tell a person more, match on the variant.
 #[derive(Debug, Drop)]
 pub enum RegisterFault<T> {
     /// 1: an allocation of the queue failed.
     Memory(T),
-    /// 2: `serde_json` did not convert the params, want of memory included.
+    /// 2: `serde_json` could not convert the params, or an allocation failed while it did.
     Unwritable(T),
-    /// 3: every id was given out.
+    /// 3: all 2147483648 ids were given out.
     Spent(T),
 }
 

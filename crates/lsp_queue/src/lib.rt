@@ -1,5 +1,4 @@
-//! The requests that have no reply yet (JSON-RPC 2.0, section 5): the queues of `lsp_server`, which gives all of it on under
-//! the same names.
+//! The requests that have no reply yet (JSON-RPC 2.0, section 5). Users find all of it in `lsp_server`, under the same names.
 #![tactic(auto)]
 
 mod error;

@@ -18,7 +18,7 @@ use std::alloc::{AllocError, Global};
 use std::collections::BTreeMap;
 use std::marker::Model;
 
-/// The requests that have no reply yet: those of the other side and those of this one.
+/// The requests that have no reply yet, of both sides. A request is pending from `register` until `complete` or `cancel`.
 #[derive(Debug, Drop)]
 pub struct ReqQueue<I, O> {
     /// The other side's requests, which this side has to answer.
@@ -28,7 +28,7 @@ pub struct ReqQueue<I, O> {
 }
 
 impl<I, O> ReqQueue<I, O> {
-    /// Nothing is pending. It takes no memory.
+    /// Makes empty queues. It does not allocate.
     pub fn default(alloc: Global) -> ReqQueue<I, O>
         ensures incoming { result.incoming ≡ map.empty }
         ensures outgoing { result.outgoing ≡ (map.empty, 0) }
@@ -39,7 +39,7 @@ impl<I, O> ReqQueue<I, O> {
         }
     }
 
-    /// Whether a request of either side is pending. It takes no memory.
+    /// Whether a request of either side is pending.
     pub fn has_pending(&self) -> bool
         ensures { result ≡ (not (map.len self.now.incoming == 0) || not (map.len (pending_of self.now.outgoing) == 0)) }
     {
@@ -47,7 +47,7 @@ impl<I, O> ReqQueue<I, O> {
     }
 }
 
-/// The other side's requests that have no reply yet, each under its id with some data.
+/// The other side's requests that have no reply yet. Each is kept under its id, with data of your own.
 #[derive(Debug, Drop)]
 pub struct Incoming<I> {
     alloc: Global,
@@ -76,28 +76,28 @@ impl<I> Incoming<I> {
         }
     }
 
-    /// Whether the request isn't pending, also for one that never was. It takes no memory.
+    /// Whether no request is pending under this id, also if there never was one.
     pub fn is_completed(&self, id: &RequestId) -> bool
         ensures { result ≡ not (map.contains_key self.now id.now) }
     {
         !self.pending.contains_key(id)
     }
 
-    /// Whether some request is pending. It takes no memory.
+    /// Whether any request is pending.
     pub fn has_pending(&self) -> bool
         ensures { result ≡ not (map.len self.now == 0) }
     {
         self.pending.len() != 0
     }
 
-    /// The data of a request, where it is pending. It takes no memory.
+    /// The data of a pending request.
     pub fn data(&self, id: &RequestId) -> Option<&I>
         ensures { option_copied result ≡ map.get self.now id.now }
     {
         self.pending.get(id)
     }
 
-    /// Takes a request out, and gives its data where it was pending. It takes no memory.
+    /// Takes a request out and gives its data, or `None` if it was not pending.
     pub fn complete(&mut self, id: &RequestId) -> Option<I>
         ensures value { result ≡ map.get self.old id.now }
         ensures removed { self.new ≡ map.remove self.old id.now }
@@ -107,9 +107,9 @@ impl<I> Incoming<I> {
 }
 
 impl<I: Drop> Incoming<I> {
-    /// Makes a request pending with this data. The data of a pending one under the same id is replaced and dropped.
+    /// Makes a request pending with this data. If one is pending under the same id, its data is replaced and dropped.
     ///
-    /// `RegisterFault::Memory` alone hands the data back, and the queue is unchanged.
+    /// The only fault is `RegisterFault::Memory`: it gives the data back, and the queue is unchanged.
     pub fn register(&mut self, id: RequestId, data: I) -> Result<(), RegisterFault<I>>
         ensures ok { OnOk result (self.new ≡ map.insert self.old id «data») }
         ensures err { OnErr result (self.new ≡ self.old) }
@@ -121,10 +121,10 @@ impl<I: Drop> Incoming<I> {
         }
     }
 
-    /// Takes a request out and gives the reply to it, where it was pending (LSP 3.17, "Cancellation Support"). Its data is
-    /// dropped.
+    /// Cancels a pending request (LSP 3.17, "Cancellation Support"): drops its data, and gives the reply to send, which has code
+    /// -32800 and the text `canceled by client`.
     ///
-    /// Otherwise it gives `None` and takes no memory. A failed allocation leaves the queue unchanged.
+    /// `Ok(None)` means that no such request is pending. If the allocation of the text fails, the queue is unchanged.
     pub fn cancel(&mut self, id: RequestId) -> Result<Option<Response>, AllocError>
         ensures reply { IfOk result (λ reply. option_map response_view reply ≡ option_map (λ _. cancelled id) (map.get self.old id)) }
         ensures absent { map.get self.old id ≡ None → result ≡ Ok None }
@@ -144,7 +144,7 @@ impl<I: Drop> Incoming<I> {
 /// How many ids there are: 0 to 2147483647.
 const ALL_IDS: u32 = 2147483648;
 
-/// This side's requests that have no reply yet, each under its id with some data, and the next id.
+/// This side's requests that have no reply yet. Each is kept under its id, with data of your own.
 #[derive(Debug, Drop)]
 pub struct Outgoing<O> {
     alloc: Global,
@@ -179,21 +179,21 @@ impl<O> Outgoing<O> {
         }
     }
 
-    /// Whether the request isn't pending, also for one that never was. It takes no memory.
+    /// Whether no request is pending under this id, also if there never was one.
     pub fn is_completed(&self, id: &RequestId) -> bool
         ensures { result ≡ not (map.contains_key (pending_of self.now) id.now) }
     {
         !self.pending.contains_key(id)
     }
 
-    /// Whether some request is pending. It takes no memory.
+    /// Whether any request is pending.
     pub fn has_pending(&self) -> bool
         ensures { result ≡ not (map.len (pending_of self.now) == 0) }
     {
         self.pending.len() != 0
     }
 
-    /// Takes a request out, and gives its data where it was pending. It takes no memory.
+    /// Takes a request out and gives its data, or `None` if it was not pending.
     pub fn complete(&mut self, id: RequestId) -> Option<O>
         ensures value { result ≡ map.get (pending_of self.old) id }
         ensures removed { self.new ≡ (map.remove (pending_of self.old) id, count_of self.old) }
@@ -201,7 +201,7 @@ impl<O> Outgoing<O> {
         self.pending.remove(&id)
     }
 
-    /// The data of a request, where it is pending. It takes no memory.
+    /// The data of a pending request.
     pub fn data(&self, id: &RequestId) -> Option<&O>
         ensures { option_copied result ≡ map.get (pending_of self.now) id.now }
     {
@@ -212,8 +212,8 @@ impl<O> Outgoing<O> {
 impl<O: Drop> Outgoing<O> {
     /// Makes a request pending with this data, and gives the request to send. Its id is the next of 0, 1, 2, .. 2147483647.
     ///
-    /// `RegisterFault::Spent` comes exactly where all ids were given out, else `RegisterFault::Memory` where an allocation
-    /// failed. Each hands the data back, and the queue is unchanged.
+    /// The fault is `RegisterFault::Spent` if all ids were given out, else `RegisterFault::Memory` if an allocation failed. Both
+    /// give the data back, and the queue is unchanged.
     pub fn register_value(
         &mut self,
         method: String,
@@ -243,9 +243,10 @@ impl<O: Drop> Outgoing<O> {
         }
     }
 
-    /// The same for params of a type of their own, which go through their compact text.
+    /// As `register_value`, with params of any type that `serde_json` writes. They go through their compact text.
     ///
-    /// Where ids are left and `serde_json` refuses the params, or memory for them, it is `RegisterFault::Unwritable`.
+    /// If ids are left, and `serde_json` cannot convert the params or lacks memory for them, the fault is
+    /// `RegisterFault::Unwritable`.
     pub fn register<P: Serialize + Drop>(
         &mut self,
         method: String,

@@ -8,7 +8,7 @@ use std::alloc::{AllocError, Global};
 use std::marker::Model;
 use std::sync::Wait;
 
-/// What a relay carries: a message, or the word that there are no more.
+/// What a relay carries: a message, or the sign that no more follow.
 #[derive(Debug, Drop)]
 pub enum Parcel<M> {
     /// A message.
@@ -57,7 +57,7 @@ impl<M: Drop> Model for RelayRx<M> {
     ghost invariant = { λ r. IsSeatAt (receives_on r.receiver) r.pass × (account_of r.pass ≡ receiver_account (account_of r.pass).taken) };
 }
 
-/// Makes a relay with room for so many parcels, at least one. The error is a refused allocation.
+/// Makes a relay with room for this many parcels, at least one. The error means that an allocation failed.
 pub fn relay<M: Drop>(alloc: Global, room: usize) -> Result<(RelayTx<M>, RelayRx<M>), AllocError>
     requires { 0 < room }
     ensures one_relay { IfOk result (λ ends. ends.1.relay ≡ ends.0.relay) }
@@ -79,9 +79,9 @@ pub fn relay<M: Drop>(alloc: Global, room: usize) -> Result<(RelayTx<M>, RelayRx
 impl<M: Drop> RelayTx<M> {
     ghost use Rattle.lsp_relay.specs.Relay.{IsOpen};
 
-    /// Adds the parcel at the back, in one step, and waits for room. Nothing may follow `Parcel::End`.
+    /// Adds the parcel at the back in one step. It waits while the relay is full. Send nothing after `Parcel::End`.
     ///
-    /// The error hands the parcel back, and changes nothing. It comes where the receiver's end is gone.
+    /// The error gives the parcel back, and nothing has changed. It comes if the receiver's end is gone.
     pub fn send<R: Wait>(&mut self, rt: &R, parcel: Parcel<M>) -> Result<(), Parcel<M>>
         requires open { IsOpen self.old.sent }
         ensures relay { self.new.relay ≡ self.old.relay }
@@ -99,9 +99,9 @@ impl<M: Drop> RelayRx<M> {
     ghost use Rattle.std.specs.Prelude.{true};
     ghost use Rattle.lsp_relay.specs.Relay.{has_end};
 
-    /// Takes the parcel at the front, in one step, and waits for one.
+    /// Takes the parcel at the front in one step. It waits while the relay is empty.
     ///
-    /// `None` takes nothing, and says nothing of the sender. It comes where the relay is empty and the sender's end is gone.
+    /// `None` means that nothing was taken. It comes if the relay is empty and the sender's end is gone; no contract says so.
     pub fn take<R: Wait>(&mut self, rt: &R) -> Option<Parcel<M>>
         ensures relay { self.new.relay ≡ self.old.relay }
         ensures some { IfSome result (λ parcel. self.new.taken ≡ self.old.taken ++ parcel ∷ []) }
@@ -121,8 +121,8 @@ impl<M: Drop> RelayRx<M> {
             .ok()
     }
 
-    /// Takes without waiting, beside the sender's end of the same relay. What was taken is then a beginning of what was sent,
-    /// and all of it where `Parcel::End` was taken.
+    /// Takes a parcel without waiting, when both ends are in one thread again. Afterwards what was taken is a beginning of what
+    /// was sent, in order, and all of it if `Parcel::End` was taken.
     pub fn settle<R: Wait>(&mut self, rt: &R, tx: &mut RelayTx<M>) -> Option<Parcel<M>>
         requires same_relay { self.old.relay ≡ tx.old.relay }
         ensures relay { self.new.relay ≡ self.old.relay }
@@ -141,7 +141,7 @@ impl<M: Drop> RelayRx<M> {
     }
 }
 
-/// Settles a relay whose ends are back in one thread, and drops both: what was taken is a beginning of what was sent.
+/// Settles a relay whose ends are in one thread again, and drops both. What was taken is a beginning of what was sent.
 pub fn settle_all<R: Wait, M: Drop>(rt: &R, rx: RelayRx<M>, tx: RelayTx<M>)
     requires { rx.relay ≡ tx.relay }
     ensures { IsPrefix rx.taken tx.sent }

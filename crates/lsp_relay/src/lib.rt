@@ -1,4 +1,4 @@
-//! A relay: messages go from one thread to another, in order, and then the word that there are no more.
+//! A relay: a channel that hands messages from one thread to another in order, and then says that there are no more.
 #![tactic(auto)]
 
 mod account;

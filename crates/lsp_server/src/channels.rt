@@ -14,13 +14,17 @@ mod boxes;
 
 pub(crate) use boxes::{ChannelInbox, ChannelOutbox};
 
-/// How many turns of the handshake are run at once.
+/// How many waits of the handshake one call of an engine makes.
 const TURNS: u64 = 1;
 
 /// The two channels of one side: what it sends, and what it receives.
 ///
-/// The calls of the handshake and of the shutdown answer as the table of `lifecycle` says (LSP 3.17, "Server lifecycle").
-/// They wait for the other side, and may wait for ever.
+/// Make one over standard input and output (`stdio`), over TCP (`connect`, `listen`, `over_stream`), over any reader and writer
+/// (`over`), or in memory for tests (`memory`). Then do the handshake by `initialize`, go through `receiver`, and give each
+/// request to `handle_shutdown` first (LSP 3.17, "Server lifecycle").
+///
+/// The calls of the handshake and the shutdown wait for the other side, and may wait for ever. An error of theirs prints one of
+/// the texts of `ProtocolError`; `docs/LIFECYCLE.md` has a table of which message leads to which.
 #[derive(Drop)]
 pub struct Connection {
     /// To the other side.
@@ -30,7 +34,8 @@ pub struct Connection {
 }
 
 impl Connection {
-    /// Two connections, each of which receives what the other sends. There is no limit to the messages in between.
+    /// Makes two connections, each of which receives what the other sends. Use them for tests. Any number of messages may wait
+    /// in between. The error means that an allocation failed.
     pub fn memory(alloc: Global) -> Result<(Connection, Connection), AllocError> {
         let (to_second, from_first) = unbounded(alloc)?;
         let (to_first, from_second) = unbounded(alloc)?;
@@ -45,7 +50,21 @@ impl Connection {
         Ok((first, second))
     }
 
-    /// Waits for the request `initialize`, and gives its id and its params. Other requests are answered with code -32002.
+    /// Waits for the request `initialize`, and gives its id and its params. Use it in place of `initialize` if your answer depends
+    /// on the params, or has more than capabilities in it:
+    ///
+    /// <!-- from crates/examples/src/handshake.rt -->
+    /// ```rust
+    /// let (id, params) = connection.initialize_start(rt)?;
+    /// let result = json!(in rt.alloc(); {
+    ///     "capabilities": { "hoverProvider": true },
+    ///     "serverInfo": { "name": "my_server", "version": "0.1" }
+    /// })?;
+    /// connection.initialize_finish(rt, id, result)?;
+    /// ```
+    ///
+    /// An earlier request is answered with code -32002, an earlier notification is dropped. It is an error if `exit` or a response
+    /// comes, if the other side is gone, or if an allocation fails.
     pub fn initialize_start<R: Wait + Clock + AllocGlobal>(
         &self,
         rt: &R,
@@ -53,7 +72,8 @@ impl Connection {
         self.initialize_start_while(rt, || true)
     }
 
-    /// `initialize_start` for as long as `running` says so. It is asked before each wait, which takes one second at most.
+    /// As `initialize_start`, until `running` answers false, which is an error then. It is asked before each wait, and a wait takes
+    /// at most one second.
     pub fn initialize_start_while<R: Wait + Clock + AllocGlobal, C: Fn() -> bool>(
         &self,
         rt: &R,
@@ -78,7 +98,9 @@ impl Connection {
         Err(ProtocolError::disconnected())
     }
 
-    /// Sends the result of `initialize`, and waits for one message, which is to be the notification `initialized`.
+    /// Sends the result of `initialize`, and waits for the notification `initialized`. The example stands at `initialize_start`.
+    ///
+    /// It is an error if another message comes first, if the other side is gone, or if an allocation fails.
     pub fn initialize_finish<R: Wait + Clock + AllocGlobal>(
         &self,
         rt: &R,
@@ -94,7 +116,8 @@ impl Connection {
         )
     }
 
-    /// `initialize_finish` for as long as `running` says so. The result is sent before `running` is first asked.
+    /// As `initialize_finish`, until `running` answers false, which is an error then. The result is sent before `running` is asked
+    /// for the first time.
     pub fn initialize_finish_while<R: Wait + Clock + AllocGlobal, C: Fn() -> bool>(
         &self,
         rt: &R,
@@ -137,7 +160,15 @@ impl Connection {
         Err(ProtocolError::disconnected())
     }
 
-    /// The whole handshake. It answers `{"capabilities":<server_capabilities>}`, and gives the params of `initialize`.
+    /// Does the whole handshake: sends `{"capabilities":<server_capabilities>}`, and gives the params of `initialize`.
+    ///
+    /// <!-- from crates/example_connection/src/main.rt -->
+    /// ```rust
+    /// let capabilities = json!(in rt.alloc(); { "hoverProvider": true })?;
+    /// connection.initialize(rt, capabilities)?;
+    /// ```
+    ///
+    /// The errors are those of `initialize_start` and `initialize_finish`.
     pub fn initialize<R: Wait + Clock + AllocGlobal>(
         &self,
         rt: &R,
@@ -151,7 +182,13 @@ impl Connection {
         Ok(params)
     }
 
-    /// `initialize` for as long as `running` says so.
+    /// As `initialize`, until `running` answers false, which is an error then. Here another thread may set a flag:
+    ///
+    /// <!-- from crates/examples/src/handshake.rt -->
+    /// ```rust
+    /// let running = || !stopped.load(Ordering::SeqCst);
+    /// let params = connection.initialize_while(rt, capabilities, running)?;
+    /// ```
     pub fn initialize_while<R: Wait + Clock + AllocGlobal, C: Fn() -> bool>(
         &self,
         rt: &R,
@@ -168,8 +205,30 @@ impl Connection {
         Ok(params)
     }
 
-    /// Answers the request `shutdown` with null, and waits 30 seconds for the notification `exit`, which gives
-    /// `Ok(true)`. Another request gives `Ok(false)`, and nothing is sent or received.
+    /// If the request is `shutdown`, answers it with null and waits up to 30 seconds for the notification `exit`: then `Ok(true)`,
+    /// and the session is over. For any other request it gives `Ok(false)` at once, and the request is yours to answer.
+    ///
+    /// <!-- from crates/examples/src/handshake.rt -->
+    /// ```rust
+    /// for message in connection.receiver.iter(rt) {
+    ///     let Message::Request(request) = message else {
+    ///         continue;
+    ///     };
+    ///     if connection.handle_shutdown(rt, &request)? {
+    ///         return Ok(());
+    ///     }
+    ///     let reply = Response {
+    ///         id: request.id,
+    ///         response_result: Ok(Value::Null),
+    ///     };
+    ///     if connection.sender.send(rt, Message::from(reply)).is_err() {
+    ///         bail!("the client is gone");
+    ///     }
+    /// }
+    /// ```
+    ///
+    /// It is an error if another message comes in place of `exit`, if none comes in time, if the other side is gone, or if an
+    /// allocation fails.
     pub fn handle_shutdown<R: Wait + Clock + AllocGlobal>(
         &self,
         rt: &R,

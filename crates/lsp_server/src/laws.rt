@@ -1,4 +1,5 @@
-//! Laws of messages, ids, queues, sessions and the dispatcher, each as the contract of a function: the proofs of callers may rest on them.
+//! Laws of messages, ids, queues, sessions and the dispatcher. Each is the contract of a function, so the proofs of callers can
+//! use it.
 pub use lsp_dispatch::laws::replies_once;
 pub use lsp_message::laws::{
     clone_of_error, clone_of_message, clone_of_notification, clone_of_request, clone_of_response,

@@ -1,4 +1,8 @@
-//! The scaffold under language servers (LSP 3.17, JSON-RPC 2.0): it carries messages between an editor and a server.
+//! The scaffold under language servers (LSP 3.17, JSON-RPC 2.0): it carries messages between an editor and a server, does the
+//! handshake and the shutdown, and keeps the requests that have no reply yet.
+//!
+//! Start with `session` for a server that answers, `session_with` for one that also speaks first, or `Connection` for a loop of
+//! your own. `docs/WRITING_A_SERVER.md` goes through all three.
 #![tactic(auto)]
 
 mod channels;

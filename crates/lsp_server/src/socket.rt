@@ -18,11 +18,16 @@ use std::time::{Clock, Duration};
 const WRITE_SECONDS: u64 = 10;
 
 impl Connection {
-    /// A connection to the peer that listens at the address: an IP address or a host's name, and a port, such as
-    /// `"127.0.0.1:9257"`. Of a name's addresses the first that answers is taken.
+    /// Connects to the peer that listens at the address, such as `"127.0.0.1:9257"`: a host's name or an IP address, and a port. If
+    /// a name has several addresses, it takes the first that answers.
     ///
-    /// The faults are 4, 5 and 6: a thread was not started; the address is none, or no connection came about; an allocation
-    /// failed. A peer that stays and reads nothing for half a minute is a write fault, which `IoThreads::join` answers.
+    /// The faults are
+    ///
+    /// - `Start`: a thread was not started.
+    /// - `Socket`: the address is none, has no port, or nobody listens there. The kind inside tells more.
+    /// - `Memory`: an allocation failed.
+    ///
+    /// If the peer reads nothing for half a minute, a write fails, and `IoThreads::join` answers write fault 1.
     pub fn connect<R, A>(rt: &R, addr: A) -> Result<(Connection, IoThreads), IoFault>
     where
         R: Net + Threads + Wait + Clock + AllocGlobal + Copy + Drop + Send + 'static,
@@ -33,8 +38,8 @@ impl Connection {
         Connection::connect_within(rt, addr, u64::MAX)
     }
 
-    /// `connect` with a limit on what is read: a message whose content part has more than `limit` bytes is read fault 12, which
-    /// `IoThreads::join` answers, and no room is reserved for it.
+    /// As `connect`, with a limit on what is read. If a content part is longer than `limit` bytes, `IoThreads::join` answers read
+    /// fault 12, and no memory is reserved for it.
     pub fn connect_within<R, A>(
         rt: &R,
         addr: A,
@@ -50,10 +55,11 @@ impl Connection {
         Connection::over_stream(rt, stream, limit)
     }
 
-    /// Listens at the address, waits for a peer, and gives the connection to the first that comes. From then on nobody
-    /// listens there: a peer that was waiting beside the first is cut off.
+    /// Listens at the address, and gives a connection to the first peer that comes. Then it listens no more, and cuts off any
+    /// other peer that was waiting.
     ///
-    /// The faults are 4, 5 and 6, as at `connect`, and 5 also where the address can't be listened at.
+    /// The faults are those of `connect`. It is also `Socket` if the address can't be listened at, for example because the port is
+    /// in use.
     pub fn listen<R, A>(rt: &R, addr: A) -> Result<(Connection, IoThreads), IoFault>
     where
         R: Net + Threads + Wait + Clock + AllocGlobal + Copy + Drop + Send + 'static,
@@ -64,8 +70,8 @@ impl Connection {
         Connection::listen_within(rt, addr, u64::MAX)
     }
 
-    /// `listen` with a limit on what is read: a message whose content part has more than `limit` bytes is read fault 12, which
-    /// `IoThreads::join` answers, and no room is reserved for it. So a stranger's header costs no memory.
+    /// As `listen`, with a limit on what is read. If a content part is longer than `limit` bytes, `IoThreads::join` answers read
+    /// fault 12, and no memory is reserved for it. Use it where strangers can connect.
     pub fn listen_within<R, A>(
         rt: &R,
         addr: A,
@@ -83,10 +89,10 @@ impl Connection {
         Connection::over_stream(rt, stream, limit)
     }
 
-    /// A connection over a stream that was accepted, as by a listener at a port that the system chose. Two threads have a handle
-    /// of it each. A content part may have at most `limit` bytes, and with `u64::MAX` any number.
+    /// Makes a connection over a stream that you accepted, for example from a listener at a port that the system chose. A content
+    /// part may have at most `limit` bytes; with `u64::MAX` any number.
     ///
-    /// The faults are 4, 5 and 6, as at `connect`.
+    /// The faults are those of `connect`.
     pub fn over_stream<R>(
         rt: &R,
         stream: R::Stream,

@@ -18,8 +18,8 @@ use std::{fmt, io, thread};
 /// How many bytes a reader is asked for at once: as many as a pipe holds.
 const READ_AHEAD: usize = 65536;
 
-/// How many messages wait in each of the two channels of a connection at most. A thread that has more to take before it
-/// sleeps is woken less often; a peer that reads nothing has so many kept in memory.
+/// How many messages can wait in each of the two channels of a connection. More room wakes the threads less often. Less room
+/// keeps less in memory for a peer that reads nothing.
 pub const CHANNEL_ROOM: usize = 16;
 
 /// How many large messages wait to be dropped.
@@ -29,19 +29,31 @@ const DROP_ROOM: usize = 1;
 const SMALL_FRAME: usize = 8192;
 
 /// Why a connection was not made, or why its threads did not end as they should.
+///
+/// It prints one of these texts:
+///
+/// | Fault | Text |
+/// |---|---|
+/// | `Read`, `Write` | that of the fault inside, such as `read fault 4` |
+/// | `Closed` | `channel closed` |
+/// | `Start` | `thread not started` |
+/// | `Socket` | `socket fault` |
+/// | `Memory` | `out of memory` |
+///
+/// To tell a person more, match on the variant, and print the kind of `Socket` by `{kind:?}`.
 #[derive(Clone, Copy, Debug, PartialEq, Eq)]
 pub enum IoFault {
     /// 1: a message was not read.
     Read(ReadFault),
     /// 2: a message was not written.
     Write(WriteFault),
-    /// 3: a message was read when the connection's receiver was gone.
+    /// 3: a message came, but the connection's receiver is gone.
     Closed,
     /// 4: a thread was not started.
     Start,
-    /// 5: the socket was not opened, or the system refused a part of it, with this kind.
+    /// 5: the socket failed, with this kind: a bad address, a port in use, nobody who listens, an option that can't be set.
     Socket(ErrorKind),
-    /// 6: an allocation failed: of a channel or a buffer.
+    /// 6: an allocation failed, of a channel or a buffer.
     Memory,
 }
 
@@ -92,7 +104,7 @@ impl From<AllocError> for IoFault {
     }
 }
 
-/// The threads of a connection. Each runs on where this is dropped.
+/// The threads of a connection. If you drop this, they run on.
 #[derive(Drop)]
 pub struct IoThreads {
     reader: JoinHandle<Result<(), IoFault>>,
@@ -122,11 +134,10 @@ impl Writer {
 }
 
 impl IoThreads {
-    /// Waits until all that was sent is written, and for nothing else. It gives the threads back, for `join`.
+    /// Waits until everything that was sent is written, or until a write failed. Gives the threads back, for `join`.
     ///
-    /// The thread that writes ends when all is written and the connection's sender is gone, or at a fault: drop the
-    /// connection first. The other threads run on, also where one waits for a peer that says nothing. A program that ends
-    /// without `join`, as after an error of the handshake, calls this before, or the last replies may be lost.
+    /// Drop the connection first, or it waits for ever. Call it before a program ends without `join`, as after an error of the
+    /// handshake: else the last replies may be lost. It does not wait for the thread that reads, so a silent peer can't hold it up.
     pub fn flush<R: Threads>(self, rt: &R) -> IoThreads
         ensures written { IsSome (ended_answer result.writer) }
         ensures same_reader { result.reader ≡ self.reader }
@@ -144,11 +155,11 @@ impl IoThreads {
         }
     }
 
-    /// Waits for the threads to end. A fault of the reader is answered without waiting for the others, and a fault of the
-    /// writer when all have ended.
+    /// Waits for the threads to end, and gives their fault if there is one. Drop the connection first, or it waits for ever.
     ///
-    /// The reader ends after an `exit`, at the end of the input, at a fault, or where it reads a message when the
-    /// connection's receiver is gone. The writer ends at a fault, or when the connection's sender is gone: drop it first.
+    /// - The thread that reads ends after an `exit`, at the end of the input, at a fault, or when a message comes and the
+    ///   connection's receiver is gone. Its fault is answered at once, without waiting for the others.
+    /// - The thread that writes ends when the connection's sender is gone and everything is written, or at a fault.
     pub fn join<R: Threads>(self, rt: &R) -> Result<(), IoFault> {
         let IoThreads {
             reader,
@@ -162,9 +173,18 @@ impl IoThreads {
 }
 
 impl Connection {
-    /// A connection over standard input and output.
+    /// Makes a connection over standard input and output, for a server that an editor starts:
     ///
-    /// The faults are 4 and 6: a thread was not started, an allocation failed.
+    /// <!-- from crates/example_connection/src/main.rt -->
+    /// ```rust
+    /// let (connection, threads) = Connection::stdio(&rt)?;
+    /// let served = serve(&rt, connection);
+    /// let threads = threads.flush(&rt);
+    /// served?;
+    /// threads.join(&rt)?;
+    /// ```
+    ///
+    /// The faults are `Start`, a thread was not started, and `Memory`, an allocation failed.
     pub fn stdio<R>(rt: &R) -> Result<(Connection, IoThreads), IoFault>
     where
         R: Threads + Wait + Clock + AllocGlobal + Input + Print + Copy + Drop + Send + 'static,
@@ -174,8 +194,8 @@ impl Connection {
         Connection::stdio_within(rt, u64::MAX)
     }
 
-    /// `stdio` with a limit on what is read: a message whose content part has more than `limit` bytes is read fault 12, which
-    /// `IoThreads::join` answers, and no room is reserved for it (LSP 3.17, "Base Protocol").
+    /// As `stdio`, with a limit on what is read (LSP 3.17, "Base Protocol"). If a content part is longer than `limit` bytes,
+    /// `IoThreads::join` answers read fault 12, and no memory is reserved for it.
     pub fn stdio_within<R>(rt: &R, limit: u64) -> Result<(Connection, IoThreads), IoFault>
     where
         R: Threads + Wait + Clock + AllocGlobal + Input + Print + Copy + Drop + Send + 'static,
@@ -185,10 +205,10 @@ impl Connection {
         Connection::over(rt, rt.reader(), Output(*rt), limit)
     }
 
-    /// A connection over any reader and writer, such as the pipes of a child process. A content part may have at most `limit`
-    /// bytes, and with `u64::MAX` any number.
+    /// Makes a connection over any reader and writer, such as the pipes of a child process. A content part may have at most
+    /// `limit` bytes; with `u64::MAX` any number.
     ///
-    /// Only the reader gets a buffer: a frame is one write. The faults are 4 and 6, as at `stdio`.
+    /// The reader gets a buffer here. The writer needs none, since each frame is one write. The faults are those of `stdio`.
     pub fn over<R, S, W>(
         rt: &R,
         reader: S,

@@ -23,8 +23,8 @@ enum ProtocolRepr {
 
 /// Why a handshake, or the end of a session, failed (LSP 3.17, "Server lifecycle").
 ///
-/// It prints one of these texts. Those that end in `..` go on with the debug text of the message that came, which is
-/// open.
+/// It prints one of these texts. Where the table has `..`, the message that came follows as `{:?}` prints it, and that part may
+/// change.
 ///
 /// | Text | `channel_is_disconnected` |
 /// |---|---|
@@ -37,7 +37,8 @@ enum ProtocolRepr {
 /// | `channel disconnected waiting for exit notification` | true |
 /// | `out of memory` | false |
 ///
-/// Two errors are equal where their texts are and the answers of `channel_is_disconnected`.
+/// To find out which it is, ask `channel_is_disconnected` and `is_out_of_memory`, or look at the text. Two errors are equal if
+/// they print the same and answer the same to `channel_is_disconnected`.
 #[derive(Debug, Drop)]
 pub struct ProtocolError(ProtocolRepr);
 
@@ -52,7 +53,7 @@ impl Model for ProtocolError {
 impl ProtocolError {
     ghost use Rattle.lsp_session.specs.ProtocolError.{is_disconnected, is_memory};
 
-    /// Whether the error came of a closed inbox.
+    /// Whether the other side is gone: the texts `disconnected channel` and `channel disconnected waiting for exit notification`.
     pub fn channel_is_disconnected(&self) -> bool
         ensures { result ≡ is_disconnected self.now }
     {
@@ -62,7 +63,7 @@ impl ProtocolError {
         )
     }
 
-    /// Whether an allocation failed.
+    /// Whether an allocation failed: the text `out of memory`.
     pub fn is_out_of_memory(&self) -> bool
         ensures { result ≡ is_memory self.now }
     {
@@ -71,7 +72,7 @@ impl ProtocolError {
 }
 
 impl ProtocolError {
-    /// The error of a closed inbox or outbox: `disconnected channel`.
+    /// The error `disconnected channel`, of a closed inbox or outbox.
     pub fn disconnected() -> ProtocolError
         ensures { result ≡ disconnected }
     {
@@ -99,7 +100,7 @@ impl ProtocolError {
         ProtocolError(ProtocolRepr::ShutdownDisconnected)
     }
 
-    /// The error of a failed allocation: `out of memory`.
+    /// The error `out of memory`, of a failed allocation.
     pub fn out_of_memory() -> ProtocolError
         ensures { result ≡ out_of_memory }
     {

@@ -1,6 +1,6 @@
-//! The lifecycle of a session (LSP 3.17, "Server lifecycle"), over any source of messages and any taker of them.
+//! The lifecycle of a session (LSP 3.17, "Server lifecycle"), over whatever gives messages and whatever takes them.
 //!
-//! What each call answers to what comes. An error is told by its text, which is in `ProtocolError`'s table.
+//! The table shows what each call answers to which message. An error is named by the text that it prints.
 //!
 //! | What comes | `start_within` | `wait_within`, `finish_within`, `finish` | `shutdown` |
 //! |---|---|---|---|
@@ -14,8 +14,8 @@
 //! | the end of the messages | `disconnected channel` | `disconnected channel` | `channel disconnected waiting for exit notification` |
 //! | a gate that says no | `Initialization has been aborted during initialization` | the same | no gate is asked |
 //!
-//! A closed outbox ends the handshake with `disconnected channel`, and an allocation that fails with `out of memory`.
-//! `shutdown` takes no notice of a null that was not sent, and waits for `exit`.
+//! A closed outbox ends the handshake with `disconnected channel`, and a failed allocation with `out of memory`. If the null of
+//! `shutdown` can't be sent, it waits for `exit` all the same.
 ghost use Rattle.std.specs.Prelude.{◌≡◌, ◌≢◌, IfErr};
 ghost use Rattle.lsp_message.specs.View.{message_view};
 ghost use Rattle.lsp_session.specs.Boxes.{handed_back, WaitsFor};
@@ -50,24 +50,24 @@ pub enum Event {
     Closed,
 }
 
-/// What gives messages one after another.
+/// Gives messages one after another.
 pub trait Inbox {
     ghost use Rattle.lsp_session.specs.Event.{Event};
 
     /// One receive may give this event, and change the contents so.
     ghost receives: { Self → Event → Self → Type 0 };
 
-    /// Waits for a message, and no longer than so many seconds.
+    /// Waits for a message, but no longer than this many seconds.
     fn receive_for(&mut self, seconds: u64) -> Event
         ensures { receives self.old (event_view result) self.new };
 
-    /// Waits for a message without limit: it passes over the timeouts.
+    /// Waits for a message without limit. It never gives `Timeout`.
     fn receive(&mut self) -> Event
         ensures receives { WaitsFor receives self.old (event_view result) self.new }
         ensures never_timeout { event_view result ≢ timeout };
 }
 
-/// Why a message was not taken. It comes back.
+/// Why a message was not taken. Each variant gives it back.
 #[derive(Debug, Drop)]
 pub enum SendFault {
     /// The outbox is closed.
@@ -76,7 +76,7 @@ pub enum SendFault {
     Memory(Message),
 }
 
-/// What takes messages one after another.
+/// Takes messages one after another.
 pub trait Outbox {
     ghost use Rattle.std.specs.Prelude.{Result};
     ghost use Rattle.lsp_message.specs.Message.{Message};
@@ -85,13 +85,13 @@ pub trait Outbox {
     /// One send of this message may have this outcome, and change the contents so.
     ghost sends: { Self → Message → Result Unit SendFault → Self → Type 0 };
 
-    /// Gives the outbox a message. A fault hands it back.
+    /// Sends a message. A fault gives it back.
     fn send(&mut self, message: Message) -> Result<(), SendFault>
         ensures sends { sends self.old (message_view message) result self.new }
         ensures handed_back { IfErr result (λ fault. handed_back fault ≡ message) };
 }
 
-/// Says whether a handshake is to go on.
+/// Says whether a handshake should go on.
 pub trait Gate {
     ghost use Rattle.std.specs.Prelude.{Bool, ⊤};
 

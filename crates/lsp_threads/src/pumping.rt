@@ -15,17 +15,19 @@ use std::io::{BufRead, Write};
 use std::sync::Wait;
 use std::thread::{Builder, Threads};
 
-/// How many parcels may wait between two threads. It decides speed and memory alone: no answer depends on it.
+/// How many parcels may wait between two threads. It changes speed and memory only, and no answer.
 pub(crate) const ROOM: usize = 32;
 
-/// Why not all messages were passed on. Of several that fit it is the one with the greatest number.
+/// Why not all messages were passed on. If several faults fit, it is the one with the greatest number.
+///
+/// It prints the text of the fault inside. To tell a person more, match on the variant.
 #[derive(Clone, Copy, Debug, PartialEq, Eq)]
 pub enum PumpFault {
     /// 1: a message was not read. Those before it were written.
     Read(ReadFault),
     /// 2: a message was not written.
     Write(WriteFault),
-    /// 3: nothing was read or written.
+    /// 3: a thread was not started. Nothing was read or written.
     Start(StartFault),
 }
 
@@ -47,10 +49,10 @@ impl fmt::Display for PumpFault {
 impl Error for PumpFault {}
 
 /// Writes each message of a reader again, as a frame, up to and with the first `exit` (LSP 3.17, "Base Protocol"). A thread
-/// reads, and the caller writes.
+/// reads, and the caller writes. The messages are the same, but not their bytes: spaces go, and members change their order.
 ///
-/// `Ok` comes where the messages end in `exit` or in the end of the input. After a failed write nothing more is written, and
-/// the rest of the messages is read and dropped: the call returns only where the reader comes to its end.
+/// `Ok` means that the messages ended with `exit` or with the input. After a failed write nothing more is written, and the rest of
+/// the messages is read and dropped, so the call returns only when the reader comes to its end.
 pub fn pump<T, R, W>(rt: &T, alloc: Global, reader: R, writer: &mut W) -> Result<(), PumpFault>
 where
     T: Threads + Wait + Copy + Drop + Send + 'static,
@@ -61,8 +63,8 @@ where
     pump_within(rt, alloc, reader, writer, u64::MAX)
 }
 
-/// `pump` over messages whose content part has at most `limit` bytes. A longer one is `PumpFault::Read` of
-/// `ReadFault::TooLong`, before any room is reserved for it.
+/// As `pump`, with a limit on what is read. If a content part is longer than `limit` bytes, the fault is `PumpFault::Read` with
+/// `ReadFault::TooLong`, and no memory is reserved for it.
 pub fn pump_within<T, R, W>(
     rt: &T,
     alloc: Global,
@@ -79,7 +81,7 @@ where
     pump_with(rt, Builder::new(), alloc, reader, writer, limit)
 }
 
-/// `pump_within` with the thread that reads started by this builder, which sets its stack's size, for one.
+/// As `pump_within`, with a builder for the thread that reads, which can set the size of its stack.
 pub fn pump_with<T, R, W>(
     rt: &T,
     builder: Builder,

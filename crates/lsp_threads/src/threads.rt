@@ -17,22 +17,22 @@ use std::io::{BufRead, Write};
 use std::sync::Wait;
 use std::thread::{Builder, PromisedHandle, Threads};
 
-/// What a session in threads leaves.
+/// What `run_threads` gives back.
 #[derive(Drop)]
 pub struct Threaded<W> {
-    /// The writer that was handed in.
+    /// The writer that you gave it.
     pub writer: W,
     /// How the session ended.
     pub answer: Result<SessionEnd, SessionFault>,
 }
 
 /// Runs a session of a server (LSP 3.17, "Server lifecycle") with a thread that reads, a thread that writes and the handler on
-/// the caller's thread: in every schedule it comes to what `session` comes to.
+/// the caller's thread. In every schedule its answer is one that `session` may give.
 ///
-/// The thread that writes is started first. The fault is a refused start: nothing was read or written then. A read fault counts
-/// only where the session came to it. After its answer the session still takes what is read, and drops it: the call returns
-/// only where the reader comes to its end, to a fault or to an `exit`. After a failed write nothing more is written, and the
-/// session goes on.
+/// - The fault means that a thread was not started, or that an allocation failed. Nothing was read or written then.
+/// - It returns only when the reader comes to its end, to a fault or to an `exit`. What is read after the session's answer is
+///   dropped. A read fault counts only if the session came to it.
+/// - After a failed write nothing more is written, and the session goes on.
 pub fn run_threads<T, R, W, H>(
     rt: &T,
     alloc: Global,
@@ -52,8 +52,8 @@ where
     run_threads_within(rt, alloc, reader, writer, capabilities, handler, u64::MAX)
 }
 
-/// `run_threads` over messages whose content part has at most `limit` bytes. A longer one is `SessionFault::Read` of
-/// `ReadFault::TooLong`, where the session came to it, before any room is reserved for it.
+/// As `run_threads`, with a limit on what is read. If the session comes to a content part longer than `limit` bytes, the fault is
+/// `SessionFault::Read` with `ReadFault::TooLong`, and no memory is reserved for it.
 pub fn run_threads_within<T, R, W, H>(
     rt: &T,
     alloc: Global,
@@ -96,7 +96,7 @@ pub struct Builders {
     pub reader: Builder,
 }
 
-/// `run_threads_within` with the threads started by these builders, which set the sizes of their stacks, for one.
+/// As `run_threads_within`, with builders for the two threads, which can set the sizes of their stacks.
 pub fn run_threads_with<T, R, W, H>(
     rt: &T,
     builders: Builders,

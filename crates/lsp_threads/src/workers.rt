@@ -17,11 +17,13 @@ use std::sync::Wait;
 use std::thread::{Builder, Promise, PromisedHandle, Threads};
 
 /// Why the threads of a call were not started. Nothing was read or written then.
+///
+/// It prints `out of memory` or `thread not started`.
 #[derive(Clone, Copy, Debug, PartialEq, Eq)]
 pub enum StartFault {
     /// 1: an allocation failed.
     Memory,
-    /// 2: a thread was not started, for want of memory or another cause.
+    /// 2: a thread was not started, because an allocation failed or for another reason.
     Thread,
 }
 

@@ -2,13 +2,13 @@
 // type's can't stand in one module.
 use crate::frame::ReadFault;
 
-/// How much of some bytes is their first message (LSP 3.17, "Base Protocol"). The content part isn't looked at.
+/// How much of some bytes is their first message (LSP 3.17, "Base Protocol"). Whether the content part is JSON is not checked.
 #[derive(Clone, Copy, Debug, PartialEq, Eq)]
 pub enum Front {
-    /// The first so many bytes are good fields with a length, a blank line and the whole content part.
+    /// A whole message has arrived: its header part and its content part are the first so many bytes.
     Whole(usize),
-    /// The first header line that ended is bad, or it is the blank line and no length came before it: read fault 2 to 6.
+    /// A header line is bad, or the header part has no length. The number is that of the read fault, from 2 to 6.
     Fault(ReadFault),
-    /// More bytes have to come.
+    /// More bytes have to arrive.
     More,
 }

@@ -8,9 +8,9 @@ use crate::frame::extent::Front;
 use crate::frame::header::{HeaderLine, header_line};
 use memchr::memchr;
 
-/// Finds how much of the bytes is their first message (LSP 3.17, "Base Protocol"). It takes no memory.
+/// Finds out how much of the bytes that have arrived is their first message (LSP 3.17, "Base Protocol"). It does not allocate.
 ///
-/// A whole one lies within the bytes.
+/// Use it to read from a source that must not block: call it after each piece, and `Message::read` once it answers `Whole`.
 pub fn front(bytes: &[u8]) -> Front
     ensures value { result ≡ front_of bytes.now }
     ensures within { (count : ℕ) → result ≡ Front.Whole count → count ≤ length bytes.now }

@@ -1,32 +1,32 @@
-/// The error codes that are defined (JSON-RPC 2.0, section 5.1; LSP 3.17, "Response Message").
+/// The error codes that JSON-RPC 2.0 (section 5.1) and LSP 3.17 ("Response Message") define.
 #[derive(Clone, Copy, Debug, PartialEq, Eq)]
 #[non_exhaustive]
 pub enum ErrorCode {
-    /// The body is no JSON (-32700; JSON-RPC 2.0, section 5.1).
+    /// -32700: the text is not JSON (JSON-RPC 2.0, section 5.1).
     ParseError,
-    /// The JSON is no request (-32600; JSON-RPC 2.0, section 5.1).
+    /// -32600: the JSON is not a request (JSON-RPC 2.0, section 5.1).
     InvalidRequest,
-    /// The server does not know the method (-32601; JSON-RPC 2.0, section 5.1).
+    /// -32601: the server does not have this method (JSON-RPC 2.0, section 5.1).
     MethodNotFound,
-    /// The params are not those of the method (-32602; JSON-RPC 2.0, section 5.1).
+    /// -32602: the params do not fit the method (JSON-RPC 2.0, section 5.1).
     InvalidParams,
-    /// The server failed within itself (-32603; JSON-RPC 2.0, section 5.1).
+    /// -32603: the server failed inside (JSON-RPC 2.0, section 5.1).
     InternalError,
-    /// The first number that JSON-RPC leaves to servers, and no error of its own (-32099).
+    /// -32099: one end of the range that JSON-RPC 2.0 (section 5.1) leaves to servers. Not an error of its own.
     ServerErrorStart,
-    /// The last number that JSON-RPC leaves to servers, and no error of its own (-32000).
+    /// -32000: the other end of that range (JSON-RPC 2.0, section 5.1). Not an error of its own.
     ServerErrorEnd,
-    /// A request came before `initialize` (-32002).
+    /// -32002: a request came before `initialize` (LSP 3.17, "Response Message").
     ServerNotInitialized,
-    /// An error that none of these numbers fits (-32001).
+    /// -32001: none of the other codes fits (LSP 3.17, "Response Message").
     UnknownErrorCode,
-    /// The client cancelled the request, and the server stopped its work (-32800).
+    /// -32800: the client cancelled the request, and the server noticed it (LSP 3.17, "Response Message").
     RequestCanceled,
-    /// A document changed in a way that makes the result worthless (-32801).
+    /// -32801: the content of a document changed unexpectedly, so the result would be wrong (LSP 3.17, "Response Message").
     ContentModified,
-    /// The server cancelled a request of a kind that lets it (-32802).
+    /// -32802: the server cancelled the request. Only some kinds of requests allow it (LSP 3.17, "Response Message").
     ServerCancelled,
-    /// The request was right and failed all the same; the message tells a person why (-32803).
+    /// -32803: the request was correct but failed. The message tells a person why (LSP 3.17, "Response Message").
     RequestFailed,
 }
 
@@ -34,7 +34,7 @@ impl ErrorCode {
     ghost use Rattle.std.specs.Prelude.{◌≡◌};
     ghost use Rattle.lsp_message.specs.ErrorCode.{number_of};
 
-    /// The number that stands in a reply.
+    /// The number to send in a reply, as `ResponseError::code`.
     pub fn number(self) -> i32
         ensures { result ≡ number_of self }
     {

@@ -12,9 +12,10 @@ impl Request {
     ghost use Rattle.lsp_message.specs.Converted.{IsTreeOf};
     ghost use Rattle.lsp_message.specs.Extract.{Extracts};
 
-    /// A request with params of a type of its own (JSON-RPC 2.0, section 4), which go through their compact text.
+    /// Makes a request with params of any type that `serde_json` writes (JSON-RPC 2.0, section 4).
     ///
-    /// It is an `Err` where `serde_json` does not convert the params, as past 127 levels, or memory is refused.
+    /// `Err` means that `serde_json` could not convert the params, that they nest more than 127 levels, or that an allocation
+    /// failed. The params go through their compact text.
     pub fn new<P: Serialize + Drop>(
         alloc: Global,
         id: RequestId,
@@ -30,10 +31,10 @@ impl Request {
         Ok(Request { id, method, params })
     }
 
-    /// The id and the params as a type of its own, where the request has this method.
+    /// Gives the id, and the params as a type of your own, if the request has this method.
     ///
-    /// Another method is `ExtractError::MethodMismatch`, which hands the request back. Params that do not convert, or memory
-    /// that is refused, are `ExtractError::JsonError`.
+    /// If it has another one, `ExtractError::MethodMismatch` gives the request back. If the params do not convert, or an
+    /// allocation fails, the error is `ExtractError::JsonError`.
     pub fn extract<P: DeserializeOwned>(
         self,
         alloc: Global,
@@ -60,9 +61,10 @@ impl Notification {
     ghost use Rattle.lsp_message.specs.Converted.{IsTreeOf};
     ghost use Rattle.lsp_message.specs.Extract.{Extracts};
 
-    /// A notification with params of a type of its own (JSON-RPC 2.0, section 4.1), which go through their compact text.
+    /// Makes a notification with params of any type that `serde_json` writes (JSON-RPC 2.0, section 4.1).
     ///
-    /// It is an `Err` where `serde_json` does not convert the params, as past 127 levels, or memory is refused.
+    /// `Err` means that `serde_json` could not convert the params, that they nest more than 127 levels, or that an allocation
+    /// failed. The params go through their compact text.
     pub fn new<P: Serialize + Drop>(
         alloc: Global,
         method: String,
@@ -76,7 +78,7 @@ impl Notification {
         Ok(Notification { method, params })
     }
 
-    /// The params as a type of their own, where the notification has this method. The errors are those of a request.
+    /// Gives the params as a type of your own, if the notification has this method. It fails as `Request::extract` does.
     pub fn extract<P: DeserializeOwned>(
         self,
         alloc: Global,
@@ -102,9 +104,10 @@ impl Response {
     ghost use Rattle.serde_json.specs.View.{view};
     ghost use Rattle.lsp_message.specs.Converted.{IsTreeOf};
 
-    /// A reply with a result of a type of its own (JSON-RPC 2.0, section 5), which goes through its compact text.
+    /// Makes a reply with a result of any type that `serde_json` writes (JSON-RPC 2.0, section 5).
     ///
-    /// It is an `Err` where `serde_json` does not convert the result, as past 127 levels, or memory is refused.
+    /// `Err` means that `serde_json` could not convert the result, that it nests more than 127 levels, or that an allocation
+    /// failed. The result goes through its compact text.
     pub fn new_ok<R: Serialize + Drop>(
         alloc: Global,
         id: RequestId,
@@ -121,7 +124,8 @@ impl Response {
         })
     }
 
-    /// A reply with an error and no data (JSON-RPC 2.0, section 5.1). It takes no memory.
+    /// Makes a reply with an error and no data (JSON-RPC 2.0, section 5.1). It does not allocate. For `code` take the `number` of
+    /// an `ErrorCode`.
     pub fn new_err(id: RequestId, code: i32, message: String) -> Response
         ensures { result ≡ record { id = id; response_result = Err (record { code = code; message = message; «data» = None }) } }
     {

@@ -15,10 +15,10 @@ enum IdRepr {
     Text(String),
 }
 
-/// The id of a request (JSON-RPC 2.0, section 4): a whole number of 32 signed bits, or a text.
+/// The id of a request (JSON-RPC 2.0, section 4): an `i32` or a text. Make one by `RequestId::from`.
 ///
-/// Numbers come before texts, numbers by value and texts by their bytes. A number prints in decimal, a text in the debug
-/// form of Rust, in quotes.
+/// It prints a number in decimal and a text in quotes, as `{:?}` does, so that 92 and "92" look different. Ids are ordered:
+/// numbers before texts, numbers by value, texts by their bytes.
 #[derive(Debug, Drop)]
 pub struct RequestId(IdRepr);
 
@@ -52,7 +52,7 @@ impl From<String> for RequestId {
 }
 
 impl RequestId {
-    /// The same id. It takes memory for a text, and is an `Err` where that is refused.
+    /// The same id. A text is copied; `Err` means that this allocation failed.
     pub fn clone(&self) -> Result<RequestId, AllocError>
         ensures { IfOk result (λ id. id ≡ self.now) }
     {

@@ -22,12 +22,13 @@ use std::alloc::Global;
 use std::io::{BufRead, Write};
 
 impl Message {
-    /// Reads one message (LSP 3.17, "Base Protocol"). `Ok(None)` is the end of the input at the start of a header line.
+    /// Reads one message (LSP 3.17, "Base Protocol"). `Ok(None)` means that the input ended at the start of a header line.
     ///
-    /// Each fault of `ReadFault` comes as its documentation says; what follows the message, or the bytes at fault, is
-    /// left unread. The room of the content part is reserved before its first byte is read. After `Input` and `Memory`
-    /// nothing after the message was taken, and after `Memory` nothing of the content part, or all of it. The content part
-    /// may have any length: `TooLong` never comes. `read_within` sets a limit.
+    /// `ReadFault` says when each fault comes. What follows the message, or the bytes at fault, stays unread. After `Input` and
+    /// `Memory` no byte behind the message was taken; after `Memory` none of the content part was taken, or all of it.
+    ///
+    /// The content part may have any length, and memory for all of it is reserved before its first byte is read. To set a limit,
+    /// use `read_within`.
     pub fn read<R: BufRead>(alloc: Global, reader: &mut R) -> Result<Option<Message>, ReadFault>
         ensures exact { IfSome (R.remaining reader.old) (λ text.
             Answers message_view result (R.remaining reader.new) (reading_of text)) }
@@ -41,8 +42,8 @@ impl Message {
 
     /// Reads one message whose content part has at most `limit` bytes, as `read` does (LSP 3.17, "Base Protocol").
     ///
-    /// Where the last `Content-Length` is above the limit, the answer is `TooLong` before any room is reserved for the
-    /// content part, which is left unread.
+    /// If the length is above the limit, the answer is `TooLong`: no memory is reserved for the content part, and it stays
+    /// unread. If there are several lines with `Content-Length`, the last one counts.
     pub fn read_within<R: BufRead>(
         alloc: Global,
         reader: &mut R,
@@ -65,11 +66,10 @@ impl Message {
         Ok(Some(message_in(alloc, &body)?))
     }
 
-    /// Writes one message as a frame (LSP 3.17, "Base Protocol"). The frame is composed first, then written, then
-    /// flushed once.
+    /// Writes one message as a frame (LSP 3.17, "Base Protocol"), and flushes the writer once.
     ///
-    /// After `WriteFault::Output` the writer got a beginning of the frame, after `WriteFault::Memory` nothing. A message
-    /// that nests at most 127 levels is read back from its frame, whatever follows that.
+    /// After `WriteFault::Output` the writer got a beginning of the frame, after `WriteFault::Memory` nothing. If the message
+    /// nests at most 127 levels, `Message::read` gives it back from its frame, whatever follows the frame.
     pub fn write<W: Write>(&self, alloc: Global, writer: &mut W) -> Result<(), WriteFault>
         ensures frame { Writes (message_view self.now) (W.contents writer.old) result (W.contents writer.new) }
         ensures memory { result ≡ Err WriteFault.Memory → writer.new ≡ writer.old }

@@ -221,16 +221,16 @@ fn push_failure(
 }
 
 impl Message {
-    /// The message alone, as one text without spaces (JSON-RPC 2.0, sections 4 and 5): its members in the order `id`,
-    /// `method`, `params`, or `id` and then `result` or `error`. Null params are left out, a null result is written.
+    /// The message as JSON without spaces and without `jsonrpc` (JSON-RPC 2.0, sections 4 and 5). The members stand in the order
+    /// `id`, `method`, `params`, or `id` and then `result` or `error`. Null params are left out, a null result is written.
     pub fn member_text(&self, alloc: Global) -> Result<String, AllocError>
         ensures { IfOk result (λ s. IsMemberText (message_view self.now) (string_bytes s)) }
     {
         self.text_from(alloc, "{")
     }
 
-    /// The content part of the message's frame (LSP 3.17, "Content Part"): the member text with the member `jsonrpc`
-    /// before it. A message that nests at most 127 levels is read back from it.
+    /// The content part of the message's frame (LSP 3.17, "Content Part"): as `member_text`, with `jsonrpc` as its first member.
+    /// Print it to log a message.
     pub fn body_text(&self, alloc: Global) -> Result<String, AllocError>
         ensures text { IfOk result (λ s. IsBodyOf (message_view self.now) (string_bytes s)) }
         ensures reads_back { IfOk result (λ s. nesting (message_view self.now) ≤ max_depth

@@ -169,10 +169,11 @@ fn object_message(mut members: Map<String, Value>) -> Option<Message>
 }
 
 impl RequestId {
-    /// The id that a value is, where it is a good one: a text, or a whole number of 32 signed bits (JSON-RPC 2.0, section 4).
+    /// Reads an id from a JSON value: a text, or a whole number that fits an `i32` (JSON-RPC 2.0, section 4). `Ok(None)` means
+    /// that the value is no such id.
     ///
-    /// So it reads the id that a notification names in its params, as `$/cancelRequest` does. It takes memory for a text, and
-    /// is an `Err` where that allocation failed.
+    /// Use it for an id that stands in params, as in those of `$/cancelRequest`. A text is copied; `Err` means that this
+    /// allocation failed.
     pub fn from_value(value: &Value) -> Result<Option<RequestId>, AllocError>
         ensures { IfOk result (λ id. id ≡ as_id (view value.now)) }
     {
@@ -185,11 +186,13 @@ impl RequestId {
 }
 
 impl Message {
-    /// The message that a tree is, if it is one (JSON-RPC 2.0, sections 4 and 5). Its parts are moved, so no memory is needed.
+    /// Makes a message of a JSON value, or gives `None` if the value is no message (JSON-RPC 2.0, sections 4 and 5). It moves the
+    /// value's parts, so it does not allocate.
     ///
-    /// A good id is a text, or a whole number of 32 signed bits. A readable error is an object with `code`, a whole number of
-    /// 32 signed bits, `message`, a text, and perhaps `data`, or a list of these two or three; `data` that is null reads as
-    /// `None`. Other members are ignored, `jsonrpc` among them.
+    /// - A good id is a text, or a whole number that fits an `i32`.
+    /// - A readable error is an object with `code` (a whole number that fits an `i32`), `message` (a text) and perhaps `data`; or
+    ///   a list of these two or three. `data` that is null is read as `None`.
+    /// - Other members are ignored, `jsonrpc` among them.
     ///
     /// | Tree | Message |
     /// |---|---|
@@ -197,9 +200,9 @@ impl Message {
     /// | object with a textual `method` and no good `id` | notification |
     /// | object with no textual `method`, a good `id`, a `result`, and `error` absent or null | response with a result |
     /// | object with no textual `method`, a good `id`, a readable `error`, and `result` absent or null | response with an error |
-    /// | all else, a list among it | none |
+    /// | anything else, also a list | none |
     ///
-    /// Absent params read as null.
+    /// Params that are missing are read as null.
     pub fn from_tree(tree: Value) -> Option<Message>
         ensures { option_map message_view result ≡ meaning (view tree) }
     {
@@ -209,7 +212,7 @@ impl Message {
         }
     }
 
-    /// The message that a tree is, if it is one: `from_tree` of a clone. It is an `Err` where memory is refused.
+    /// As `from_tree`, for a value that you keep: it is cloned. `Err` means that this allocation failed.
     pub fn from_value(alloc: Global, value: &Value) -> Result<Option<Message>, AllocError>
         ensures { IfOk result (λ m. option_map message_view m ≡ meaning (view value.now)) }
     {

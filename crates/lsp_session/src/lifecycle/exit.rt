@@ -16,10 +16,11 @@ use std::alloc::Global;
 /// How long `shutdown` waits for `exit`.
 const EXIT_SECONDS: u64 = 30;
 
-/// Answers the request `shutdown` with null, and waits 30 seconds for the notification `exit`, which gives `Ok(true)`.
-/// Another request gives `Ok(false)`, and nothing is sent or received.
+/// If the request is `shutdown`, answers it with null and waits up to 30 seconds for the notification `exit`: then `Ok(true)`. For
+/// any other request it gives `Ok(false)`, and nothing is sent or received (LSP 3.17, "Shutdown Request").
 ///
-/// That the null could not be sent is ignored. Where the id finds no memory to be copied, nothing is sent or received.
+/// If the null can't be sent, it waits for `exit` all the same. If the id can't be copied because an allocation failed, nothing
+/// is sent or received. The table of the module has the errors.
 pub fn shutdown<I: Inbox, O: Outbox>(
     alloc: Global,
     inbox: &mut I,

@@ -1,7 +1,7 @@
 // Gates with no contents.
 use crate::lifecycle::Gate;
 
-/// Always says yes.
+/// A gate that always says yes.
 #[derive(Clone, Copy, Debug)]
 pub struct OpenGate;
 
@@ -15,7 +15,7 @@ impl Gate for OpenGate {
     }
 }
 
-/// Says what a closure answers, of which nothing is known.
+/// A gate that asks a closure. Contracts know nothing of its answers.
 #[derive(Debug, Drop)]
 pub struct CallGate<C: Fn() -> bool> {
     /// Whether to go on.

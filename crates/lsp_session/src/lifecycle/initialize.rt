@@ -16,12 +16,12 @@ use std::alloc::{AllocError, Global};
 /// How long one turn waits for an event.
 pub(crate) const TURN_SECONDS: u64 = 1;
 
-/// Waits for the request `initialize`, and gives its id and its params. `None` says that none came in so many turns; a
-/// second call goes on from there.
+/// Waits for the request `initialize`, and gives its id and its params. `None` means that nothing was decided in this many turns;
+/// call it again to go on.
 ///
-/// One turn asks the gate, and where it says yes receives for one second. A request that comes before is answered with
-/// code -32002, and a notification other than `exit` is dropped (LSP 3.17, "Server lifecycle"). The table of the module
-/// has the rest.
+/// One turn asks the gate and, if it says yes, waits up to one second for a message. An earlier request is answered with code
+/// -32002, and an earlier notification other than `exit` is dropped (LSP 3.17, "Server lifecycle"). The table of the module has
+/// the rest.
 pub fn start_within<I: Inbox, O: Outbox, G: Gate>(
     alloc: Global,
     inbox: &mut I,

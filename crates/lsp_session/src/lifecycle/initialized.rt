@@ -14,8 +14,8 @@ use lsp_message::{Message, RequestId, Response};
 use serde_json::Value;
 use std::alloc::Global;
 
-/// Waits for the notification `initialized`. `None` says that nothing came in so many turns; a second call goes on from
-/// there. A turn is as in `start_within`, and the table of the module has the answers.
+/// Waits for the notification `initialized`. `None` means that nothing came in this many turns; call it again to go on. A turn is
+/// that of `start_within`, and the table of the module has the answers.
 pub fn wait_within<I: Inbox, G: Gate>(
     alloc: Global,
     inbox: &mut I,
@@ -49,8 +49,8 @@ fn finish_on(alloc: Global, message: &Message) -> Result<(), ProtocolError>
     Err(ProtocolError::expected_initialized(alloc, message))
 }
 
-/// Sends the result of `initialize`, and then waits as `wait_within`. Where the outbox refuses the result, no gate is
-/// asked and nothing is received. After a `None` only `wait_within` goes on, since the result is sent.
+/// Sends the result of `initialize`, and then waits as `wait_within` does. If the result can't be sent, no gate is asked and
+/// nothing is received. After `None` go on with `wait_within`, since the result was sent.
 pub fn finish_within<I: Inbox, O: Outbox, G: Gate>(
     alloc: Global,
     inbox: &mut I,
@@ -71,7 +71,7 @@ pub fn finish_within<I: Inbox, O: Outbox, G: Gate>(
     wait_within(alloc, inbox, gate, turns)
 }
 
-/// Sends the result of `initialize`, and waits without limit for one message, which is to be `initialized`.
+/// Sends the result of `initialize`, and waits without limit for one message. Any other than `initialized` is an error.
 pub fn finish<I: Inbox, O: Outbox>(
     alloc: Global,
     inbox: &mut I,

@@ -4,7 +4,7 @@ use lsp_message::Message;
 use std::alloc::Global;
 use std::collections::VecDeque;
 
-/// Gives its events in order, and is closed once none is left.
+/// An inbox that gives the events of a list in order, and is closed once none is left. Use it for tests.
 #[derive(Debug, Drop)]
 pub struct ListInbox {
     /// What is still to come.
@@ -14,7 +14,7 @@ pub struct ListInbox {
 impl ListInbox {
     ghost use Rattle.std.specs.Prelude.{◌≡◌, []};
 
-    /// An inbox with no events. It takes no memory.
+    /// Makes an inbox with no events. It does not allocate.
     pub fn new(alloc: Global) -> ListInbox
         ensures { result.events.items ≡ [] }
     {
@@ -51,7 +51,7 @@ impl Inbox for ListInbox {
     }
 }
 
-/// Takes up to `room` messages, and is closed from then on.
+/// An outbox that keeps what it is sent, up to `room` messages, and is closed from then on. Use it for tests.
 #[derive(Debug, Drop)]
 pub struct ListOutbox {
     /// What was sent, in order.
@@ -63,7 +63,7 @@ pub struct ListOutbox {
 impl ListOutbox {
     ghost use Rattle.std.specs.Prelude.{◌≡◌, []};
 
-    /// An empty outbox with room for so many messages. It takes no memory.
+    /// Makes an empty outbox with room for this many messages. It does not allocate.
     pub fn new(alloc: Global, room: usize) -> ListOutbox
         ensures empty { result.sent.items ≡ [] }
         ensures room { result.room ≡ room }
@@ -94,7 +94,7 @@ impl Outbox for ListOutbox {
     }
 }
 
-/// Gives its answers in order, and says no once none is left.
+/// A gate that gives the answers of a list in order, and says no once none is left. Use it for tests.
 #[derive(Debug, Drop)]
 pub struct ListGate {
     /// What is still to be answered.
@@ -104,7 +104,7 @@ pub struct ListGate {
 impl ListGate {
     ghost use Rattle.std.specs.Prelude.{◌≡◌, []};
 
-    /// A gate that says no. It takes no memory.
+    /// Makes a gate that says no. It does not allocate.
     pub fn new(alloc: Global) -> ListGate
         ensures { result.answers.items ≡ [] }
     {
