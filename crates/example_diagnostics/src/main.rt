@@ -51,6 +51,8 @@ impl Server for Checker {
 
     ghost replied = { λ _ _ _ _ _. ⊤ };
 
+    ghost takes_back = { λ _ _ _. ⊤ };
+
     fn initialize(&mut self, _params: Value) -> Result<Result<Value, ResponseError>, AllocError> {
         Ok(Ok(json!(in self.alloc; {
             "capabilities": { "textDocumentSync": 1, "hoverProvider": true },
@@ -113,6 +115,10 @@ impl Server for Checker {
             acts.push(marks(self.alloc, longest, document)?)?;
         }
         Ok(acts)
+    }
+
+    fn unsent(&mut self, _asked: Asked) -> Result<(), AllocError> {
+        Ok(())
     }
 }
 

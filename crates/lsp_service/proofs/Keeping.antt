@@ -125,16 +125,17 @@ module _ {S P : Type 0}
     (requested : S → Id → List ℕ → Data → List (Act P) → S → Type 0)
     (notified : S → List ℕ → Data → List (Act P) → S → Type 0)
     (replied : S → P → Result Data ErrorObject → List (Act P) → S → Type 0)
+    (takes_back : S → P → S → Type 0)
     (begins : S → List (Act P) → S → Type 0)
     (initializes : S → Data → Result Data ErrorObject → S → Type 0) where
   abbrev pub gives_at : Working S P → Message → List Message → Working S P → Type 0
-  gives_at = gives requested notified replied
+  gives_at = gives requested notified replied takes_back
 
   abbrev pub initializes_at : Working S P → Data → Result Data ErrorObject → Working S P → Type 0
   initializes_at old params outcome new = initializes old.server params outcome new.server × (desk_of new.client ≡ desk_of old.client)
 
   abbrev pub opens_at : Working S P → List Message → Working S P → Type 0
-  opens_at old said new = OpensSaying requested notified replied begins (seen old) said (seen new)
+  opens_at old said new = OpensSaying takes_back begins (seen old) said (seen new)
 
   abbrev pub starves_at : Working S P → Working S P → Type 0
   starves_at old new = Unit {0}
@@ -162,7 +163,7 @@ module _ {S P : Type 0}
   due_opened id w w' said clear opened =
       let after = opened.0 in
       let kept : held_under id (desk_of w'.client).held ≡ held_under id after.1.held = ap (λ (x : S × Desk P). held_under id x.1.held) opened.3 in
-      let none : due id after.1 ≡ due id (desk_of w.client) = ap (due id) opened.1.2 ∙ due_acts id (desk_of w.client) opened.1.0 in
+      let none : due id after.1 ≡ due id (desk_of w.client) = ap (due id) opened.1.4 ∙ due_acts id (desk_of w.client) opened.1.0 in
       let silent : how_many (is_reply_under id) (desk_of w.client).said ≡ 0 = ap (how_many (is_reply_under id)) clear.silent in
       let sent : how_many (is_reply_under id) said ≡ how_many (is_reply_under id) after.1.said = ap (how_many (is_reply_under id)) opened.2 in
       omega (arith, kept, none, silent, sent, clear.none id)
@@ -178,7 +179,7 @@ module _ {S P : Type 0}
     most_whole : (w w' : Working S P) (letters output : List Message) → Clear w → GivesAll gives_at w letters output w'
         → how_many (is_reply_under id) output ≤ how_many (is_request_under id) letters
     most_whole w w' letters output clear all =
-        let due = due_all requested notified replied id w w' letters output clear.silent all in omega (arith, due.most, clear.none id)
+        let due = due_all requested notified replied takes_back id w w' letters output clear.silent all in omega (arith, due.most, clear.none id)
 
     most_part : (w w' : Working S P) (letters output : List Message) → Clear w → BreaksOff gives_at w letters output w'
         → how_many (is_reply_under id) output ≤ how_many (is_request_under id) letters
@@ -204,7 +205,7 @@ module _ {S P : Type 0}
         → 1 ≤ how_many (is_request_under id) letters
         → 1 ≤ how_many (is_reply_under id) output + held_under id (desk_of w'.client).held
     least_whole w after w' letters output clear all left some =
-        let due = due_all requested notified replied id w after letters output clear.silent all in
+        let due = due_all requested notified replied takes_back id w after letters output clear.silent all in
         rw left (due.least (omega (arith, some)))
 
     least_to : (stop : Stop) (null : Option Message) (w after w' : Working S P) (letters output : List Message) → Clear w → IsWhole stop

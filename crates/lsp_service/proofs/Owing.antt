@@ -8,8 +8,8 @@ use Rattle.serde_json.specs.Data.{Data}
 use Rattle.lsp_message.specs.Id.{Id, id_cmp, number}
 use Rattle.lsp_message.specs.IdLaws.{id_total, id_decides}
 use Rattle.lsp_message.specs.Message.{Message, ErrorObject, request, notification, response}
-use Rattle.lsp_queue.specs.Queue.{Pending, pending_of}
-use Rattle.lsp_service.specs.Desk.{Act, tells, asks, replies, cancels, settles, canceled, cancelled_by, cancel_method, cancel_params, Desk, does, does_all, holds, given, cleared, says, Acts, Works, WorksGiving}
+use Rattle.lsp_queue.specs.Queue.{Pending, pending_of, count_of}
+use Rattle.lsp_service.specs.Desk.{Act, tells, asks, replies, cancels, settles, canceled, cancelled_by, cancel_method, cancel_params, Desk, is_spent, sends_request, does, does_all, holds, given, cleared, says, Acts, Works, WorksGiving}
 use Rattle.lsp_service.specs.Law.{one_if, is_request_under, is_reply_under, how_many, held_under}
 use Rattle.lsp_service.specs.Speech.{GivesAll}
 use Rattle.lsp_service.specs.Working.{seen, desk_of}
@@ -48,7 +48,11 @@ module _ {P : Type 0} (id : Id) where
   -- an act neither adds nor loses what is due
   due_act : (d : Desk P) (act : Act P) → due id (does d act) ≡ due id d
   due_act d (tells method params) = rw (how_many-append (is_reply_under id) d.said (notification method params ∷ [])) (omega arith)
-  due_act d (asks method params payload) = rw (how_many-append (is_reply_under id) d.said _) (omega arith)
+  due_act d (asks method params payload) = at (is_spent (count_of d.asked))
+    where
+      at : (b : Bool) → due id (if b then d else sends_request d method params payload) ≡ due id d
+      at true = refl
+      at false = rw (how_many-append (is_reply_under id) d.said _) (omega arith)
   due_act d (replies i outcome) = at (map.contains_key d.held i) refl
     where
       at : (b : Bool) → map.contains_key d.held i ≡ b
@@ -80,29 +84,32 @@ pub record Due (id : Id) (letters output : List Message) (held held' : Pending (
 -- a server at its desk, as a speaker
 abbrev pub gives : {S P : Type 0} (requested : S → Id → List ℕ → Data → List (Act P) → S → Type 0)
     (notified : S → List ℕ → Data → List (Act P) → S → Type 0)
-    (replied : S → P → Result Data ErrorObject → List (Act P) → S → Type 0) → Working S P → Message → List Message → Working S P → Type 0
-gives requested notified replied old m said new = WorksGiving requested notified replied (seen old) m said (seen new)
+    (replied : S → P → Result Data ErrorObject → List (Act P) → S → Type 0)
+    (takes_back : S → P → S → Type 0) → Working S P → Message → List Message → Working S P → Type 0
+gives requested notified replied takes_back old m said new = WorksGiving requested notified replied takes_back (seen old) m said (seen new)
 
 module _ {S P : Type 0}
     (requested : S → Id → List ℕ → Data → List (Act P) → S → Type 0)
     (notified : S → List ℕ → Data → List (Act P) → S → Type 0)
-    (replied : S → P → Result Data ErrorObject → List (Act P) → S → Type 0) (id : Id) where
+    (replied : S → P → Result Data ErrorObject → List (Act P) → S → Type 0)
+    (takes_back : S → P → S → Type 0) (id : Id) where
   -- a message makes one reply more due where it is a request under the id
-  due_work : (s : S) (d : Desk P) (m : Message) (after : S × Desk P) → Works requested notified replied (s, d) m after
+  due_work : (s : S) (d : Desk P) (m : Message) (after : S × Desk P) → Works requested notified replied takes_back (s, d) m after
       → due id after.1 ≡ how_many (is_reply_under id) d.said + cond (is_request_under id m) 1 (held_under id d.held)
   due_work s d (request i method params) after works =
-      ap (due id) works.2 ∙ due_acts id (holds d i) works.0 ∙ ap (λ n. how_many (is_reply_under id) d.said + n) (held_insert id d.held i)
+      ap (due id) works.4 ∙ due_acts id (holds d i) works.0 ∙ ap (λ n. how_many (is_reply_under id) d.said + n) (held_insert id d.held i)
   due_work s d (notification method params) after works =
-      ap (due id) works.2 ∙ due_settled id (does_all d works.0) (cancelled_by method params) ∙ due_acts id d works.0
+      let did = works.1 in
+      ap (λ (x : S × Desk P). due id x.1) works.2 ∙ due_settled id works.0.1 (cancelled_by method params) ∙ ap (due id) did.4 ∙ due_acts id d did.0
   due_work s d (response i outcome) after works = at (map.get (pending_of d.asked) i) works
     where
       at : (o : Option P)
-          → Rattle.std.specs.Prelude.MatchOption o (after ≡ (s, d)) (λ payload. Acts requested notified replied (replied s payload outcome) (given d i) after)
+          → Rattle.std.specs.Prelude.MatchOption o (after ≡ (s, d)) (λ payload. Acts takes_back (replied s payload outcome) (given d i) after)
           → due id after.1 ≡ due id d
       at None same = ap (λ (x : S × Desk P). due id x.1) same
-      at (Some payload) did = ap (due id) did.2 ∙ due_acts id (given d i) did.0
+      at (Some payload) did = ap (due id) did.4 ∙ due_acts id (given d i) did.0
 
-  pub due_all : (w w' : Working S P) (letters output : List Message) → (desk_of w.client).said ≡ [] → GivesAll (gives requested notified replied) w letters output w'
+  pub due_all : (w w' : Working S P) (letters output : List Message) → (desk_of w.client).said ≡ [] → GivesAll (gives requested notified replied takes_back) w letters output w'
       → Due id letters output (desk_of w.client).held (desk_of w'.client).held
   due_all w w' [] output clear all =
       rw (all.1, all.0) (record { most = omega arith; least = λ some. omega (arith, some) })

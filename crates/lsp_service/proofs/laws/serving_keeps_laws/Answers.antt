@@ -9,10 +9,11 @@ returns g c =
     let requested = g.S.Server.requested in
     let notified = g.S.Server.notified in
     let replied = g.S.Server.replied in
+    let takes_back = g.S.Server.takes_back in
     let begins = g.S.Server.begins in
     let initializes = g.S.Server.initializes in
     let old = c.new-working.result in
     let new = c.serve_with-answer.new.speaker in
-    runs_as g.I.Inbox.receives g.O.Outbox.sends (Out requested notified replied begins initializes old new) (KeepsLaws (desk_of new.client).held) _ _ _
-    (λ letters stop output null. keeps_laws requested notified replied begins initializes old new c.new-working.ensures.fresh letters stop output null _)
+    runs_as g.I.Inbox.receives g.O.Outbox.sends (Out requested notified replied takes_back begins initializes old new) (KeepsLaws (desk_of new.client).held) _ _ _
+    (λ letters stop output null. keeps_laws requested notified replied takes_back begins initializes old new c.new-working.ensures.fresh letters stop output null _)
     c.serve_with-answer.ensures

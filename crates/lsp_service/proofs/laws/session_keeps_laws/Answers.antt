@@ -10,10 +10,11 @@ returns g c =
     let requested = g.S.Server.requested in
     let notified = g.S.Server.notified in
     let replied = g.S.Server.replied in
+    let takes_back = g.S.Server.takes_back in
     let begins = g.S.Server.begins in
     let initializes = g.S.Server.initializes in
     let old = c.new-working.result in
     let new = c.session_with-answer.new.speaker in
-    known_as no_limit (Out requested notified replied begins initializes old new) (KeepsLaws (desk_of new.client).held)
-    (keeps_laws requested notified replied begins initializes old new c.new-working.ensures.fresh)
+    known_as no_limit (Out requested notified replied takes_back begins initializes old new) (KeepsLaws (desk_of new.client).held)
+    (keeps_laws requested notified replied takes_back begins initializes old new c.new-working.ensures.fresh)
     _ _ _ _ _ c.session_with-answer.ensures
