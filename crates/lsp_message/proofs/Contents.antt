@@ -7,8 +7,7 @@ use Rattle.std.proofs.lemmas.Str.{is_utf8-from_IsUtf8}
 use Rattle.std.specs.Str.{IsUtf8, is_utf8}
 use Rattle.serde_json.specs.Data.{Data, null, boolean, number, string, array, object}
 use Rattle.serde_json.specs.Read.{read}
-use Rattle.lsp_message.specs.Body.{body_means, tree_means, no_message}
-use Rattle.lsp_message.specs.Frame.{RunsOut, body_of, content_of, frame_of, no_limit, reading_of}
+use Rattle.lsp_message.specs.Frame.{body_means, tree_means, no_message, RunsOut, body_of, content_of, frame_of, no_limit, reading_of}
 use Rattle.lsp_message.specs.HeaderPart.{header_of}
 use Rattle.lsp_message.specs.Meaning.{meaning}
 use Rattle.lsp_message.specs.Message.{Message}

@@ -4,8 +4,7 @@ use Rattle.std.proofs.lemmas.Bool.{lt-ltb}
 use Rattle.std.specs.Io.{StartsWith}
 use Rattle.std.specs.Io.BufRead.{take_through, drop_through, ends_with_byte}
 use Rattle.lsp_message.specs.Front.{at_header_end, front_end, front_of}
-use Rattle.lsp_message.specs.HeaderPart.{header_line, is_field, fields, after_fields, length_in, or_else, content_length, at_last_line}
-use Rattle.lsp_message.specs.Lines.{lines}
+use Rattle.lsp_message.specs.HeaderPart.{header_line, is_field, fields, after_fields, length_in, or_else, content_length, at_last_line, lines}
 use Rattle.lsp_message.specs.declared.frame.ReadFault.{ReadFault}
 use Rattle.lsp_message.specs.declared.frame.extent.Front.{Front}
 use Rattle.lsp_message.specs.declared.frame.extent.Front.TheVariants.{More}

@@ -4,8 +4,7 @@ use Rattle.std.specs.Io.BufRead.{take_through, drop_through}
 use Rattle.std.specs.List.{concat}
 use Rattle.std.specs.Result.{result_map_both}
 use Rattle.lsp_message.specs.Gathering.{EndsLine}
-use Rattle.lsp_message.specs.HeaderPart.{header_line, is_field, fields, after_fields, length_in, or_else, content_length, at_last_line, header_end, header_of}
-use Rattle.lsp_message.specs.Lines.{lines, onto_first}
+use Rattle.lsp_message.specs.HeaderPart.{header_line, is_field, fields, after_fields, length_in, or_else, content_length, at_last_line, header_end, header_of, lines, onto_first}
 use Rattle.lsp_message.specs.Reading.{Reading, StopsWithin, StopsBefore}
 use Rattle.lsp_message.specs.ReadingSteps.{AnswersHeader, first_line}
 use Rattle.lsp_message.specs.declared.frame.ReadFault.{ReadFault}

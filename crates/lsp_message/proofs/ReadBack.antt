@@ -12,8 +12,7 @@ use Rattle.std.specs.Fmt.{decimal}
 use Rattle.std.specs.Io.BufRead.{take_through, drop_through}
 use Rattle.std.specs.List.{ends_with}
 use Rattle.std.specs.Str.{IsUtf8, is_utf8, chars}
-use Rattle.lsp_message.specs.Body.{body_means}
-use Rattle.lsp_message.specs.Frame.{content_of}
+use Rattle.lsp_message.specs.Frame.{body_means, content_of}
 use Rattle.lsp_message.specs.HeaderPart.{number, header_line, header_of}
 use Rattle.lsp_message.specs.Letters.{Begins}
 use Rattle.lsp_message.specs.Message.{Message}

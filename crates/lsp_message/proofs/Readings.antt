@@ -2,8 +2,7 @@
 use Rattle.std.proofs.Common.{◌≡◌, ◌≤◌, ◌<◌, ◌^◌, ℕ, List, length, Option, Result, Ok, Err, OnOk, refl, arith}
 use Rattle.serde_json.specs.Read.{max_depth}
 use Rattle.std.specs.Io.KnownBytes.{Appends}
-use Rattle.lsp_message.specs.Body.{body_means}
-use Rattle.lsp_message.specs.Frame.{no_limit}
+use Rattle.lsp_message.specs.Frame.{body_means, no_limit}
 use Rattle.lsp_message.specs.Message.{Message}
 use Rattle.lsp_message.specs.Ranges.{nesting}
 use Rattle.lsp_message.specs.Readable.{WritesReadably}

@@ -24,7 +24,7 @@ use Rattle.lsp_message.specs.Id.{Id}
 use Rattle.serde_json.specs.Find.{of_integer}
 use Rattle.std.specs.Option.{ok_or}
 use Rattle.std.specs.Str.{IsUtf8}
-use Rattle.lsp_message.specs.Body.{body_means, no_message, tree_means}
+use Rattle.lsp_message.specs.Frame.{body_means, no_message, tree_means}
 use Rattle.lsp_message.proofs.Contents.{body_means-text}
 use Rattle.lsp_message.specs.Tree.{id_tree, error_tree, without_null_details}
 use Rattle.lsp_message.proofs.TreeLaws.{as_error-error_tree}

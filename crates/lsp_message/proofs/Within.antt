@@ -4,8 +4,7 @@ use Rattle.std.specs.Io.BufRead.{ends_with_byte}
 use Rattle.std.specs.List.{concat}
 use Rattle.std.specs.Prelude.{nat_lt, if◌then◌else◌}
 use Rattle.lsp_message.specs.Front.{front_of, front_end, at_header_end}
-use Rattle.lsp_message.specs.HeaderPart.{at_last_line, header_line, fields, after_fields, content_length}
-use Rattle.lsp_message.specs.Lines.{lines}
+use Rattle.lsp_message.specs.HeaderPart.{at_last_line, header_line, fields, after_fields, content_length, lines}
 use Rattle.lsp_message.specs.declared.frame.ReadFault.{ReadFault}
 use Rattle.lsp_message.specs.declared.frame.extent.Front.TheVariants.{Whole, More}
 

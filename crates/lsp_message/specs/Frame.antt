@@ -1,17 +1,37 @@
 -- A message on the wire (LSP 3.17, "Base Protocol"): what the frame at the front of a text comes to.
+use Rattle.serde_json.specs.Data.{Data, array}
+use Rattle.serde_json.specs.Read.{read}
+use Rattle.std.specs.Option.{ok_or}
 use Rattle.std.specs.Prelude.{◌≡◌, ◌≢◌, ◌⊎◌, ℕ, ◌-◌, ◌^◌, ◌≤◌, List, [], length, take, drop, Option, Some, None, Result, Ok, Err, nat_lt, if◌then◌else◌}
-use Rattle.std.specs.Result.{result_map_both}
-use Rattle.lsp_message.specs.Body.{body_means}
+use Rattle.std.specs.Str.{is_utf8}
 use Rattle.lsp_message.specs.HeaderPart.{header_of}
+use Rattle.lsp_message.specs.Meaning.{meaning}
 use Rattle.lsp_message.specs.Message.{Message}
-use Rattle.lsp_message.specs.Reading.{Reading, StopsBefore}
+use Rattle.lsp_message.specs.Reading.{Reading, found, StopsBefore}
 use Rattle.lsp_message.specs.declared.frame.ReadFault.{ReadFault}
-use Rattle.lsp_message.specs.declared.frame.ReadFault.TheVariants.{ShortBody, TooLong}
+use Rattle.lsp_message.specs.declared.frame.ReadFault.TheVariants.{ShortBody, BodyNotText, NoJson, NoMessage, TooLong, Batch}
+
+-- ---- what a content part means: JSON in UTF-8 (LSP 3.17, "Content Part"), which is a message of JSON-RPC 2.0
+
+-- why a tree that means nothing is refused: a list is a batch (JSON-RPC 2.0, section 6)
+abbrev pub no_message : Data → ReadFault
+no_message (array items) = Batch
+no_message tree = NoMessage
+
+-- the tree that a text is, if it is JSON, means a message or none
+abbrev pub tree_means : Option Data → Result Message ReadFault
+tree_means None = Err NoJson
+tree_means (Some tree) = ok_or (meaning tree) (no_message tree)
+
+abbrev pub body_means : List ℕ → Result Message ReadFault
+body_means body = if is_utf8 body then tree_means (read body) else Err BodyNotText
+
+-- ---- a frame, over what its content part is taken for: a message (`body_means`), or its bytes
 
 module _ {M : Type 0} (means : List ℕ → Result M ReadFault) where
   -- the content part, of n bytes
   abbrev pub body_of : ℕ → List ℕ → Reading M
-  body_of n text = if nat_lt (length text) n then record { outcome = Err ShortBody; rest = [] } else record { outcome = result_map_both Some (λ fault. fault) (means (take n text)); rest = drop n text }
+  body_of n text = if nat_lt (length text) n then record { outcome = Err ShortBody; rest = [] } else record { outcome = found (means (take n text)); rest = drop n text }
 
   -- what follows a header part that gave this; a content part of more bytes than the limit is not read
   abbrev pub content_of : ℕ → Result (Option ℕ) ReadFault → List ℕ → Reading M
@@ -22,6 +42,8 @@ module _ {M : Type 0} (means : List ℕ → Result M ReadFault) where
   -- the frame that a text begins with
   abbrev pub frame_of : ℕ → List ℕ → Reading M
   frame_of limit text = content_of limit (header_of text).outcome (header_of text).rest
+
+-- ---- a message
 
 -- The message at the front of a text, whose content part has at most so many bytes: the message, a fault or the end, and the
 -- bytes that are left.
@@ -35,6 +57,10 @@ no_limit = 2 ^ 64 - 1
 -- the same with a content part of any length
 abbrev pub reading_of : List ℕ → Reading Message
 reading_of text = reading_within no_limit text
+
+-- the text begins with a frame that means this message, and the rest follows it
+abbrev pub Begins : ℕ → List ℕ → Message → List ℕ → Type 0
+Begins limit text m rest = reading_within limit text ≡ record { outcome = Ok (Some m); rest = rest }
 
 -- Memory ran out: in the header part; or where the room for a content part within the limit was reserved, and none of it was
 -- taken; or after the whole content part was taken.

@@ -2,8 +2,7 @@
 use Rattle.std.specs.Prelude.{ℕ, ◌-◌, List, [], ◌∷◌, length, Option, Some, None, Result, Ok, Err, nat_lt, if◌then◌else◌}
 use Rattle.std.specs.Io.BufRead.{ends_with_byte}
 use Rattle.std.specs.List.{concat}
-use Rattle.lsp_message.specs.HeaderPart.{header_line, fields, after_fields, content_length, at_last_line}
-use Rattle.lsp_message.specs.Lines.{lines}
+use Rattle.lsp_message.specs.HeaderPart.{header_line, fields, after_fields, content_length, at_last_line, lines}
 use Rattle.lsp_message.specs.declared.frame.ReadFault.{ReadFault}
 use Rattle.lsp_message.specs.declared.frame.extent.Front.{Front}
 use Rattle.lsp_message.specs.declared.frame.extent.Front.TheVariants.{Whole, Fault, More}

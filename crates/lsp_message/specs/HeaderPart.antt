@@ -5,12 +5,25 @@ use Rattle.std.specs.List.{concat, ends_with}
 use Rattle.std.specs.Option.{ok_or}
 use Rattle.std.specs.Str.{is_utf8, all_ascii_digits, bytes_eq}
 use Rattle.std.specs.Str.Parse.{without_leading_plus, digits_value}
-use Rattle.lsp_message.specs.Lines.{lines}
 use Rattle.lsp_message.specs.Reading.{Reading}
 use Rattle.lsp_message.specs.declared.frame.ReadFault.{ReadFault}
 use Rattle.lsp_message.specs.declared.frame.ReadFault.TheVariants.{LineNotText, LineEnd, NoSeparator, BadLength, NoLength}
 use Rattle.lsp_message.specs.declared.frame.header.HeaderLine.{HeaderLine}
 use Rattle.lsp_message.specs.declared.frame.header.HeaderLine.TheVariants.{Blank, Length, Other}
+
+-- ---- lines
+
+-- the byte goes onto the first of the lines
+abbrev pub onto_first : ℕ → List (List ℕ) → List (List ℕ)
+onto_first byte [] = (byte ∷ []) ∷ []
+onto_first byte (line ∷ more) = (byte ∷ line) ∷ more
+
+-- the lines of a text, each up to and with its line feed, which the last one may lack
+abbrev pub lines : List ℕ → List (List ℕ)
+lines [] = []
+lines (byte ∷ bytes) = if byte == 10 then (byte ∷ []) ∷ lines bytes else onto_first byte (lines bytes)
+
+-- ---- one line
 
 -- the value of a numeral: an optional '+', and one or more digits, of a number below 2^64
 abbrev pub number : List ℕ → Option ℕ
@@ -48,6 +61,8 @@ abbrev pub header_line : List ℕ → Result HeaderLine ReadFault
 header_line line =
     if not (is_utf8 line) then Err LineNotText
     else (if not (ends_with nat_eq line (13 ∷ 10 ∷ [])) then Err LineEnd else header_text (take (length line - 2) line))
+
+-- ---- all lines
 
 -- a good field, after which the header part goes on
 abbrev pub is_field : Result HeaderLine ReadFault → Bool

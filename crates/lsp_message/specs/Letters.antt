@@ -2,6 +2,7 @@
 use Rattle.std.specs.List.{FoldsTo}
 use Rattle.std.specs.Prelude.{◌≡◌, ℕ, List, [], ◌∷◌, ◌++◌, true, false, Some, None, Ok, Err}
 use Rattle.lsp_message.specs.Frame.{reading_within}
+pub use Rattle.lsp_message.specs.Frame.{Begins}
 use Rattle.lsp_message.specs.Message.{Message}
 pub use Rattle.lsp_message.specs.Methods.{is_exit}
 use Rattle.lsp_message.specs.declared.frame.ReadFault.{ReadFault}
@@ -17,13 +18,9 @@ pub data Ending : Type 0 where
 
 -- content parts have at most so many bytes
 module _ (limit : ℕ) where
-  -- the text begins with a frame that means this message, and the rest follows it
-  abbrev pub Begins : List ℕ → Message → List ℕ → Type 0
-  Begins text m rest = reading_within limit text ≡ record { outcome = Ok (Some m); rest = rest }
-
-  -- the same, and the message isn't the last one
+  -- the text begins with this message, which isn't the last one, and the rest follows it
   abbrev pub Passes : List ℕ → Message → List ℕ → Type 0
-  Passes text m rest = Begins text m rest × (is_exit m ≡ false)
+  Passes text m rest = Begins limit text m rest × (is_exit m ≡ false)
 
   -- these are the first messages of the text, none of them `exit`, and the rest follows them
   abbrev pub PassesAll : List ℕ → List Message → List ℕ → Type 0
@@ -32,6 +29,6 @@ module _ (limit : ℕ) where
   -- The messages of a text, what ends them, and the bytes that are left then. The last message is the first `exit`, where one comes.
   abbrev pub Letters : List ℕ → List Message → Ending → List ℕ → Type 0
   Letters text ms exited rest = (before : List Message) × (last : Message) × (at : List ℕ)
-      × (ms ≡ before ++ last ∷ []) × PassesAll text before at × Begins at last rest × (is_exit last ≡ true)
+      × (ms ≡ before ++ last ∷ []) × PassesAll text before at × Begins limit at last rest × (is_exit last ≡ true)
   Letters text ms ended rest = (at : List ℕ) × PassesAll text ms at × (reading_within limit at ≡ record { outcome = Ok None; rest = rest })
   Letters text ms (failed fault) rest = (at : List ℕ) × PassesAll text ms at × (reading_within limit at ≡ record { outcome = Err fault; rest = rest })

@@ -1,4 +1,3 @@
-pub mod Body
 pub mod Composing
 pub mod Converted
 pub mod ErrorCode
@@ -12,7 +11,6 @@ pub mod Id
 pub mod IdKeys
 pub mod IdLaws
 pub mod Letters
-pub mod Lines
 pub mod Listed
 pub mod Meaning
 pub mod Message

@@ -2,8 +2,7 @@
 use Rattle.serde_json.specs.Read.{max_depth}
 use Rattle.std.specs.Io.KnownBytes.{Appends}
 use Rattle.std.specs.Prelude.{◌≤◌, ℕ, List, ◌++◌, Option}
-use Rattle.lsp_message.specs.Frame.{no_limit}
-use Rattle.lsp_message.specs.Letters.{Begins}
+use Rattle.lsp_message.specs.Frame.{Begins, no_limit}
 use Rattle.lsp_message.specs.Message.{Message}
 use Rattle.lsp_message.specs.Ranges.{nesting}
 use Rattle.lsp_message.specs.Tree.{without_null_details}

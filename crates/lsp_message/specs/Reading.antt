@@ -1,5 +1,6 @@
 -- What a reader of bytes answers, and what it leaves unread.
 use Rattle.std.specs.Prelude.{◌≡◌, ℕ, List, ◌∷◌, ◌++◌, Option, Some, option_map, Result, Ok, Err}
+use Rattle.std.specs.Result.{result_map_both}
 use Rattle.lsp_message.specs.declared.frame.ReadFault.{ReadFault}
 use Rattle.lsp_message.specs.declared.frame.ReadFault.TheVariants.{Input, Memory}
 
@@ -7,6 +8,10 @@ use Rattle.lsp_message.specs.declared.frame.ReadFault.TheVariants.{Input, Memory
 pub record Reading (A : Type 0) : Type 0 where
   pub outcome : Result (Option A) ReadFault
   pub rest : List ℕ
+
+-- an answer that is there, or a fault
+abbrev pub found : {A : Type 0} → Result A ReadFault → Result (Option A) ReadFault
+found result = result_map_both Some (λ fault. fault) result
 
 -- no byte after those of the reading was taken
 abbrev pub StopsWithin : {A : Type 0} → Option (List ℕ) → Reading A → Type 0

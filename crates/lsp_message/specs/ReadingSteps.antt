@@ -1,9 +1,8 @@
 -- Words of the private clauses on reading.
 use Rattle.std.specs.Prelude.{◌≡◌, ℕ, List, [], ◌∷◌, Option, Some, None, option_map, Result, Ok, Err}
 use Rattle.std.specs.Io.BufRead.{take_through, drop_through}
-use Rattle.std.specs.Result.{result_map_both}
 use Rattle.lsp_message.specs.HeaderPart.{header_line}
-use Rattle.lsp_message.specs.Reading.{Reading, StopsWithin, StopsBefore}
+use Rattle.lsp_message.specs.Reading.{Reading, found, StopsWithin, StopsBefore}
 use Rattle.lsp_message.specs.declared.frame.header.HeaderLine.{HeaderLine}
 use Rattle.lsp_message.specs.declared.frame.place.InPlace.{InPlace}
 use Rattle.lsp_message.specs.declared.frame.place.InPlace.TheVariants.{Whole, Cut, AtEnd}
@@ -13,7 +12,7 @@ use Rattle.lsp_message.specs.declared.frame.ReadFault.TheVariants.{Input, Memory
 -- the line that a text begins with, or nothing where the text is empty
 abbrev pub first_line : List ℕ → Reading HeaderLine
 first_line [] = record { outcome = Ok None; rest = [] }
-first_line (byte ∷ bytes) = record { outcome = result_map_both Some (λ fault. fault) (header_line (take_through 10 (byte ∷ bytes))); rest = drop_through 10 (byte ∷ bytes) }
+first_line (byte ∷ bytes) = record { outcome = found (header_line (take_through 10 (byte ∷ bytes))); rest = drop_through 10 (byte ∷ bytes) }
 
 -- What was answered to a header line, or to the header part, and what is left unread. Where memory ran out, a byte of it at
 -- least was not taken.

@@ -4,7 +4,7 @@ pub use Rattle.lsp_dispatch.specs.DispatchCalls
 pub use Rattle.lsp_dispatch.specs.DispatchFaults
 pub use Rattle.lsp_dispatch.specs.DispatchLaw
 pub use Rattle.lsp_dispatch.specs.DispatchTable
-pub use Rattle.lsp_message.specs.Body
+pub use Rattle.lsp_message.specs.Composing
 pub use Rattle.lsp_message.specs.Converted
 pub use Rattle.lsp_message.specs.ErrorCode
 pub use Rattle.lsp_message.specs.Extract
@@ -17,10 +17,10 @@ pub use Rattle.lsp_message.specs.Id
 pub use Rattle.lsp_message.specs.IdKeys
 pub use Rattle.lsp_message.specs.IdLaws
 pub use Rattle.lsp_message.specs.Letters
-pub use Rattle.lsp_message.specs.Lines
 pub use Rattle.lsp_message.specs.Listed
 pub use Rattle.lsp_message.specs.Meaning
 pub use Rattle.lsp_message.specs.Message
+pub use Rattle.lsp_message.specs.Methods
 pub use Rattle.lsp_message.specs.Ranges
 pub use Rattle.lsp_message.specs.Readable
 pub use Rattle.lsp_message.specs.Reading

@@ -2,8 +2,7 @@
 use Rattle.std.proofs.Common.{◌≡◌, ℕ, true, false, List, [], ◌∷◌, ◌++◌, Option, Some, None, IfSome, IsSomeAnd, Result, Ok, Err, refl, ap}
 use Rattle.std.proofs.lemmas.Fn.{FoldsTo-push}
 use Rattle.std.specs.List.{FoldsTo}
-use Rattle.lsp_message.specs.Body.{body_means}
-use Rattle.lsp_message.specs.Frame.{reading_within}
+use Rattle.lsp_message.specs.Frame.{body_means, reading_within}
 use Rattle.lsp_message.specs.Letters.{Begins, Passes, PassesAll, is_exit}
 use Rattle.lsp_message.specs.Message.{Message}
 use Rattle.lsp_message.specs.Reading.{Answers, StopsWithin}

@@ -4,8 +4,7 @@ use Rattle.std.proofs.lemmas.List.Elements.{filter_map-append}
 use Rattle.std.specs.List.{FoldsTo, list_all, filter_map}
 use Rattle.std.specs.Prelude.{Ok, Err, MatchOption}
 use Rattle.lsp_message.proofs.Contents.{frame_unread}
-use Rattle.lsp_message.specs.Body.{body_means}
-use Rattle.lsp_message.specs.Frame.{reading_within}
+use Rattle.lsp_message.specs.Frame.{body_means, reading_within}
 use Rattle.lsp_message.specs.Letters.{Begins}
 use Rattle.lsp_message.specs.Message.{Message}
 use Rattle.lsp_message.specs.Reading.{Reading, Answers, StopsWithin}

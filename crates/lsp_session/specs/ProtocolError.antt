@@ -4,6 +4,8 @@ use Rattle.std.specs.Prelude.{◌≡◌, ℕ, List, [], ◌++◌, Bool, true, fa
 use Rattle.std.specs.Str.{bytes_eq}
 use Rattle.lsp_session.specs.declared.error.ProtocolRepr.{ProtocolRepr}
 use Rattle.lsp_session.specs.declared.error.ProtocolRepr.TheVariants as variant
+use Rattle.lsp_session.specs.declared.lifecycle.SendFault.{SendFault}
+use Rattle.lsp_session.specs.declared.lifecycle.SendFault.TheVariants.{Closed, Memory}
 
 -- the list of bytes, where there is one, is the end of the text, which shows the message that came
 pub data ProtocolFault : Type 0 where
@@ -69,3 +71,8 @@ fault_kept variant.OutOfMemory = out_of_memory
 -- the fault is of this kind, and shows a message
 abbrev pub Shows : (List ℕ → ProtocolFault) → ProtocolFault → Type 0
 Shows fault answer = (shown : List ℕ) × (answer ≡ fault shown)
+
+-- the fault where the outbox refuses a message
+abbrev pub fault_of_refusal : SendFault → ProtocolFault
+fault_of_refusal (Closed back) = disconnected
+fault_of_refusal (Memory back) = out_of_memory

@@ -1,8 +1,8 @@
 -- What a loop over a reader's messages hands on.
 use Rattle.std.specs.List.{FoldsTo}
 use Rattle.std.specs.Prelude.{◌≡◌, ℕ, List, Option, Some, Result, Err}
-use Rattle.lsp_message.specs.Frame.{reading_within}
-use Rattle.lsp_message.specs.Letters.{Begins, PassesAll, Ending, exited, ended, failed, Letters}
+use Rattle.lsp_message.specs.Frame.{Begins, reading_within}
+use Rattle.lsp_message.specs.Letters.{PassesAll, Ending, exited, ended, failed, Letters}
 use Rattle.lsp_message.specs.Message.{Message}
 use Rattle.lsp_message.specs.Reading.{StopsWithin}
 use Rattle.lsp_message.specs.declared.frame.ReadFault.TheVariants.{Input, Memory as NoMemory}

@@ -7,9 +7,8 @@ use Rattle.lsp_message.specs.Id.{Id}
 use Rattle.lsp_message.specs.Message.{Message, ErrorObject, request, notification, response}
 use Rattle.lsp_message.specs.Methods.{is_early, is_initialized, is_exit}
 pub use Rattle.lsp_message.specs.Methods.{request_id, is_initialize, is_shutdown}
-use Rattle.lsp_session.specs.ProtocolError.{ProtocolFault, disconnected, expected_initialize, expected_initialized, unexpected_in_shutdown, shutdown_timeout, shutdown_disconnected, out_of_memory, Shows}
-use Rattle.lsp_session.specs.Replies.{ok_reply, null_reply}
-use Rattle.lsp_session.specs.Start.{IsEarlyReply, fault_of_refusal}
+use Rattle.lsp_session.specs.ProtocolError.{ProtocolFault, disconnected, expected_initialize, expected_initialized, unexpected_in_shutdown, shutdown_timeout, shutdown_disconnected, out_of_memory, Shows, fault_of_refusal}
+use Rattle.lsp_session.specs.Replies.{ok_reply, null_reply, IsEarlyReply}
 use Rattle.lsp_session.specs.declared.lifecycle.SendFault.{SendFault}
 use Rattle.lsp_session.specs.declared.loops.serving.SessionEnd.{SessionEnd}
 use Rattle.lsp_session.specs.declared.loops.serving.SessionEnd.TheVariants.{ShutDown, Closed}
@@ -88,7 +87,8 @@ module _ {H : Type 0} (answers : H → Id → List ℕ → Data → Result Data 
   abbrev pub IsSilent : H → H → List Message → Option Message → Type 0
   IsSilent h h' output null = (h' ≡ h) × (output ≡ []) × (null ≡ None)
 
-  -- what the handler is in the end, unless it ran out of memory itself
+  -- What the handler is in the end. Where an allocation failed and no `shutdown` was answered, nothing is said of it: it may have
+  -- been called for the message that came next.
   abbrev pub IsLeft : Stop → Option Message → H → H → Type 0
   IsLeft exhausted None after h' = Unit {0}
   IsLeft stop null after h' = h' ≡ after

@@ -2,8 +2,7 @@
 use Rattle.std.specs.List.{FoldsTo}
 use Rattle.std.specs.Prelude.{◌≡◌, ◌⊎◌, ℕ, List, [], ◌∷◌, ◌++◌, Option, Some, None, Result, Ok, Err}
 use Rattle.lsp_message.specs.Faults.{read_fault_text, write_fault_text}
-use Rattle.lsp_message.specs.Frame.{reading_within}
-use Rattle.lsp_message.specs.Letters.{Begins}
+use Rattle.lsp_message.specs.Frame.{Begins, reading_within}
 use Rattle.lsp_message.specs.Message.{Message}
 use Rattle.lsp_message.specs.Reading.{StopsWithin}
 use Rattle.lsp_message.specs.Written.{GetsFrames, GetsFramesAndPart, IsOutput}
@@ -42,6 +41,7 @@ IsUnsent (refused fault) None = Unit {0}
 IsUnsent stop None = ⊥
 
 -- What follows the last letter is left, where a letter decided. Where the text ended instead, what follows its end is left: nothing.
+-- A session over bytes has no timeout, and its failures stand below.
 abbrev pub LeftAfter : ℕ → Stop → List ℕ → Option (List ℕ) → Type 0
 LeftAfter limit decided at left = left ≡ Some at
 LeftAfter limit no_more at left = (rest : List ℕ) × (reading_within limit at ≡ record { outcome = Ok None; rest = rest }) × (left ≡ Some rest)

@@ -6,18 +6,17 @@ use Rattle.serde_json.specs.declared.value.Value.{Value}
 use Rattle.std.specs.List.{FoldsTo, AllZip, list_all, filter_map}
 use Rattle.std.specs.Prelude.{◌≡◌, ◌≤◌, length, IsNone, ℕ, Bool, true, false, not, List, [], ◌∷◌, ◌++◌, Option, Some, None, Result, Ok, Err, ◌⊎◌, codes, MatchOption, IsErrAnd}
 use Rattle.std.specs.Str.{bytes_eq}
-use Rattle.lsp_message.specs.ErrorCode.{number_of}
 use Rattle.lsp_message.specs.Id.{Id}
 use Rattle.lsp_message.specs.Message.{Message, request, notification, response}
 use Rattle.lsp_message.specs.Methods.{request_id, is_shown}
 pub use Rattle.lsp_message.specs.Methods.{is_early}
-use Rattle.lsp_message.specs.declared.msg.code.ErrorCode.TheVariants.{ServerNotInitialized}
 use Rattle.lsp_session.specs.Boxes.{Sends, Receives, Takes}
 use Rattle.lsp_session.specs.Event.{Event, message, timeout, closed}
-use Rattle.lsp_session.specs.ProtocolError.{ProtocolFault, disconnected, expected_initialize, aborted, out_of_memory, fault_text, Shows}
+use Rattle.lsp_session.specs.ProtocolError.{ProtocolFault, disconnected, expected_initialize, aborted, out_of_memory, Shows}
+pub use Rattle.lsp_session.specs.ProtocolError.{fault_of_refusal}
+pub use Rattle.lsp_session.specs.Replies.{IsEarlyReply}
 use Rattle.lsp_session.specs.Turns.{Turn, stopped, got, TakesTurn}
 use Rattle.lsp_session.specs.declared.lifecycle.SendFault.{SendFault}
-use Rattle.lsp_session.specs.declared.lifecycle.SendFault.TheVariants.{Closed, Memory}
 
 -- what the handshake answers: the id and the params of `initialize`, or why there is none
 abbrev pub StartAnswer : Type 0
@@ -51,17 +50,6 @@ Decides (got (message m)) answer = MessageDecides m answer
 abbrev pub request_of : Turn → Option Id
 request_of (got (message m)) = request_id m
 request_of turn = None
-
--- The reply to an early request, under its id: the error ServerNotInitialized, whose text begins as that of
--- `expected_initialize`.
-pub record IsEarlyReply (id : Id) (reply : Message) : Type 0 where
-  pub shown : List ℕ
-  pub is : reply ≡ response id (Err (record { code = number_of ServerNotInitialized; message = fault_text (expected_initialize shown); details = None }))
-
--- the fault of the handshake where the outbox refuses a message
-abbrev pub fault_of_refusal : SendFault → ProtocolFault
-fault_of_refusal (Closed back) = disconnected
-fault_of_refusal (Memory back) = out_of_memory
 
 module _ {O : Type 0} (sends : Sends O) where
   -- These turns leave the handshake undecided. The requests among them, in order, give the replies that the outbox takes.

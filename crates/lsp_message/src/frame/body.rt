@@ -1,9 +1,8 @@
 // The content part, taken from a reader.
 ghost use Rattle.std.specs.Prelude.{◌≡◌, ◌+◌, ◌<◌, ◌≤◌, length, false, Ok, Err, Some, IfSome, IfOk, IfErr, OnSome, vec_len, vec_capacity};
-ghost use Rattle.std.specs.Result.{result_map_both};
 ghost use Rattle.std.specs.Io.KnownBytes.{IsAtEnd};
 ghost use Rattle.lsp_message.specs.Frame.{body_of};
-ghost use Rattle.lsp_message.specs.Reading.{Answers};
+ghost use Rattle.lsp_message.specs.Reading.{Answers, found};
 ghost use Rattle.lsp_message.specs.Gathering.{TakesFront, TakesInto, IsFromReader};
 
 use crate::frame::ReadFault;
@@ -17,7 +16,7 @@ pub(crate) fn read_body<R: BufRead>(
     count: u64,
 ) -> Result<Vec<u8>, ReadFault>
     ensures exact { IfSome (R.remaining reader.old) (λ text.
-        Answers (λ body. body.items) (result_map_both Some (λ fault. fault) result) (R.remaining reader.new) (body_of Ok count text)) }
+        Answers (λ body. body.items) (found result) (R.remaining reader.new) (body_of Ok count text)) }
     ensures begun { TakesFront (R.remaining reader.old) (R.remaining reader.new) }
     ensures unread { result ≡ Err ReadFault.Memory → reader.new ≡ reader.old }
 {

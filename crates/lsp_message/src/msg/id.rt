@@ -8,11 +8,12 @@ use std::fmt;
 use std::hash::{Hash, Hasher};
 use std::marker::Model;
 
-// How an id is kept.
+// How an id is kept. The variants have the names of the Rust crate's: a client reads them in the reply to an early request,
+// which shows that request in its debug form.
 #[derive(Debug, Drop)]
 enum IdRepr {
-    Number(i32),
-    Text(String),
+    I32(i32),
+    String(String),
 }
 
 /// The id of a request (JSON-RPC 2.0, section 4): an `i32` or a text. Make one by `RequestId::from`.
@@ -37,7 +38,7 @@ impl From<i32> for RequestId {
     ghost from_gives = { λ z id. id ≡ number z };
 
     fn from(id: i32) -> RequestId {
-        RequestId(IdRepr::Number(id))
+        RequestId(IdRepr::I32(id))
     }
 }
 
@@ -47,7 +48,7 @@ impl From<String> for RequestId {
     ghost from_gives = { λ s id. id ≡ text (string_bytes s) };
 
     fn from(id: String) -> RequestId {
-        RequestId(IdRepr::Text(id))
+        RequestId(IdRepr::String(id))
     }
 }
 
@@ -57,8 +58,8 @@ impl RequestId {
         ensures { IfOk result (λ id. id ≡ self.now) }
     {
         match &self.0 {
-            IdRepr::Number(number) => Ok(RequestId(IdRepr::Number(*number))),
-            IdRepr::Text(text) => Ok(RequestId(IdRepr::Text(text.clone()?))),
+            IdRepr::I32(number) => Ok(RequestId(IdRepr::I32(*number))),
+            IdRepr::String(text) => Ok(RequestId(IdRepr::String(text.clone()?))),
         }
     }
 }
@@ -113,10 +114,10 @@ impl Ord for RequestId {
 
     fn cmp(&self, other: &RequestId) -> Ordering {
         match (&self.0, &other.0) {
-            (IdRepr::Number(a), IdRepr::Number(b)) => a.cmp(b),
-            (IdRepr::Number(_), IdRepr::Text(_)) => Ordering::Less,
-            (IdRepr::Text(_), IdRepr::Number(_)) => Ordering::Greater,
-            (IdRepr::Text(a), IdRepr::Text(b)) => a.cmp(b),
+            (IdRepr::I32(a), IdRepr::I32(b)) => a.cmp(b),
+            (IdRepr::I32(_), IdRepr::String(_)) => Ordering::Less,
+            (IdRepr::String(_), IdRepr::I32(_)) => Ordering::Greater,
+            (IdRepr::String(a), IdRepr::String(b)) => a.cmp(b),
         }
     }
 }
@@ -131,11 +132,11 @@ impl Hash for RequestId {
 
     fn hash<H: Hasher>(&self, state: &mut H) {
         match &self.0 {
-            IdRepr::Number(number) => {
+            IdRepr::I32(number) => {
                 state.write_u8(0);
                 number.hash(state);
             }
-            IdRepr::Text(text) => {
+            IdRepr::String(text) => {
                 state.write_u8(1);
                 text.hash(state);
             }
@@ -150,8 +151,8 @@ impl fmt::Display for RequestId {
 
     fn fmt<W: fmt::Write>(&self, f: &mut fmt::Formatter<W>) -> fmt::Result {
         match &self.0 {
-            IdRepr::Number(number) => write!(f, "{number}"),
-            IdRepr::Text(text) => write!(f, "{text:?}"),
+            IdRepr::I32(number) => write!(f, "{number}"),
+            IdRepr::String(text) => write!(f, "{text:?}"),
         }
     }
 }
@@ -179,8 +180,8 @@ impl RequestId {
         ensures range { IsIdInRange self.now }
     {
         match &self.0 {
-            IdRepr::Number(number) => Ok(Value::from(*number)),
-            IdRepr::Text(text) => Value::try_from_str(alloc, text.as_str()),
+            IdRepr::I32(number) => Ok(Value::from(*number)),
+            IdRepr::String(text) => Value::try_from_str(alloc, text.as_str()),
         }
     }
     // Adds the text of the member `id`.
@@ -190,8 +191,8 @@ impl RequestId {
         ensures range { OnOk result (IsIdInRange self.now) }
     {
         match &self.0 {
-            IdRepr::Number(number) => push_decimal(out, *number),
-            IdRepr::Text(text) => push_quoted(out, alloc, text.as_str()),
+            IdRepr::I32(number) => push_decimal(out, *number),
+            IdRepr::String(text) => push_quoted(out, alloc, text.as_str()),
         }
     }
 }

@@ -2,8 +2,7 @@
 ghost use Rattle.std.specs.Prelude.{◌≡◌, ◌≢◌, ◌<◌, ◌≤◌, length, Err, IfSome, OnOk};
 ghost use Rattle.serde_json.specs.Read.{read as read_json, max_depth};
 ghost use Rattle.serde_json.specs.View.{view};
-ghost use Rattle.lsp_message.specs.Body.{body_means, tree_means, no_message};
-ghost use Rattle.lsp_message.specs.Frame.{RunsOut, no_limit, reading_of, reading_within};
+ghost use Rattle.lsp_message.specs.Frame.{body_means, tree_means, no_message, RunsOut, no_limit, reading_of, reading_within};
 ghost use Rattle.lsp_message.specs.Gathering.{TakesFront};
 ghost use Rattle.lsp_message.specs.Ranges.{nesting};
 ghost use Rattle.lsp_message.specs.Readable.{WritesReadably};

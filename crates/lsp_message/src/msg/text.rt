@@ -6,7 +6,7 @@ ghost use Rattle.serde_json.specs.Find.{of_integer};
 ghost use Rattle.serde_json.specs.Read.{max_depth};
 ghost use Rattle.serde_json.specs.View.{view};
 ghost use Rattle.serde_json.specs.Written.{compact_text};
-ghost use Rattle.lsp_message.specs.Body.{body_means};
+ghost use Rattle.lsp_message.specs.Frame.{body_means};
 ghost use Rattle.lsp_message.specs.Composing.{is_plain_byte, Adds};
 ghost use Rattle.lsp_message.specs.Meaning.{is_i32, unless_null};
 ghost use Rattle.lsp_message.specs.Message.{response};

@@ -1,6 +1,6 @@
 use Rattle.std.proofs.Common.{ap, refl, subst, sym, ◌∙◌}
 use Rattle.serde_json.specs.Read.{read}
-use Rattle.lsp_message.specs.Body.{tree_means}
+use Rattle.lsp_message.specs.Frame.{tree_means}
 use Rattle.lsp_message.specs.ReadingSteps.{Decodes}
 use Rattle.lsp_message.specs.View.{message_view}
 use Rattle.lsp_message.proofs.Contents.{body_means-text}

@@ -1,7 +1,7 @@
 use Rattle.std.proofs.Common.{◌≡◌, None, ap, option_map, sym, true≢false, ◌∙◌}
 use Rattle.std.specs.Option.{ok_or}
 use Rattle.serde_json.specs.View.{view}
-use Rattle.lsp_message.specs.Body.{no_message, tree_means}
+use Rattle.lsp_message.specs.Frame.{no_message, tree_means}
 use Rattle.lsp_message.specs.Meaning.{meaning}
 use Rattle.lsp_message.specs.View.{message_view}
 use Rattle.lsp_message.proofs.Contents.{refused_tree, refusal-known}
