@@ -58,7 +58,6 @@ pub use Rattle.lsp_session.specs.Session
 pub use Rattle.lsp_session.specs.SessionBytes
 pub use Rattle.lsp_session.specs.SessionFault
 pub use Rattle.lsp_session.specs.SessionRun
-pub use Rattle.lsp_session.specs.SessionSteps
 pub use Rattle.lsp_session.specs.Shutdown
 pub use Rattle.lsp_session.specs.Start
 pub use Rattle.lsp_session.specs.StreamBoxes

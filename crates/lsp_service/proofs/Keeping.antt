@@ -17,11 +17,11 @@ use Rattle.lsp_session.specs.SessionBytes.{all_of}
 use Rattle.lsp_session.specs.Start.{is_early, IsEarlyReply}
 use Rattle.lsp_service.specs.Desk.{Act, Desk, OpensSaying}
 use Rattle.lsp_service.specs.Law.{one_if, is_request_under, is_reply_under, how_many, held_under, EndsAtRequest, OnceOrEnded, IsWhole, IsOpened, RepliesFirst, NullLast, KeepsLaws}
-use Rattle.lsp_service.specs.Speech.{GivesAll, BreaksOff, GivesTo, IsLeft, Speaks, IsSilent, Opened, AfterInitialize, SpeechOut}
+use Rattle.lsp_session.specs.Speech.{GivesAll, BreaksOff, GivesTo, IsLeft, Speaks, IsSilent, Opened, AfterInitialize, SpeechOut}
 use Rattle.lsp_service.specs.Working.{seen, desk_of}
 use Rattle.lsp_service.specs.declared.desk.Working.{Working}
 use Rattle.lsp_service.proofs.Owing.{how_many-append, due, due_acts, gives, due_all}
-use Rattle.lsp_service.proofs.SpeechRuns.{handles_more}
+use Rattle.lsp_session.proofs.SpeechRuns.{handles_more}
 
 -- how many replies under the id the null is
 abbrev null_count : Id → Option Message → ℕ

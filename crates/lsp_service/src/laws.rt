@@ -7,9 +7,9 @@ ghost use Rattle.lsp_service.specs.Law.{KeepsLaws};
 ghost use Rattle.lsp_service.specs.Working.{desk_of};
 
 use crate::desk::{Server, Working};
-use crate::speaking::serve_with;
-use crate::stream::session_with;
-use lsp_session::{Inbox, Outbox, ProtocolError, SessionEnd, SessionFault};
+use lsp_session::{
+    Inbox, Outbox, ProtocolError, SessionEnd, SessionFault, serve_with, session_with,
+};
 use std::alloc::Global;
 use std::io::{BufRead, Write};
 

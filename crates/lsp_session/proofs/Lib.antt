@@ -1,6 +1,8 @@
+pub mod Adapting
 pub mod Answering
 pub mod Carrying
 pub mod Deciding
+pub mod Describing
 pub mod Finishing
 pub mod FrameSteps
 pub mod Handing
@@ -9,9 +11,10 @@ pub mod SameTexts
 pub mod Sending
 pub mod SessionFacts
 pub mod SessionGives
-pub mod SessionRuns
-pub mod SessionStarts
 pub mod SessionStreams
+pub mod SpeechFacts
+pub mod SpeechRuns
+pub mod SpeechStarts
 pub mod Starting
 pub mod Streaming
 pub mod Waiting

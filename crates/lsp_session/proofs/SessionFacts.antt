@@ -9,7 +9,7 @@ use Rattle.serde_json.specs.Data.{Data}
 use Rattle.lsp_message.specs.Id.{Id}
 use Rattle.lsp_message.specs.Letters.{is_exit}
 use Rattle.lsp_message.specs.Message.{Message, ErrorObject, request, notification, response}
-use Rattle.lsp_session.proofs.SessionStarts.{and-true}
+use Rattle.lsp_session.proofs.SpeechStarts.{and-true}
 use Rattle.lsp_session.specs.Finish.{is_initialized}
 use Rattle.lsp_session.specs.ProtocolError.{ProtocolFault, expected_initialize, expected_initialized, unexpected_in_shutdown, is_disconnected, is_memory, Shows}
 use Rattle.lsp_session.specs.Session.{SessionAnswer, Stop, decided, no_more, timed_out, refused, exhausted, is_served, is_shutdown, IsLast, IsSilent, AfterShutdown, AfterServed, Serves, AfterInitialize, AfterEarly, SessionOut}
@@ -29,7 +29,7 @@ Facts (refused fault) letters answer = Unit {0}
 Facts exhausted letters answer = ran_out answer ≡ true
 
 -- letters that are no `exit` come first
-facts_after : (stop : Stop) (before rest : List Message) (answer : SessionAnswer) → list_all is_no_exit before ≡ true → Facts stop rest answer → Facts stop (before ++ rest) answer
+pub facts_after : (stop : Stop) (before rest : List Message) (answer : SessionAnswer) → list_all is_no_exit before ≡ true → Facts stop rest answer → Facts stop (before ++ rest) answer
 facts_after decided before rest answer passed facts = (facts.0, λ at_end. rw (list_all-append is_no_exit before rest, passed) (facts.1 at_end))
 facts_after no_more before rest answer passed facts = (facts.0, facts.1, rw (list_all-append is_no_exit before rest, passed) facts.2)
 facts_after timed_out before rest answer passed facts = tt
@@ -37,32 +37,32 @@ facts_after (refused fault) before rest answer passed facts = tt
 facts_after exhausted before rest answer passed facts = facts
 
 -- a test that follows from another
-all_imply : (p q : Message → Bool) → ((m : Message) → p m ≡ true → q m ≡ true) → (ms : List Message) → list_all p ms ≡ true → list_all q ms ≡ true
+pub all_imply : (p q : Message → Bool) → ((m : Message) → p m ≡ true → q m ≡ true) → (ms : List Message) → list_all p ms ≡ true → list_all q ms ≡ true
 all_imply p q implies [] all = refl
 all_imply p q implies (m ∷ ms) all = let both = and-true (p m) (list_all p ms) all in rw (implies m both.0, all_imply p q implies ms both.1) refl
 
-early_is_no_exit : (m : Message) → is_early m ≡ true → is_no_exit m ≡ true
+pub early_is_no_exit : (m : Message) → is_early m ≡ true → is_no_exit m ≡ true
 early_is_no_exit (request i method params) early = refl
 early_is_no_exit (notification method params) early = early
 early_is_no_exit (response i outcome) early = refl
 
-served_is_no_exit : (m : Message) → is_served m ≡ true → is_no_exit m ≡ true
+pub served_is_no_exit : (m : Message) → is_served m ≡ true → is_no_exit m ≡ true
 served_is_no_exit m served = (and-true (not (is_shutdown m)) (is_no_exit m) served).1
 
-initialized_is_no_exit : (m : Message) → is_initialized m ≡ true → is_no_exit m ≡ true
+pub initialized_is_no_exit : (m : Message) → is_initialized m ≡ true → is_no_exit m ≡ true
 initialized_is_no_exit (request i method params) initialized = refl
 initialized_is_no_exit (notification method params) initialized =
     rw ((bytes_eq-Decides method (codes "initialized")).0 initialized) refl
 initialized_is_no_exit (response i outcome) initialized = refl
 
 -- the answer shows a message
-shown : (fault : List ℕ → ProtocolFault) → ((s : List ℕ) → is_memory (fault s) ≡ false) → ((s : List ℕ) → is_disconnected (fault s) ≡ false)
+pub shown : (fault : List ℕ → ProtocolFault) → ((s : List ℕ) → is_memory (fault s) ≡ false) → ((s : List ℕ) → is_disconnected (fault s) ≡ false)
     → (answer : SessionAnswer) → IsErrAnd answer (Shows fault) → (ran_out answer ≡ false) × (came_to_no_more answer ≡ false)
 shown fault no_memory connected (Ok end) shows = absurd shows
 shown fault no_memory connected (Err e) shows = rw shows.1 (no_memory shows.0, connected shows.0)
 
 -- a letter decided with an answer that shows it
-shown_decides : (letters : List Message) (answer : SessionAnswer) → (ran_out answer ≡ false) × (came_to_no_more answer ≡ false) → Facts decided letters answer
+pub shown_decides : (letters : List Message) (answer : SessionAnswer) → (ran_out answer ≡ false) × (came_to_no_more answer ≡ false) → Facts decided letters answer
 shown_decides letters answer facts = (facts.0, λ at_end. absurd (true≢false (sym at_end ∙ facts.1)))
 
 shutdown_decides : (b : Bool) (letters : List Message) (answer : SessionAnswer)
@@ -78,7 +78,7 @@ shutdown_facts [] (refused fault) answer after = tt
 shutdown_facts [] exhausted answer after = rw after refl
 shutdown_facts (m ∷ rest) stop answer after = rw after.0.1 (shutdown_decides (is_exit m) (m ∷ rest) answer after.1)
 
-served_facts : (letters : List Message) (stop : Stop) (null : Option Message) (answer : SessionAnswer) → AfterServed letters stop null answer → Facts stop letters answer
+pub served_facts : (letters : List Message) (stop : Stop) (null : Option Message) (answer : SessionAnswer) → AfterServed letters stop null answer → Facts stop letters answer
 served_facts [] decided null answer after = absurd after.0
 served_facts [] no_more null answer after = rw after.0 (refl, refl, refl)
 served_facts [] timed_out null answer after = absurd after.0

@@ -1,4 +1,5 @@
 pub mod Answered
+pub mod Answering
 pub mod Boxes
 pub mod Event
 pub mod Finish
@@ -12,8 +13,10 @@ pub mod Session
 pub mod SessionBytes
 pub mod SessionFault
 pub mod SessionRun
-pub mod SessionSteps
 pub mod Shutdown
+pub mod Speech
+pub mod SpeechSteps
+pub mod SpeechView
 pub mod Start
 pub mod StreamBoxes
 pub mod Streams

@@ -10,16 +10,21 @@ use lsp_message::{Message, ReadFault};
 use std::alloc::Global;
 use std::io::{BufRead, ErrorKind};
 
+mod answering;
 mod frame_outbox;
 mod serving;
+mod speaking;
 mod stream_inbox;
 mod stream_session;
 mod write;
 
 pub use frame_outbox::FrameOutbox;
 pub use serving::{Handler, SessionEnd, initialize_result, serve};
+pub use speaking::{Opener, Said, Speaker, serve_with, speak};
 pub use stream_inbox::StreamInbox;
-pub use stream_session::{SessionFault, session, session_answer, session_within};
+pub use stream_session::{
+    SessionFault, session, session_answer, session_with, session_with_within, session_within,
+};
 pub use write::{WriteEnd, write_loop};
 
 /// How a loop over a reader's messages ended.

@@ -18,7 +18,7 @@ use Rattle.lsp_message.specs.declared.frame.WriteFault.TheVariants.{Output, Memo
 use Rattle.lsp_message.specs.declared.msg.Message.{Message}
 use Rattle.lsp_session.proofs.SessionFacts.{is_no_exit, Facts}
 use Rattle.lsp_session.proofs.SessionGives.{ran_out_answer, ran_out_gives}
-use Rattle.lsp_session.proofs.SessionStarts.{FoldsTo-split, and-true}
+use Rattle.lsp_session.proofs.SpeechStarts.{FoldsTo-split, and-true}
 use Rattle.lsp_session.proofs.SessionStreams.{NotRefused, whole_first}
 use Rattle.lsp_session.specs.Boxes.{Takes}
 use Rattle.lsp_session.specs.Event.{Event, message, timeout, closed}

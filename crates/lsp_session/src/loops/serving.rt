@@ -1,16 +1,15 @@
 // A session of a server (LSP 3.17, "Server lifecycle").
 ghost use Rattle.serde_json.specs.View.{view};
-ghost use Rattle.std.specs.Prelude.{◌≡◌, List, IfOk, MatchOption, MatchResult, string_bytes};
-ghost use Rattle.lsp_message.specs.View.{message_view, request_view, outcome_view};
-ghost use Rattle.lsp_session.specs.ProtocolError.{out_of_memory};
-ghost use Rattle.lsp_session.specs.Replies.{ok_reply};
-ghost use Rattle.lsp_session.specs.Session.{SessionOut, AfterInitialize, Serves, initialize_result as initialize_result_spec};
+ghost use Rattle.std.specs.Prelude.{◌≡◌, List, IfOk, string_bytes};
+ghost use Rattle.lsp_message.specs.View.{outcome_view};
+ghost use Rattle.lsp_session.specs.Session.{SessionOut, initialize_result as initialize_result_spec};
 ghost use Rattle.lsp_session.specs.SessionRun.{Runs};
-ghost use Rattle.lsp_session.specs.SessionSteps.{RunsFrom, ServesMessage, EndsAt, Replies};
 
 use crate::error::ProtocolError;
-use crate::lifecycle::{Event, Inbox, OpenGate, Outbox, finish, refused, shutdown, start_within};
-use lsp_message::{Message, Notification, Request, RequestId, Response, ResponseError};
+use crate::lifecycle::{Inbox, Outbox};
+use crate::loops::answering::Answering;
+use crate::loops::speaking::serve_with;
+use lsp_message::{Notification, Request, Response, ResponseError};
 use serde_json::{Map, Value, put};
 use std::alloc::{AllocError, Global};
 
@@ -81,32 +80,9 @@ pub fn serve<I: Inbox, O: Outbox, H: Handler>(
     ensures { Runs I.receives O.sends (SessionOut H.answers H.notes (view capabilities) handler.old handler.new)
         (inbox.old, outbox.old) result (inbox.new, outbox.new) }
 {
-    match start_within(alloc, inbox, outbox, &mut OpenGate, u64::MAX) {
-        Some(Ok((id, _params))) => serve_started(alloc, inbox, outbox, id, capabilities, handler),
-        Some(Err(error)) => Err(error),
-        None => Err(ProtocolError::disconnected()),
-    }
-}
-
-/// The session from the reply to `initialize` on.
-fn serve_started<I: Inbox, O: Outbox, H: Handler>(
-    alloc: Global,
-    inbox: &mut I,
-    outbox: &mut O,
-    id: RequestId,
-    capabilities: Value,
-    handler: &mut H,
-) -> Result<SessionEnd, ProtocolError>
-    ensures { RunsFrom I.receives O.sends (AfterInitialize H.answers H.notes handler.old handler.new)
-        (ok_reply id (initialize_result_spec (view capabilities))) (inbox.old, outbox.old) result (inbox.new, outbox.new) }
-{
-    let Ok(initialized) = initialize_result(alloc, capabilities) else {
-        return Err(ProtocolError::out_of_memory());
-    };
-    match finish(alloc, inbox, outbox, id, initialized) {
-        Ok(()) => serve_initialized(alloc, inbox, outbox, handler),
-        Err(error) => Err(error),
-    }
+    let mut capabilities = capabilities;
+    let mut speaker = Answering::new(alloc, &mut capabilities, handler);
+    serve_with(alloc, inbox, outbox, &mut speaker)
 }
 
 /// The result of `initialize`: `{"capabilities":<capabilities>}`. An `Err` is a failed allocation.
@@ -116,98 +92,4 @@ pub fn initialize_result(alloc: Global, capabilities: Value) -> Result<Value, Al
     let mut members = Map::new(alloc);
     put(&mut members, alloc, "capabilities", capabilities)?;
     Ok(Value::Object(members))
-}
-
-/// The session from `initialized` on.
-fn serve_initialized<I: Inbox, O: Outbox, H: Handler>(
-    alloc: Global,
-    inbox: &mut I,
-    outbox: &mut O,
-    handler: &mut H,
-) -> Result<SessionEnd, ProtocolError>
-    ensures { Runs I.receives O.sends (Serves H.answers H.notes handler.old handler.new)
-        (inbox.old, outbox.old) result (inbox.new, outbox.new) }
-{
-    for _turn in 0..u64::MAX {
-        match inbox.receive() {
-            Event::Closed => return Ok(SessionEnd::Closed),
-            Event::Timeout => unreachable!(),
-            Event::Message(message) => match serve_message(alloc, inbox, outbox, handler, message) {
-                Ok(None) => {}
-                Ok(Some(end)) => return Ok(end),
-                Err(error) => return Err(error),
-            },
-        }
-    }
-    Ok(SessionEnd::Closed)
-}
-
-/// What a message gives from `initialized` on: `None` where the session goes on.
-fn serve_message<I: Inbox, O: Outbox, H: Handler>(
-    alloc: Global,
-    inbox: &mut I,
-    outbox: &mut O,
-    handler: &mut H,
-    message: Message,
-) -> Result<Option<SessionEnd>, ProtocolError>
-    ensures { MatchResult result
-        (λ end. MatchOption end
-        (ServesMessage H.answers H.notes I.receives O.sends (message_view message) (handler.old, inbox.old, outbox.old) (handler.new, inbox.new, outbox.new))
-        (λ by. EndsAt H.answers H.notes I.receives O.sends (message_view message) (handler.old, inbox.old, outbox.old) (Ok by) (handler.new, inbox.new, outbox.new)))
-        (λ error. EndsAt H.answers H.notes I.receives O.sends (message_view message) (handler.old, inbox.old, outbox.old) (Err error) (handler.new, inbox.new, outbox.new)) }
-{
-    match message {
-        Message::Request(request) => serve_request(alloc, inbox, outbox, handler, request),
-        Message::Notification(notification) => {
-            if notification.method.as_str() == "exit" {
-                return Ok(Some(SessionEnd::Closed));
-            }
-            match handler.note(&notification) {
-                Ok(()) => Ok(None),
-                Err(_) => Err(ProtocolError::out_of_memory()),
-            }
-        }
-        Message::Response(_) => Ok(None),
-    }
-}
-
-/// What a request gives from `initialized` on.
-fn serve_request<I: Inbox, O: Outbox, H: Handler>(
-    alloc: Global,
-    inbox: &mut I,
-    outbox: &mut O,
-    handler: &mut H,
-    request: Request,
-) -> Result<Option<SessionEnd>, ProtocolError>
-    ensures { MatchResult result
-        (λ end. MatchOption end
-        (ServesMessage H.answers H.notes I.receives O.sends (request_view request) (handler.old, inbox.old, outbox.old) (handler.new, inbox.new, outbox.new))
-        (λ by. EndsAt H.answers H.notes I.receives O.sends (request_view request) (handler.old, inbox.old, outbox.old) (Ok by) (handler.new, inbox.new, outbox.new)))
-        (λ error. EndsAt H.answers H.notes I.receives O.sends (request_view request) (handler.old, inbox.old, outbox.old) (Err error) (handler.new, inbox.new, outbox.new)) }
-{
-    match shutdown(alloc, inbox, outbox, &request) {
-        Ok(true) => Ok(Some(SessionEnd::ShutDown)),
-        Ok(false) => match reply(outbox, handler, request) {
-            Ok(()) => Ok(None),
-            Err(error) => Err(error),
-        },
-        Err(error) => Err(error),
-    }
-}
-
-/// Sends the handler's answer to a request.
-fn reply<O: Outbox, H: Handler>(
-    outbox: &mut O,
-    handler: &mut H,
-    request: Request,
-) -> Result<(), ProtocolError>
-    ensures { Replies H.answers H.notes O.sends (request_view request) (handler.old, outbox.old) result (handler.new, outbox.new) }
-{
-    let Ok(response) = handler.respond(request) else {
-        return Err(ProtocolError::out_of_memory());
-    };
-    match outbox.send(Message::Response(response)) {
-        Ok(()) => Ok(()),
-        Err(fault) => Err(refused(fault)),
-    }
 }

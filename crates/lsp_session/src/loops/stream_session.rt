@@ -4,10 +4,14 @@ ghost use Rattle.std.specs.Prelude.{◌≡◌, IfSome};
 ghost use Rattle.lsp_message.specs.Frame.{no_limit};
 ghost use Rattle.lsp_session.specs.Session.{SessionOut};
 ghost use Rattle.lsp_session.specs.SessionBytes.{Gives};
+ghost use Rattle.lsp_session.specs.Speech.{SpeechOut};
 ghost use Rattle.lsp_session.specs.SessionFault.{ran_out as ran_out_spec, came_to_no_more as came_to_no_more_spec, protocol_fault as protocol_fault_spec, read_fault as read_fault_spec, plain_answer as plain_answer_spec, read_answer as read_answer_spec, session_answer as session_answer_spec};
 
 use crate::error::ProtocolError;
-use crate::loops::{FrameOutbox, Handler, ReadEnd, SessionEnd, StreamInbox, serve};
+use crate::loops::answering::Answering;
+use crate::loops::{
+    FrameOutbox, Handler, Opener, ReadEnd, SessionEnd, Speaker, StreamInbox, serve_with,
+};
 use lsp_message::{ReadFault, WriteFault};
 use serde_json::Value;
 use std::alloc::Global;
@@ -82,9 +86,41 @@ pub fn session_within<R: BufRead, W: Write, H: Handler>(
         Gives limit (SessionOut H.answers H.notes (view capabilities) handler.old handler.new)
         text (R.remaining reader.new) (W.contents writer.old) (W.contents writer.new) result) }
 {
+    let mut capabilities = capabilities;
+    let mut speaker = Answering::new(alloc, &mut capabilities, handler);
+    session_with_within(alloc, reader, writer, &mut speaker, limit)
+}
+
+/// `serve_with` from bytes to bytes (LSP 3.17, "Base Protocol" and "Server lifecycle"), as `session` is `serve`.
+pub fn session_with<R: BufRead, W: Write, S: Speaker + Opener>(
+    alloc: Global,
+    reader: &mut R,
+    writer: &mut W,
+    speaker: &mut S,
+) -> Result<SessionEnd, SessionFault>
+    ensures { IfSome (R.remaining reader.old) (λ text.
+        Gives no_limit (SpeechOut S.gives S.initializes S.opens S.starves speaker.old speaker.new)
+        text (R.remaining reader.new) (W.contents writer.old) (W.contents writer.new) result) }
+{
+    session_with_within(alloc, reader, writer, speaker, u64::MAX)
+}
+
+/// `session_with` over messages whose content part has at most `limit` bytes. A longer one is `SessionFault::Read` of
+/// `ReadFault::TooLong`, before any room is reserved for it.
+pub fn session_with_within<R: BufRead, W: Write, S: Speaker + Opener>(
+    alloc: Global,
+    reader: &mut R,
+    writer: &mut W,
+    speaker: &mut S,
+    limit: u64,
+) -> Result<SessionEnd, SessionFault>
+    ensures { IfSome (R.remaining reader.old) (λ text.
+        Gives limit (SpeechOut S.gives S.initializes S.opens S.starves speaker.old speaker.new)
+        text (R.remaining reader.new) (W.contents writer.old) (W.contents writer.new) result) }
+{
     let mut inbox = StreamInbox::within(alloc, reader, limit);
     let mut outbox = FrameOutbox::new(alloc, writer);
-    let answer = serve(alloc, &mut inbox, &mut outbox, capabilities, handler);
+    let answer = serve_with(alloc, &mut inbox, &mut outbox, speaker);
     session_answer(answer, inbox.end(), outbox.fault())
 }
 

@@ -1,6 +1,6 @@
 use Rattle.lsp_service.specs.Law.{KeepsLaws}
 use Rattle.lsp_service.specs.Working.{desk_of}
-use Rattle.lsp_service.proofs.Describing.{runs_as}
+use Rattle.lsp_session.proofs.Describing.{runs_as}
 use Rattle.lsp_service.proofs.Keeping.{Out, keeps_laws}
 use Rattle.lsp_service.proofs.laws.serving_keeps_laws.Goals as goal
 

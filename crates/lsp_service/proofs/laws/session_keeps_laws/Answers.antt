@@ -1,7 +1,7 @@
 use Rattle.lsp_message.specs.Frame.{no_limit}
 use Rattle.lsp_service.specs.Law.{KeepsLaws}
 use Rattle.lsp_service.specs.Working.{desk_of}
-use Rattle.lsp_service.proofs.Describing.{known_as}
+use Rattle.lsp_session.proofs.Describing.{known_as}
 use Rattle.lsp_service.proofs.Keeping.{Out, keeps_laws}
 use Rattle.lsp_service.proofs.laws.session_keeps_laws.Goals as goal
 

@@ -1,13 +1,22 @@
+use Rattle.std.proofs.Common.{sym, ap, ◌∙◌}
 use Rattle.serde_json.specs.View.{view}
-use Rattle.lsp_session.proofs.SessionStarts.{started_none, started_some, started_err}
+use Rattle.lsp_session.specs.Answering.{KeepsHandler, AnsweringGives, AnsweringInitializes, AnsweringOpens}
+use Rattle.lsp_session.specs.Session.{SessionOut}
+use Rattle.lsp_session.specs.Speech.{SpeechOut}
+use Rattle.lsp_session.proofs.Adapting.{session_as}
+use Rattle.lsp_session.proofs.Describing.{runs_as}
 use Rattle.lsp_session.proofs.loops.serving.serve.Goals as goal
 
-pub returns-in-Some-Ok : goal.returns-in-Some-Ok
-returns-in-Some-Ok g c =
-    started_some _ _ _ _ _ _ _ _ _ _ _ _ _ _ _ _ c.in-Some-Ok.id (view c.in-Some-Ok._params) _ (rw c.in-Some-Ok.field-0-is at c.in-Some-Ok.ensures.starts) c.serve_started.ensures
-
-pub returns-in-Some-Err : goal.returns-in-Some-Err
-returns-in-Some-Err g c = started_err _ _ _ _ _ _ _ _ _ _ _ _ _ c.in-Some-Err.error (rw c.in-Some-Err.field-0-is at c.in-Some-Err.ensures.starts)
-
-pub returns-in-None : goal.returns-in-None
-returns-in-None g c = rw c.disconnected.ensures (started_none _ _ _ _ _ _ _ _ _ _ _ _ c.in-None.ensures.starts)
+pub returns : goal.returns
+returns g c =
+    let answers = g.H.Handler.answers in
+    let notes = g.H.Handler.notes in
+    let old = c.new-speaker.result in
+    let new = c.serve_with.new.speaker in
+    let before = c.args.handler.now in
+    runs_as g.I.Inbox.receives g.O.Outbox.sends (SpeechOut (AnsweringGives answers notes) AnsweringInitializes AnsweringOpens KeepsHandler old new)
+    (SessionOut answers notes (view c.args.capabilities) before _) _ _ _
+    (λ letters stop output null. session_as answers notes new before _ (view c.args.capabilities) old
+    (record { same = c.new-speaker.ensures.unchanged; back = λ names. c.handler-1.given.1 (sym c.new-speaker.ensures.same_handler ∙ sym names) })
+    (ap view c.new-speaker.ensures.capabilities) letters stop output null _)
+    c.serve_with.ensures

@@ -1,18 +1,22 @@
-use Rattle.std.proofs.Common.{sym, ◌∙◌}
+use Rattle.std.proofs.Common.{sym, ap, ◌∙◌}
 use Rattle.serde_json.specs.View.{view}
+use Rattle.lsp_session.specs.Answering.{KeepsHandler, AnsweringGives, AnsweringInitializes, AnsweringOpens}
 use Rattle.lsp_session.specs.Session.{SessionOut}
-use Rattle.lsp_session.proofs.SessionFacts.{session_facts}
-use Rattle.lsp_session.proofs.SessionGives.{session_gives}
+use Rattle.lsp_session.specs.Speech.{SpeechOut}
+use Rattle.lsp_session.proofs.Adapting.{session_as}
+use Rattle.lsp_session.proofs.Describing.{known_as}
 use Rattle.lsp_session.proofs.loops.stream_session.session_within.Goals as goal
 
 pub returns : goal.returns
 returns g c =
     let answers = g.H.Handler.answers in
     let notes = g.H.Handler.notes in
-    rw (c.session_answer.ensures, c.end.ensures, c.fault.ensures) (session_gives c.args.limit g.R.Read.remaining g.W.Write.contents
-    (SessionOut answers notes (view c.args.capabilities) c.args.handler.now c.serve-answer.new.handler)
-    (session_facts answers notes c.args.handler.now c.serve-answer.new.handler (view c.args.capabilities))
-    c.within-inbox.result c.serve-answer.new.inbox c.new-outbox.result c.serve-answer.new.outbox c.within-inbox.ensures.unended c.within-inbox.ensures.limited c.new-outbox.ensures.unfailed
-    c.serve-answer.result c.serve-answer.ensures c.args.reader.now _ c.args.writer.now _ c.within-inbox.ensures.unread c.new-outbox.ensures.unwritten
-    (λ names. c.reader-1.given.1 (sym c.within-inbox.ensures.same_reader ∙ sym names))
-    (λ names. c.writer-1.given.1 (sym c.new-outbox.ensures.same_writer ∙ sym names)))
+    let old = c.new-speaker.result in
+    let new = c.session_with_within.new.speaker in
+    let before = c.args.handler.now in
+    known_as c.args.limit (SpeechOut (AnsweringGives answers notes) AnsweringInitializes AnsweringOpens KeepsHandler old new)
+    (SessionOut answers notes (view c.args.capabilities) before _)
+    (session_as answers notes new before _ (view c.args.capabilities) old
+    (record { same = c.new-speaker.ensures.unchanged; back = λ names. c.handler-1.given.1 (sym c.new-speaker.ensures.same_handler ∙ sym names) })
+    (ap view c.new-speaker.ensures.capabilities))
+    _ _ _ _ _ c.session_with_within.ensures
