@@ -16,11 +16,12 @@ use Rattle.lsp_session.specs.Session.{SessionAnswer, Stop, decided, no_more, tim
 use Rattle.lsp_session.specs.SessionBytes.{all_of}
 use Rattle.lsp_session.specs.Start.{is_early, IsEarlyReply}
 use Rattle.lsp_service.specs.Desk.{Act, Desk, OpensSaying}
-use Rattle.lsp_service.specs.Law.{one_if, is_request_under, is_reply_under, how_many, held_under, EndsAtRequest, OnceOrEnded, IsWhole, IsOpened, RepliesFirst, NullLast, KeepsLaws}
+use Rattle.lsp_service.specs.Law.{one_if, is_request_under, is_reply_under, how_many, held_under, EndsAtRequest, OnceOrEnded, IsWhole, IsOpened, RepliesFirst, NullLast, requests_in, TakesPart, GivesPayloads, KeepsLaws}
 use Rattle.lsp_session.specs.Speech.{GivesAll, BreaksOff, GivesTo, IsLeft, Speaks, IsSilent, Opened, AfterInitialize, SpeechOut}
 use Rattle.lsp_service.specs.Working.{seen, desk_of}
 use Rattle.lsp_service.specs.declared.desk.Working.{Working}
 use Rattle.lsp_service.proofs.Owing.{how_many-append, due, due_acts, gives, due_all}
+use Rattle.lsp_service.proofs.Returning.{part_whole, part_broken}
 use Rattle.lsp_session.proofs.SpeechRuns.{handles_more}
 
 -- how many replies under the id the null is
@@ -140,12 +141,16 @@ module _ {S P : Type 0}
   abbrev pub starves_at : Working S P → Working S P → Type 0
   starves_at old new = Unit {0}
 
+  -- nothing was asked
+  abbrev Unasked : Working S P → Type 0
+  Unasked w = (desk_of w.client).asked ≡ (map.empty, 0)
+
   -- nothing is held and nothing is to be sent
   record Clear (w : Working S P) : Type 0 where
     silent : (desk_of w.client).said ≡ []
     none : (id : Id) → held_under id (desk_of w.client).held ≡ 0
 
-  clear_fresh : (w : Working S P) → desk_of w.client ≡ record { held = map.empty; asked = (desk_of w.client).asked; said = [] } → Clear w
+  clear_fresh : (w : Working S P) → desk_of w.client ≡ record { held = map.empty; asked = (map.empty, 0); said = [] } → Clear w
   clear_fresh w fresh = record {
     silent = ap (λ (d : Desk P). d.said) fresh;
     none = λ id. ap (λ (d : Desk P). held_under id d.held) fresh ∙ ap (λ o. one_if (is_some o)) (get-empty id_cmp id);
@@ -288,11 +293,24 @@ module _ {S P : Type 0}
 
   -- ---- the whole session
 
+  abbrev Part : List Message → List Message → Type 0
+  Part = TakesPart requested notified replied takes_back begins
+
+  abbrev Payloads : List Message → List Message → Type 0
+  Payloads = GivesPayloads requested notified replied takes_back begins
+
+  payloads_after : (m : Message) (letters output : List Message) → Payloads letters output → Payloads (m ∷ letters) output
+  payloads_after m letters output payloads = elim payloads [
+    | inl none ↦ inl none
+    | inr p ↦ inr (m ∷ p.0, p.1, p.2, p.3, ap (λ ms. m ∷ ms) p.4, p.5, p.6, p.7)
+  ]
+
   -- what is known of a part of a session, but for what is held
   record Known (w' : Working S P) (letters output : List Message) (null : Option Message) (stop : Stop) (answer : SessionAnswer) : Type 0 where
     account : (id : Id) → Account id (desk_of w'.client).held letters (all_of output null) stop answer
     first : RepliesFirst letters output
     last : NullLast letters null
+    payloads : Payloads letters output
 
   first_none : (letters output : List Message) → output ≡ [] → RepliesFirst letters output
   first_none letters output none = record { first = []; later = []; cut = none; replies = refl; opened = inl refl }
@@ -340,6 +358,7 @@ module _ {S P : Type 0}
         account = λ id. account_silent id (desk_of w'.client).held stop answer output null both.0 both.1;
         first = first_none [] output both.0;
         last = last_none [] null both.1;
+        payloads = inl (ap requests_in both.0);
       }
 
   known_error : (Q : ProtocolFault → Type 0) (w w' : Working S P) (m : Message) (rest : List Message) (stop : Stop) (output : List Message) (null : Option Message) (answer : SessionAnswer)
@@ -350,6 +369,7 @@ module _ {S P : Type 0}
         account = λ id. account_error id (desk_of w'.client).held m rest stop answer output null last (is_error Q answer error) both.0 both.1;
         first = first_none (m ∷ rest) output both.0;
         last = last_none (m ∷ rest) null both.1;
+        payloads = inl (ap requests_in both.0);
       }
 
   known_reply : (w' : Working S P) (i : Id) (method : List ℕ) (params : Data) (outcome : Result Data ErrorObject) (letters later : List Message) (null : Option Message)
@@ -359,12 +379,14 @@ module _ {S P : Type 0}
     account = λ id. account_reply id i (desk_of w'.client).held method params outcome letters later null stop answer (known.account id);
     first = first_reply (request i method params) letters later i outcome known.first;
     last = last_after (request i method params ∷ []) letters null known.last;
+    payloads = payloads_after (request i method params) letters later known.payloads;
   }
 
   -- the session from `initialized` on
   record Begun (w' : Working S P) (letters output : List Message) (null : Option Message) (stop : Stop) (answer : SessionAnswer) : Type 0 where
     account : (id : Id) → Account id (desk_of w'.client).held letters (all_of output null) stop answer
     last : NullLast letters null
+    part : Part letters (requests_in output)
 
   said_first : (id : Id) (said later : List Message) (null : Option Message)
       → how_many (is_reply_under id) (all_of (said ++ later) null) ≡ how_many (is_reply_under id) said + how_many (is_reply_under id) (all_of later null)
@@ -373,8 +395,8 @@ module _ {S P : Type 0}
       rw (all_count id (said ++ later) null, all_count id later null) (omega (arith, both))
 
   begun_opened : (w w' : Working S P) (letters : List Message) (stop : Stop) (output : List Message) (null : Option Message) (answer : SessionAnswer)
-      → Clear w → Opened gives_at initializes_at opens_at starves_at w w' letters stop output null answer → Begun w' letters output null stop answer
-  begun_opened w w' letters stop output null answer clear opened = elim opened [
+      → Clear w → Unasked w → Opened gives_at initializes_at opens_at starves_at w w' letters stop output null answer → Begun w' letters output null stop answer
+  begun_opened w w' letters stop output null answer clear unasked opened = elim opened [
     | inl whole ↦ record {
       account = λ id. (
           let mid = whole.1 in
@@ -390,6 +412,7 @@ module _ {S P : Type 0}
           })
           );
       last = rw whole.5.cut (last_after whole.5.middle whole.5.rest null (null_last stop answer whole.5.rest null whole.5.end));
+      part = rw whole.4 (part_whole requested notified replied takes_back begins w whole.1 w' letters whole.0 whole.2 stop null answer clear.silent unasked whole.3 whole.5);
     }
     | inr part ↦ rw (part.none_after, part.no_null, part.sent, part.stopped) (record {
       account = λ id. (
@@ -399,6 +422,7 @@ module _ {S P : Type 0}
           record { most = omega (arith, none, all, some); least = λ is_whole some. absurd is_whole }
           );
       last = last_none [] None refl;
+      part = part_broken requested notified replied takes_back begins w w' part.part part.more part.unsaid clear.silent unasked part.opened;
     })
   ]
 
@@ -406,7 +430,7 @@ module _ {S P : Type 0}
   record Replied (w' : Working S P) (letters output : List Message) (null : Option Message) (stop : Stop) (answer : SessionAnswer) : Type 0 where
     account : (id : Id) → Account id (desk_of w'.client).held letters (all_of output null) stop answer
     last : NullLast letters null
-    opened : (output ≡ []) ⊎ ((m : Message) × (rest : List Message) × (letters ≡ m ∷ rest) × (is_initialized m ≡ true))
+    opened : (output ≡ []) ⊎ ((m : Message) × (rest : List Message) × (letters ≡ m ∷ rest) × (is_initialized m ≡ true) × Part rest (requests_in output))
 
   no_request : (id : Id) (m : Message) → is_initialized m ≡ true → is_request_under id m ≡ false
   no_request id (request i method params) e = absurd (cc (e))
@@ -414,22 +438,22 @@ module _ {S P : Type 0}
   no_request id (response i outcome) e = refl
 
   replied_after : (w w' : Working S P) (letters : List Message) (stop : Stop) (output : List Message) (null : Option Message) (answer : SessionAnswer)
-      → Clear w → AfterInitialize gives_at initializes_at opens_at starves_at w w' letters stop output null answer → Replied w' letters output null stop answer
-  replied_after w w' [] stop output null answer clear after =
+      → Clear w → Unasked w → AfterInitialize gives_at initializes_at opens_at starves_at w w' letters stop output null answer → Replied w' letters output null stop answer
+  replied_after w w' [] stop output null answer clear unasked after =
       let known = known_none w w' stop output null answer after.1 in
       record { account = known.account; last = known.last; opened = inl (silent_both stop w w' output null after.1).0 }
-  replied_after w w' (m ∷ rest) stop output null answer clear after = at (is_initialized m) refl after
+  replied_after w w' (m ∷ rest) stop output null answer clear unasked after = at (is_initialized m) refl after
     where
       at : (b : Bool) → is_initialized m ≡ b
           → MatchBool b (Opened gives_at initializes_at opens_at starves_at w w' rest stop output null answer)
           (IsLast rest stop × IsErrAnd answer (Shows expected_initialized) × Silent stop w w' output null)
           → Replied w' (m ∷ rest) output null stop answer
       at true e opened =
-          let begun = begun_opened w w' rest stop output null answer clear opened in
+          let begun = begun_opened w w' rest stop output null answer clear unasked opened in
           record {
             account = λ id. account_note id (desk_of w'.client).held m rest (all_of output null) stop answer (no_request id m e) (begun.account id);
             last = last_after (m ∷ []) rest null begun.last;
-            opened = inr (m, rest, refl, e);
+            opened = inr (m, rest, refl, e, begun.part);
           }
       at false e ended =
           let known = known_error (Shows expected_initialized) w w' m rest stop output null answer ended.0 ended.1 ended.2 in
@@ -451,25 +475,29 @@ module _ {S P : Type 0}
       ];
     };
     last = last_after (request i method params ∷ []) letters null replied.last;
+    payloads = elim replied.opened [
+      | inl none ↦ inl (ap requests_in none)
+      | inr o ↦ inr ([], request i method params, o.0, o.1, ap (λ ms. request i method params ∷ ms) o.2, e, o.3, o.4)
+    ];
   }
 
   known_out : (w w' : Working S P) (letters : List Message) (stop : Stop) (output : List Message) (null : Option Message) (answer : SessionAnswer)
-      → Clear w → Out w w' letters stop output null answer → Known w' letters output null stop answer
-  known_out w w' [] stop output null answer clear out = known_none w w' stop output null answer out.1
-  known_out w w' (request i method params ∷ rest) stop output null answer clear out =
-      at (λ mid later clear out. known_out mid w' rest stop later null answer clear out) (is_initialize (request i method params)) refl out
+      → Clear w → Unasked w → Out w w' letters stop output null answer → Known w' letters output null stop answer
+  known_out w w' [] stop output null answer clear unasked out = known_none w w' stop output null answer out.1
+  known_out w w' (request i method params ∷ rest) stop output null answer clear unasked out =
+      at (λ mid later clear unasked out. known_out mid w' rest stop later null answer clear unasked out) (is_initialize (request i method params)) refl out
     where
-      at_outcome : ((mid : Working S P) (later : List Message) → Clear mid → Out mid w' rest stop later null answer → Known w' rest later null stop answer)
-          → (outcome : Result Data ErrorObject) (mid : Working S P) (later : List Message) → is_initialize (request i method params) ≡ true → Clear mid
+      at_outcome : ((mid : Working S P) (later : List Message) → Clear mid → Unasked mid → Out mid w' rest stop later null answer → Known w' rest later null stop answer)
+          → (outcome : Result Data ErrorObject) (mid : Working S P) (later : List Message) → is_initialize (request i method params) ≡ true → Clear mid → Unasked mid
           → MatchResult outcome (λ result. AfterInitialize gives_at initializes_at opens_at starves_at mid w' rest stop later null answer)
           (λ error. Out mid w' rest stop later null answer)
           → Known w' (request i method params ∷ rest) (response i outcome ∷ later) null stop answer
-      at_outcome known (Ok result) mid later e clear after =
-          known_started w' i method params result rest later null stop answer e (replied_after mid w' rest stop later null answer clear after)
-      at_outcome known (Err error) mid later e clear after =
-          known_reply w' i method params (Err error) rest later null stop answer (known mid later clear after)
+      at_outcome known (Ok result) mid later e clear unasked after =
+          known_started w' i method params result rest later null stop answer e (replied_after mid w' rest stop later null answer clear unasked after)
+      at_outcome known (Err error) mid later e clear unasked after =
+          known_reply w' i method params (Err error) rest later null stop answer (known mid later clear unasked after)
 
-      at : ((mid : Working S P) (later : List Message) → Clear mid → Out mid w' rest stop later null answer → Known w' rest later null stop answer)
+      at : ((mid : Working S P) (later : List Message) → Clear mid → Unasked mid → Out mid w' rest stop later null answer → Known w' rest later null stop answer)
           → (b : Bool) → is_initialize (request i method params) ≡ b
           → MatchBool b
           ((outcome : Result Data ErrorObject) × (mid : Working S P) × (later : List Message)
@@ -478,11 +506,12 @@ module _ {S P : Type 0}
           (λ error. Out mid w' rest stop later null answer))
           ((reply : Message) × (later : List Message) × IsEarlyReply i reply × (output ≡ reply ∷ later) × Out w w' rest stop later null answer)
           → Known w' (request i method params ∷ rest) output null stop answer
-      at known true e started = rw started.4 (at_outcome known started.0 started.1 started.2 e (clear_same w started.1 started.3.1 clear) started.5)
+      at known true e started = rw started.4 (at_outcome known started.0 started.1 started.2 e (clear_same w started.1 started.3.1 clear)
+          (ap (λ (d : Desk P). d.asked) started.3.1 ∙ unasked) started.5)
       at known false e early =
-          rw (early.3, early.2.is) (known_reply w' i method params _ rest early.1 null stop answer (known w early.1 clear early.4))
-  known_out w w' (notification method params ∷ rest) stop output null answer clear out =
-      at (λ out. known_out w w' rest stop output null answer clear out) (is_early (notification method params)) out
+          rw (early.3, early.2.is) (known_reply w' i method params _ rest early.1 null stop answer (known w early.1 clear unasked early.4))
+  known_out w w' (notification method params ∷ rest) stop output null answer clear unasked out =
+      at (λ out. known_out w w' rest stop output null answer clear unasked out) (is_early (notification method params)) out
     where
       at : (Out w w' rest stop output null answer → Known w' rest output null stop answer) → (b : Bool)
           → MatchBool b (Out w w' rest stop output null answer)
@@ -494,9 +523,10 @@ module _ {S P : Type 0}
             account = λ id. account_note id (desk_of w'.client).held (notification method params) rest (all_of output null) stop answer refl (known.account id);
             first = first_after (notification method params) rest output known.first;
             last = last_after (notification method params ∷ []) rest null known.last;
+            payloads = payloads_after (notification method params) rest output known.payloads;
           }
       at rest_known false last = known_error (Shows expected_initialize) w w' (notification method params) rest stop output null answer last.0 last.1 last.2
-  known_out w w' (response i outcome ∷ rest) stop output null answer clear out =
+  known_out w w' (response i outcome ∷ rest) stop output null answer clear unasked out =
       known_error (Shows expected_initialize) w w' (response i outcome) rest stop output null answer out.0 out.1 out.2
 
   -- one of two
@@ -516,11 +546,11 @@ module _ {S P : Type 0}
   once_or id letters sent held answer (suc r) e most least = inl (omega (arith, e, most))
 
   -- a session of a server keeps the laws
-  pub keeps_laws : (w w' : Working S P) → desk_of w.client ≡ record { held = map.empty; asked = (desk_of w.client).asked; said = [] }
+  pub keeps_laws : (w w' : Working S P) → desk_of w.client ≡ record { held = map.empty; asked = (map.empty, 0); said = [] }
       → (letters : List Message) (stop : Stop) (output : List Message) (null : Option Message) (answer : SessionAnswer)
-      → Out w w' letters stop output null answer → KeepsLaws (desk_of w'.client).held letters stop output null answer
+      → Out w w' letters stop output null answer → KeepsLaws requested notified replied takes_back begins (desk_of w'.client).held letters stop output null answer
   keeps_laws w w' fresh letters stop output null answer out =
-      let known = known_out w w' letters stop output null answer (clear_fresh w fresh) out in
+      let known = known_out w w' letters stop output null answer (clear_fresh w fresh) (ap (λ (d : Desk P). d.asked) fresh) out in
       record {
         no_other = λ id. (known.account id).most;
         once = λ whole id one. (
@@ -530,4 +560,5 @@ module _ {S P : Type 0}
             );
         first = known.first;
         last = known.last;
+        payloads = known.payloads;
       }

@@ -1,16 +1,18 @@
 -- What a session of a server does in its user's words (JSON-RPC 2.0, section 5; LSP 3.17, "Server lifecycle"), over its
 -- letters, the client's messages that it used, in order, and all that it sent, in order.
+use Rattle.serde_json.specs.Data.{Data}
 use Rattle.std.specs.FinMap as map
 use Rattle.std.specs.Ordering.{eq_by_cmp}
-use Rattle.std.specs.Prelude.{◌≡◌, ◌≤◌, ◌⊎◌, ◌+◌, ℕ, Bool, true, false, List, [], ◌∷◌, ◌++◌, length, Option, Some, is_some, IsErr}
+use Rattle.std.specs.Prelude.{◌≡◌, ◌≤◌, ◌⊎◌, ◌+◌, ◌||◌, ◌&&◌, ℕ, pos, Bool, true, false, List, [], ◌∷◌, ◌++◌, map as map_list, fold, length, Option, Some, None, is_some, Result, IsErr, if◌then◌else◌}
 use Rattle.std.specs.List.{list_all}
-use Rattle.lsp_message.specs.Id.{Id, id_cmp}
-use Rattle.lsp_message.specs.Message.{Message, request, notification, response}
+use Rattle.lsp_message.specs.Id.{Id, id_cmp, number}
+use Rattle.lsp_message.specs.Message.{Message, ErrorObject, request, notification, response}
 use Rattle.lsp_queue.specs.Queue.{Pending}
 use Rattle.lsp_session.specs.Finish.{is_initialized}
 use Rattle.lsp_session.specs.Replies.{null_reply}
-use Rattle.lsp_session.specs.Session.{SessionAnswer, Stop, decided, no_more, timed_out, refused, exhausted, is_initialize, is_shutdown}
+use Rattle.lsp_session.specs.Session.{SessionAnswer, Stop, decided, no_more, timed_out, refused, exhausted, is_initialize, is_served, is_shutdown}
 use Rattle.lsp_session.specs.SessionBytes.{all_of}
+use Rattle.lsp_service.specs.Desk.{Act, tells, asks, replies, cancels, is_spent, ids_after, unsent, TakesBack}
 
 abbrev pub one_if : Bool → ℕ
 one_if true = 1
@@ -80,10 +82,135 @@ NullLast letters null =
     → (before : List Message) × (ask : Message) × (rest : List Message) × (id : Id)
     × (letters ≡ before ++ ask ∷ rest) × (is_shutdown ask ≡ true) × (is_request_under id ask ≡ true) × (n ≡ null_reply id) × (length rest ≤ 1)
 
--- the laws of a session, in whose end these requests are held
-pub record KeepsLaws (held : Pending (Unit {0})) (letters : List Message) (stop : Stop) (output : List Message) (null : Option Message) (answer : SessionAnswer) : Type 0 where
-  -- under no id are there more replies than requests: no reply goes to anything else, and none comes twice
-  pub no_other : (id : Id) → how_many (is_reply_under id) (all_of output null) ≤ how_many (is_request_under id) letters
-  pub once : IsWhole stop → (id : Id) → how_many (is_request_under id) letters ≡ 1 → OnceOrEnded id letters (all_of output null) held answer
-  pub first : RepliesFirst letters output
-  pub last : NullLast letters null
+-- ---- the server's own requests, and what it keeps for their replies
+
+-- a request of the server's own that was sent, and what it kept for the reply
+pub record Sent (P : Type 0) : Type 0 where
+  pub id : Id
+  pub method : List ℕ
+  pub params : Data
+  pub payload : P
+
+-- What the server did at a letter. A reply of the client came to it with this payload, or reached nobody.
+pub record Turn (P : Type 0) : Type 0 where
+  pub letter : Message
+  pub payload : Option P
+  pub acts : List (Act P)
+
+abbrev pub requests_in : List Message → List Message
+requests_in [] = []
+requests_in (request id method params ∷ ms) = request id method params ∷ requests_in ms
+requests_in (notification method params ∷ ms) = requests_in ms
+requests_in (response id outcome ∷ ms) = requests_in ms
+
+module _ {P : Type 0} where
+  abbrev pub request_of : Sent P → Message
+  request_of s = request s.id s.method s.params
+
+  -- how many ids were given out after these acts, where so many were before
+  abbrev pub ids_after_all : ℕ → List (Act P) → ℕ
+  ids_after_all count acts = fold ids_after count acts
+
+  -- The request that an act sends, where so many ids were given out before: its id is the next of 0, 1, 2, ..
+  abbrev pub sent_by : ℕ → Act P → List (Sent P)
+  sent_by count (tells method params) = []
+  sent_by count (asks method params payload) =
+      if is_spent count then [] else record { id = number (pos count); method = method; params = params; payload = payload } ∷ []
+  sent_by count (replies id outcome) = []
+  sent_by count (cancels z) = []
+
+  -- the requests that acts send, in order
+  abbrev pub all_sent : ℕ → List (Act P) → List (Sent P)
+  all_sent count [] = []
+  all_sent count (act ∷ acts) = sent_by count act ++ all_sent (ids_after count act) acts
+
+  -- what was kept with the request that was sent under this id
+  abbrev pub kept_under : Id → List (Sent P) → Option P
+  kept_under id [] = None
+  kept_under id (s ∷ rest) = if eq_by_cmp id_cmp id s.id then Some s.payload else kept_under id rest
+
+  -- what the server did in these turns
+  abbrev pub acts_of : List (Turn P) → List (Act P)
+  acts_of [] = []
+  acts_of (turn ∷ turns) = turn.acts ++ acts_of turns
+
+  -- in one of these turns a reply under this id came to the server
+  abbrev pub was_given : Id → List (Turn P) → Bool
+  was_given id [] = false
+  was_given id (turn ∷ turns) = (is_some turn.payload && is_reply_under id turn.letter) || was_given id turns
+
+  -- Of these turns, which follow what was done at `initialized`: each reply of the client comes to the server with the payload of
+  -- its own request, once.
+  pub record GivesOwnPayloads (begun : List (Act P)) (turns : List (Turn P)) : Type 0 where
+    -- a reply that came to the server brought what was kept with the request that was sent under its id before
+    pub own : (before after : List (Turn P)) (turn : Turn P) (id : Id) (payload : P) → turns ≡ before ++ turn ∷ after
+        → is_reply_under id turn.letter ≡ true → turn.payload ≡ Some payload → kept_under id (all_sent 0 (begun ++ acts_of before)) ≡ Some payload
+    -- and nothing had come under that id before
+    pub once : (before after : List (Turn P)) (turn : Turn P) (id : Id) (payload : P) → turns ≡ before ++ turn ∷ after
+        → is_reply_under id turn.letter ≡ true → turn.payload ≡ Some payload → was_given id before ≡ false
+    -- a reply that reached nobody was one to no such request, or not the first
+    pub nobody : (before after : List (Turn P)) (turn : Turn P) (id : Id) → turns ≡ before ++ turn ∷ after
+        → is_reply_under id turn.letter ≡ true → turn.payload ≡ None
+        → (kept_under id (all_sent 0 (begun ++ acts_of before)) ≡ None) ⊎ (was_given id before ≡ true)
+
+-- `shutdown` or `exit` comes first, or nothing
+abbrev pub IsUnserved : List Message → Type 0
+IsUnserved [] = Unit {0}
+IsUnserved (m ∷ rest) = is_served m ≡ false
+
+module _ {S P : Type 0}
+    (requested : S → Id → List ℕ → Data → List (Act P) → S → Type 0)
+    (notified : S → List ℕ → Data → List (Act P) → S → Type 0)
+    (replied : S → P → Result Data ErrorObject → List (Act P) → S → Type 0)
+    (takes_back : S → P → S → Type 0)
+    (begins : S → List (Act P) → S → Type 0) where
+  -- the server is handed a letter, a reply with a payload, and does this
+  abbrev pub Handed : S → Message → Option P → List (Act P) → S → Type 0
+  Handed old (request id method params) payload acts new = requested old id method params acts new × (payload ≡ None)
+  Handed old (notification method params) payload acts new = notified old method params acts new × (payload ≡ None)
+  Handed old (response id outcome) (Some payload) acts new = replied old payload outcome acts new
+  Handed old (response id outcome) None acts new = (new ≡ old) × (acts ≡ [])
+
+  -- turns take the server from old to new, where so many ids were given out before
+  abbrev pub TakesTurns : ℕ → S → List (Turn P) → S → Type 0
+  TakesTurns count old [] new = new ≡ old
+  TakesTurns count old (turn ∷ turns) new =
+      (did : S) × (mid : S) × Handed old turn.letter turn.payload turn.acts did × TakesBack takes_back did (unsent count turn.acts) mid
+      × TakesTurns (ids_after_all count turn.acts) mid turns new
+
+  -- The server's part of a session from `initialized` on: it did this, then took these turns at the letters up to `shutdown` or
+  -- `exit`, by its stated meaning, and these are the first of the requests that it sent.
+  pub record TakesPart (letters requests : List Message) : Type 0 where
+    pub begun : List (Act P)
+    pub turns : List (Turn P)
+    pub rest : List Message
+    pub cut : letters ≡ map_list (λ (turn : Turn P). turn.letter) turns ++ rest
+    pub served : list_all is_served (map_list (λ (turn : Turn P). turn.letter) turns) ≡ true
+    pub ended : IsUnserved rest
+    pub start : S
+    pub did : S
+    pub first : S
+    pub last : S
+    pub began : begins start begun did
+    pub took_back : TakesBack takes_back did (unsent 0 begun) first
+    pub took_turns : TakesTurns (ids_after_all 0 begun) first turns last
+    pub unsaid : List Message
+    pub sent : map_list request_of (all_sent 0 (begun ++ acts_of turns)) ≡ requests ++ unsaid
+    pub payloads : GivesOwnPayloads begun turns
+
+  -- No request was sent, or the client sent `initialize`, then `initialized`, and the server took part from then on.
+  abbrev pub GivesPayloads : List Message → List Message → Type 0
+  GivesPayloads letters output =
+      (requests_in output ≡ [])
+      ⊎ ((early : List Message) × (first : Message) × (second : Message) × (later : List Message) × (letters ≡ early ++ first ∷ second ∷ later)
+      × (is_initialize first ≡ true) × (is_initialized second ≡ true) × TakesPart later (requests_in output))
+
+  -- the laws of a session, in whose end these requests are held
+  pub record KeepsLaws (held : Pending (Unit {0})) (letters : List Message) (stop : Stop) (output : List Message) (null : Option Message) (answer : SessionAnswer) : Type 0 where
+    -- under no id are there more replies than requests: no reply goes to anything else, and none comes twice
+    pub no_other : (id : Id) → how_many (is_reply_under id) (all_of output null) ≤ how_many (is_request_under id) letters
+    pub once : IsWhole stop → (id : Id) → how_many (is_request_under id) letters ≡ 1 → OnceOrEnded id letters (all_of output null) held answer
+    pub first : RepliesFirst letters output
+    pub last : NullLast letters null
+    -- each reply of the client comes to the server with the payload of its own request, once
+    pub payloads : GivesPayloads letters output

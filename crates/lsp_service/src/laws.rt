@@ -20,13 +20,16 @@ use std::io::{BufRead, Write};
 /// ended with an error at it. Before the client sent `initialize` and `initialized` nothing is sent but replies. Nothing
 /// follows the null of `shutdown`. Where the outbox refused a message, or an allocation failed, a request may be left without
 /// a reply; the rest holds there too.
+///
+/// Each reply of the client comes to the server with the payload of its own request, once: what was kept with the request that
+/// was sent under its id. A reply under an id that is not pending reaches nobody.
 pub fn serving_keeps_laws<I: Inbox, O: Outbox, S: Server>(
     alloc: Global,
     inbox: &mut I,
     outbox: &mut O,
     server: S,
 ) -> (Working<S, S::Payload>, Result<SessionEnd, ProtocolError>)
-    ensures { Runs I.receives O.sends (KeepsLaws (desk_of result.0.client).held)
+    ensures { Runs I.receives O.sends (KeepsLaws S.requested S.notified S.replied S.takes_back S.begins (desk_of result.0.client).held)
         (inbox.old, outbox.old) result.1 (inbox.new, outbox.new) }
 {
     let mut working = Working::new(alloc, server);
@@ -42,7 +45,7 @@ pub fn session_keeps_laws<R: BufRead, W: Write, S: Server>(
     server: S,
 ) -> (Working<S, S::Payload>, Result<SessionEnd, SessionFault>)
     ensures { IfSome (R.remaining reader.old) (λ text.
-        Gives no_limit (KeepsLaws (desk_of result.0.client).held)
+        Gives no_limit (KeepsLaws S.requested S.notified S.replied S.takes_back S.begins (desk_of result.0.client).held)
         text (R.remaining reader.new) (W.contents writer.old) (W.contents writer.new) result.1) }
 {
     let mut working = Working::new(alloc, server);

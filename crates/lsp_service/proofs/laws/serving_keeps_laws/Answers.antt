@@ -14,6 +14,6 @@ returns g c =
     let initializes = g.S.Server.initializes in
     let old = c.new-working.result in
     let new = c.serve_with-answer.new.speaker in
-    runs_as g.I.Inbox.receives g.O.Outbox.sends (Out requested notified replied takes_back begins initializes old new) (KeepsLaws (desk_of new.client).held) _ _ _
+    runs_as g.I.Inbox.receives g.O.Outbox.sends (Out requested notified replied takes_back begins initializes old new) (KeepsLaws requested notified replied takes_back begins (desk_of new.client).held) _ _ _
     (λ letters stop output null. keeps_laws requested notified replied takes_back begins initializes old new c.new-working.ensures.fresh letters stop output null _)
     c.serve_with-answer.ensures

@@ -15,6 +15,6 @@ returns g c =
     let initializes = g.S.Server.initializes in
     let old = c.new-working.result in
     let new = c.session_with-answer.new.speaker in
-    known_as no_limit (Out requested notified replied takes_back begins initializes old new) (KeepsLaws (desk_of new.client).held)
+    known_as no_limit (Out requested notified replied takes_back begins initializes old new) (KeepsLaws requested notified replied takes_back begins (desk_of new.client).held)
     (keeps_laws requested notified replied takes_back begins initializes old new c.new-working.ensures.fresh)
     _ _ _ _ _ c.session_with-answer.ensures

@@ -1,0 +1,530 @@
+-- Each reply of the client comes to the server with the payload of its own request.
+use Rattle.std.proofs.Common.{◌≡◌, refl, sym, ◌∙◌, ap, subst, inl, inr, ◌⊎◌, ℕ, ◌+◌, ◌≤◌, Bool, true, false, ◌||◌, ◌&&◌, cond, is_some, List, [], ◌∷◌, ◌++◌, append_assoc, append-nil, arith, Option, Some, None}
+use Rattle.std.proofs.lemmas.List.{map-append}
+use Rattle.std.specs.FinMap as map
+use Rattle.std.specs.FinMap.{get-insert, get-remove, get-empty}
+use Rattle.std.specs.Ordering.{eq_by_cmp}
+use Rattle.std.specs.Prelude.{Result, Err, MatchOption, pos, if◌then◌else◌}
+use Rattle.std.specs.Prelude.{map as map_list}
+use Rattle.serde_json.specs.Data.{Data}
+use Rattle.lsp_message.specs.Id.{Id, id_cmp, number}
+use Rattle.lsp_message.specs.IdLaws.{id_total, id_decides}
+use Rattle.lsp_message.specs.Message.{Message, ErrorObject, request, notification, response}
+use Rattle.lsp_queue.specs.Queue.{Asked, pending_of, count_of}
+use Rattle.lsp_session.specs.Session.{SessionAnswer, Stop, decided, no_more, timed_out, refused, exhausted, AfterServed}
+use Rattle.lsp_service.specs.Desk.{Act, tells, asks, replies, cancels, settles, canceled, cancelled_by, cancel_method, cancel_params, Desk, is_spent, sends_request, does, does_all, ids_after, unsent, holds, given, says, TakesBack, Acts, Works, OpensSaying}
+use Rattle.lsp_service.specs.Law.{is_reply_under, Sent, Turn, requests_in, request_of, ids_after_all, sent_by, all_sent, kept_under, acts_of, was_given, GivesOwnPayloads, Handed, TakesTurns, IsUnserved, TakesPart}
+use Rattle.lsp_session.specs.Speech.{GivesAll, GivesTo, Speaks}
+use Rattle.lsp_service.specs.Working.{seen, desk_of}
+use Rattle.lsp_service.specs.declared.desk.Working.{Working}
+use Rattle.lsp_service.proofs.Desking.{ids_counted}
+use Rattle.lsp_service.proofs.Owing.{gives}
+use Rattle.lsp_session.proofs.SpeechRuns.{handles_more}
+
+pub requests-append : (xs ys : List Message) → requests_in (xs ++ ys) ≡ requests_in xs ++ requests_in ys
+requests-append [] ys = refl
+requests-append (request id method params ∷ xs) ys = ap (λ l. request id method params ∷ l) (requests-append xs ys)
+requests-append (notification method params ∷ xs) ys = requests-append xs ys
+requests-append (response id outcome ∷ xs) ys = requests-append xs ys
+
+-- the second of two, where the first is nothing
+abbrev or_kept : {P : Type 0} → Option P → Option P → Option P
+or_kept None second = second
+or_kept (Some payload) second = Some payload
+
+-- two numbers that are one id are equal
+same_number : (n m : ℕ) → eq_by_cmp id_cmp (number (pos n)) (number (pos m)) ≡ true → n ≡ m
+same_number n m e = let same : number (pos n) ≡ number (pos m) = (id_decides (number (pos n)) (number (pos m))).0 e in cc (same)
+
+other_number : (n m : ℕ) → m + 1 ≤ n → eq_by_cmp id_cmp (number (pos n)) (number (pos m)) ≡ false
+other_number n m more = at (eq_by_cmp id_cmp (number (pos n)) (number (pos m))) refl
+  where
+    at : (b : Bool) → eq_by_cmp id_cmp (number (pos n)) (number (pos m)) ≡ b → b ≡ false
+    at true e = absurd (let same = same_number n m e in omega (arith, more, same))
+    at false e = refl
+
+module _ {P : Type 0} where
+  ids_all : (d : Desk P) (acts : List (Act P)) → count_of (does_all d acts).asked ≡ ids_after_all (count_of d.asked) acts
+  ids_all d [] = refl
+  ids_all d (act ∷ acts) = ids_all (does d act) acts ∙ ap (λ n. ids_after_all n acts) (ids_counted d act)
+
+  sent-append : (count : ℕ) (xs ys : List (Act P)) → all_sent count (xs ++ ys) ≡ all_sent count xs ++ all_sent (ids_after_all count xs) ys
+  sent-append count [] ys = refl
+  sent-append count (x ∷ xs) ys =
+      ap (λ l. sent_by count x ++ l) (sent-append (ids_after count x) xs ys)
+      ∙ sym (append_assoc (sent_by count x) (all_sent (ids_after count x) xs) (all_sent (ids_after_all (ids_after count x) xs) ys))
+
+  -- what an act says of requests is what it sends
+  said_one : (d : Desk P) (act : Act P) → requests_in (does d act).said ≡ requests_in d.said ++ map_list request_of (sent_by (count_of d.asked) act)
+  said_one d (tells method params) = requests-append d.said (notification method params ∷ [])
+  said_one d (asks method params payload) = at (is_spent (count_of d.asked))
+    where
+      at : (b : Bool) → requests_in (if b then d else sends_request d method params payload).said
+          ≡ requests_in d.said ++ map_list request_of (if b then [] else record { id = number (pos (count_of d.asked)); method = method; params = params; payload = payload } ∷ [])
+      at true = sym (append-nil (requests_in d.said))
+      at false = requests-append d.said (request (number (pos (count_of d.asked))) method params ∷ [])
+  said_one d (replies id outcome) = at (map.contains_key d.held id)
+    where
+      at : (b : Bool) → requests_in (if b then (record { held = map.remove d.held id; asked = d.asked; said = d.said ++ response id outcome ∷ [] }) else d).said ≡ requests_in d.said ++ []
+      at true = requests-append d.said (response id outcome ∷ [])
+      at false = sym (append-nil (requests_in d.said))
+  said_one d (cancels z) = at (map.contains_key (pending_of d.asked) (number z))
+    where
+      at : (b : Bool) → requests_in (if b then says d (notification cancel_method (cancel_params z)) else d).said ≡ requests_in d.said ++ []
+      at true = requests-append d.said (notification cancel_method (cancel_params z) ∷ [])
+      at false = sym (append-nil (requests_in d.said))
+
+  pub said_all : (d : Desk P) (acts : List (Act P)) → requests_in (does_all d acts).said ≡ requests_in d.said ++ map_list request_of (all_sent (count_of d.asked) acts)
+  said_all d [] = sym (append-nil (requests_in d.said))
+  said_all d (act ∷ acts) =
+      let one = sent_by (count_of d.asked) act in
+      let rest = all_sent (ids_after (count_of d.asked) act) acts in
+      said_all (does d act) acts
+      ∙ ap (λ n. requests_in (does d act).said ++ map_list request_of (all_sent n acts)) (ids_counted d act)
+      ∙ ap (λ l. l ++ map_list request_of rest) (said_one d act)
+      ∙ append_assoc (requests_in d.said) (map_list request_of one) (map_list request_of rest)
+      ∙ ap (λ l. requests_in d.said ++ l) (sym (map-append request_of one rest))
+
+  kept-append : (id : Id) (xs ys : List (Sent P)) → kept_under id (xs ++ ys) ≡ or_kept (kept_under id xs) (kept_under id ys)
+  kept-append id [] ys = refl
+  kept-append id (x ∷ xs) ys = at (kept-append id xs ys) (eq_by_cmp id_cmp id x.id)
+    where
+      at : kept_under id (xs ++ ys) ≡ or_kept (kept_under id xs) (kept_under id ys) → (b : Bool) → (if b then Some x.payload else kept_under id (xs ++ ys)) ≡ or_kept (if b then Some x.payload else kept_under id xs) (kept_under id ys)
+      at more true = refl
+      at more false = more
+
+  given-push : (id : Id) (turns : List (Turn P)) (turn : Turn P) → was_given id (turns ++ turn ∷ []) ≡ (was_given id turns || (is_some turn.payload && is_reply_under id turn.letter))
+  given-push id [] turn = at (is_some turn.payload && is_reply_under id turn.letter)
+    where
+      at : (b : Bool) → (b || false) ≡ b
+      at true = refl
+      at false = refl
+  given-push id (t ∷ turns) turn = at (given-push id turns turn) (is_some t.payload && is_reply_under id t.letter)
+    where
+      at : was_given id (turns ++ turn ∷ []) ≡ (was_given id turns || (is_some turn.payload && is_reply_under id turn.letter)) → (b : Bool) → (b || was_given id (turns ++ turn ∷ [])) ≡ ((b || was_given id turns) || (is_some turn.payload && is_reply_under id turn.letter))
+      at more true = refl
+      at more false = more
+
+  -- the queue has what these requests kept, but for the replies that were given
+  pub record Agrees (sent : List (Sent P)) (before : List (Turn P)) (asked : Asked P) : Type 0 where
+    pub pending : (id : Id) → map.get (pending_of asked) id ≡ (if was_given id before then None else kept_under id sent)
+    pub fresh : (n : ℕ) → count_of asked ≤ n → kept_under (number (pos n)) sent ≡ None
+    pub ungiven : (n : ℕ) → count_of asked ≤ n → was_given (number (pos n)) before ≡ false
+
+  agrees_start : Agrees [] [] (map.empty, 0)
+  agrees_start = record { pending = λ id. get-empty id_cmp id; fresh = λ n more. refl; ungiven = λ n more. refl }
+
+  agrees_none : (sent : List (Sent P)) (before : List (Turn P)) (asked : Asked P) → Agrees sent before asked → Agrees (sent ++ []) before asked
+  agrees_none sent before asked agrees = rw (append-nil sent) agrees
+
+  agrees_asked : (sent : List (Sent P)) (before : List (Turn P)) (asked : Asked P) (method : List ℕ) (params : Data) (payload : P) → Agrees sent before asked
+      → Agrees (sent ++ record { id = number (pos (count_of asked)); method = method; params = params; payload = payload } ∷ []) before
+      (map.insert (pending_of asked) (number (pos (count_of asked))) payload, count_of asked + 1)
+  agrees_asked sent before asked method params payload agrees = record {
+    pending = λ id. get-insert id_total (pending_of asked) next payload id ∙ at id (eq_by_cmp id_cmp id next) refl;
+    fresh = λ n more. kept-append (number (pos n)) sent (one ∷ []) ∙ rw (agrees.fresh n (omega (arith, more)), other_number n (count_of asked) more) refl;
+    ungiven = λ n more. agrees.ungiven n (omega (arith, more));
+  }
+    where
+      next : Id
+      next = number (pos (count_of asked))
+
+      one : Sent P
+      one = record { id = next; method = method; params = params; payload = payload }
+
+      kept_one : (id : Id) (b : Bool) → eq_by_cmp id_cmp id next ≡ b → kept_under id (one ∷ []) ≡ (if b then Some payload else None)
+      kept_one id b e = ap (λ (x : Bool). if x then Some payload else None) e
+
+      at : (id : Id) (b : Bool) → eq_by_cmp id_cmp id next ≡ b
+          → cond b (Some payload) (map.get (pending_of asked) id) ≡ (if was_given id before then None else kept_under id (sent ++ one ∷ []))
+      at id true e =
+          let same : id ≡ next = (id_decides id next).0 e in
+          let ungiven : was_given id before ≡ false = ap (λ i. was_given i before) same ∙ agrees.ungiven (count_of asked) (omega arith) in
+          let none : kept_under id sent ≡ None = ap (λ i. kept_under i sent) same ∙ agrees.fresh (count_of asked) (omega arith) in
+          rw (ungiven, kept-append id sent (one ∷ []), none, kept_one id true e) refl
+      at id false e =
+          agrees.pending id ∙ ap (λ o. if was_given id before then None else o) (sym (kept-append id sent (one ∷ []) ∙ ap (or_kept (kept_under id sent)) (kept_one id false e) ∙ or_none (kept_under id sent)))
+        where
+          or_none : (o : Option P) → or_kept o None ≡ o
+          or_none None = refl
+          or_none (Some x) = refl
+
+  agrees_act : (sent : List (Sent P)) (before : List (Turn P)) (d : Desk P) (act : Act P) → Agrees sent before d.asked
+      → Agrees (sent ++ sent_by (count_of d.asked) act) before (does d act).asked
+  agrees_act sent before d (tells method params) agrees = agrees_none sent before d.asked agrees
+  agrees_act sent before d (asks method params payload) agrees = at (is_spent (count_of d.asked))
+    where
+      at : (b : Bool) → Agrees (sent ++ (if b then [] else record { id = number (pos (count_of d.asked)); method = method; params = params; payload = payload } ∷ [])) before
+          (if b then d else sends_request d method params payload).asked
+      at true = agrees_none sent before d.asked agrees
+      at false = agrees_asked sent before d.asked method params payload agrees
+  agrees_act sent before d (replies id outcome) agrees = at (map.contains_key d.held id)
+    where
+      at : (b : Bool) → Agrees (sent ++ []) before (if b then (record { held = map.remove d.held id; asked = d.asked; said = d.said ++ response id outcome ∷ [] }) else d).asked
+      at true = agrees_none sent before d.asked agrees
+      at false = agrees_none sent before d.asked agrees
+  agrees_act sent before d (cancels z) agrees = at (map.contains_key (pending_of d.asked) (number z))
+    where
+      at : (b : Bool) → Agrees (sent ++ []) before (if b then says d (notification cancel_method (cancel_params z)) else d).asked
+      at true = agrees_none sent before d.asked agrees
+      at false = agrees_none sent before d.asked agrees
+
+  agrees_acts : (sent : List (Sent P)) (before : List (Turn P)) (d : Desk P) (acts : List (Act P)) → Agrees sent before d.asked
+      → Agrees (sent ++ all_sent (count_of d.asked) acts) before (does_all d acts).asked
+  agrees_acts sent before d [] agrees = agrees_none sent before d.asked agrees
+  agrees_acts sent before d (act ∷ acts) agrees =
+      let one = sent_by (count_of d.asked) act in
+      let more = agrees_acts (sent ++ one) before (does d act) acts (agrees_act sent before d act agrees) in
+      rw (sym (append_assoc sent one (all_sent (ids_after (count_of d.asked) act) acts))) (rw (ids_counted d act) at more)
+
+  -- what a reply under an id that came next would bring
+  abbrev due_under : Id → List (Sent P) → List (Turn P) → Option P
+  due_under id sent before = if was_given id before then None else kept_under id sent
+
+  abbrev FitsOne : List (Sent P) → List (Turn P) → Turn P → Type 0
+  FitsOne sent before turn = (id : Id) → is_reply_under id turn.letter ≡ true → turn.payload ≡ due_under id sent before
+
+  abbrev Fits : ℕ → List (Sent P) → List (Turn P) → List (Turn P) → Type 0
+  Fits count sent before [] = Unit {0}
+  Fits count sent before (turn ∷ turns) =
+      FitsOne sent before turn × Fits (ids_after_all count turn.acts) (sent ++ all_sent count turn.acts) (before ++ turn ∷ []) turns
+
+  fits_at : (count : ℕ) (sent : List (Sent P)) (before between after : List (Turn P)) (turn : Turn P) → Fits count sent before (between ++ turn ∷ after)
+      → FitsOne (sent ++ all_sent count (acts_of between)) (before ++ between) turn
+  fits_at count sent before [] after turn fits = rw (append-nil sent, append-nil before) fits.0
+  fits_at count sent before (t ∷ between) after turn fits =
+      let count' = ids_after_all count t.acts in
+      let more = fits_at count' (sent ++ all_sent count t.acts) (before ++ t ∷ []) between after turn fits.1 in
+      rw (
+        sent-append count t.acts (acts_of between),
+        sym (append_assoc sent (all_sent count t.acts) (all_sent count' (acts_of between))),
+        sym (append_assoc before (t ∷ []) between),
+      ) more
+
+  own_payloads : (begun : List (Act P)) (turns : List (Turn P)) → Fits (ids_after_all 0 begun) (all_sent 0 begun) [] turns → GivesOwnPayloads begun turns
+  own_payloads begun turns fits = record {
+    own = λ before after turn id payload cut under came. own_of (was_given id before) (kept_under id (all_sent 0 (begun ++ acts_of before))) payload (sym came ∙ at before after turn id cut under);
+    once = λ before after turn id payload cut under came. once_of (was_given id before) (kept_under id (all_sent 0 (begun ++ acts_of before))) payload (sym came ∙ at before after turn id cut under);
+    nobody = λ before after turn id cut under came. nobody_of (was_given id before) (kept_under id (all_sent 0 (begun ++ acts_of before))) (sym came ∙ at before after turn id cut under);
+  }
+    where
+      at : (before after : List (Turn P)) (turn : Turn P) (id : Id) → turns ≡ before ++ turn ∷ after → is_reply_under id turn.letter ≡ true
+          → turn.payload ≡ due_under id (all_sent 0 (begun ++ acts_of before)) before
+      at before after turn id cut under =
+          rw (sent-append 0 begun (acts_of before)) (fits_at (ids_after_all 0 begun) (all_sent 0 begun) [] before after turn (rw cut at fits) id under)
+
+      own_of : (b : Bool) (kept : Option P) (payload : P) → Some payload ≡ (if b then None else kept) → kept ≡ Some payload
+      own_of true kept payload e = absurd (cc (e))
+      own_of false kept payload e = sym e
+
+      once_of : (b : Bool) (kept : Option P) (payload : P) → Some payload ≡ (if b then None else kept) → b ≡ false
+      once_of true kept payload e = absurd (cc (e))
+      once_of false kept payload e = refl
+
+      nobody_of : (b : Bool) (kept : Option P) → None ≡ (if b then None else kept) → (kept ≡ None) ⊎ (b ≡ true)
+      nobody_of true kept e = inr refl
+      nobody_of false kept e = inl (sym e)
+
+  -- a turn in which nothing came
+  agrees_other : (sent : List (Sent P)) (before : List (Turn P)) (asked : Asked P) (turn : Turn P) → turn.payload ≡ None → Agrees sent before asked
+      → Agrees sent (before ++ turn ∷ []) asked
+  agrees_other sent before asked turn none agrees = record {
+    pending = λ id. agrees.pending id ∙ ap (λ (b : Bool). if b then None else kept_under id sent) (sym (same id));
+    fresh = agrees.fresh;
+    ungiven = λ n more. same (number (pos n)) ∙ agrees.ungiven n more;
+  }
+    where
+      plain : (b : Bool) → (b || false) ≡ b
+      plain true = refl
+      plain false = refl
+
+      same : (id : Id) → was_given id (before ++ turn ∷ []) ≡ was_given id before
+      same id = given-push id before turn ∙ rw none (plain (was_given id before))
+
+  -- a turn in which a reply came
+  agrees_given : (sent : List (Sent P)) (before : List (Turn P)) (asked : Asked P) (turn : Turn P) (i : Id) (outcome : Result Data ErrorObject) (payload : P)
+      → turn.letter ≡ response i outcome → turn.payload ≡ Some payload → map.get (pending_of asked) i ≡ Some payload → Agrees sent before asked
+      → Agrees sent (before ++ turn ∷ []) (map.remove (pending_of asked) i, count_of asked)
+  agrees_given sent before asked turn i outcome payload letter came kept agrees = record {
+    pending = λ id. get-remove id_total (pending_of asked) i id ∙ (at (kept_under id sent) (eq_by_cmp id_cmp id i) (was_given id before) (map.get (pending_of asked) id) (agrees.pending id)
+        ∙ ap (λ (b : Bool). if b then None else kept_under id sent) (sym (now id)));
+    fresh = agrees.fresh;
+    ungiven = λ n more. now (number (pos n)) ∙ rw (agrees.ungiven n more) (other n more (eq_by_cmp id_cmp (number (pos n)) i) refl);
+  }
+    where
+      now : (id : Id) → was_given id (before ++ turn ∷ []) ≡ (was_given id before || eq_by_cmp id_cmp id i)
+      now id = given-push id before turn ∙ rw (came, letter) refl
+
+      at : (kept' : Option P) (b given' : Bool) (o : Option P) → o ≡ (if given' then None else kept') → cond b None o ≡ (if (given' || b) then None else kept')
+      at kept' true true o e = refl
+      at kept' true false o e = refl
+      at kept' false true o e = e
+      at kept' false false o e = e
+
+      other : (n : ℕ) → count_of asked ≤ n → (b : Bool) → eq_by_cmp id_cmp (number (pos n)) i ≡ b → b ≡ false
+      other n more true e =
+          let same : number (pos n) ≡ i = (id_decides (number (pos n)) i).0 e in
+          let none : map.get (pending_of asked) i ≡ None = rw same at (agrees.pending (number (pos n)) ∙ nothing (was_given (number (pos n)) before) (kept_under (number (pos n)) sent) (agrees.fresh n more)) in
+          absurd (let clash = sym kept ∙ none in cc (clash))
+        where
+          nothing : (b : Bool) (o : Option P) → o ≡ None → (if b then None else o) ≡ None
+          nothing true o e = refl
+          nothing false o e = e
+      other n more false e = refl
+
+module _ {S P : Type 0}
+    (requested : S → Id → List ℕ → Data → List (Act P) → S → Type 0)
+    (notified : S → List ℕ → Data → List (Act P) → S → Type 0)
+    (replied : S → P → Result Data ErrorObject → List (Act P) → S → Type 0)
+    (takes_back : S → P → S → Type 0)
+    (begins : S → List (Act P) → S → Type 0) where
+  abbrev gives_at : Working S P → Message → List Message → Working S P → Type 0
+  gives_at = gives requested notified replied takes_back
+
+  abbrev answered : Desk P → Id → Bool → Desk P
+  answered d i b = if b then (record { held = map.remove d.held i; asked = d.asked; said = d.said ++ response i (Err canceled) ∷ [] }) else d
+
+  settled : (d : Desk P) (cancelled : Option Id) → (requests_in (settles d cancelled).said ≡ requests_in d.said) × ((settles d cancelled).asked ≡ d.asked)
+  settled d None = (refl, refl)
+  settled d (Some i) = at (map.contains_key d.held i)
+    where
+      at : (b : Bool) → (requests_in (answered d i b).said ≡ requests_in d.said) × ((answered d i b).asked ≡ d.asked)
+      at true = (requests-append d.said (response i (Err canceled) ∷ []) ∙ append-nil (requests_in d.said), refl)
+      at false = (refl, refl)
+
+  -- one letter is one turn
+  record OneTurn (s : S) (d : Desk P) (m : Message) (after : S × Desk P) (sent : List (Sent P)) (before : List (Turn P)) : Type 0 where
+    payload : Option P
+    acts : List (Act P)
+    did : S
+    handed : Handed requested notified replied takes_back begins s m payload acts did
+    back : TakesBack takes_back did (unsent (count_of d.asked) acts) after.0
+    said : requests_in after.1.said ≡ requests_in d.said ++ map_list request_of (all_sent (count_of d.asked) acts)
+    count : count_of after.1.asked ≡ ids_after_all (count_of d.asked) acts
+    fits : FitsOne sent before (record { letter = m; payload = payload; acts = acts })
+    agrees : Agrees (sent ++ all_sent (count_of d.asked) acts) (before ++ record { letter = m; payload = payload; acts = acts } ∷ []) after.1.asked
+
+  one_turn : (s : S) (d : Desk P) (m : Message) (after : S × Desk P) (sent : List (Sent P)) (before : List (Turn P)) → Agrees sent before d.asked
+      → Works requested notified replied takes_back (s, d) m after → OneTurn s d m after sent before
+  one_turn s d (request id method params) after sent before agrees works = record {
+    payload = None;
+    acts = works.0;
+    did = works.1;
+    handed = (works.2, refl);
+    back = works.3;
+    said = ap (λ (x : Desk P). requests_in x.said) works.4 ∙ said_all (holds d id) works.0;
+    count = ap (λ (x : Desk P). count_of x.asked) works.4 ∙ ids_all (holds d id) works.0;
+    fits = λ i under. absurd (cc (under));
+    agrees = rw works.4 (agrees_other _ before _ _ refl (agrees_acts sent before (holds d id) works.0 agrees));
+  }
+  one_turn s d (notification method params) after sent before agrees works =
+      let did = works.1 in
+      let cancelled = cancelled_by method params in
+      rw works.2 (record {
+        payload = None;
+        acts = did.0;
+        did = did.1;
+        handed = (did.2, refl);
+        back = did.3;
+        said = (settled works.0.1 cancelled).0 ∙ ap (λ (x : Desk P). requests_in x.said) did.4 ∙ said_all d did.0;
+        count = ap count_of (settled works.0.1 cancelled).1 ∙ ap (λ (x : Desk P). count_of x.asked) did.4 ∙ ids_all d did.0;
+        fits = λ i under. absurd (cc (under));
+        agrees = rw ((settled works.0.1 cancelled).1, did.4) (agrees_other _ before _ _ refl (agrees_acts sent before d did.0 agrees));
+      })
+  one_turn s d (response i outcome) after sent before agrees works = at (map.get (pending_of d.asked) i) refl works
+    where
+      fits_as : (payload : Option P) (acts : List (Act P)) → map.get (pending_of d.asked) i ≡ payload
+          → FitsOne sent before (record { letter = response i outcome; payload = payload; acts = acts })
+      fits_as payload acts kept id under =
+          let same : id ≡ i = (id_decides id i).0 under in
+          sym (ap (λ j. map.get (pending_of d.asked) j) same ∙ kept) ∙ agrees.pending id
+
+      at : (o : Option P) → map.get (pending_of d.asked) i ≡ o
+          → MatchOption o (after ≡ (s, d)) (λ payload. Acts takes_back (replied s payload outcome) (given d i) after)
+          → OneTurn s d (response i outcome) after sent before
+      at None kept same = rw same (record {
+        payload = None;
+        acts = [];
+        did = s;
+        handed = (refl, refl);
+        back = refl;
+        said = sym (append-nil (requests_in d.said));
+        count = refl;
+        fits = fits_as None [] kept;
+        agrees = agrees_none sent _ d.asked (agrees_other sent before d.asked _ refl agrees);
+      })
+      at (Some payload) kept did =
+          let now = agrees_given sent before d.asked (record { letter = response i outcome; payload = Some payload; acts = did.0 }) i outcome payload refl refl kept agrees in
+          record {
+            payload = Some payload;
+            acts = did.0;
+            did = did.1;
+            handed = did.2;
+            back = did.3;
+            said = ap (λ (x : Desk P). requests_in x.said) did.4 ∙ said_all (given d i) did.0;
+            count = ap (λ (x : Desk P). count_of x.asked) did.4 ∙ ids_all (given d i) did.0;
+            fits = fits_as (Some payload) did.0 kept;
+            agrees = rw did.4 (agrees_acts sent _ (given d i) did.0 now);
+          }
+
+  -- letters are as many turns
+  record Turned (w w' : Working S P) (letters output : List Message) (sent : List (Sent P)) (before : List (Turn P)) : Type 0 where
+    turns : List (Turn P)
+    letters_are : map_list (λ (turn : Turn P). turn.letter) turns ≡ letters
+    took : TakesTurns requested notified replied takes_back begins (count_of (desk_of w.client).asked) w.server turns w'.server
+    said : requests_in output ≡ map_list request_of (all_sent (count_of (desk_of w.client).asked) (acts_of turns))
+    fits : Fits (count_of (desk_of w.client).asked) sent before turns
+
+  turn_all : (w w' : Working S P) (letters output : List Message) (sent : List (Sent P)) (before : List (Turn P)) → (desk_of w.client).said ≡ []
+      → Agrees sent before (desk_of w.client).asked → GivesAll gives_at w letters output w' → Turned w w' letters output sent before
+  turn_all w w' [] output sent before silent agrees all = record {
+    turns = [];
+    letters_are = refl;
+    took = ap (λ (x : Working S P). x.server) all.0;
+    said = ap requests_in all.1;
+    fits = tt;
+  }
+  turn_all w w' (m ∷ letters) output sent before silent agrees all =
+      let mid = all.0 in
+      let step = all.3 in
+      let n = count_of (desk_of w.client).asked in
+      let one = one_turn w.server (desk_of w.client) m step.0 sent before agrees step.1 in
+      let turn : Turn P = record { letter = m; payload = one.payload; acts = one.acts } in
+      let asked : (desk_of mid.client).asked ≡ step.0.1.asked = ap (λ (x : S × Desk P). x.1.asked) step.3 in
+      let server : mid.server ≡ step.0.0 = ap (λ (x : S × Desk P). x.0) step.3 in
+      let count : count_of (desk_of mid.client).asked ≡ ids_after_all n one.acts = ap count_of asked ∙ one.count in
+      let rest = turn_all mid w' letters all.2 (sent ++ all_sent n one.acts) (before ++ turn ∷ []) (ap (λ (x : S × Desk P). x.1.said) step.3)
+      (subst (Agrees (sent ++ all_sent n one.acts) (before ++ turn ∷ [])) (sym asked) one.agrees) all.4 in
+      let now : requests_in all.1 ≡ map_list request_of (all_sent n one.acts) =
+      ap requests_in step.2 ∙ one.said ∙ ap (λ l. requests_in l ++ map_list request_of (all_sent n one.acts)) silent in
+      let later : requests_in all.2 ≡ map_list request_of (all_sent (ids_after_all n one.acts) (acts_of rest.turns)) =
+      rest.said ∙ ap (λ k. map_list request_of (all_sent k (acts_of rest.turns))) count in
+      record {
+        turns = turn ∷ rest.turns;
+        letters_are = ap (λ l. m ∷ l) rest.letters_are;
+        took = (
+          one.did,
+          mid.server,
+          one.handed,
+          subst (TakesBack takes_back one.did (unsent n one.acts)) (sym server) one.back,
+          subst (λ k. TakesTurns requested notified replied takes_back begins k mid.server rest.turns w'.server) count rest.took,
+        );
+        said = ap requests_in all.5 ∙ requests-append all.1 all.2 ∙ (λ i. now i ++ later i)
+            ∙ sym (ap (λ l. map_list request_of l) (sent-append n one.acts (acts_of rest.turns))
+            ∙ map-append request_of (all_sent n one.acts) (all_sent (ids_after_all n one.acts) (acts_of rest.turns)));
+        fits = (one.fits, subst (λ k. Fits k (sent ++ all_sent n one.acts) (before ++ turn ∷ []) rest.turns) count rest.fits);
+      }
+
+  -- what was done at `initialized`
+  record Began (w w' : Working S P) (said : List Message) : Type 0 where
+    begun : List (Act P)
+    did : S
+    began : begins w.server begun did
+    back : TakesBack takes_back did (unsent 0 begun) w'.server
+    requests : requests_in said ≡ map_list request_of (all_sent 0 begun)
+    count : count_of (desk_of w'.client).asked ≡ ids_after_all 0 begun
+    agrees : Agrees (all_sent 0 begun) [] (desk_of w'.client).asked
+    silent : (desk_of w'.client).said ≡ []
+
+  began_at : (w w' : Working S P) (said : List Message) → (desk_of w.client).said ≡ [] → (desk_of w.client).asked ≡ (map.empty, 0)
+      → OpensSaying takes_back begins (seen w) said (seen w') → Began w w' said
+  began_at w w' said silent unasked opened =
+      let after = opened.0 in
+      let acts = opened.1.0 in
+      let none : count_of (desk_of w.client).asked ≡ 0 = ap count_of unasked in
+      let asked : (desk_of w'.client).asked ≡ (does_all (desk_of w.client) acts).asked =
+      ap (λ (x : S × Desk P). x.1.asked) opened.3 ∙ ap (λ (x : Desk P). x.asked) opened.1.4 in
+      let empty : Agrees [] [] (desk_of w.client).asked = subst (Agrees [] []) (sym unasked) agrees_start in
+      record {
+        begun = acts;
+        did = opened.1.1;
+        began = opened.1.2;
+        back = subst (λ (s : S). TakesBack takes_back opened.1.1 (unsent 0 acts) s) (sym (ap (λ (x : S × Desk P). x.0) opened.3))
+            (subst (λ n. TakesBack takes_back opened.1.1 (unsent n acts) after.0) none opened.1.3);
+        requests = ap requests_in opened.2 ∙ ap (λ (x : Desk P). requests_in x.said) opened.1.4 ∙ said_all (desk_of w.client) acts
+            ∙ (λ i. requests_in (silent i) ++ map_list request_of (all_sent (none i) acts));
+        count = ap count_of asked ∙ ids_all (desk_of w.client) acts ∙ ap (λ n. ids_after_all n acts) none;
+        agrees = subst (Agrees (all_sent 0 acts) []) (sym asked)
+            (subst (λ n. Agrees (all_sent n acts) [] (does_all (desk_of w.client) acts).asked) none (agrees_acts [] [] (desk_of w.client) acts empty));
+        silent = ap (λ (x : S × Desk P). x.1.said) opened.3;
+      }
+
+  -- of what is given, also a part
+  given_to : (stop : Stop) (w w' : Working S P) (letters output : List Message) → GivesTo gives_at stop w letters output w'
+      → (extra : List Message) × GivesAll gives_at w letters (output ++ extra) w'
+  given_to decided w w' letters output all = ([], rw (append-nil output) all)
+  given_to no_more w w' letters output all = ([], rw (append-nil output) all)
+  given_to timed_out w w' letters output all = ([], rw (append-nil output) all)
+  given_to exhausted w w' letters output all = ([], rw (append-nil output) all)
+  given_to (refused fault) w w' letters output broken =
+      let whole = handles_more gives_at w broken.mid w' broken.earlier broken.before (broken.part ++ broken.unsaid ∷ broken.more) broken.last broken.given broken.gave in
+      (broken.more, rw (broken.cut, broken.sent, append_assoc broken.before (broken.part ++ broken.unsaid ∷ []) broken.more, append_assoc broken.part (broken.unsaid ∷ []) broken.more) whole)
+
+  unserved : (rest : List Message) (stop : Stop) (null : Option Message) (answer : SessionAnswer) → AfterServed rest stop null answer → IsUnserved rest
+  unserved [] stop null answer after = tt
+  unserved (request i method params ∷ rest) stop null answer after = rw after.0 refl
+  unserved (notification method params ∷ rest) stop null answer after = rw after.0 refl
+  unserved (response i outcome ∷ rest) stop null answer after = absurd (cc (after.0))
+
+  abbrev Part : List Message → List Message → Type 0
+  Part = TakesPart requested notified replied takes_back begins
+
+  -- the server's part where all that it said to `initialized` was sent
+  pub part_whole : (w mid w' : Working S P) (letters said later : List Message) (stop : Stop) (null : Option Message) (answer : SessionAnswer)
+      → (desk_of w.client).said ≡ [] → (desk_of w.client).asked ≡ (map.empty, 0) → OpensSaying takes_back begins (seen w) said (seen mid)
+      → Speaks gives_at mid w' letters stop later null answer → Part letters (requests_in (said ++ later))
+  part_whole w mid w' letters said later stop null answer silent unasked opened speaks =
+      let b = began_at w mid said silent unasked opened in
+      let whole = given_to stop mid speaks.after speaks.middle later speaks.given in
+      let t = turn_all mid speaks.after speaks.middle (later ++ whole.0) (all_sent 0 b.begun) [] b.silent b.agrees whole.1 in
+      let first = map_list request_of (all_sent 0 b.begun) in
+      let rest : map_list request_of (all_sent (ids_after_all 0 b.begun) (acts_of t.turns)) ≡ requests_in later ++ requests_in whole.0 =
+      sym (t.said ∙ ap (λ k. map_list request_of (all_sent k (acts_of t.turns))) b.count) ∙ requests-append later whole.0 in
+      record {
+        begun = b.begun;
+        turns = t.turns;
+        rest = speaks.rest;
+        cut = speaks.cut ∙ ap (λ l. l ++ speaks.rest) (sym t.letters_are);
+        served = rw t.letters_are speaks.served;
+        ended = unserved speaks.rest stop null answer speaks.end;
+        start = w.server;
+        did = b.did;
+        first = mid.server;
+        last = speaks.after.server;
+        began = b.began;
+        took_back = b.back;
+        took_turns = subst (λ k. TakesTurns requested notified replied takes_back begins k mid.server t.turns speaks.after.server) b.count t.took;
+        unsaid = requests_in whole.0;
+        sent = ap (λ l. map_list request_of l) (sent-append 0 b.begun (acts_of t.turns))
+            ∙ map-append request_of (all_sent 0 b.begun) (all_sent (ids_after_all 0 b.begun) (acts_of t.turns))
+            ∙ (λ i. sym b.requests i ++ rest i)
+            ∙ sym (append_assoc (requests_in said) (requests_in later) (requests_in whole.0))
+            ∙ ap (λ l. l ++ requests_in whole.0) (sym (requests-append said later));
+        payloads = own_payloads b.begun t.turns (subst (λ k. Fits k (all_sent 0 b.begun) [] t.turns) b.count t.fits);
+      }
+
+  -- and where the outbox refused one of these
+  pub part_broken : (w w' : Working S P) (part more : List Message) (unsaid : Message)
+      → (desk_of w.client).said ≡ [] → (desk_of w.client).asked ≡ (map.empty, 0) → OpensSaying takes_back begins (seen w) (part ++ unsaid ∷ more) (seen w')
+      → Part [] (requests_in (part ++ unsaid ∷ []))
+  part_broken w w' part more unsaid silent unasked opened =
+      let b = began_at w w' (part ++ unsaid ∷ more) silent unasked opened in
+      record {
+        begun = b.begun;
+        turns = [];
+        rest = [];
+        cut = refl;
+        served = refl;
+        ended = tt;
+        start = w.server;
+        did = b.did;
+        first = w'.server;
+        last = w'.server;
+        began = b.began;
+        took_back = b.back;
+        took_turns = refl;
+        unsaid = requests_in more;
+        sent = ap (λ l. map_list request_of (all_sent 0 l)) (append-nil b.begun) ∙ sym b.requests
+            ∙ ap requests_in (sym (append_assoc part (unsaid ∷ []) more)) ∙ requests-append (part ++ unsaid ∷ []) more;
+        payloads = own_payloads b.begun [] tt;
+      }
