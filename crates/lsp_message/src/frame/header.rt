@@ -29,7 +29,7 @@ pub(crate) fn header_line(line: &[u8]) -> Result<HeaderLine, ReadFault>
     header_text(&line[..line.len() - 2])
 }
 
-/// The same without its end.
+/// What a line of the header part is, by the text before its end.
 fn header_text(text: &[u8]) -> Result<HeaderLine, ReadFault>
     ensures { result ≡ text_spec text.now }
 {

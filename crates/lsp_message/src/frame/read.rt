@@ -60,7 +60,7 @@ fn read_line<R: BufRead>(
     }
 }
 
-/// The same of a line that the reader doesn't show whole.
+/// The next line, gathered, as the reader doesn't show it whole.
 fn gathered_line<R: BufRead>(
     reader: &mut R,
     gathered: &mut Vec<u8>,

@@ -18,7 +18,7 @@ pub fn front(bytes: &[u8]) -> Front
     scanned(bytes)
 }
 
-/// The same, by a scan of the lines.
+/// The front of the bytes, by a scan of their lines.
 fn scanned(bytes: &[u8]) -> Front
     ensures { result ≡ front_of bytes.now }
 {
@@ -37,7 +37,7 @@ fn scanned(bytes: &[u8]) -> Front
     Front::More
 }
 
-/// The same after the blank line, with so many of all the bytes left.
+/// The front after the blank line, with so many of all the bytes left.
 fn after_blank_line(all: usize, length: Option<u64>, left: usize) -> Front
     requires { left ≤ all }
     ensures { result ≡ at_header_end all (at_last_line length (Ok HeaderLine.Blank)) left }
