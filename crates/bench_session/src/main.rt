@@ -38,13 +38,10 @@ impl Handler for Echo {
     }
 
     fn respond(&mut self, request: Request) -> Result<Response, AllocError> {
-        let value = if self.is_null {
-            Value::Null
-        } else {
-            request.params
-        };
+        let Request { id, params, .. } = request;
+        let value = if self.is_null { Value::Null } else { params };
         Ok(Response {
-            id: request.id,
+            id,
             response_result: Ok(value),
         })
     }
