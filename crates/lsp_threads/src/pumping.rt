@@ -76,11 +76,11 @@ where
     W: Write,
     ensures { IfSome (R.remaining reader) (λ text. Pumps limit text (W.contents writer.old) (W.contents writer.new) result) }
 {
-    pump_with(rt, Builder::new(), alloc, reader, writer, limit)
+    pump_by(rt, Builder::new(), alloc, reader, writer, limit)
 }
 
 /// `pump_within` with the thread that reads started by this builder, which sets its stack's size, for one.
-pub fn pump_with<T, R, W>(
+pub fn pump_by<T, R, W>(
     rt: &T,
     builder: Builder,
     alloc: Global,
