@@ -29,6 +29,7 @@ pub use lsp_session::{
     start_within, wait_within, write_loop,
 };
 pub use lsp_threads::{
-    PumpFault, StartFault, Threaded, pump, pump_within, run_threads, run_threads_within,
+    PumpFault, StartFault, Threaded, pump, pump_within, run_threads, run_threads_with,
+    run_threads_with_within, run_threads_within,
 };
 pub use stdio::{CHANNEL_ROOM, IoFault, IoThreads};

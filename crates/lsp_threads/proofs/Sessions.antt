@@ -22,7 +22,6 @@ use Rattle.lsp_session.proofs.SpeechStarts.{FoldsTo-split, and-true}
 use Rattle.lsp_session.proofs.SessionStreams.{NotRefused, whole_first}
 use Rattle.lsp_session.specs.Boxes.{Takes}
 use Rattle.lsp_session.specs.Event.{Event, message, timeout, closed}
-use Rattle.lsp_session.specs.ProtocolError.{out_of_memory}
 use Rattle.lsp_session.specs.Session.{SessionAnswer, Stop, decided, no_more, timed_out, refused, exhausted}
 use Rattle.lsp_session.specs.SessionBytes.{BeginsWith, all_of}
 use Rattle.lsp_session.specs.SessionFault.{ran_out, came_to_no_more, plain_answer, read_answer, session_answer}
@@ -30,7 +29,6 @@ use Rattle.lsp_session.specs.SessionRun.{message_in, is_open, Brings, OffersLast
 use Rattle.lsp_session.specs.declared.lifecycle.SendFault.{SendFault}
 use Rattle.lsp_session.specs.declared.loops.ReadEnd.{ReadEnd}
 use Rattle.lsp_session.specs.declared.loops.ReadEnd.TheVariants.{Exit, End, Fault, Closed, Memory}
-use Rattle.lsp_session.specs.declared.loops.stream_session.SessionFault.TheVariants.{Memory as RanOut}
 use Rattle.lsp_session.specs.declared.loops.write.WriteEnd.{WriteEnd}
 use Rattle.lsp_session.specs.declared.loops.write.WriteEnd.TheVariants.{Closed as AllWritten, Fault as Unwritten}
 use Rattle.lsp_threads.proofs.Handed.{ReadsTo, sent_messages}

@@ -4,9 +4,11 @@
 
 mod boxes;
 mod pumping;
+mod speaking;
 mod threads;
 mod workers;
 
-pub use pumping::{PumpFault, pump, pump_with, pump_within};
-pub use threads::{Builders, Threaded, run_threads, run_threads_with, run_threads_within};
+pub use pumping::{PumpFault, pump, pump_by, pump_within};
+pub use speaking::{run_threads_with, run_threads_with_within};
+pub use threads::{Builders, Threaded, run_threads, run_threads_by, run_threads_within};
 pub use workers::StartFault;

@@ -78,11 +78,11 @@ where
     W: Write,
     ensures { IfSome (R.remaining reader) (λ text. Pumps limit text (W.contents writer.old) (W.contents writer.new) result) }
 {
-    pump_with(rt, Builder::new(), alloc, reader, writer, limit)
+    pump_by(rt, Builder::new(), alloc, reader, writer, limit)
 }
 
 /// As `pump_within`, with a builder for the thread that reads, which can set the size of its stack.
-pub fn pump_with<T, R, W>(
+pub fn pump_by<T, R, W>(
     rt: &T,
     builder: Builder,
     alloc: Global,

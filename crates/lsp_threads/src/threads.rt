@@ -75,7 +75,7 @@ where
         writer: Builder::new(),
         reader: Builder::new(),
     };
-    run_threads_with(
+    run_threads_by(
         rt,
         builders,
         alloc,
@@ -97,7 +97,7 @@ pub struct Builders {
 }
 
 /// As `run_threads_within`, with builders for the two threads, which can set the sizes of their stacks.
-pub fn run_threads_with<T, R, W, H>(
+pub fn run_threads_by<T, R, W, H>(
     rt: &T,
     builders: Builders,
     alloc: Global,
@@ -123,15 +123,15 @@ where
 
 /// The two threads, and the caller's ends of their relays.
 #[derive(Drop)]
-struct Workers<R: BufRead + Drop, W: Write + Drop> {
-    rx: RelayRx<Message>,
-    replies: RelayTx<Message>,
-    reading: PromisedHandle<(RelayTx<Message>, ReadEnd), Reader<R, Message>>,
-    writing: PromisedHandle<(RelayRx<Message>, W, WriteEnd), Writer<W, Message>>,
+pub(crate) struct Workers<R: BufRead + Drop, W: Write + Drop> {
+    pub(crate) rx: RelayRx<Message>,
+    pub(crate) replies: RelayTx<Message>,
+    pub(crate) reading: PromisedHandle<(RelayTx<Message>, ReadEnd), Reader<R, Message>>,
+    pub(crate) writing: PromisedHandle<(RelayRx<Message>, W, WriteEnd), Writer<W, Message>>,
 }
 
 /// Starts the thread that writes and then the one that reads.
-fn start_both<T, R, W>(
+pub(crate) fn start_both<T, R, W>(
     rt: &T,
     builders: Builders,
     alloc: Global,
@@ -232,7 +232,7 @@ where
 }
 
 /// What ended the messages of a session.
-fn session_end(closed: bool, exited: bool, read: ReadEnd) -> Option<ReadEnd>
+pub(crate) fn session_end(closed: bool, exited: bool, read: ReadEnd) -> Option<ReadEnd>
     ensures { result ≡ session_end_spec closed exited read }
 {
     match (closed, exited) {

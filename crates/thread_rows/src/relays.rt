@@ -3,7 +3,7 @@ use crate::devices::{Bytes, Short};
 use crate::runs::said;
 use anyhow::Result;
 use lsp_server::{Handler, Message, Notification, Parcel, Request, ResponseError, relay};
-use lsp_threads::{Builders, pump_with, run_threads_with};
+use lsp_threads::{Builders, pump_by, run_threads_by};
 use serde_json::{Map, Value};
 use std::alloc::{AllocError, Global};
 use std::fmt::Display;
@@ -113,7 +113,7 @@ where
     let reader = reader_of(alloc, &calls)?;
     let mut writer = writer_of(alloc, &calls)?;
     let builder = Builder::new().stack_size(usize::MAX);
-    let answer = match pump_with(rt, builder, alloc, reader, &mut writer, u64::MAX) {
+    let answer = match pump_by(rt, builder, alloc, reader, &mut writer, u64::MAX) {
         Ok(()) => String::from_str(alloc, "passed on")?,
         Err(fault) => fault.to_string(alloc)?,
     };
@@ -140,7 +140,7 @@ where
         reader: Builder::new().stack_size(readers_stack),
     };
     let capabilities = Value::Object(Map::new(alloc));
-    let answer = match run_threads_with(
+    let answer = match run_threads_by(
         rt,
         builders,
         alloc,

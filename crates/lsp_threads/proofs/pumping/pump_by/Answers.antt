@@ -7,7 +7,7 @@ use Rattle.lsp_threads.specs.Pump.{pump_answer}
 use Rattle.lsp_relay.specs.Relay.{Sending}
 use Rattle.lsp_threads.specs.Workers.{HandsOn}
 use Rattle.lsp_threads.proofs.Pumped.{pumped_over}
-use Rattle.lsp_threads.proofs.pumping.pump_with.Goals as goal
+use Rattle.lsp_threads.proofs.pumping.pump_by.Goals as goal
 
 pub start_reader-requires-send-M : goal.start_reader-requires-send-M
 start_reader-requires-send-M g c κs within = param_send _ _ (arg_send _ yes _ message_send)

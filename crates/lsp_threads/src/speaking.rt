@@ -1,0 +1,107 @@
+//! A session of a server that speaks, whose reader and writer run in threads of their own.
+ghost use Rattle.std.specs.Prelude.{◌≡◌, [], IfOk, IfSome};
+ghost use Rattle.lsp_message.specs.Frame.{no_limit};
+ghost use Rattle.lsp_session.specs.Speech.{SpeechOut};
+ghost use Rattle.lsp_threads.specs.Threads.{ThreadsGive};
+
+use crate::boxes::{RelayInbox, RelayOutbox};
+use crate::pumping::fault_of;
+use crate::threads::{Builders, Threaded, Workers, session_end, start_both};
+use crate::workers::StartFault;
+use lsp_relay::settle_all;
+use lsp_session::{Opener, Speaker, serve_with, session_answer};
+use std::alloc::Global;
+use std::io::{BufRead, Write};
+use std::sync::Wait;
+use std::thread::{Builder, Threads};
+
+/// Runs a session of a server that speaks (LSP 3.17, "Server lifecycle") with a thread that reads, a thread that writes and the
+/// server on the caller's thread: in every schedule it comes to what `session_with` comes to.
+///
+/// Starts, faults and the end are those of `run_threads`. A message that the server sends is written while the server goes on.
+pub fn run_threads_with<T, R, W, S>(
+    rt: &T,
+    alloc: Global,
+    reader: R,
+    writer: W,
+    speaker: &mut S,
+) -> Result<Threaded<W>, StartFault>
+where
+    T: Threads + Wait + Copy + Drop + Send + 'static,
+    R: BufRead + Drop + Send + 'static,
+    W: Write + Drop + Send + 'static,
+    S: Speaker + Opener,
+    ensures { IfSome (R.remaining reader) (λ text. IfOk result (λ done.
+        ThreadsGive no_limit (SpeechOut S.gives S.initializes S.opens S.starves speaker.old speaker.new)
+        text (W.contents writer) (W.contents done.writer) done.answer)) }
+{
+    run_threads_with_within(rt, alloc, reader, writer, speaker, u64::MAX)
+}
+
+/// `run_threads_with` over messages whose content part has at most `limit` bytes. A longer one is `SessionFault::Read` of
+/// `ReadFault::TooLong`, where the session came to it, before any room is reserved for it.
+pub fn run_threads_with_within<T, R, W, S>(
+    rt: &T,
+    alloc: Global,
+    reader: R,
+    writer: W,
+    speaker: &mut S,
+    limit: u64,
+) -> Result<Threaded<W>, StartFault>
+where
+    T: Threads + Wait + Copy + Drop + Send + 'static,
+    R: BufRead + Drop + Send + 'static,
+    W: Write + Drop + Send + 'static,
+    S: Speaker + Opener,
+    ensures { IfSome (R.remaining reader) (λ text. IfOk result (λ done.
+        ThreadsGive limit (SpeechOut S.gives S.initializes S.opens S.starves speaker.old speaker.new)
+        text (W.contents writer) (W.contents done.writer) done.answer)) }
+{
+    let builders = Builders {
+        writer: Builder::new(),
+        reader: Builder::new(),
+    };
+    match start_both(rt, builders, alloc, reader, limit, writer) {
+        Ok(workers) => Ok(speak_between(rt, alloc, workers, speaker)),
+        Err(fault) => Err(fault),
+    }
+}
+
+/// The session between the two threads.
+fn speak_between<T, R, W, S>(
+    rt: &T,
+    alloc: Global,
+    workers: Workers<R, W>,
+    speaker: &mut S,
+) -> Threaded<W>
+where
+    T: Threads + Wait + Copy + Drop,
+    R: BufRead + Drop,
+    W: Write + Drop,
+    S: Speaker + Opener,
+    requires reading { (workers.rx.taken ≡ []) × (workers.reading.promise.tx.value.relay ≡ workers.rx.relay) × (workers.reading.promise.tx.value.sent ≡ []) }
+    requires writing { (workers.replies.sent ≡ []) × (workers.writing.promise.rx.value.relay ≡ workers.replies.relay) }
+    ensures { IfSome (R.remaining workers.reading.promise.reader.value) (λ text.
+        ThreadsGive workers.reading.promise.limit (SpeechOut S.gives S.initializes S.opens S.starves speaker.old speaker.new) text
+        (W.contents workers.writing.promise.writer.value) (W.contents result.writer) result.answer) }
+{
+    let Workers {
+        rx,
+        replies,
+        reading,
+        writing,
+    } = workers;
+    let mut inbox = RelayInbox::new(*rt, rx);
+    let mut outbox = RelayOutbox::new(*rt, replies);
+    let answer = serve_with(alloc, &mut inbox, &mut outbox, speaker);
+    let closed = inbox.is_closed();
+    let exited = inbox.gave_exit();
+    let replies = outbox.finish();
+    let rx = inbox.drain();
+    let (tx, read) = reading.join(rt);
+    let (replies_rx, writer, wrote) = writing.join(rt);
+    settle_all(rt, rx, tx);
+    settle_all(rt, replies_rx, replies);
+    let answer = session_answer(answer, session_end(closed, exited, read), fault_of(wrote));
+    Threaded { writer, answer }
+}
