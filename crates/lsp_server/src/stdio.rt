@@ -22,10 +22,15 @@ const READ_AHEAD: usize = 65536;
 /// keeps less in memory for a peer that reads nothing.
 pub const CHANNEL_ROOM: usize = 16;
 
-/// How many large messages wait to be dropped.
+/// How many messages that were written wait for the thread that reads, which drops them: it allocated most of them, and two
+/// threads that allocate and free in one arena of the C library wait for its lock.
+const SPENT_ROOM: usize = 16;
+
+/// How many large messages wait for the thread that drops, which takes what the thread that reads has no room for.
 const DROP_ROOM: usize = 1;
 
-/// The longest frame in bytes whose message the thread that writes drops itself: to hand it over takes longer.
+/// The longest frame in bytes of a small message. Of large ones the thread that reads is given one at a time, since it may wait
+/// long for its peer and keeps them meanwhile.
 const SMALL_FRAME: usize = 8192;
 
 /// Why a connection was not made, or why its threads did not end as they should.
@@ -249,13 +254,14 @@ impl<R: Print> Write for Output<R> {
 /// What a connection carries. The threads are started for any such type, since the check finds that they may own the ends
 /// of its channels only where it need not look into the type.
 trait Carried {
-    /// The thread that reads, with a limit on content parts.
+    /// The thread that reads, with a limit on content parts. It drops what was written.
     fn read_all<R: Wait + Drop, B: BufRead + Drop>(
         rt: R,
         alloc: Global,
         reader: B,
         limit: u64,
         incoming: Sender<Self>,
+        spent: Receiver<Self>,
     ) -> Result<(), IoFault>;
 
     /// The thread that writes.
@@ -264,6 +270,7 @@ trait Carried {
         alloc: Global,
         outgoing: Receiver<Self>,
         writer: W,
+        back: Sender<Self>,
         to_drop: Sender<Self>,
     ) -> Result<(), IoFault>;
 }
@@ -288,18 +295,19 @@ where
 {
     let (incoming, receiver) = bounded(alloc, CHANNEL_ROOM)?;
     let (sender, outgoing) = bounded(alloc, CHANNEL_ROOM)?;
-    let (to_drop, spent) = bounded(alloc, DROP_ROOM)?;
+    let (back, spent) = bounded(alloc, SPENT_ROOM)?;
+    let (to_drop, large) = bounded(alloc, DROP_ROOM)?;
     let theirs = *rt;
     let Ok(writer) = thread::spawn(rt, move || {
-        M::write_all(theirs, alloc, outgoing, writer, to_drop)
+        M::write_all(theirs, alloc, outgoing, writer, back, to_drop)
     }) else {
         return Err(IoFault::Start);
     };
-    let Ok(dropper) = thread::spawn(rt, move || drop_all(theirs, spent)) else {
+    let Ok(dropper) = thread::spawn(rt, move || drop_all(theirs, large)) else {
         return Err(IoFault::Start);
     };
     let Ok(reader) = thread::spawn(rt, move || {
-        M::read_all(theirs, alloc, reader, limit, incoming)
+        M::read_all(theirs, alloc, reader, limit, incoming, spent)
     }) else {
         return Err(IoFault::Start);
     };
@@ -312,9 +320,19 @@ where
 }
 
 /// The thread that drops large messages that were written, so that they keep no other waiting.
-fn drop_all<R: Wait + Drop, M: Drop>(rt: R, spent: Receiver<M>) {
-    for message in spent.iter(&rt) {
+fn drop_all<R: Wait + Drop, M: Drop>(rt: R, large: Receiver<M>) {
+    for message in large.iter(&rt) {
         drop(message);
+    }
+}
+
+/// Drops the messages that wait to be dropped, and waits for none.
+fn drop_waiting<R: Wait, M: Drop>(rt: &R, spent: &Receiver<M>) {
+    for _ in 0..SPENT_ROOM {
+        match spent.try_recv(rt) {
+            Ok(message) => drop(message),
+            Err(_) => return,
+        }
     }
 }
 
@@ -325,10 +343,14 @@ impl Carried for Message {
         mut reader: B,
         limit: u64,
         incoming: Sender<Message>,
+        spent: Receiver<Message>,
     ) -> Result<(), IoFault> {
-        let mut outbox = ChannelOutbox {
-            rt: &rt,
-            sender: &incoming,
+        let mut outbox = IncomingOutbox {
+            incoming: ChannelOutbox {
+                rt: &rt,
+                sender: &incoming,
+            },
+            spent: &spent,
         };
         reader_end(read_loop_within(alloc, &mut reader, &mut outbox, limit))
     }
@@ -338,9 +360,10 @@ impl Carried for Message {
         alloc: Global,
         outgoing: Receiver<Message>,
         mut writer: W,
+        back: Sender<Message>,
         to_drop: Sender<Message>,
     ) -> Result<(), IoFault> {
-        writer_end(write_between(&rt, alloc, &outgoing, &mut writer, &to_drop))
+        writer_end(write_between(&rt, alloc, &outgoing, &mut writer, &back, &to_drop))
     }
 }
 
@@ -356,12 +379,32 @@ fn reader_end(end: ReadEnd) -> Result<(), IoFault>
     }
 }
 
-/// Writes what one channel gives, and sends what is large on to the other.
+/// Hands on what was read, and drops what was written meanwhile.
+#[derive(Drop)]
+struct IncomingOutbox<'a, R> {
+    incoming: ChannelOutbox<'a, R>,
+    spent: &'a Receiver<Message>,
+}
+
+impl<'a, R: Wait> Outbox for IncomingOutbox<'a, R> {
+    ghost use Rattle.std.specs.Prelude.{⊤};
+
+    ghost sends = { λ _ _ _ _. ⊤ };
+
+    fn send(&mut self, message: Message) -> Result<(), SendFault> {
+        let sent = self.incoming.send(message);
+        drop_waiting(self.incoming.rt, self.spent);
+        sent
+    }
+}
+
+/// Writes what one channel gives, and hands it to a thread that drops it.
 fn write_between<'a, R: Wait + Clock, W: Write>(
     rt: &'a R,
     alloc: Global,
     outgoing: &'a Receiver<Message>,
     writer: &mut W,
+    back: &'a Sender<Message>,
     to_drop: &'a Sender<Message>,
 ) -> WriteEnd {
     let mut inbox = ChannelInbox {
@@ -378,6 +421,7 @@ fn write_between<'a, R: Wait + Clock, W: Write>(
         sender: to_drop,
     };
     let mut spent = SpentOutbox {
+        back,
         large,
         written: &written,
     };
@@ -403,9 +447,11 @@ impl<'a, 'c, W: Write> Write for CountedWriter<'a, 'c, W> {
     }
 }
 
-/// Takes what was written: it drops a small message, and sends on a large one.
+/// Takes what was written, and gives it back to the thread that reads. Where that has no room, it drops a small message, and
+/// sends a large one on to the thread that drops.
 #[derive(Drop)]
 struct SpentOutbox<'a, 'c, R> {
+    back: &'a Sender<Message>,
     large: ChannelOutbox<'a, R>,
     /// How many bytes were written since the message before.
     written: &'c Cell<usize>,
@@ -417,10 +463,29 @@ impl<'a, 'c, R: Wait> Outbox for SpentOutbox<'a, 'c, R> {
     ghost sends = { λ _ _ _ _. ⊤ };
 
     fn send(&mut self, message: Message) -> Result<(), SendFault> {
-        if self.written.replace(0) <= SMALL_FRAME {
+        let is_small = self.written.replace(0) <= SMALL_FRAME;
+        let Some(refused) = self.give_back(message, is_small) else {
+            return Ok(());
+        };
+        if is_small {
             return Ok(());
         }
-        self.large.send(message)
+        self.large.send(refused)
+    }
+}
+
+impl<'a, 'c, R: Wait> SpentOutbox<'a, 'c, R> {
+    /// Gives a message to the thread that reads, or hands it back where that has no room for it.
+    fn give_back(&self, message: Message, is_small: bool) -> Option<Message>
+        ensures { IfSome result (λ refused. refused ≡ message) }
+    {
+        if !is_small && !self.back.is_empty() {
+            return Some(message);
+        }
+        match self.back.try_send(self.large.rt, message) {
+            Ok(()) => None,
+            Err(error) => Some(error.into_inner()),
+        }
     }
 }
 

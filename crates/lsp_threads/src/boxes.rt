@@ -6,11 +6,15 @@ ghost use Rattle.lsp_session.specs.Event.{event_view};
 ghost use Rattle.lsp_threads.specs.RelayBoxes.{RelayGives};
 ghost use Rattle.lsp_relay.specs.Relay.{ended, has_end, IsOpen};
 
+use crossbeam_channel::{Receiver, Sender};
 use lsp_message::Message;
 use lsp_relay::{Parcel, RelayRx, RelayTx};
 use lsp_session::{Event, Inbox, Outbox, SendFault, is_exit};
 use std::marker::Model;
 use std::sync::Wait;
+
+/// How many messages that were written may wait for the thread that sent them to drop them. It decides speed and memory alone.
+pub const SPENT_ROOM: usize = 8;
 
 /// Sends a parcel, however often it has to be tried.
 pub fn deliver<R: Wait, M: Drop>(rt: &R, tx: &mut RelayTx<M>, parcel: Parcel<M>)
@@ -41,11 +45,14 @@ pub fn collect<R: Wait, M: Drop>(rt: &R, rx: &mut RelayRx<M>) -> Parcel<M>
     unreachable!()
 }
 
-/// The sender's end of a relay, as an outbox. It takes each message, and waits until there is room.
+/// The sender's end of a relay, as an outbox. It takes each message, and waits until there is room. Then it drops those that came
+/// back, so that the thread that allocated them frees them: two threads that allocate and free in one arena of the C library
+/// wait for its lock.
 #[derive(Drop)]
 pub struct RelayOutbox<R: Wait + Drop, M: Drop> {
     rt: R,
     tx: RelayTx<M>,
+    spent: Receiver<M>,
 }
 
 impl<R: Wait + Drop, M: Drop> Model for RelayOutbox<R, M> {
@@ -59,11 +66,11 @@ impl<R: Wait + Drop, M: Drop> Model for RelayOutbox<R, M> {
 }
 
 impl<R: Wait + Drop, M: Drop> RelayOutbox<R, M> {
-    pub fn new(rt: R, tx: RelayTx<M>) -> RelayOutbox<R, M>
+    pub fn new(rt: R, tx: RelayTx<M>, spent: Receiver<M>) -> RelayOutbox<R, M>
         requires { IsOpen tx.sent }
         ensures { result ≡ tx }
     {
-        RelayOutbox { rt, tx }
+        RelayOutbox { rt, tx, spent }
     }
 
     /// Sends End, and gives the relay's end back.
@@ -71,7 +78,11 @@ impl<R: Wait + Drop, M: Drop> RelayOutbox<R, M> {
         ensures relay { result.relay ≡ self.relay }
         ensures sent { result.sent ≡ self.sent ++ Parcel.End ∷ [] }
     {
-        let RelayOutbox { rt, mut tx } = self;
+        let RelayOutbox {
+            rt,
+            mut tx,
+            spent: _,
+        } = self;
         deliver(&rt, &mut tx, Parcel::End);
         tx
     }
@@ -84,6 +95,7 @@ impl<R: Wait + Drop> Outbox for RelayOutbox<R, Message> {
 
     fn send(&mut self, message: Message) -> Result<(), SendFault> {
         deliver(&self.rt, &mut self.tx, Parcel::Message(message));
+        drop_spent(&self.rt, &self.spent);
         Ok(())
     }
 }
@@ -221,16 +233,30 @@ impl<R: Wait + Drop> Inbox for RelayInbox<R, Message> {
     }
 }
 
-/// Drops what it is sent.
+/// Gives what it is sent back to the thread that sent it, or drops it where there is no room.
 #[derive(Drop)]
-pub struct Dropper;
+pub struct Returns<'a, R> {
+    pub rt: &'a R,
+    pub spent: Sender<Message>,
+}
 
-impl Outbox for Dropper {
+impl<'a, R: Wait> Outbox for Returns<'a, R> {
     ghost use Rattle.std.specs.Prelude.{⊤};
 
     ghost sends = { λ _ _ _ _. ⊤ };
 
-    fn send(&mut self, _message: Message) -> Result<(), SendFault> {
+    fn send(&mut self, message: Message) -> Result<(), SendFault> {
+        let _ = self.spent.try_send(self.rt, message);
         Ok(())
+    }
+}
+
+/// Drops what came back.
+fn drop_spent<R: Wait, M: Drop>(rt: &R, spent: &Receiver<M>) {
+    for _ in 0..SPENT_ROOM {
+        match spent.try_recv(rt) {
+            Ok(message) => drop(message),
+            Err(_) => return,
+        }
     }
 }

@@ -4,7 +4,9 @@ ghost use Rattle.lsp_message.specs.Frame.{no_limit};
 ghost use Rattle.lsp_threads.specs.Pump.{Pumps, pump_answer};
 ghost use Rattle.lsp_threads.specs.Workers.{write_fault};
 
+use crate::boxes::SPENT_ROOM;
 use crate::workers::{StartFault, start_reader, write_from};
+use crossbeam_channel::bounded;
 use lsp_message::{Message, ReadFault, WriteFault};
 use lsp_relay::{relay, settle_all};
 use lsp_session::{ReadEnd, WriteEnd};
@@ -99,11 +101,14 @@ where
     let Ok((tx, rx)) = relay::<Message>(alloc, ROOM) else {
         return Err(PumpFault::Start(StartFault::Memory));
     };
-    let reading = match start_reader::<Message, T, R>(rt, builder, alloc, reader, limit, tx) {
+    let Ok((spent, back)) = bounded::<Message, Global>(alloc, SPENT_ROOM) else {
+        return Err(PumpFault::Start(StartFault::Memory));
+    };
+    let reading = match start_reader::<Message, T, R>(rt, builder, alloc, reader, limit, tx, back) {
         Ok(reading) => reading,
         Err(fault) => return Err(PumpFault::Start(fault)),
     };
-    let (rx, wrote) = write_from(*rt, alloc, rx, writer);
+    let (rx, wrote) = write_from(*rt, alloc, rx, writer, spent);
     let (tx, read) = reading.join(rt);
     settle_all(rt, rx, tx);
     answer_of(read, fault_of(wrote))

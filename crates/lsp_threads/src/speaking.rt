@@ -39,7 +39,7 @@ where
 }
 
 /// `run_threads_with` over messages whose content part has at most `limit` bytes. A longer one is `SessionFault::Read` of
-/// `ReadFault::TooLong`, where the session came to it, before any room is reserved for it.
+/// `ReadFault::TooLong`, where the session came to it, before any memory is reserved for it.
 pub fn run_threads_with_within<T, R, W, S>(
     rt: &T,
     alloc: Global,
@@ -88,11 +88,12 @@ where
     let Workers {
         rx,
         replies,
+        spent,
         reading,
         writing,
     } = workers;
     let mut inbox = RelayInbox::new(*rt, rx);
-    let mut outbox = RelayOutbox::new(*rt, replies);
+    let mut outbox = RelayOutbox::new(*rt, replies, spent);
     let answer = serve_with(alloc, &mut inbox, &mut outbox, speaker);
     let closed = inbox.is_closed();
     let exited = inbox.gave_exit();

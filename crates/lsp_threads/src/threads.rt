@@ -5,9 +5,10 @@ ghost use Rattle.lsp_message.specs.Frame.{no_limit};
 ghost use Rattle.lsp_session.specs.Session.{SessionOut};
 ghost use Rattle.lsp_threads.specs.Threads.{ThreadsGive, session_end as session_end_spec};
 
-use crate::boxes::{RelayInbox, RelayOutbox, deliver};
+use crate::boxes::{RelayInbox, RelayOutbox, SPENT_ROOM, deliver};
 use crate::pumping::{ROOM, fault_of};
 use crate::workers::{Reader, StartFault, Writer, start_reader, start_writer};
+use crossbeam_channel::{Receiver, bounded, never};
 use lsp_message::Message;
 use lsp_relay::{Parcel, RelayRx, RelayTx, relay, settle_all};
 use lsp_session::{Handler, ReadEnd, SessionEnd, SessionFault, WriteEnd, serve, session_answer};
@@ -126,6 +127,8 @@ where
 pub(crate) struct Workers<R: BufRead + Drop, W: Write + Drop> {
     pub(crate) rx: RelayRx<Message>,
     pub(crate) replies: RelayTx<Message>,
+    /// The replies that were written.
+    pub(crate) spent: Receiver<Message>,
     pub(crate) reading: PromisedHandle<(RelayTx<Message>, ReadEnd), Reader<R, Message>>,
     pub(crate) writing: PromisedHandle<(RelayRx<Message>, W, WriteEnd), Writer<W, Message>>,
 }
@@ -154,20 +157,25 @@ where
     let Ok((tx, rx)) = relay::<Message>(alloc, ROOM) else {
         return Err(StartFault::Memory);
     };
+    let Ok((back, spent)) = bounded::<Message, Global>(alloc, SPENT_ROOM) else {
+        return Err(StartFault::Memory);
+    };
     let writing = match start_writer::<Message, T, W>(
         rt,
         builders.writer,
         alloc,
         replies_rx,
         writer,
+        back,
     ) {
         Ok(writing) => writing,
         Err(fault) => return Err(fault),
     };
-    match start_reader::<Message, T, R>(rt, builders.reader, alloc, reader, limit, tx) {
+    match start_reader::<Message, T, R>(rt, builders.reader, alloc, reader, limit, tx, never()) {
         Ok(reading) => Ok(Workers {
             rx,
             replies,
+            spent,
             reading,
             writing,
         }),
@@ -213,11 +221,12 @@ where
     let Workers {
         rx,
         replies,
+        spent,
         reading,
         writing,
     } = workers;
     let mut inbox = RelayInbox::new(*rt, rx);
-    let mut outbox = RelayOutbox::new(*rt, replies);
+    let mut outbox = RelayOutbox::new(*rt, replies, spent);
     let answer = serve(alloc, &mut inbox, &mut outbox, capabilities, handler);
     let closed = inbox.is_closed();
     let exited = inbox.gave_exit();

@@ -4,7 +4,8 @@ ghost use Rattle.lsp_relay.specs.Relay.{has_end, Sending};
 ghost use Rattle.lsp_threads.specs.Workers.{HandsOn, WritesToEnd, WritesTaken};
 ghost use Rattle.lsp_relay.specs.declared.ends.Parcel.{Parcel as parcel};
 
-use crate::boxes::{Dropper, RelayInbox, RelayOutbox};
+use crate::boxes::{RelayInbox, RelayOutbox, Returns};
+use crossbeam_channel::{Receiver, Sender};
 use lsp_message::Message;
 use lsp_relay::{Parcel, RelayRx, RelayTx};
 use lsp_session::{ReadEnd, WriteEnd, read_loop_within, write_loop};
@@ -58,24 +59,26 @@ pub trait Carried: Drop {
     /// These parcels were taken and written, and the writing ended so.
     ghost writes: { List (parcel Self) → write_end → Option (List ℕ) → Option (List ℕ) → Type 0 };
 
-    /// Sends the messages of a reader, whose content parts have at most `limit` bytes, and then End.
+    /// Sends the messages of a reader, whose content parts have at most `limit` bytes, and then End. It drops what comes back.
     fn read_into<R: Wait + Drop, S: BufRead + Drop>(
         rt: R,
         alloc: Global,
         reader: S,
         limit: u64,
         tx: RelayTx<Self>,
+        spent: Receiver<Self>,
     ) -> (RelayTx<Self>, ReadEnd)
         requires { tx.sent ≡ [] }
         ensures relay { result.0.relay ≡ tx.relay }
         ensures sent { IfSome (S.remaining reader) (λ text. hands_on limit text tx result.1 result.0.sent) };
 
-    /// Writes each message up to End. After a fault it writes nothing more.
+    /// Writes each message up to End, and gives it back. After a fault it writes nothing more.
     fn write_out<R: Wait + Copy + Drop, W: Write + Drop>(
         rt: R,
         alloc: Global,
         rx: RelayRx<Self>,
         writer: W,
+        spent: Sender<Self>,
     ) -> (RelayRx<Self>, W, WriteEnd)
         requires { rx.taken ≡ [] }
         ensures relay { result.0.relay ≡ rx.relay }
@@ -120,6 +123,7 @@ pub fn start_reader<M, R, S>(
     reader: S,
     limit: u64,
     tx: RelayTx<M>,
+    spent: Receiver<M>,
 ) -> Result<PromisedHandle<(RelayTx<M>, ReadEnd), Reader<S, M>>, StartFault>
 where
     M: Carried + Drop + Send + 'static,
@@ -137,7 +141,7 @@ where
     match builder.spawn_with(
         rt,
         promise,
-        move || M::read_into(theirs, alloc, reader, limit, tx),
+        move || M::read_into(theirs, alloc, reader, limit, tx, spent),
     ) {
         Ok(handle) => Ok(handle),
         Err(_) => Err(StartFault::Thread),
@@ -151,6 +155,7 @@ pub fn start_writer<M, R, W>(
     alloc: Global,
     rx: RelayRx<M>,
     writer: W,
+    spent: Sender<M>,
 ) -> Result<PromisedHandle<(RelayRx<M>, W, WriteEnd), Writer<W, M>>, StartFault>
 where
     M: Carried + Drop + Send + 'static,
@@ -164,7 +169,11 @@ where
         rx: Snapshot::of(&rx),
     };
     let theirs = *rt;
-    match builder.spawn_with(rt, promise, move || M::write_out(theirs, alloc, rx, writer)) {
+    match builder.spawn_with(
+        rt,
+        promise,
+        move || M::write_out(theirs, alloc, rx, writer, spent),
+    ) {
         Ok(handle) => Ok(handle),
         Err(_) => Err(StartFault::Thread),
     }
@@ -183,13 +192,14 @@ impl Carried for Message {
         reader: S,
         limit: u64,
         tx: RelayTx<Message>,
+        spent: Receiver<Message>,
     ) -> (RelayTx<Message>, ReadEnd)
         requires { tx.sent ≡ [] }
         ensures relay { result.0.relay ≡ tx.relay }
         ensures sent { IfSome (S.remaining reader) (λ text. HandsOn limit text tx result.1 result.0.sent) }
     {
         let mut reader = reader;
-        let mut outbox = RelayOutbox::new(rt, tx);
+        let mut outbox = RelayOutbox::new(rt, tx, spent);
         let end = read_loop_within(alloc, &mut reader, &mut outbox, limit);
         (outbox.finish(), end)
     }
@@ -199,30 +209,33 @@ impl Carried for Message {
         alloc: Global,
         rx: RelayRx<Message>,
         writer: W,
+        spent: Sender<Message>,
     ) -> (RelayRx<Message>, W, WriteEnd)
         requires { rx.taken ≡ [] }
         ensures relay { result.0.relay ≡ rx.relay }
         ensures written { WritesTaken result.0.taken result.2 (W.contents writer) (W.contents result.1) }
     {
         let mut writer = writer;
-        let (rx, end) = write_from(rt, alloc, rx, &mut writer);
+        let (rx, end) = write_from(rt, alloc, rx, &mut writer, spent);
         (rx, writer, end)
     }
 }
 
-/// Writes each message up to End. After a fault it writes nothing more.
+/// Writes each message up to End, and gives it back. After a fault it writes nothing more.
 pub fn write_from<R: Wait + Copy + Drop, W: Write>(
     rt: R,
     alloc: Global,
     rx: RelayRx<Message>,
     writer: &mut W,
+    spent: Sender<Message>,
 ) -> (RelayRx<Message>, WriteEnd)
     requires { rx.taken ≡ [] }
     ensures relay { result.0.relay ≡ rx.relay }
     ensures written { WritesTaken result.0.taken result.1 (W.contents writer.old) (W.contents writer.new) }
 {
     let mut inbox = RelayInbox::new(rt, rx);
-    let end = write_to_end(&rt, alloc, &mut inbox, writer);
+    let mut spent = Returns { rt: &rt, spent };
+    let end = write_to_end(&rt, alloc, &mut inbox, writer, &mut spent);
     (inbox.drain(), end)
 }
 
@@ -232,14 +245,14 @@ fn write_to_end<R: Wait + Drop, W: Write>(
     alloc: Global,
     inbox: &mut RelayInbox<R, Message>,
     writer: &mut W,
+    spent: &mut Returns<'_, R>,
 ) -> WriteEnd
     requires { has_end inbox.old.taken ≡ false }
     ensures relay { inbox.new.relay ≡ inbox.old.relay }
     ensures written { WritesToEnd inbox.old.taken inbox.new.taken result (W.contents writer.old) (W.contents writer.new) }
 {
-    let mut spent = Dropper;
     for _ in rt.forever() {
-        match write_loop(alloc, inbox, writer, &mut spent) {
+        match write_loop(alloc, inbox, writer, spent) {
             WriteEnd::Fault(fault) => return WriteEnd::Fault(fault),
             WriteEnd::Closed => {
                 if inbox.is_closed() {
