@@ -1,8 +1,12 @@
 // The calls that read, over the devices of a case.
+use crate::attempt::Attempt;
 use crate::devices::CuttingReader;
+use crate::engines::before_message;
 use crate::escapes::escape;
 use crate::table::{Call, Case, Device};
+use crate::talker::Talker;
 use lsp_message::{Front, Message, ReadFault, WriteFault, front};
+use lsp_service::{Working, session_with};
 use lsp_session::{SessionEnd, SessionFault, session};
 use lsp_threads::{PumpFault, StartFault, pump, run_threads};
 use serde_json::{Map, Value};
@@ -13,33 +17,15 @@ use std::thread::Threads;
 use test_support::devices::{AtLimit, LimitedWriter};
 use test_support::handlers::Echo;
 
-/// What came of a call.
-#[derive(Drop)]
-pub struct Answer {
-    /// What it answered, and what it wrote or left.
-    pub text: String,
-    /// Whether it answered that an allocation failed.
-    pub is_memory: bool,
-}
-
-impl Answer {
-    fn of(text: String) -> Answer {
-        Answer {
-            text,
-            is_memory: false,
-        }
-    }
-}
-
 /// What comes of a case at one of its places.
-pub fn answer_of<R>(
+pub fn attempt_of<R>(
     rt: &R,
     alloc: Global,
     case: Case,
     text: &[u8],
     step: usize,
     count: usize,
-) -> Result<Answer, AllocError>
+) -> Result<Attempt, AllocError>
 where
     R: Threads + Wait + Copy + Drop + Send + 'static,
 {
@@ -52,15 +38,19 @@ where
         Call::Read => read_answer(alloc, reader_of(alloc, case, sent, step, count)?),
         Call::Session => {
             let reader = reader_of(alloc, case, sent, step, count)?;
-            session_answer(alloc, reader, writer_of(alloc, case, count))
+            session_answer(alloc, reader, writer_of(alloc, case, count)?)
+        }
+        Call::Speaks => {
+            let reader = reader_of(alloc, case, sent, step, count)?;
+            speaks_answer(alloc, reader, writer_of(alloc, case, count)?)
         }
         Call::Threads => {
             let reader = reader_of(alloc, case, sent, step, count)?;
-            threads_answer(rt, alloc, reader, writer_of(alloc, case, count))
+            threads_answer(rt, alloc, reader, writer_of(alloc, case, count)?)
         }
         Call::Pump => {
             let reader = reader_of(alloc, case, sent, step, count)?;
-            pump_answer(rt, alloc, reader, writer_of(alloc, case, count))
+            pump_answer(rt, alloc, reader, writer_of(alloc, case, count)?)
         }
     }
 }
@@ -80,42 +70,48 @@ fn reader_of(
     }
 }
 
-/// A writer that fails once, where it fails, and takes more afterwards.
-fn writer_of(alloc: Global, case: Case, count: usize) -> LimitedWriter {
-    let at_limit = AtLimit::FailsOnce(ErrorKind::BrokenPipe);
-    match case.device {
-        Device::Fills => LimitedWriter::new(alloc, count, at_limit),
-        Device::Flushes => {
-            let mut writer = LimitedWriter::unlimited(alloc);
-            writer.bad_flush = count;
-            writer
+/// How many bytes a call of a table may write.
+const ROOM: usize = 65536;
+
+/// A writer that fails once, where it fails, and takes more afterwards. Its room is reserved, so that it needs no memory in a call.
+fn writer_of(alloc: Global, case: Case, count: usize) -> Result<LimitedWriter, AllocError> {
+    let mut writer = match case.device {
+        Device::Fills => {
+            LimitedWriter::new(alloc, count, AtLimit::FailsOnce(ErrorKind::BrokenPipe))
         }
-        Device::Ends | Device::Breaks | Device::Never => LimitedWriter::unlimited(alloc),
+        Device::Ends | Device::Breaks | Device::Flushes | Device::Never => {
+            LimitedWriter::unlimited(alloc)
+        }
+    };
+    if let Device::Flushes = case.device {
+        writer.bad_flush = count;
     }
+    writer.taken = Vec::with_capacity(alloc, ROOM)?;
+    Ok(writer)
 }
 
 /// What one read gives, and what it leaves.
-fn read_answer(alloc: Global, mut reader: CuttingReader) -> Result<Answer, AllocError> {
+fn read_answer(alloc: Global, mut reader: CuttingReader) -> Result<Attempt, AllocError> {
     let read = Message::read(alloc, &mut reader);
     let left = escape(alloc, reader.left())?;
     match read {
         Ok(Some(message)) => {
             let body = message.member_text(alloc)?;
-            Ok(Answer::of(format!(in alloc; "{body}; left {left}")?))
+            Ok(Attempt::Came(format!(in alloc; "{body}; left {left}")?))
         }
-        Ok(None) => Ok(Answer::of(format!(in alloc; "the end; left {left}")?)),
-        Err(fault) => Ok(Answer {
-            text: format!(in alloc; "{fault}; left {left}")?,
-            is_memory: fault == ReadFault::Memory,
-        }),
+        Ok(None) => Ok(Attempt::Came(format!(in alloc; "the end; left {left}")?)),
+        Err(fault) => {
+            let text = format!(in alloc; "{fault}; left {left}")?;
+            Ok(answer(text, fault == ReadFault::Memory))
+        }
     }
 }
 
-fn front_answer(alloc: Global, bytes: &[u8]) -> Result<Answer, AllocError> {
+fn front_answer(alloc: Global, bytes: &[u8]) -> Result<Attempt, AllocError> {
     match front(bytes) {
-        Front::Whole(length) => Ok(Answer::of(format!(in alloc; "whole, {length} bytes")?)),
-        Front::More => Ok(Answer::of(String::from_str(alloc, "more")?)),
-        Front::Fault(fault) => Ok(Answer::of(format!(in alloc; "{fault}")?)),
+        Front::Whole(length) => Ok(Attempt::Came(format!(in alloc; "whole, {length} bytes")?)),
+        Front::More => Ok(Attempt::Came(String::from_str(alloc, "more")?)),
+        Front::Fault(fault) => Ok(Attempt::Came(format!(in alloc; "{fault}")?)),
     }
 }
 
@@ -124,10 +120,21 @@ fn session_answer(
     alloc: Global,
     mut reader: CuttingReader,
     mut writer: LimitedWriter,
-) -> Result<Answer, AllocError> {
+) -> Result<Attempt, AllocError> {
     let capabilities = Value::Object(Map::new(alloc));
     let mut echo = Echo::new(alloc);
     let ended = session(alloc, &mut reader, &mut writer, capabilities, &mut echo);
+    ended_answer(alloc, ended, writer.taken.as_slice())
+}
+
+/// How a session of a server that speaks ends, and what it wrote.
+fn speaks_answer(
+    alloc: Global,
+    mut reader: CuttingReader,
+    mut writer: LimitedWriter,
+) -> Result<Attempt, AllocError> {
+    let mut talker = Working::new(alloc, Talker::new(alloc));
+    let ended = session_with(alloc, &mut reader, &mut writer, &mut talker);
     ended_answer(alloc, ended, writer.taken.as_slice())
 }
 
@@ -137,7 +144,7 @@ fn threads_answer<R>(
     alloc: Global,
     reader: CuttingReader,
     writer: LimitedWriter,
-) -> Result<Answer, AllocError>
+) -> Result<Attempt, AllocError>
 where
     R: Threads + Wait + Copy + Drop + Send + 'static,
 {
@@ -145,10 +152,7 @@ where
     let mut echo = Echo::new(alloc);
     match run_threads(rt, alloc, reader, writer, capabilities, &mut echo) {
         Ok(done) => ended_answer(alloc, done.answer, done.writer.taken.as_slice()),
-        Err(fault) => Ok(Answer {
-            text: format!(in alloc; "{fault}; wrote ")?,
-            is_memory: true,
-        }),
+        Err(fault) => Ok(Attempt::Refused(format!(in alloc; "{fault}; wrote ")?)),
     }
 }
 
@@ -156,21 +160,34 @@ fn ended_answer(
     alloc: Global,
     ended: Result<SessionEnd, SessionFault>,
     taken: &[u8],
-) -> Result<Answer, AllocError> {
+) -> Result<Attempt, AllocError> {
     let written = escape(alloc, taken)?;
     let end = match ended {
         Ok(SessionEnd::ShutDown) => "shut down",
         Ok(SessionEnd::Closed) => "closed",
         Err(fault) => return fault_answer(alloc, fault, written.as_str()),
     };
-    Ok(Answer::of(format!(in alloc; "{end}; wrote {written}")?))
+    Ok(Attempt::Came(format!(in alloc; "{end}; wrote {written}")?))
 }
 
-fn fault_answer(alloc: Global, fault: SessionFault, written: &str) -> Result<Answer, AllocError> {
-    Ok(Answer {
-        text: format!(in alloc; "{fault}; wrote {written}")?,
-        is_memory: matches!(&fault, SessionFault::Memory),
-    })
+fn fault_answer(alloc: Global, fault: SessionFault, written: &str) -> Result<Attempt, AllocError> {
+    let text = format!(in alloc; "{fault}")?;
+    let cause = before_message(text.as_str());
+    let text = format!(in alloc; "{cause}; wrote {written}")?;
+    Ok(answer(text, ran_out(&fault)))
+}
+
+/// Whether an allocation failed. A session says so by a fault of its own.
+fn ran_out(fault: &SessionFault) -> bool {
+    matches!(fault, SessionFault::Memory)
+}
+
+fn answer(text: String, is_refused: bool) -> Attempt {
+    if is_refused {
+        Attempt::Refused(text)
+    } else {
+        Attempt::Came(text)
+    }
 }
 
 /// How passing messages on ends, and what it wrote.
@@ -179,23 +196,23 @@ fn pump_answer<R>(
     alloc: Global,
     reader: CuttingReader,
     mut writer: LimitedWriter,
-) -> Result<Answer, AllocError>
+) -> Result<Attempt, AllocError>
 where
     R: Threads + Wait + Copy + Drop + Send + 'static,
 {
     let ended = pump(rt, alloc, reader, &mut writer);
     let written = escape(alloc, writer.taken.as_slice())?;
     match ended {
-        Ok(()) => Ok(Answer::of(format!(in alloc; "passed on; wrote {written}")?)),
-        Err(fault) => Ok(Answer {
-            text: format!(in alloc; "{fault}; wrote {written}")?,
-            is_memory: ran_out(fault),
-        }),
+        Ok(()) => Ok(Attempt::Came(format!(in alloc; "passed on; wrote {written}")?)),
+        Err(fault) => {
+            let text = format!(in alloc; "{fault}; wrote {written}")?;
+            Ok(answer(text, is_refused(fault)))
+        }
     }
 }
 
 /// Whether an allocation failed. A thread is not started only where there is no memory for it.
-fn ran_out(fault: PumpFault) -> bool {
+fn is_refused(fault: PumpFault) -> bool {
     matches!(
         fault,
         PumpFault::Read(ReadFault::Memory)

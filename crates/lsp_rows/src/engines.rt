@@ -1,122 +1,123 @@
-// The handshake and the shutdown over lists. Want of memory is answered by the engine itself, and ends the program.
-use anyhow::{Result, bail};
-use lsp_message::{Message, Notification, Request, RequestId};
+// The handshake and the shutdown over the messages of a line, whose member texts have `; ` between them.
+use crate::attempt::{Attempt, Stop};
+use crate::dispatching::message_in;
+use lsp_message::{Request, RequestId};
 use lsp_session::{
-    Event, ListInbox, ListOutbox, OpenGate, ProtocolError, finish, shutdown, start_within,
+    Event, ListInbox, ListOutbox, OpenGate, ProtocolError, finish, finish_within, shutdown,
+    start_within,
 };
-use serde_json::{Value, json};
+use serde_json::{Map, Value};
 use std::alloc::{AllocError, Global};
 
-/// A whole handshake and a whole shutdown.
-pub fn run_engines<R: Print>(rt: &R, alloc: Global) -> Result<()> {
-    let mut inbox = inbox_of(alloc)?;
-    let mut outbox = ListOutbox::new(alloc, 9);
-    let id = run_start(rt, alloc, &mut inbox, &mut outbox)?;
-    run_finish(rt, alloc, &mut inbox, &mut outbox, id)?;
-    run_shutdown(rt, alloc, &mut inbox, &mut outbox)
+/// Which call ends the handshake.
+#[derive(Clone, Copy)]
+pub enum Finishing {
+    /// `finish`.
+    Waits,
+    /// `finish_within`, which asks a gate.
+    Asks,
 }
 
-/// What a client sends, with a request and a notification that come too early.
-fn inbox_of(alloc: Global) -> Result<ListInbox, AllocError> {
+/// How many turns the calls with a gate have.
+const TURNS: u64 = 10;
+
+/// What comes of a whole handshake and a whole shutdown.
+pub fn engines(alloc: Global, finishing: Finishing, texts: &str) -> Result<Attempt, Stop> {
     let mut inbox = ListInbox::new(alloc);
-    add(&mut inbox, note(alloc, "initialized")?)?;
-    add(&mut inbox, asked(alloc, 7, "x")?)?;
-    add(&mut inbox, Event::Timeout)?;
-    add(&mut inbox, asked(alloc, 234, "initialize")?)?;
-    add(&mut inbox, note(alloc, "initialized")?)?;
-    add(&mut inbox, note(alloc, "exit")?)?;
-    Ok(inbox)
-}
-
-fn add(inbox: &mut ListInbox, event: Event) -> Result<(), AllocError> {
-    inbox.events.push_back(event)?;
-    Ok(())
-}
-
-fn note(alloc: Global, method: &str) -> Result<Event, AllocError> {
-    Ok(Event::Message(Message::Notification(Notification {
-        method: String::from_str(alloc, method)?,
-        params: Value::Null,
-    })))
-}
-
-fn asked(alloc: Global, number: i32, method: &str) -> Result<Event, AllocError> {
-    Ok(Event::Message(Message::Request(Request {
-        id: RequestId::from(number),
-        method: String::from_str(alloc, method)?,
-        params: json!(in alloc; { "a": 1 })?,
-    })))
-}
-
-/// Prints what `start_within` answers and how many replies were sent, and gives the id.
-fn run_start<R: Print>(
-    rt: &R,
-    alloc: Global,
-    inbox: &mut ListInbox,
-    outbox: &mut ListOutbox,
-) -> Result<RequestId> {
-    let started = start_within(alloc, inbox, outbox, &mut OpenGate, 10);
-    let sent = outbox.sent.len();
-    match started {
+    for text in texts.split("; ") {
+        let event = Event::Message(message_in(alloc, text)?);
+        inbox.events.push_back(event)?;
+    }
+    let mut outbox = ListOutbox::new(alloc, 9);
+    match start_within(alloc, &mut inbox, &mut outbox, &mut OpenGate, TURNS) {
         Some(Ok((id, params))) => {
             let params = params.to_string(alloc)?;
-            rt.println(format!(in alloc; "  start {id} {params}, sent {sent}")?.as_str())?;
-            Ok(id)
+            let said = format!(in alloc; "start {id} {params}, sent {}", outbox.sent.len())?;
+            finished(alloc, finishing, &mut inbox, &mut outbox, id, said)
         }
-        Some(Err(error)) => {
-            rt.println(format!(in alloc; "  start {error}, sent {sent}")?.as_str())?;
-            bail!("{error}")
-        }
-        None => bail!("undecided"),
+        Some(Err(error)) => failed(alloc, "start", &error, &outbox, String::new(alloc)),
+        None => Err(Stop::Table),
     }
 }
 
-fn run_finish<R: Print>(
-    rt: &R,
+fn finished(
     alloc: Global,
+    finishing: Finishing,
     inbox: &mut ListInbox,
     outbox: &mut ListOutbox,
     id: RequestId,
-) -> Result<()> {
-    let result = json!(in alloc; { "capabilities": {} })?;
-    match finish(alloc, inbox, outbox, id, result) {
-        Ok(()) => print_answer(rt, alloc, "finish", Ok(true), outbox),
-        Err(error) => print_answer(rt, alloc, "finish", Err(error), outbox),
+    mut said: String,
+) -> Result<Attempt, Stop> {
+    let result = Value::Object(Map::new(alloc));
+    let ended = match finishing {
+        Finishing::Waits => Some(finish(alloc, inbox, outbox, id, result)),
+        Finishing::Asks => finish_within(alloc, inbox, outbox, &mut OpenGate, id, result, TURNS),
+    };
+    match ended {
+        Some(Ok(())) => {
+            let sent = outbox.sent.len();
+            said.push_str(format!(in alloc; "; finish, sent {sent}")?.as_str())?;
+            shut_down(alloc, inbox, outbox, said)
+        }
+        Some(Err(error)) => failed(alloc, "finish", &error, outbox, said),
+        None => Err(Stop::Table),
     }
 }
 
-fn run_shutdown<R: Print>(
-    rt: &R,
+fn shut_down(
     alloc: Global,
     inbox: &mut ListInbox,
     outbox: &mut ListOutbox,
-) -> Result<()> {
-    let last = Request {
+    mut said: String,
+) -> Result<Attempt, Stop> {
+    let request = Request {
         id: RequestId::from(String::from_str(alloc, "last")?),
         method: String::from_str(alloc, "shutdown")?,
         params: Value::Null,
     };
-    let ended = shutdown(alloc, inbox, outbox, &last);
-    print_answer(rt, alloc, "shutdown", ended, outbox)
+    match shutdown(alloc, inbox, outbox, &request) {
+        Ok(is_done) => {
+            let sent = outbox.sent.len();
+            said.push_str(format!(in alloc; "; shutdown {is_done}, sent {sent}")?.as_str())?;
+            Ok(Attempt::Came(said))
+        }
+        Err(error) => failed(alloc, "shutdown", &error, outbox, said),
+    }
 }
 
-/// Prints what an engine answered, and how many messages were sent.
-fn print_answer<R: Print>(
-    rt: &R,
+/// What comes where a call answers with an error. Of its text the part before the message that came is shown.
+fn failed(
     alloc: Global,
     name: &str,
-    answered: Result<bool, ProtocolError>,
+    error: &ProtocolError,
     outbox: &ListOutbox,
-) -> Result<()> {
+    mut said: String,
+) -> Result<Attempt, Stop> {
     let sent = outbox.sent.len();
-    match answered {
-        Ok(is_done) => {
-            rt.println(format!(in alloc; "  {name} {is_done}, sent {sent}")?.as_str())?;
-            Ok(())
-        }
-        Err(error) => {
-            rt.println(format!(in alloc; "  {name} {error}, sent {sent}")?.as_str())?;
-            bail!("{error}")
-        }
+    if error.is_out_of_memory() {
+        return Ok(Attempt::Refused(format!(in alloc; "{name}, sent {sent}")?));
     }
+    if !said.is_empty() {
+        said.push_str("; ")?;
+    }
+    said.push_str(cause_of(alloc, name, error, sent)?.as_str())?;
+    Ok(Attempt::Came(said))
+}
+
+fn cause_of(
+    alloc: Global,
+    name: &str,
+    error: &ProtocolError,
+    sent: usize,
+) -> Result<String, AllocError> {
+    let text = format!(in alloc; "{error}")?;
+    let cause = before_message(text.as_str());
+    format!(in alloc; "{name}: {cause}, sent {sent}")
+}
+
+/// The text of a `ProtocolError` without the message that came, whose form is open.
+pub fn before_message(text: &str) -> &str {
+    let (cause, _) = text.split_once(", got").unwrap_or((text, ""));
+    let (cause, _) = cause.split_once(": ").unwrap_or((cause, ""));
+    cause
 }

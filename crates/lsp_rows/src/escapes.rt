@@ -1,17 +1,17 @@
 // Bytes as a line of text: what is no visible ASCII character is `\r`, `\n` or `\x` and two digits.
-use anyhow::{Context, Result};
+use crate::attempt::Stop;
 use std::alloc::{AllocError, Global};
 use std::fmt::Write;
 
 /// The bytes of a text with escapes.
-pub fn unescape(alloc: Global, text: &str) -> Result<Vec<u8>> {
+pub fn unescape(alloc: Global, text: &str) -> Result<Vec<u8>, Stop> {
     let mut bytes = Vec::new(alloc);
     let mut is_first = true;
     for part in text.split('\\') {
         if is_first {
             bytes.extend_from_slice(part.as_bytes())?;
         } else {
-            let (byte, others) = escaped_byte(part).context("an escape")?;
+            let (byte, others) = escaped_byte(part).ok_or(Stop::Table)?;
             bytes.push(byte)?;
             bytes.extend_from_slice(others.as_bytes())?;
         }

@@ -1,139 +1,197 @@
-// The calls of the queues. Where one answers that an allocation failed, its state has to be as before, and the same call is made
-// once more.
-use anyhow::{Result, bail, ensure};
-use lsp_message::{Message, Request, RequestId, Response};
-use lsp_queue::{Incoming, Outgoing, RegisterFault, ReqQueue};
+// The calls of the queues, as steps of a line.
+//
+// | Step | The call |
+// |---|---|
+// | `register METHOD PARAMS DATA`, `register_value METHOD PARAMS DATA`, `complete ID` | of `Outgoing` |
+// | `receive ID DATA`, `cancel ID`, `answer ID` | `register`, `cancel` and `complete` of `Incoming` |
+//
+// Where a call is refused, its data has to come back and both queues have to be as before; then it is made once more.
+use crate::attempt::{Attempt, Stop, print_came, print_refused};
+use lsp_message::{Message, RequestId, Response};
+use lsp_queue::{RegisterFault, ReqQueue};
 use serde_json::Value;
 use std::alloc::{AllocError, Global};
 
-/// Two requests of this side, which are completed, and two of the other, of which one is cancelled.
-pub fn run_queues<R: Print>(rt: &R, alloc: Global) -> Result<()> {
-    let mut queue: ReqQueue<char, char> = ReqQueue::default(alloc);
-    run_outgoing(rt, alloc, &mut queue.outgoing)?;
-    run_incoming(rt, alloc, &mut queue.incoming)?;
+type Queue = ReqQueue<char, char>;
+
+/// Runs the steps on new queues.
+pub fn run_queues<R: Print>(rt: &R, alloc: Global, steps: &str) -> Result<(), Stop> {
+    let mut queue: Queue = ReqQueue::default(alloc);
+    for step in steps.split("; ") {
+        let came = run_step(rt, alloc, &mut queue, step)?;
+        print_came(rt, alloc, came.as_str())?;
+    }
     let pending = queue.has_pending();
-    rt.println(format!(in alloc; "  pending {pending}")?.as_str())?;
-    Ok(())
+    print_came(rt, alloc, format!(in alloc; "pending {pending}")?.as_str())
 }
 
-fn run_outgoing<R: Print>(rt: &R, alloc: Global, queue: &mut Outgoing<char>) -> Result<()> {
-    let first = sent(alloc, queue, 'a')?;
-    rt.println(format!(in alloc; "  sent {first}")?.as_str())?;
-    let second = sent_value(alloc, queue, 'b')?;
-    rt.println(format!(in alloc; "  sent {second}")?.as_str())?;
-    let came = queue.complete(RequestId::from(0));
-    let again = queue.complete(RequestId::from(0));
-    let other = queue.complete(RequestId::from(1));
-    rt.println(format!(in alloc; "  completed {came:?} {again:?} {other:?}")?.as_str())?;
-    Ok(())
-}
-
-fn run_incoming<R: Print>(rt: &R, alloc: Global, queue: &mut Incoming<char>) -> Result<()> {
-    received(queue, 7, 'a')?;
-    received(queue, 7, 'b')?;
-    received(queue, 8, 'c')?;
-    let reply = cancelled(alloc, queue, 8)?;
-    rt.println(format!(in alloc; "  cancelled {reply}")?.as_str())?;
-    let reply = cancelled(alloc, queue, 8)?;
-    rt.println(format!(in alloc; "  cancelled {reply}")?.as_str())?;
-    let came = queue.complete(&RequestId::from(7));
-    let again = queue.complete(&RequestId::from(7));
-    rt.println(format!(in alloc; "  completed {came:?} {again:?}")?.as_str())?;
-    Ok(())
-}
-
-/// A registration of this side, with params that are converted.
-fn sent(alloc: Global, queue: &mut Outgoing<char>, data: char) -> Result<String> {
-    let was_pending = queue.has_pending();
-    let method = String::from_str(alloc, "m")?;
-    match queue.register(method, 5, data) {
-        Ok(request) => Ok(request_text(alloc, request)?),
-        Err(RegisterFault::Memory(back) | RegisterFault::Unwritable(back)) => {
-            ensure!(back == data, "other data came back");
-            ensure!(
-                queue.has_pending() == was_pending,
-                "a refused registration is pending"
-            );
-            match queue.register(String::from_str(alloc, "m")?, 5, data) {
-                Ok(request) => Ok(request_text(alloc, request)?),
-                Err(_) => bail!("refused twice"),
+fn run_step<R: Print>(
+    rt: &R,
+    alloc: Global,
+    queue: &mut Queue,
+    step: &str,
+) -> Result<String, Stop> {
+    let before = state_of(queue);
+    match attempt(alloc, queue, step)? {
+        Attempt::Came(came) => return Ok(came),
+        Attempt::Refused(what) => {
+            if !is_same(&before, &state_of(queue)) {
+                return Err(Stop::Broken("a refused call changed the queues"));
             }
-        }
-        Err(RegisterFault::Spent(_)) => bail!("no id is left"),
-    }
-}
-
-/// A registration of this side, with params that are a value.
-fn sent_value(alloc: Global, queue: &mut Outgoing<char>, data: char) -> Result<String> {
-    let was_pending = queue.has_pending();
-    let method = String::from_str(alloc, "m")?;
-    match queue.register_value(method, Value::Null, data) {
-        Ok(request) => Ok(request_text(alloc, request)?),
-        Err(RegisterFault::Memory(back)) => {
-            ensure!(back == data, "other data came back");
-            ensure!(
-                queue.has_pending() == was_pending,
-                "a refused registration is pending"
-            );
-            match queue.register_value(String::from_str(alloc, "m")?, Value::Null, data) {
-                Ok(request) => Ok(request_text(alloc, request)?),
-                Err(_) => bail!("refused twice"),
-            }
-        }
-        Err(RegisterFault::Unwritable(_)) => bail!("a value was converted"),
-        Err(RegisterFault::Spent(_)) => bail!("no id is left"),
-    }
-}
-
-/// A registration of the other side.
-fn received(queue: &mut Incoming<char>, number: i32, data: char) -> Result<()> {
-    let id = RequestId::from(number);
-    let was_completed = queue.is_completed(&id);
-    match queue.register(RequestId::from(number), data) {
-        Ok(()) => Ok(()),
-        Err(RegisterFault::Memory(back)) => {
-            ensure!(back == data, "other data came back");
-            ensure!(
-                queue.is_completed(&id) == was_completed,
-                "a refused registration is pending"
-            );
-            match queue.register(id, data) {
-                Ok(()) => Ok(()),
-                Err(_) => bail!("refused twice"),
-            }
-        }
-        Err(_) => bail!("another refusal than memory"),
-    }
-}
-
-/// The reply to a request of the other side that is cancelled.
-fn cancelled(alloc: Global, queue: &mut Incoming<char>, number: i32) -> Result<String> {
-    let was_completed = queue.is_completed(&RequestId::from(number));
-    match queue.cancel(RequestId::from(number)) {
-        Ok(reply) => Ok(reply_text(alloc, reply)?),
-        Err(_) => {
-            let is_completed = queue.is_completed(&RequestId::from(number));
-            ensure!(!was_completed, "memory was taken where nothing is pending");
-            ensure!(!is_completed, "a refused cancellation took the request out");
-            match queue.cancel(RequestId::from(number)) {
-                Ok(reply) => Ok(reply_text(alloc, reply)?),
-                Err(_) => bail!("refused twice"),
-            }
+            print_refused(rt, alloc, what.as_str())?;
         }
     }
+    attempt(alloc, queue, step)?.again()
 }
 
-fn request_text(alloc: Global, request: Request) -> Result<String, AllocError> {
-    member_text(alloc, Message::from(request))
+/// How many ids a table may use, from 0.
+const IDS: i32 = 16;
+
+/// What is pending under each id, of this side and of the other.
+#[derive(Drop)]
+struct State {
+    outgoing: [Option<char>; 16],
+    incoming: [Option<char>; 16],
 }
 
-fn reply_text(alloc: Global, reply: Option<Response>) -> Result<String, AllocError> {
-    match reply {
-        Some(reply) => member_text(alloc, Message::from(reply)),
-        None => String::from_str(alloc, "none"),
+fn state_of(queue: &Queue) -> State {
+    let mut state = State {
+        outgoing: [None; 16],
+        incoming: [None; 16],
+    };
+    for (number, cell) in (0..IDS).zip(state.outgoing.iter_mut()) {
+        *cell = queue.outgoing.data(&RequestId::from(number)).copied();
+    }
+    for (number, cell) in (0..IDS).zip(state.incoming.iter_mut()) {
+        *cell = queue.incoming.data(&RequestId::from(number)).copied();
+    }
+    state
+}
+
+fn is_same(one: &State, other: &State) -> bool {
+    one.outgoing == other.outgoing && one.incoming == other.incoming
+}
+
+fn attempt(alloc: Global, queue: &mut Queue, step: &str) -> Result<Attempt, Stop> {
+    let (verb, words) = step.split_once(" ").ok_or(Stop::Table)?;
+    match verb {
+        "register" => register(alloc, queue, words),
+        "register_value" => register_value(alloc, queue, words),
+        "complete" => complete(alloc, queue, words),
+        "receive" => receive(alloc, queue, words),
+        "cancel" => cancel(alloc, queue, words),
+        "answer" => answer(alloc, queue, words),
+        _ => Err(Stop::Table),
     }
 }
 
-fn member_text(alloc: Global, message: Message) -> Result<String, AllocError> {
+/// A request of this side, as a step says it.
+#[derive(Drop)]
+struct Asked {
+    method: String,
+    params: Value,
+    data: char,
+}
+
+fn asked_in(alloc: Global, words: &str) -> Result<Asked, Stop> {
+    let (method, rest) = words.split_once(" ").ok_or(Stop::Table)?;
+    let (params, data) = rest.rsplit_once(" ").ok_or(Stop::Table)?;
+    Ok(Asked {
+        method: String::from_str(alloc, method)?,
+        params: value_in(alloc, params)?,
+        data: data_in(data)?,
+    })
+}
+
+/// The tree of a text that is one.
+fn value_in(alloc: Global, text: &str) -> Result<Value, Stop> {
+    Value::from_str(alloc, text).map_err(|_| Stop::Memory)
+}
+
+fn data_in(word: &str) -> Result<char, Stop> {
+    word.chars().next().ok_or(Stop::Table)
+}
+
+fn id_in(word: &str) -> Result<RequestId, Stop> {
+    let number: i32 = word.parse().map_err(|_| Stop::Table)?;
+    Ok(RequestId::from(number))
+}
+
+fn register(alloc: Global, queue: &mut Queue, words: &str) -> Result<Attempt, Stop> {
+    let Asked {
+        method,
+        params,
+        data,
+    } = asked_in(alloc, words)?;
+    match queue.outgoing.register(method, params, data) {
+        Ok(request) => sent(alloc, Message::from(request)),
+        Err(RegisterFault::Memory(back)) => handed_back(alloc, "register 1", data, back),
+        Err(RegisterFault::Unwritable(back)) => handed_back(alloc, "register 2", data, back),
+        Err(RegisterFault::Spent(_)) => Err(Stop::Broken("no id is left")),
+    }
+}
+
+fn register_value(alloc: Global, queue: &mut Queue, words: &str) -> Result<Attempt, Stop> {
+    let Asked {
+        method,
+        params,
+        data,
+    } = asked_in(alloc, words)?;
+    match queue.outgoing.register_value(method, params, data) {
+        Ok(request) => sent(alloc, Message::from(request)),
+        Err(RegisterFault::Memory(back)) => handed_back(alloc, "register_value", data, back),
+        Err(RegisterFault::Unwritable(_)) => Err(Stop::Broken("a value was converted")),
+        Err(RegisterFault::Spent(_)) => Err(Stop::Broken("no id is left")),
+    }
+}
+
+fn receive(alloc: Global, queue: &mut Queue, words: &str) -> Result<Attempt, Stop> {
+    let (id, data) = words.split_once(" ").ok_or(Stop::Table)?;
+    let data = data_in(data)?;
+    match queue.incoming.register(id_in(id)?, data) {
+        Ok(()) => Ok(Attempt::Came(format!(in alloc; "received {id}")?)),
+        Err(RegisterFault::Memory(back)) => handed_back(alloc, "receive", data, back),
+        Err(_) => Err(Stop::Broken("another refusal than memory")),
+    }
+}
+
+fn handed_back(alloc: Global, name: &str, data: char, back: char) -> Result<Attempt, Stop> {
+    if back != data {
+        return Err(Stop::Broken("other data came back"));
+    }
+    Ok(Attempt::refused(alloc, name)?)
+}
+
+fn cancel(alloc: Global, queue: &mut Queue, word: &str) -> Result<Attempt, Stop> {
+    match queue.incoming.cancel(id_in(word)?) {
+        Ok(reply) => cancelled(alloc, reply),
+        Err(_) => Ok(Attempt::refused(alloc, "cancel")?),
+    }
+}
+
+fn cancelled(alloc: Global, reply: Option<Response>) -> Result<Attempt, Stop> {
+    let text = match reply {
+        Some(reply) => text_of(alloc, Message::from(reply))?,
+        None => String::from_str(alloc, "none")?,
+    };
+    Ok(Attempt::Came(format!(in alloc; "cancelled {text}")?))
+}
+
+fn complete(alloc: Global, queue: &mut Queue, word: &str) -> Result<Attempt, Stop> {
+    let came = queue.outgoing.complete(id_in(word)?);
+    Ok(Attempt::Came(format!(in alloc; "completed {came:?}")?))
+}
+
+fn answer(alloc: Global, queue: &mut Queue, word: &str) -> Result<Attempt, Stop> {
+    let came = queue.incoming.complete(&id_in(word)?);
+    Ok(Attempt::Came(format!(in alloc; "answered {came:?}")?))
+}
+
+fn sent(alloc: Global, message: Message) -> Result<Attempt, Stop> {
+    let text = text_of(alloc, message)?;
+    Ok(Attempt::Came(format!(in alloc; "sent {text}")?))
+}
+
+fn text_of(alloc: Global, message: Message) -> Result<String, AllocError> {
     message.member_text(alloc)
 }

@@ -1,4 +1,5 @@
 // The lines of a table.
+use crate::engines::Finishing;
 
 /// A line of a table.
 #[derive(Clone, Copy)]
@@ -9,10 +10,14 @@ pub enum Line<'a> {
     Text(&'a str),
     /// A call that reads.
     Case(Case),
-    /// The calls of the queues.
-    Queues,
-    /// The calls of the handshake and the shutdown.
-    Engines,
+    /// These calls of the queues.
+    Queues(&'a str),
+    /// These calls of a dispatcher, each alone.
+    Dispatch(&'a str),
+    /// The same by one call.
+    Replay(&'a str),
+    /// The calls of the handshake and the shutdown on these messages.
+    Engines(Finishing, &'a str),
     /// The calls that convert the message of this member text.
     Value(&'a str),
 }
@@ -34,6 +39,8 @@ pub enum Call {
     Front,
     /// `session`, with no capabilities and an echo.
     Session,
+    /// `session_with`, with a server that speaks.
+    Speaks,
     /// `run_threads`, in the same way.
     Threads,
     /// `pump`.
@@ -66,20 +73,22 @@ pub enum Place {
 
 /// What a line says. There is none where it says nothing that is known.
 pub fn line_of(line: &str) -> Option<Line<'_>> {
-    if line.is_empty() || line.starts_with('#') {
+    if line.is_empty() || line.starts_with("#") {
         return Some(Line::Nothing);
     }
-    if let Some(text) = line.strip_prefix("= ") {
-        return Some(Line::Text(text));
+    if let Some((word, rest)) = line.split_once(" ") {
+        match word {
+            "=" => return Some(Line::Text(rest)),
+            "queues" => return Some(Line::Queues(rest)),
+            "dispatch" => return Some(Line::Dispatch(rest)),
+            "replay" => return Some(Line::Replay(rest)),
+            "engines" => return Some(Line::Engines(Finishing::Waits, rest)),
+            "gated" => return Some(Line::Engines(Finishing::Asks, rest)),
+            "values" => return Some(Line::Value(rest)),
+            _ => {}
+        }
     }
-    if let Some(text) = line.strip_prefix("values ") {
-        return Some(Line::Value(text));
-    }
-    match line {
-        "queues" => Some(Line::Queues),
-        "engines" => Some(Line::Engines),
-        _ => Some(Line::Case(case_of(line)?)),
-    }
+    Some(Line::Case(case_of(line)?))
 }
 
 fn case_of(line: &str) -> Option<Case> {
@@ -111,6 +120,7 @@ fn call_of(word: &str) -> Option<Call> {
         "read" => Some(Call::Read),
         "front" => Some(Call::Front),
         "session" => Some(Call::Session),
+        "speaks" => Some(Call::Speaks),
         "threads" => Some(Call::Threads),
         "pump" => Some(Call::Pump),
         _ => None,
