@@ -1,5 +1,5 @@
-//! The examples of the README, so that they are compiled, proved and run: a server by `session`, a client over TCP, and a loop
-//! over messages. `example_connection` is a whole program.
+//! Small examples that the pages and the doc comments show, so that they are compiled, proved and run. `example_connection` is a whole
+//! program.
 #![tactic(auto)]
 
 pub mod client;
