@@ -9,6 +9,7 @@
 
 mod devices;
 mod gates;
+mod pusher;
 mod relays;
 mod rows;
 mod runs;
@@ -16,13 +17,14 @@ mod sweeps;
 
 use anyhow::{Context, Result};
 use rows::{Input, Kind, Row, row_of};
+use runs::Ran;
 use std::alloc::Global;
 use std::str;
 use std::sync::Wait;
 use std::thread::Threads;
 
 /// How many bytes of output are shown at most.
-const SHOWN: usize = 300;
+const SHOWN: usize = 600;
 
 fn main(rt: HostRuntime) -> Result<()> {
     for line in rt.lines(rt.alloc()) {
@@ -41,19 +43,24 @@ where
 {
     let Row { kind, name, input } = row;
     match kind {
-        Kind::Session => say_session(rt, alloc, name.as_str(), &input),
+        Kind::Session => {
+            let one = runs::alone(alloc, &input)?;
+            let many = runs::in_threads(rt, alloc, &input)?;
+            say_both(rt, alloc, name.as_str(), one, many)
+        }
+        Kind::Speaking => {
+            let one = runs::speaking_alone(alloc, &input)?;
+            let many = runs::speaking_in_threads(rt, alloc, &input)?;
+            say_both(rt, alloc, name.as_str(), one, many)
+        }
         Kind::Readers => sweeps::say_readers(rt, alloc, name.as_str(), input),
         Kind::Writers => sweeps::say_writers(rt, alloc, name.as_str(), input),
         Kind::Pump => say_pump(rt, alloc, name.as_str(), &input),
     }
 }
 
-fn say_session<R>(rt: &R, alloc: Global, name: &str, input: &Input) -> Result<()>
-where
-    R: Threads + Wait + Print + Copy + Drop + Send + 'static,
-{
-    let one = runs::alone(alloc, input)?;
-    let many = runs::in_threads(rt, alloc, input)?;
+/// Says what a session comes to on one thread, and whether it comes to the same in threads.
+fn say_both<R: Print>(rt: &R, alloc: Global, name: &str, one: Ran, many: Ran) -> Result<()> {
     println!(rt; "{name}: {}, {} bytes written", one.said, one.written.len())?;
     say_text(rt, alloc, one.written.as_slice())?;
     if one.is_same(&many) {

@@ -7,6 +7,8 @@ use std::alloc::Global;
 pub(crate) enum Kind {
     /// A session.
     Session,
+    /// A session of a server that speaks.
+    Speaking,
     /// A session, with a reader that fails after each number of bytes in turn.
     Readers,
     /// A session, with a writer that fails after each number of bytes in turn.
@@ -60,6 +62,7 @@ pub(crate) fn row_of(alloc: Global, line: &str) -> Result<Row> {
 fn kind_of(word: &str) -> Result<Kind> {
     match word {
         "session" => Ok(Kind::Session),
+        "speaking" => Ok(Kind::Speaking),
         "readers" => Ok(Kind::Readers),
         "writers" => Ok(Kind::Writers),
         "pump" => Ok(Kind::Pump),

@@ -1,9 +1,10 @@
 //! A row, run in threads and on one thread.
 use crate::devices::{Bytes, Short};
+use crate::pusher::Pusher;
 use crate::rows::Input;
 use lsp_server::{
-    Handler, Notification, Request, ResponseError, SessionEnd, SessionFault, pump, run_threads,
-    session,
+    Handler, Notification, Request, ResponseError, SessionEnd, SessionFault, Working, pump,
+    run_threads, run_threads_with, session, session_with,
 };
 use serde_json::{Map, Value};
 use std::alloc::{AllocError, Global};
@@ -105,6 +106,38 @@ where
     let writer = writer_of(alloc, input)?;
     let capabilities = Value::Object(Map::new(alloc));
     match run_threads(rt, alloc, reader, writer, capabilities, &mut Echo) {
+        Ok(done) => Ok(Ran {
+            said: said(alloc, done.answer)?,
+            written: done.writer.taken,
+        }),
+        Err(fault) => Ok(Ran {
+            said: fault.to_string(alloc)?,
+            written: Vec::new(alloc),
+        }),
+    }
+}
+
+/// A session of a server that speaks, on one thread.
+pub(crate) fn speaking_alone(alloc: Global, input: &Input) -> io::Result<Ran> {
+    let mut reader = reader_of(alloc, input)?;
+    let mut writer = writer_of(alloc, input)?;
+    let mut working = Working::new(alloc, Pusher::new(alloc));
+    let answer = session_with(alloc, &mut reader, &mut writer, &mut working);
+    Ok(Ran {
+        said: said(alloc, answer)?,
+        written: writer.taken,
+    })
+}
+
+/// A session of a server that speaks, in threads.
+pub(crate) fn speaking_in_threads<R>(rt: &R, alloc: Global, input: &Input) -> io::Result<Ran>
+where
+    R: Threads + Wait + Copy + Drop + Send + 'static,
+{
+    let reader = reader_of(alloc, input)?;
+    let writer = writer_of(alloc, input)?;
+    let mut working = Working::new(alloc, Pusher::new(alloc));
+    match run_threads_with(rt, alloc, reader, writer, &mut working) {
         Ok(done) => Ok(Ran {
             said: said(alloc, done.answer)?,
             written: done.writer.taken,
