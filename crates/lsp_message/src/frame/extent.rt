@@ -7,7 +7,7 @@ use crate::frame::ReadFault;
 pub enum Front {
     /// A whole message has arrived: its header part and its content part are the first so many bytes.
     Whole(usize),
-    /// A header line is bad, or the header part has no length. The number is that of the read fault, from 2 to 6.
+    /// A header line is bad, or the header part has no length: read fault 2 to 6.
     Fault(ReadFault),
     /// More bytes have to arrive.
     More,
