@@ -11,7 +11,7 @@ use Rattle.lsp_message.specs.Written.{IsFrameOf, AreFramesOf, GetsFrames, IsOutp
 use Rattle.lsp_message.specs.declared.frame.ReadFault.{ReadFault}
 use Rattle.lsp_message.specs.declared.frame.ReadFault.TheVariants.{Input, Memory as NoMemoryToRead}
 use Rattle.lsp_session.specs.ProtocolError.{fault_text}
-use Rattle.lsp_session.specs.Session.{SessionAnswer, Stop, decided, no_more, refused}
+use Rattle.lsp_session.specs.Session.{SessionAnswer, SessionPart, Stop, decided, no_more, refused}
 use Rattle.lsp_session.specs.declared.loops.serving.SessionEnd.{SessionEnd}
 use Rattle.lsp_session.specs.declared.loops.stream_session.SessionFault.{SessionFault}
 use Rattle.lsp_session.specs.declared.loops.stream_session.SessionFault.TheVariants.{Protocol, Read, Write, Memory}
@@ -53,7 +53,7 @@ FailedAfter limit (Input kind) at left = StopsWithin left (reading_within limit 
 FailedAfter limit NoMemoryToRead at left = ⊥
 FailedAfter limit fault at left = (rest : List ℕ) × (reading_within limit at ≡ record { outcome = Err fault; rest = rest }) × (left ≡ Some rest)
 
-module _ (limit : ℕ) (P : List Message → Stop → List Message → Option Message → SessionAnswer → Type 0) (text : List ℕ) (left old new : Option (List ℕ)) where
+module _ (limit : ℕ) (P : SessionPart) (text : List ℕ) (left old new : Option (List ℕ)) where
   -- The session came to its end: its letters are the first messages of the text, and all its output was written.
   pub record Comes (answer : SessionAnswer) : Type 0 where
     pub letters : List Message

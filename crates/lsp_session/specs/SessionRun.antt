@@ -4,7 +4,7 @@ use Rattle.std.specs.Prelude.{◌≡◌, ◌≤◌, ◌-◌, ◌^◌, ◌⊎◌,
 use Rattle.lsp_message.specs.Message.{Message}
 use Rattle.lsp_session.specs.Boxes.{Offers, Takes}
 use Rattle.lsp_session.specs.Event.{Event, message, timeout, closed}
-use Rattle.lsp_session.specs.Session.{SessionAnswer, is_shutdown, Stop, decided, no_more, timed_out, refused, exhausted}
+use Rattle.lsp_session.specs.Session.{SessionAnswer, SessionPart, is_shutdown, Stop, decided, no_more, timed_out, refused, exhausted}
 use Rattle.lsp_session.specs.declared.lifecycle.SendFault.{SendFault}
 
 -- the message that an event brings
@@ -56,7 +56,7 @@ module _ {O : Type 0} (sends : O → Message → Result (Unit {0}) SendFault →
 
 module _ {I O : Type 0} (receives : I → Event → I → Type 0) (sends : O → Message → Result (Unit {0}) SendFault → O → Type 0) where
   -- The boxes went from old to new in a part of a session that P describes, in which events were awaited so.
-  pub record RunsAwaiting (Awaits : List Event → Option Message → Type 0) (P : List Message → Stop → List Message → Option Message → SessionAnswer → Type 0) (old : I × O) (answer : SessionAnswer) (new : I × O) : Type 0 where
+  pub record RunsAwaiting (Awaits : List Event → Option Message → Type 0) (P : SessionPart) (old : I × O) (answer : SessionAnswer) (new : I × O) : Type 0 where
     pub events : List Event
     pub received : FoldsTo receives old.0 events new.0
     pub letters : List Message
@@ -69,5 +69,5 @@ module _ {I O : Type 0} (receives : I → Event → I → Type 0) (sends : O →
     pub part : P letters stop output null answer
 
   -- the same of a whole session, or of its part from some message on
-  abbrev pub Runs : (List Message → Stop → List Message → Option Message → SessionAnswer → Type 0) → I × O → SessionAnswer → I × O → Type 0
+  abbrev pub Runs : SessionPart → I × O → SessionAnswer → I × O → Type 0
   Runs = RunsAwaiting AwaitsExit
