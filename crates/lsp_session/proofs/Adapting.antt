@@ -1,7 +1,6 @@
 -- A session of a handler, from that of the speaker over it.
-use Rattle.std.proofs.Common.{◌≡◌, refl, sym, ◌∙◌, ap, ◌⊎◌, inl, inr, ℕ, Bool, true, false, not, List, [], ◌∷◌, ◌++◌, append_assoc, append-nil, Option, Some, None, codes}
+use Rattle.std.proofs.Common.{◌≡◌, refl, ◌∙◌, ap, inl, inr, ℕ, Bool, true, false, List, [], ◌∷◌, ◌++◌, append_assoc, append-nil, Option, Some, None, codes}
 use Rattle.std.specs.Bool.{MatchBool}
-use Rattle.std.specs.List.{AllZip, list_all, filter_map}
 use Rattle.std.specs.Prelude.{Result, Ok, Err, IsErrAnd, MatchResult}
 use Rattle.std.specs.Str.{bytes_eq}
 use Rattle.serde_json.specs.Data.{Data}
@@ -11,8 +10,7 @@ use Rattle.lsp_message.specs.Message.{Message, ErrorObject, request, notificatio
 use Rattle.lsp_session.specs.Answering.{KeepsHandler, AnsweringGives, AnsweringInitializes, AnsweringOpens}
 use Rattle.lsp_session.specs.Finish.{is_initialized}
 use Rattle.lsp_session.specs.ProtocolError.{expected_initialize, expected_initialized, Shows}
-use Rattle.lsp_session.specs.Replies.{ok_reply}
-use Rattle.lsp_session.specs.Session.{SessionAnswer, Stop, decided, no_more, timed_out, refused, exhausted, IsLast, request_id, is_initialize, initialize_result, Handles, HandlesAll, Serves, AfterEarly, SessionOut, IsLeft as IsLeftOver, IsSilent as IsUntouched, AfterInitialize as AfterAnswer}
+use Rattle.lsp_session.specs.Session.{SessionAnswer, SessionPart, Stop, decided, no_more, timed_out, refused, exhausted, IsLast, is_initialize, Handles, HandlesAll, Serves, AfterEarly, SessionOut, IsLeft as IsLeftOver, IsSilent as IsUntouched, AfterInitialize as AfterAnswer}
 use Rattle.lsp_session.specs.Speech.{GivesAll, GivesTo, IsLeft, Speaks, IsSilent, Opened, AfterInitialize, SpeechOut}
 use Rattle.lsp_session.specs.Start.{is_early, IsEarlyReply}
 use Rattle.lsp_session.specs.declared.loops.answering.Answering.{Answering}
@@ -151,7 +149,7 @@ module _ {H : Type 0} (answers : H → Id → List ℕ → Data → Result Data 
         at false last = (last.0, last.1, silent_as stop s output null held last.2)
 
     module _ (capabilities : Data) where
-      abbrev pub Out : List Message → Stop → List Message → Option Message → SessionAnswer → Type 0
+      abbrev pub Out : SessionPart
       Out = SessionOut answers notes capabilities h h'
 
       -- no early letter came

@@ -13,7 +13,7 @@ use Rattle.lsp_session.proofs.Starting.{AllZip-append}
 use Rattle.lsp_session.specs.Answered.{RepliesTo, RepliesToEach, requests_of, AnswersAll, ReadsNoMore, AnswersAllButLast, AnswersRequests}
 use Rattle.lsp_session.specs.Finish.{is_initialized}
 use Rattle.lsp_session.specs.ProtocolError.{ProtocolFault, expected_initialized, unexpected_in_shutdown, Shows}
-use Rattle.lsp_session.specs.Session.{SessionAnswer, Stop, decided, no_more, timed_out, refused, exhausted, request_id, IsLast, IsSilent, Handles, HandlesAll, AfterShutdown, AfterServed, Serves, AfterInitialize, AfterEarly, SessionOut}
+use Rattle.lsp_session.specs.Session.{SessionAnswer, SessionPart, Stop, decided, no_more, timed_out, refused, exhausted, request_id, IsLast, IsSilent, Handles, HandlesAll, AfterShutdown, AfterServed, Serves, AfterInitialize, AfterEarly, SessionOut}
 use Rattle.lsp_session.specs.SessionBytes.{BeginsWith, all_of, LeftAfter, FailedAfter, Comes, Gives}
 use Rattle.lsp_session.specs.Start.{IsEarlyReply}
 use Rattle.lsp_session.specs.declared.loops.serving.SessionEnd.{SessionEnd}
@@ -188,7 +188,7 @@ module _ {H : Type 0} (answers : H → Id → List ℕ → Data → Result Data 
           (early_each (requests_of out.before) out.replies out.each_replied) (early_replied out.rest out.later out.end))
 
 -- a session whose requests were all answered, but perhaps for the one that ended it
-module _ (limit : ℕ) (P : List Message → Stop → List Message → Option Message → SessionAnswer → Type 0)
+module _ (limit : ℕ) (P : SessionPart)
     (replies : (letters : List Message) (stop : Stop) (output : List Message) (null : Option Message) (answer : SessionAnswer)
     → P letters stop output null answer → Replied stop letters (all_of output null) answer)
     (text : List ℕ) (left a b : Option (List ℕ)) where
@@ -246,7 +246,7 @@ module _ (limit : ℕ) (P : List Message → Stop → List Message → Option Me
   answers_requests (Err Memory) gives = tt
 
 -- the same where the text is known
-pub answers_known : (limit : ℕ) (P : List Message → Stop → List Message → Option Message → SessionAnswer → Type 0)
+pub answers_known : (limit : ℕ) (P : SessionPart)
     → ((letters : List Message) (stop : Stop) (output : List Message) (null : Option Message) (answer : SessionAnswer)
     → P letters stop output null answer → Replied stop letters (all_of output null) answer)
     → (known left a b : Option (List ℕ)) (answer : Result SessionEnd SessionFault) → IfSome known (λ text. Gives limit P text left a b answer)

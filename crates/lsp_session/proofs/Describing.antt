@@ -3,7 +3,7 @@ use Rattle.std.proofs.Common.{ℕ, List, Option, Some, None, IfSome}
 use Rattle.std.specs.Prelude.{Result, Ok, Err}
 use Rattle.lsp_message.specs.Message.{Message}
 use Rattle.lsp_session.specs.Event.{Event}
-use Rattle.lsp_session.specs.Session.{SessionAnswer, Stop}
+use Rattle.lsp_session.specs.Session.{SessionAnswer, SessionPart, Stop}
 use Rattle.lsp_session.specs.SessionBytes.{Gives}
 use Rattle.lsp_session.specs.SessionRun.{Runs}
 use Rattle.lsp_session.specs.declared.lifecycle.SendFault.{SendFault}
@@ -13,7 +13,7 @@ use Rattle.lsp_session.specs.declared.loops.stream_session.SessionFault.TheVaria
 
 -- over boxes
 pub runs_as : {I O : Type 0} (receives : I → Event → I → Type 0) (sends : O → Message → Result (Unit {0}) SendFault → O → Type 0)
-    (P Q : List Message → Stop → List Message → Option Message → SessionAnswer → Type 0) (old new : I × O) (answer : SessionAnswer)
+    (P Q : SessionPart) (old new : I × O) (answer : SessionAnswer)
     → ((letters : List Message) (stop : Stop) (output : List Message) (null : Option Message) → P letters stop output null answer → Q letters stop output null answer)
     → Runs receives sends P old answer new → Runs receives sends Q old answer new
 runs_as receives sends P Q old new answer turns run = record {
@@ -30,7 +30,7 @@ runs_as receives sends P Q old new answer turns run = record {
 }
 
 -- over bytes
-module _ (limit : ℕ) (P Q : List Message → Stop → List Message → Option Message → SessionAnswer → Type 0)
+module _ (limit : ℕ) (P Q : SessionPart)
     (turns : (letters : List Message) (stop : Stop) (output : List Message) (null : Option Message) (answer : SessionAnswer)
     → P letters stop output null answer → Q letters stop output null answer) where
   gives_as : (text : List ℕ) (left old new : Option (List ℕ)) (answer : Result SessionEnd SessionFault) → Gives limit P text left old new answer → Gives limit Q text left old new answer

@@ -3,7 +3,6 @@ use Rattle.std.proofs.Common.{◌≡◌, ℕ, List, [], ◌∷◌, ◌++◌, Opt
 use Rattle.std.proofs.KnownBytes.{Appends-nil, Appends-trans}
 use Rattle.std.specs.Io.KnownBytes.{Keeps, Appends}
 use Rattle.std.specs.List.{FoldsTo}
-use Rattle.lsp_message.specs.Letters.{failed}
 use Rattle.lsp_message.specs.Message.{Message}
 use Rattle.lsp_message.specs.Written.{IsFrameOf, GetsFrames, Writes}
 use Rattle.lsp_message.specs.declared.frame.WriteFault.{WriteFault}

@@ -20,7 +20,7 @@ use Rattle.lsp_session.proofs.Streaming.{streams_of}
 use Rattle.lsp_session.specs.Event.{Event, closed}
 use Rattle.lsp_session.specs.FrameBoxes.{FrameOutboxSends}
 use Rattle.lsp_session.specs.ProtocolError.{out_of_memory}
-use Rattle.lsp_session.specs.Session.{SessionAnswer, Stop, decided, no_more, timed_out, refused, exhausted}
+use Rattle.lsp_session.specs.Session.{SessionAnswer, SessionPart, Stop, decided, no_more, timed_out, refused, exhausted}
 use Rattle.lsp_session.specs.SessionBytes.{BeginsWith, all_of, BreaksOffLast, GetsFirst, IsUnsent, FailedAfter, Comes, Fails, WriteFails, RunsOut, Gives}
 use Rattle.lsp_session.specs.SessionFault.{ran_out, came_to_no_more, plain_answer, read_fault, read_answer, session_answer}
 use Rattle.lsp_session.specs.SessionRun.{message_in, is_open, Brings, Runs}
@@ -48,7 +48,7 @@ module _ (limit : ℕ) where
   unread_at : (fault : ReadFault) (at : List ℕ) → (reading_within limit at).outcome ≡ Err fault → reading_within limit at ≡ record { outcome = Err fault; rest = (reading_within limit at).rest }
   unread_at fault at is = ap (λ o. record { outcome = o; rest = (reading_within limit at).rest }) is
 
-  module _ (P : List Message → Stop → List Message → Option Message → SessionAnswer → Type 0) (text : List ℕ) (a b : Option (List ℕ))
+  module _ (P : SessionPart) (text : List ℕ) (a b : Option (List ℕ))
       (letters : List Message) (output : List Message) (null : Option Message) where
     -- an allocation failed
     runs_out : (left : Option (List ℕ)) (stop : Stop) (answer : SessionAnswer) → P letters stop output null answer
@@ -197,7 +197,7 @@ module _ (limit : ℕ) where
         let after : (reading_within limit parts.0).rest ≡ all.at = ap (λ (r : Reading Message). r.rest) parts.2.1 ∙ parts.2.2 in
         (parts.0, parts.1, ([], rw after all.left))
 
-  module _ (P : List Message → Stop → List Message → Option Message → SessionAnswer → Type 0)
+  module _ (P : SessionPart)
       (knows : (letters : List Message) (stop : Stop) (output : List Message) (null : Option Message) (answer : SessionAnswer) → P letters stop output null answer → Facts stop letters answer)
       (text : List ℕ) (old new : Stream) (unended : old.end ≡ None) (known : old.remaining ≡ Some text)
       (events : List Event) (run : FoldsTo (StreamGives limit) old events new) (letters : List Message)
@@ -229,7 +229,7 @@ module _ (limit : ℕ) where
         (left_within text old new unended known events run letters exhausted answer brought facts) (whole_first (all_of output null) a b written))
 
   module _ {R W : Type 0} (remaining : R → Option (List ℕ)) (contents : W → Option (List ℕ))
-      (P : List Message → Stop → List Message → Option Message → SessionAnswer → Type 0)
+      (P : SessionPart)
       (knows : (letters : List Message) (stop : Stop) (output : List Message) (null : Option Message) (answer : SessionAnswer) → P letters stop output null answer → Facts stop letters answer)
       (inbox inbox' : StreamInbox R) (outbox outbox' : FrameOutbox W) (unended : inbox.end ≡ None) (limited : inbox.limit ≡ limit) (unfailed : outbox.fault ≡ None)
       (answer : SessionAnswer) (runs : Runs (StreamInboxGives remaining) (FrameOutboxSends contents) P (inbox, outbox) answer (inbox', outbox')) where

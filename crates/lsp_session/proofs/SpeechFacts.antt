@@ -1,22 +1,15 @@
 -- What the definition of a session says of its answer, and of an `exit` among its letters.
-use Rattle.std.proofs.Common.{◌≡◌, inl, inr, refl, sym, ◌∙◌, ℕ, Bool, true, false, true≢false, not, List, [], ◌∷◌, ◌++◌, Option, codes}
+use Rattle.std.proofs.Common.{◌≡◌, inl, inr, refl, Bool, true, false, List, [], ◌∷◌, Option}
 use Rattle.std.specs.Bool.{MatchBool}
-use Rattle.std.specs.List.{list_all}
 use Rattle.std.specs.Prelude.{Result, Ok, Err, IsErrAnd, MatchResult}
-use Rattle.std.proofs.lemmas.List.Folds.{list_all-append}
-use Rattle.std.proofs.lemmas.Slice.Eq.{bytes_eq-Decides}
 use Rattle.serde_json.specs.Data.{Data}
-use Rattle.lsp_message.specs.Letters.{is_exit}
 use Rattle.lsp_message.specs.Message.{Message, ErrorObject, request, notification, response}
-use Rattle.lsp_session.proofs.SpeechStarts.{and-true}
 use Rattle.lsp_session.proofs.SessionFacts.{Facts, is_no_exit, facts_after, all_imply, early_is_no_exit, served_is_no_exit, initialized_is_no_exit, shown, shown_decides, served_facts}
 use Rattle.lsp_session.specs.Finish.{is_initialized}
-use Rattle.lsp_session.specs.ProtocolError.{ProtocolFault, expected_initialize, expected_initialized, unexpected_in_shutdown, is_disconnected, is_memory, Shows}
-use Rattle.lsp_session.specs.Session.{SessionAnswer, Stop, decided, no_more, timed_out, refused, exhausted, is_served, is_shutdown, is_initialize, IsLast, AfterShutdown, AfterServed}
+use Rattle.lsp_session.specs.ProtocolError.{expected_initialize, expected_initialized, Shows}
+use Rattle.lsp_session.specs.Session.{SessionAnswer, Stop, decided, no_more, timed_out, refused, exhausted, is_served, is_initialize, IsLast}
 use Rattle.lsp_session.specs.Speech.{IsSilent, Speaks, Opened, AfterInitialize, SpeechOut}
-use Rattle.lsp_session.specs.SessionFault.{ran_out, came_to_no_more}
 use Rattle.lsp_session.specs.Start.{is_early, IsEarlyReply}
-use Rattle.lsp_session.specs.declared.loops.serving.SessionEnd.TheVariants.{ShutDown}
 
 module _ {H : Type 0} (gives : H → Message → List Message → H → Type 0) (initializes : H → Data → Result Data ErrorObject → H → Type 0)
     (opens : H → List Message → H → Type 0) (starves : H → H → Type 0) where

@@ -15,7 +15,7 @@ use Rattle.lsp_session.specs.Boxes.{Offers, Takes, WaitsFor, is_timeout}
 use Rattle.lsp_session.specs.Event.{Event, message, timeout, closed}
 use Rattle.lsp_session.specs.ProtocolError.{ProtocolFault, unexpected_in_shutdown, out_of_memory, Shows}
 use Rattle.lsp_session.specs.Replies.{null_reply}
-use Rattle.lsp_session.specs.Session.{SessionAnswer, Stop, decided, no_more, timed_out, refused, exhausted, is_served, AfterShutdown, AfterServed}
+use Rattle.lsp_session.specs.Session.{SessionAnswer, SessionPart, Stop, decided, no_more, timed_out, refused, exhausted, is_served, AfterShutdown, AfterServed}
 use Rattle.lsp_session.specs.SessionRun.{message_in, is_open, Brings, Gets, AwaitsExit, RunsAwaiting, Runs}
 use Rattle.lsp_session.specs.Speech.{GivesAll, GivesTo, IsLeft, Speaks}
 use Rattle.lsp_session.specs.SpeechSteps.{AwaitsLast, Utters, SpeaksOn, EndsAt}
@@ -85,7 +85,7 @@ gets_after sends old mid new output0 output null (refused fault) taken got =
 
 module _ {I O : Type 0} (receives : I → Event → I → Type 0) (sends : O → Message → Result (Unit {0}) SendFault → O → Type 0) where
   -- a part of a session that goes on as another part, in which events are awaited otherwise
-  awaits_after : (A A' : List Event → Option Message → Type 0) (P Q : List Message → Stop → List Message → Option Message → SessionAnswer → Type 0) (old mid new : I × O) (answer : SessionAnswer)
+  awaits_after : (A A' : List Event → Option Message → Type 0) (P Q : SessionPart) (old mid new : I × O) (answer : SessionAnswer)
       (events0 : List Event) (letters0 output0 : List Message)
       → FoldsTo receives old.0 events0 mid.0 → filter_map message_in events0 ≡ letters0 → list_all is_open events0 ≡ true → FoldsTo (Takes sends) old.1 output0 mid.1
       → ((events : List Event) (null : Option Message) → A' events null → A (events0 ++ events) null)
@@ -105,7 +105,7 @@ module _ {I O : Type 0} (receives : I → Event → I → Type 0) (sends : O →
   }
 
   -- the same where they are not
-  pub runs_after : (P Q : List Message → Stop → List Message → Option Message → SessionAnswer → Type 0) (old mid new : I × O) (answer : SessionAnswer)
+  pub runs_after : (P Q : SessionPart) (old mid new : I × O) (answer : SessionAnswer)
       (events0 : List Event) (letters0 output0 : List Message)
       → FoldsTo receives old.0 events0 mid.0 → filter_map message_in events0 ≡ letters0 → list_all is_open events0 ≡ true → FoldsTo (Takes sends) old.1 output0 mid.1
       → ((letters : List Message) (stop : Stop) (output : List Message) (null : Option Message) → Q letters stop output null answer → P (letters0 ++ letters) stop (output0 ++ output) null answer)
@@ -118,7 +118,7 @@ module _ {I O : Type 0} (receives : I → Event → I → Type 0) (sends : O →
       still_awaits events (Some null) awaited = (events0 ++ awaited.0, awaited.1, awaited.2, rw (awaited.3, append_assoc) refl, awaited.4)
 
   -- an allocation fails at a message that was waited for
-  pub waited_exhausted : (P : List Message → Stop → List Message → Option Message → SessionAnswer → Type 0) (i i' : I) (o : O) (m : Message) (answer : SessionAnswer)
+  pub waited_exhausted : (P : SessionPart) (i i' : I) (o : O) (m : Message) (answer : SessionAnswer)
       → WaitsFor receives i (message m) i' → P [] exhausted [] None answer → Runs receives sends P (i, o) answer (i', o)
   waited_exhausted P i i' o m answer waits part = record {
     events = waits.passed ++ message m ∷ [];
@@ -134,7 +134,7 @@ module _ {I O : Type 0} (receives : I → Event → I → Type 0) (sends : O →
   }
 
   -- the inbox is closed
-  pub waited_closed : (P : List Message → Stop → List Message → Option Message → SessionAnswer → Type 0) (i i' : I) (o : O) (answer : SessionAnswer)
+  pub waited_closed : (P : SessionPart) (i i' : I) (o : O) (answer : SessionAnswer)
       → WaitsFor receives i closed i' → P [] no_more [] None answer → Runs receives sends P (i, o) answer (i', o)
   waited_closed P i i' o answer waits part = record {
     events = waits.passed ++ closed ∷ [];
@@ -150,7 +150,7 @@ module _ {I O : Type 0} (receives : I → Event → I → Type 0) (sends : O →
   }
 
   -- a message that was waited for decides
-  pub waited_decided : (P : List Message → Stop → List Message → Option Message → SessionAnswer → Type 0) (i i' : I) (o : O) (m : Message) (answer : SessionAnswer)
+  pub waited_decided : (P : SessionPart) (i i' : I) (o : O) (m : Message) (answer : SessionAnswer)
       → WaitsFor receives i (message m) i' → P (m ∷ []) decided [] None answer → Runs receives sends P (i, o) answer (i', o)
   waited_decided P i i' o m answer waits part = record {
     events = waits.passed ++ message m ∷ [];
@@ -185,7 +185,7 @@ NotRefused (refused fault) = ⊥
 NotRefused stop = Unit {0}
 
 -- what a session goes on to after the null was offered
-abbrev ExitTail : Id → List Message → Stop → List Message → Option Message → SessionAnswer → Type 0
+abbrev ExitTail : Id → SessionPart
 ExitTail i letters stop output null answer = (output ≡ []) × (null ≡ Some (null_reply i)) × AfterShutdown letters stop answer × NotRefused stop
 
 module _ {I O : Type 0} (receives : I → Event → I → Type 0) (sends : O → Message → Result (Unit {0}) SendFault → O → Type 0)

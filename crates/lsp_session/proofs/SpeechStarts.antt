@@ -16,7 +16,7 @@ use Rattle.lsp_session.specs.Boxes.{Takes, WaitsFor}
 use Rattle.lsp_session.specs.Event.{Event, message, timeout, closed}
 use Rattle.lsp_session.specs.Finish.{FinishAnswer, IsUninvited, EventFinishes, FinishesAt, is_initialized}
 use Rattle.lsp_session.specs.ProtocolError.{ProtocolFault, disconnected, out_of_memory}
-use Rattle.lsp_session.specs.Session.{SessionAnswer, Stop, no_more, refused, request_id, is_initialize}
+use Rattle.lsp_session.specs.Session.{SessionAnswer, SessionPart, Stop, no_more, refused, request_id, is_initialize}
 use Rattle.lsp_session.specs.SessionRun.{message_in, is_open, Runs}
 use Rattle.lsp_session.specs.Start.{StartAnswer, is_early, is_undecided, request_of, IsEarlyReply, fault_of_refusal, PassesOver, RefusesReply, Decides, MessageDecides, StartsWithin}
 use Rattle.lsp_session.specs.Turns.{Turn, stopped, got, TakesTurn}
@@ -86,7 +86,7 @@ module _ {H I O : Type 0} (gives : H → Message → List Message → H → Type
     | inr memory ↦ inr (ap (λ (x : ProtocolFault). Err x) memory.0, memory.1, refl, memory.2)
   ]
 
-  abbrev After : H → H → List Message → Stop → List Message → Option Message → SessionAnswer → Type 0
+  abbrev After : H → H → SessionPart
   After = AfterInitialize gives initializes opens starves
 
   module _ (h : H) where
@@ -263,7 +263,7 @@ decided_turn (got (message (request id1 method params1))) id params decides =
 module _ {H I O : Type 0} (gives : H → Message → List Message → H → Type 0) (initializes : H → Data → Result Data ErrorObject → H → Type 0)
     (opens : H → List Message → H → Type 0) (starves : H → H → Type 0)
     (receives : I → Event → I → Type 0) (sends : O → Message → Result (Unit {0}) SendFault → O → Type 0) where
-  abbrev Out : H → H → List Message → Stop → List Message → Option Message → SessionAnswer → Type 0
+  abbrev Out : H → H → SessionPart
   Out = SpeechOut gives initializes opens starves
 
   -- early letters alone

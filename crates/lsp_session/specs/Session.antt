@@ -29,8 +29,8 @@ pub data Stop : Type 0 where
   -- an allocation failed at the message that came next
   exhausted : Stop
 
--- What is said of a session: its letters, why there is no further one, its output but for the null of `shutdown`, that null, and
--- its answer.
+-- What is said of a session, or of a part of it: its letters, why there is no further one, its output but for the null of
+-- `shutdown`, that null, and its answer.
 abbrev pub SessionPart : Type 1
 SessionPart = List Message → Stop → List Message → Option Message → SessionAnswer → Type 0
 
@@ -105,14 +105,14 @@ module _ {H : Type 0} (answers : H → Id → List ℕ → Data → Result Data 
     pub end : AfterServed rest stop null answer
 
   -- After `initialize` was answered, the next letter is `initialized`.
-  abbrev pub AfterInitialize : H → H → List Message → Stop → List Message → Option Message → SessionAnswer → Type 0
+  abbrev pub AfterInitialize : H → H → SessionPart
   AfterInitialize h h' [] stop output null answer = Undecided stop (Err disconnected) answer × IsSilent h h' output null
   AfterInitialize h h' (m ∷ rest) stop output null answer =
       MatchBool (is_initialized m) (Serves h h' rest stop output null answer)
       (IsLast rest stop × IsErrAnd answer (Shows expected_initialized) × IsSilent h h' output null)
 
   -- After the early letters, `initialize` is answered with the capabilities, and `exit` or a response ends the session.
-  abbrev pub AfterEarly : Data → H → H → List Message → Stop → List Message → Option Message → SessionAnswer → Type 0
+  abbrev pub AfterEarly : Data → H → H → SessionPart
   AfterEarly capabilities h h' [] stop output null answer = Undecided stop (Err disconnected) answer × IsSilent h h' output null
   AfterEarly capabilities h h' (request i method params ∷ rest) stop output null answer =
       (is_initialize (request i method params) ≡ true)

@@ -8,7 +8,7 @@ use Rattle.lsp_message.specs.Message.{Message, ErrorObject, request, notificatio
 use Rattle.lsp_session.specs.Finish.{is_initialized}
 use Rattle.lsp_session.specs.ProtocolError.{disconnected, expected_initialize, expected_initialized, Shows}
 use Rattle.lsp_session.specs.Start.{is_early, IsEarlyReply, fault_of_refusal}
-use Rattle.lsp_session.specs.Session.{IsLast, Undecided, is_initialize, SessionAnswer, Stop, refused, exhausted, is_served, AfterServed}
+use Rattle.lsp_session.specs.Session.{IsLast, Undecided, is_initialize, SessionAnswer, SessionPart, Stop, refused, exhausted, is_served, AfterServed}
 use Rattle.lsp_session.specs.declared.lifecycle.SendFault.{SendFault}
 
 module _ {S : Type 0} (gives : S → Message → List Message → S → Type 0) where
@@ -75,14 +75,14 @@ module _ {S : Type 0} (gives : S → Message → List Message → S → Type 0) 
     pub is : answer ≡ Err (fault_of_refusal fault)
 
   -- What the speaker says to `initialized` comes first, and then what it gives for the letters after that.
-  abbrev pub Opened : S → S → List Message → Stop → List Message → Option Message → SessionAnswer → Type 0
+  abbrev pub Opened : S → S → SessionPart
   Opened s s' letters stop output null answer =
       ((said : List Message) × (mid : S) × (later : List Message)
       × opens s said mid × (output ≡ said ++ later) × Speaks gives mid s' letters stop later null answer)
       ⊎ OpensInPart s s' letters stop output null answer
 
   -- After `initialize` got its result, the next letter is `initialized`.
-  abbrev pub AfterInitialize : S → S → List Message → Stop → List Message → Option Message → SessionAnswer → Type 0
+  abbrev pub AfterInitialize : S → S → SessionPart
   AfterInitialize s s' [] stop output null answer = Undecided stop (Err disconnected) answer × IsSilent stop s s' output null
   AfterInitialize s s' (m ∷ rest) stop output null answer =
       MatchBool (is_initialized m) (Opened s s' rest stop output null answer)
@@ -91,7 +91,7 @@ module _ {S : Type 0} (gives : S → Message → List Message → S → Type 0) 
   -- What a session sends and answers. Up to `initialize` each request is answered with an error, and each notification but
   -- `exit` is dropped; `exit` or a response ends the session. `initialize` is answered with the speaker's result, or with
   -- its error, and then the session goes on as before it. The null of `shutdown`, which comes last, stands apart.
-  abbrev pub SpeechOut : S → S → List Message → Stop → List Message → Option Message → SessionAnswer → Type 0
+  abbrev pub SpeechOut : S → S → SessionPart
   SpeechOut s s' [] stop output null answer = Undecided stop (Err disconnected) answer × IsSilent stop s s' output null
   SpeechOut s s' (request i method params ∷ rest) stop output null answer =
       MatchBool (is_initialize (request i method params))

@@ -7,7 +7,7 @@ use Rattle.lsp_message.specs.Message.{Message, ErrorObject, response}
 use Rattle.lsp_session.specs.Boxes.{Takes}
 use Rattle.lsp_session.specs.Event.{Event}
 use Rattle.lsp_session.specs.ProtocolError.{ProtocolFault, out_of_memory}
-use Rattle.lsp_session.specs.Session.{SessionAnswer, Stop, is_served, is_shutdown}
+use Rattle.lsp_session.specs.Session.{SessionAnswer, SessionPart, is_served, is_shutdown}
 use Rattle.lsp_session.specs.SessionRun.{RunsAwaiting, Runs}
 use Rattle.lsp_session.specs.Start.{fault_of_refusal}
 use Rattle.lsp_session.specs.declared.lifecycle.SendFault.{SendFault}
@@ -81,7 +81,7 @@ module _ {S I O : Type 0} (gives : S → Message → List Message → S → Type
       Runs receives sends (Opened gives initializes opens starves old.0 new.0) (old.1, old.2) answer (new.1, new.2) ⊎ Starves old answer new
 
   -- the session from the reply to `initialize` on
-  abbrev pub AfterReply : S → S → Message → List Message → Stop → List Message → Option Message → SessionAnswer → Type 0
+  abbrev pub AfterReply : S → S → Message → SessionPart
   AfterReply s s' reply letters stop output null answer =
       (later : List Message) × (output ≡ reply ∷ later) × AfterInitialize gives initializes opens starves s s' letters stop later null answer
 

@@ -2,6 +2,7 @@
 ghost use Rattle.std.specs.Prelude.{◌≡◌, ◌⊎◌, IfOk};
 ghost use Rattle.lsp_session.specs.ProtocolError.{disconnected, expected_initialize, aborted, expected_initialized, unexpected_in_shutdown, shutdown_timeout, shutdown_disconnected, out_of_memory, Shows};
 
+use crate::lifecycle::SendFault;
 use lsp_message::Message;
 use std::alloc::{AllocError, Global};
 use std::error::Error;
@@ -48,6 +49,20 @@ impl Model for ProtocolError {
     ghost Value = { ProtocolFault };
 
     ghost view = { λ e. fault_kept e.0 };
+}
+
+impl From<SendFault> for ProtocolError {
+    ghost use Rattle.lsp_session.specs.Start.{fault_of_refusal};
+
+    ghost from_gives = { λ fault error. error ≡ fault_of_refusal fault };
+
+    /// The fault of a session whose outbox refuses a message: `disconnected channel`, or `out of memory`.
+    fn from(fault: SendFault) -> ProtocolError {
+        match fault {
+            SendFault::Closed(_) => ProtocolError::disconnected(),
+            SendFault::Memory(_) => ProtocolError::out_of_memory(),
+        }
+    }
 }
 
 impl ProtocolError {

@@ -33,7 +33,6 @@ mod lists;
 pub(crate) use exit::offer;
 pub use exit::shutdown;
 pub use gates::{CallGate, OpenGate};
-pub(crate) use initialize::refused;
 pub use initialize::start_within;
 pub use initialized::{finish, finish_within, wait_within};
 pub use kinds::is_exit;

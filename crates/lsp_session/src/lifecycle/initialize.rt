@@ -4,11 +4,11 @@ ghost use Rattle.std.specs.Str.{bytes_eq};
 ghost use Rattle.lsp_message.specs.Message.{Message as PlainMessage};
 ghost use Rattle.lsp_message.specs.View.{message_view, request_view};
 ghost use Rattle.lsp_session.specs.Event.{event_view, message as message_event};
-ghost use Rattle.lsp_session.specs.Start.{start_view, fault_of_refusal, IsEarlyReply, PassesOver, Ends, StartsWithin};
+ghost use Rattle.lsp_session.specs.Start.{start_view, IsEarlyReply, PassesOver, Ends, StartsWithin};
 ghost use Rattle.lsp_session.specs.Turns.{got};
 
 use crate::error::ProtocolError;
-use crate::lifecycle::{Event, Gate, Inbox, Outbox, SendFault};
+use crate::lifecycle::{Event, Gate, Inbox, Outbox};
 use lsp_message::{ErrorCode, Message, Request, RequestId, Response};
 use serde_json::Value;
 use std::alloc::{AllocError, Global};
@@ -110,7 +110,7 @@ fn refuse_early<O: Outbox>(
     };
     match outbox.send(reply) {
         Ok(()) => None,
-        Err(fault) => Some(Err(refused(fault))),
+        Err(fault) => Some(Err(ProtocolError::from(fault))),
     }
 }
 
@@ -122,14 +122,4 @@ fn early_reply(alloc: Global, request: Request) -> Result<Message, AllocError>
     let message = format!(in alloc; "expected initialize request, got {shown}")?;
     let code = ErrorCode::ServerNotInitialized.number();
     Ok(Message::Response(Response::new_err(request.id, code, message)))
-}
-
-/// The fault of a handshake whose outbox refuses a message.
-pub(crate) fn refused(fault: SendFault) -> ProtocolError
-    ensures { result ≡ fault_of_refusal fault }
-{
-    match fault {
-        SendFault::Closed(_) => ProtocolError::disconnected(),
-        SendFault::Memory(_) => ProtocolError::out_of_memory(),
-    }
 }

@@ -7,7 +7,7 @@ ghost use Rattle.lsp_session.specs.Finish.{EventFinishes, AwaitsWithin, Finishes
 ghost use Rattle.lsp_session.specs.Replies.{ok_reply as ok_reply_spec};
 
 use crate::error::ProtocolError;
-use crate::lifecycle::initialize::{TURN_SECONDS, refused};
+use crate::lifecycle::initialize::TURN_SECONDS;
 use crate::lifecycle::kinds::is_initialized;
 use crate::lifecycle::{Event, Gate, Inbox, Outbox};
 use lsp_message::{Message, RequestId, Response};
@@ -66,7 +66,7 @@ pub fn finish_within<I: Inbox, O: Outbox, G: Gate>(
     ensures again { G.can_ask gate.new }
 {
     if let Err(fault) = outbox.send(ok_reply(id, initialize_result)) {
-        return Some(Err(refused(fault)));
+        return Some(Err(ProtocolError::from(fault)));
     }
     wait_within(alloc, inbox, gate, turns)
 }
@@ -83,7 +83,7 @@ pub fn finish<I: Inbox, O: Outbox>(
         (inbox.old, outbox.old) result (inbox.new, outbox.new) }
 {
     if let Err(fault) = outbox.send(ok_reply(id, initialize_result)) {
-        return Err(refused(fault));
+        return Err(ProtocolError::from(fault));
     }
     match inbox.receive() {
         Event::Message(message) => finish_on(alloc, &message),

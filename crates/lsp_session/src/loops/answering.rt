@@ -52,6 +52,7 @@ impl<'a, H: Handler> Answering<'a, H> {
 impl<'a, H: Handler> Speaker for Answering<'a, H> {
     ghost gives = { AnsweringGives H.answers H.notes };
 
+    #[inline(always)]
     fn turn(&mut self, message: Message) -> Result<Said, AllocError> {
         match message {
             Message::Request(request) => self.respond(request),

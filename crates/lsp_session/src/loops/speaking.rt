@@ -10,9 +10,7 @@ ghost use Rattle.lsp_session.specs.SpeechSteps.{SendsAll, Utters, SpeaksOn, Ends
 ghost use Rattle.lsp_session.specs.SpeechView.{said_view};
 
 use crate::error::ProtocolError;
-use crate::lifecycle::{
-    Event, Inbox, OpenGate, Outbox, SendFault, finish, refused, shutdown, start_within,
-};
+use crate::lifecycle::{Event, Inbox, OpenGate, Outbox, SendFault, finish, shutdown, start_within};
 use crate::loops::SessionEnd;
 use lsp_message::{Message, Request, RequestId, Response, ResponseError};
 use serde_json::Value;
@@ -133,7 +131,7 @@ fn speak_started<I: Inbox, O: Outbox, S: Speaker + Opener>(
         },
         Ok(Err(error)) => match decline(outbox, id, error) {
             Ok(()) => Ok(None),
-            Err(fault) => Err(refused(fault)),
+            Err(fault) => Err(ProtocolError::from(fault)),
         },
         Err(_) => Err(ProtocolError::out_of_memory()),
     }
@@ -275,6 +273,7 @@ fn speak_request<I: Inbox, O: Outbox, S: Speaker>(
 }
 
 /// Sends what the speaker gives for a message.
+#[inline(always)]
 fn utter<O: Outbox, S: Speaker>(
     outbox: &mut O,
     speaker: &mut S,
@@ -289,6 +288,7 @@ fn utter<O: Outbox, S: Speaker>(
 }
 
 /// Sends what was said, up to the first message that is refused.
+#[inline(always)]
 fn send_said<O: Outbox>(outbox: &mut O, said: Said) -> Result<(), ProtocolError>
     ensures { SendsAll O.sends outbox.old (said_view said) result outbox.new }
 {
@@ -296,7 +296,7 @@ fn send_said<O: Outbox>(outbox: &mut O, said: Said) -> Result<(), ProtocolError>
         Said::Nothing => Ok(()),
         Said::One(message) => match outbox.send(message) {
             Ok(()) => Ok(()),
-            Err(fault) => Err(refused(fault)),
+            Err(fault) => Err(ProtocolError::from(fault)),
         },
         Said::Several(messages) => send_all(outbox, messages),
     }
@@ -309,7 +309,7 @@ fn send_all<O: Outbox>(outbox: &mut O, messages: Vec<Message>) -> Result<(), Pro
     for message in messages {
         match outbox.send(message) {
             Ok(()) => {}
-            Err(fault) => return Err(refused(fault)),
+            Err(fault) => return Err(ProtocolError::from(fault)),
         }
     }
     Ok(())

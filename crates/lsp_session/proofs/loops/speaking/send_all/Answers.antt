@@ -35,5 +35,5 @@ returns-in-Err g c =
       taken = before.3;
       refusal = c.in-Err.fault;
       refuses = c.in-Err.ensures.sends;
-      is = c.refused.ensures;
+      is = c.from.ensures;
     }

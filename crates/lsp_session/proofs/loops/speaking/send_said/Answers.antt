@@ -12,5 +12,5 @@ returns-in-Err g c = record {
   taken = refl;
   refusal = c.in-Err.fault;
   refuses = c.in-Err.ensures.sends;
-  is = c.refused.ensures;
+  is = c.from.ensures;
 }

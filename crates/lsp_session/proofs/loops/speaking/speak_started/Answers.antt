@@ -10,5 +10,5 @@ returns-in-Err-decline g c = inr (inl (record {
   unread = refl;
   refusal = c.in-Err-decline.fault;
   refuses = c.in-Err-decline.ensures;
-  is = ap (λ (x : ProtocolFault). Err x) c.refused.ensures;
+  is = ap (λ (x : ProtocolFault). Err x) c.from.ensures;
 }))
