@@ -293,14 +293,14 @@ module _ {S P : Type 0}
 
   -- ---- the whole session
 
-  abbrev Part : List Message → List Message → Type 0
+  abbrev Part : List Message → Stop → List Message → Type 0
   Part = TakesPart requested notified replied takes_back begins
 
-  abbrev Payloads : List Message → List Message → Type 0
+  abbrev Payloads : List Message → Stop → List Message → Type 0
   Payloads = GivesPayloads requested notified replied takes_back begins
 
-  payloads_after : (m : Message) (letters output : List Message) → Payloads letters output → Payloads (m ∷ letters) output
-  payloads_after m letters output payloads = elim payloads [
+  payloads_after : (m : Message) (letters : List Message) (stop : Stop) (output : List Message) → Payloads letters stop output → Payloads (m ∷ letters) stop output
+  payloads_after m letters stop output payloads = elim payloads [
     | inl none ↦ inl none
     | inr p ↦ inr (m ∷ p.0, p.1, p.2, p.3, ap (λ ms. m ∷ ms) p.4, p.5, p.6, p.7)
   ]
@@ -310,7 +310,7 @@ module _ {S P : Type 0}
     account : (id : Id) → Account id (desk_of w'.client).held letters (all_of output null) stop answer
     first : RepliesFirst letters output
     last : NullLast letters null
-    payloads : Payloads letters output
+    payloads : Payloads letters stop output
 
   first_none : (letters output : List Message) → output ≡ [] → RepliesFirst letters output
   first_none letters output none = record { first = []; later = []; cut = none; replies = refl; opened = inl refl }
@@ -379,14 +379,14 @@ module _ {S P : Type 0}
     account = λ id. account_reply id i (desk_of w'.client).held method params outcome letters later null stop answer (known.account id);
     first = first_reply (request i method params) letters later i outcome known.first;
     last = last_after (request i method params ∷ []) letters null known.last;
-    payloads = payloads_after (request i method params) letters later known.payloads;
+    payloads = payloads_after (request i method params) letters stop later known.payloads;
   }
 
   -- the session from `initialized` on
   record Begun (w' : Working S P) (letters output : List Message) (null : Option Message) (stop : Stop) (answer : SessionAnswer) : Type 0 where
     account : (id : Id) → Account id (desk_of w'.client).held letters (all_of output null) stop answer
     last : NullLast letters null
-    part : Part letters (requests_in output)
+    part : Part letters stop (requests_in output)
 
   said_first : (id : Id) (said later : List Message) (null : Option Message)
       → how_many (is_reply_under id) (all_of (said ++ later) null) ≡ how_many (is_reply_under id) said + how_many (is_reply_under id) (all_of later null)
@@ -422,7 +422,7 @@ module _ {S P : Type 0}
           record { most = omega (arith, none, all, some); least = λ is_whole some. absurd is_whole }
           );
       last = last_none [] None refl;
-      part = part_broken requested notified replied takes_back begins w w' part.part part.more part.unsaid clear.silent unasked part.opened;
+      part = part_broken requested notified replied takes_back begins w w' part.part part.more part.unsaid part.fault clear.silent unasked part.opened;
     })
   ]
 
@@ -430,7 +430,7 @@ module _ {S P : Type 0}
   record Replied (w' : Working S P) (letters output : List Message) (null : Option Message) (stop : Stop) (answer : SessionAnswer) : Type 0 where
     account : (id : Id) → Account id (desk_of w'.client).held letters (all_of output null) stop answer
     last : NullLast letters null
-    opened : (output ≡ []) ⊎ ((m : Message) × (rest : List Message) × (letters ≡ m ∷ rest) × (is_initialized m ≡ true) × Part rest (requests_in output))
+    opened : (output ≡ []) ⊎ ((m : Message) × (rest : List Message) × (letters ≡ m ∷ rest) × (is_initialized m ≡ true) × Part rest stop (requests_in output))
 
   no_request : (id : Id) (m : Message) → is_initialized m ≡ true → is_request_under id m ≡ false
   no_request id (request i method params) e = absurd (cc (e))
@@ -523,7 +523,7 @@ module _ {S P : Type 0}
             account = λ id. account_note id (desk_of w'.client).held (notification method params) rest (all_of output null) stop answer refl (known.account id);
             first = first_after (notification method params) rest output known.first;
             last = last_after (notification method params ∷ []) rest null known.last;
-            payloads = payloads_after (notification method params) rest output known.payloads;
+            payloads = payloads_after (notification method params) rest stop output known.payloads;
           }
       at rest_known false last = known_error (Shows expected_initialize) w w' (notification method params) rest stop output null answer last.0 last.1 last.2
   known_out w w' (response i outcome ∷ rest) stop output null answer clear unasked out =

@@ -12,8 +12,9 @@ use Rattle.lsp_message.specs.IdLaws.{id_total, id_decides}
 use Rattle.lsp_message.specs.Message.{Message, ErrorObject, request, notification, response}
 use Rattle.lsp_queue.specs.Queue.{Asked, pending_of, count_of}
 use Rattle.lsp_session.specs.Session.{SessionAnswer, Stop, decided, no_more, timed_out, refused, exhausted, AfterServed}
+use Rattle.lsp_session.specs.declared.lifecycle.SendFault.{SendFault}
 use Rattle.lsp_service.specs.Desk.{Act, tells, asks, replies, cancels, settles, canceled, cancelled_by, cancel_method, cancel_params, Desk, is_spent, sends_request, does, does_all, ids_after, unsent, holds, given, says, TakesBack, Acts, Works, OpensSaying}
-use Rattle.lsp_service.specs.Law.{is_reply_under, Sent, Turn, requests_in, request_of, ids_after_all, sent_by, all_sent, kept_under, acts_of, was_given, GivesOwnPayloads, Handed, TakesTurns, IsUnserved, TakesPart}
+use Rattle.lsp_service.specs.Law.{is_reply_under, Sent, Turn, requests_in, request_of, ids_after_all, sent_by, all_sent, kept_under, acts_of, was_given, GivesOwnPayloads, Handed, TakesTurns, IsUnserved, IsWhole, TakesPart}
 use Rattle.lsp_session.specs.Speech.{GivesAll, GivesTo, Speaks}
 use Rattle.lsp_service.specs.Working.{seen, desk_of}
 use Rattle.lsp_service.specs.declared.desk.Working.{Working}
@@ -451,14 +452,14 @@ module _ {S P : Type 0}
 
   -- of what is given, also a part
   given_to : (stop : Stop) (w w' : Working S P) (letters output : List Message) → GivesTo gives_at stop w letters output w'
-      → (extra : List Message) × GivesAll gives_at w letters (output ++ extra) w'
-  given_to decided w w' letters output all = ([], rw (append-nil output) all)
-  given_to no_more w w' letters output all = ([], rw (append-nil output) all)
-  given_to timed_out w w' letters output all = ([], rw (append-nil output) all)
-  given_to exhausted w w' letters output all = ([], rw (append-nil output) all)
+      → (extra : List Message) × (IsWhole stop → extra ≡ []) × GivesAll gives_at w letters (output ++ extra) w'
+  given_to decided w w' letters output all = ([], (λ whole. refl), rw (append-nil output) all)
+  given_to no_more w w' letters output all = ([], (λ whole. refl), rw (append-nil output) all)
+  given_to timed_out w w' letters output all = ([], (λ whole. refl), rw (append-nil output) all)
+  given_to exhausted w w' letters output all = ([], (λ whole. refl), rw (append-nil output) all)
   given_to (refused fault) w w' letters output broken =
       let whole = handles_more gives_at w broken.mid w' broken.earlier broken.before (broken.part ++ broken.unsaid ∷ broken.more) broken.last broken.given broken.gave in
-      (broken.more, rw (broken.cut, broken.sent, append_assoc broken.before (broken.part ++ broken.unsaid ∷ []) broken.more, append_assoc broken.part (broken.unsaid ∷ []) broken.more) whole)
+      (broken.more, (λ whole. absurd whole), rw (broken.cut, broken.sent, append_assoc broken.before (broken.part ++ broken.unsaid ∷ []) broken.more, append_assoc broken.part (broken.unsaid ∷ []) broken.more) whole)
 
   unserved : (rest : List Message) (stop : Stop) (null : Option Message) (answer : SessionAnswer) → AfterServed rest stop null answer → IsUnserved rest
   unserved [] stop null answer after = tt
@@ -466,17 +467,17 @@ module _ {S P : Type 0}
   unserved (notification method params ∷ rest) stop null answer after = rw after.0 refl
   unserved (response i outcome ∷ rest) stop null answer after = absurd (cc (after.0))
 
-  abbrev Part : List Message → List Message → Type 0
+  abbrev Part : List Message → Stop → List Message → Type 0
   Part = TakesPart requested notified replied takes_back begins
 
   -- the server's part where all that it said to `initialized` was sent
   pub part_whole : (w mid w' : Working S P) (letters said later : List Message) (stop : Stop) (null : Option Message) (answer : SessionAnswer)
       → (desk_of w.client).said ≡ [] → (desk_of w.client).asked ≡ (map.empty, 0) → OpensSaying takes_back begins (seen w) said (seen mid)
-      → Speaks gives_at mid w' letters stop later null answer → Part letters (requests_in (said ++ later))
+      → Speaks gives_at mid w' letters stop later null answer → Part letters stop (requests_in (said ++ later))
   part_whole w mid w' letters said later stop null answer silent unasked opened speaks =
       let b = began_at w mid said silent unasked opened in
       let whole = given_to stop mid speaks.after speaks.middle later speaks.given in
-      let t = turn_all mid speaks.after speaks.middle (later ++ whole.0) (all_sent 0 b.begun) [] b.silent b.agrees whole.1 in
+      let t = turn_all mid speaks.after speaks.middle (later ++ whole.0) (all_sent 0 b.begun) [] b.silent b.agrees whole.2 in
       let first = map_list request_of (all_sent 0 b.begun) in
       let rest : map_list request_of (all_sent (ids_after_all 0 b.begun) (acts_of t.turns)) ≡ requests_in later ++ requests_in whole.0 =
       sym (t.said ∙ ap (λ k. map_list request_of (all_sent k (acts_of t.turns))) b.count) ∙ requests-append later whole.0 in
@@ -500,14 +501,15 @@ module _ {S P : Type 0}
             ∙ (λ i. sym b.requests i ++ rest i)
             ∙ sym (append_assoc (requests_in said) (requests_in later) (requests_in whole.0))
             ∙ ap (λ l. l ++ requests_in whole.0) (sym (requests-append said later));
+        all = λ is_whole. ap requests_in (whole.1 is_whole);
         payloads = own_payloads b.begun t.turns (subst (λ k. Fits k (all_sent 0 b.begun) [] t.turns) b.count t.fits);
       }
 
   -- and where the outbox refused one of these
-  pub part_broken : (w w' : Working S P) (part more : List Message) (unsaid : Message)
+  pub part_broken : (w w' : Working S P) (part more : List Message) (unsaid : Message) (fault : SendFault)
       → (desk_of w.client).said ≡ [] → (desk_of w.client).asked ≡ (map.empty, 0) → OpensSaying takes_back begins (seen w) (part ++ unsaid ∷ more) (seen w')
-      → Part [] (requests_in (part ++ unsaid ∷ []))
-  part_broken w w' part more unsaid silent unasked opened =
+      → Part [] (refused fault) (requests_in (part ++ unsaid ∷ []))
+  part_broken w w' part more unsaid fault silent unasked opened =
       let b = began_at w w' (part ++ unsaid ∷ more) silent unasked opened in
       record {
         begun = b.begun;
@@ -526,5 +528,6 @@ module _ {S P : Type 0}
         unsaid = requests_in more;
         sent = ap (λ l. map_list request_of (all_sent 0 l)) (append-nil b.begun) ∙ sym b.requests
             ∙ ap requests_in (sym (append_assoc part (unsaid ∷ []) more)) ∙ requests-append (part ++ unsaid ∷ []) more;
+        all = λ is_whole. absurd is_whole;
         payloads = own_payloads b.begun [] tt;
       }

@@ -179,8 +179,8 @@ module _ {S P : Type 0}
       × TakesTurns (ids_after_all count turn.acts) mid turns new
 
   -- The server's part of a session from `initialized` on: it did this, then took these turns at the letters up to `shutdown` or
-  -- `exit`, by its stated meaning, and these are the first of the requests that it sent.
-  pub record TakesPart (letters requests : List Message) : Type 0 where
+  -- `exit`, by its stated meaning. These are the requests that it sent, or the first of them where the outbox refused a message.
+  pub record TakesPart (letters : List Message) (stop : Stop) (requests : List Message) : Type 0 where
     pub begun : List (Act P)
     pub turns : List (Turn P)
     pub rest : List Message
@@ -196,14 +196,15 @@ module _ {S P : Type 0}
     pub took_turns : TakesTurns (ids_after_all 0 begun) first turns last
     pub unsaid : List Message
     pub sent : map_list request_of (all_sent 0 (begun ++ acts_of turns)) ≡ requests ++ unsaid
+    pub all : IsWhole stop → unsaid ≡ []
     pub payloads : GivesOwnPayloads begun turns
 
   -- No request was sent, or the client sent `initialize`, then `initialized`, and the server took part from then on.
-  abbrev pub GivesPayloads : List Message → List Message → Type 0
-  GivesPayloads letters output =
+  abbrev pub GivesPayloads : List Message → Stop → List Message → Type 0
+  GivesPayloads letters stop output =
       (requests_in output ≡ [])
       ⊎ ((early : List Message) × (first : Message) × (second : Message) × (later : List Message) × (letters ≡ early ++ first ∷ second ∷ later)
-      × (is_initialize first ≡ true) × (is_initialized second ≡ true) × TakesPart later (requests_in output))
+      × (is_initialize first ≡ true) × (is_initialized second ≡ true) × TakesPart later stop (requests_in output))
 
   -- the laws of a session, in whose end these requests are held
   pub record KeepsLaws (held : Pending (Unit {0})) (letters : List Message) (stop : Stop) (output : List Message) (null : Option Message) (answer : SessionAnswer) : Type 0 where
@@ -213,4 +214,4 @@ module _ {S P : Type 0}
     pub first : RepliesFirst letters output
     pub last : NullLast letters null
     -- each reply of the client comes to the server with the payload of its own request, once
-    pub payloads : GivesPayloads letters output
+    pub payloads : GivesPayloads letters stop output
