@@ -24,7 +24,7 @@ impl Connection {
     /// The faults are
     ///
     /// - `Start`: a thread was not started.
-    /// - `Socket`: the address is none, has no port, or nobody listens there. The kind inside tells more.
+    /// - `Socket`: the text is not an address with a port, or nobody listens there. The kind inside tells more.
     /// - `Memory`: an allocation failed.
     ///
     /// If the peer reads nothing for half a minute, a write fails, and `IoThreads::join` answers write fault 1.
