@@ -3,12 +3,10 @@ use Rattle.std.proofs.Common.{◌≡◌, ℕ, List, [], ◌∷◌, ◌++◌, Opt
 use Rattle.std.proofs.KnownBytes.{Appends-nil, Appends-trans}
 use Rattle.std.specs.Io.KnownBytes.{Keeps, Appends}
 use Rattle.std.specs.List.{FoldsTo}
-use Rattle.lsp_message.specs.Letters.{failed}
 use Rattle.lsp_message.specs.Message.{Message}
 use Rattle.lsp_message.specs.Written.{IsFrameOf, GetsFrames, Writes}
 use Rattle.lsp_message.specs.declared.frame.WriteFault.{WriteFault}
 use Rattle.lsp_message.specs.declared.frame.WriteFault.TheVariants.{Output, Memory}
-use Rattle.lsp_message.specs.declared.msg.Message as msg
 use Rattle.lsp_session.specs.Boxes.{Takes}
 use Rattle.lsp_session.specs.FrameBoxes.{FrameOutboxSends, IsClosed, Told, kept_write}
 use Rattle.lsp_session.specs.WriteLoop.{BreaksOffAt}
