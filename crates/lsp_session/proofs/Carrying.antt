@@ -8,7 +8,7 @@ use Rattle.lsp_message.specs.Written.{IsFrameOf, AreFramesOf, GetsFrames, Writes
 use Rattle.lsp_message.specs.declared.frame.WriteFault.{WriteFault}
 use Rattle.lsp_session.proofs.FrameSteps.{breaks_off}
 use Rattle.lsp_session.specs.Boxes.{Sends, Receives, Offers, WaitsFor}
-use Rattle.lsp_session.specs.Event.{Event, message, closed}
+use Rattle.lsp_session.specs.Event.{message, closed}
 use Rattle.lsp_session.specs.WriteLoop.{GivesAll, OffersAll, WritesOut}
 use Rattle.lsp_session.specs.declared.lifecycle.SendFault.{SendFault}
 use Rattle.lsp_session.specs.declared.loops.write.WriteEnd.TheVariants.{Closed, Fault}

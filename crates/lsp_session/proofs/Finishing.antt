@@ -4,7 +4,7 @@ use Rattle.std.specs.List.{FoldsTo, list_all}
 use Rattle.std.proofs.lemmas.Fn.{FoldsTo-push}
 use Rattle.lsp_session.proofs.Waiting.{list_all-push}
 use Rattle.lsp_session.specs.Boxes.{Receives}
-use Rattle.lsp_session.specs.Event.{Event, timeout}
+use Rattle.lsp_session.specs.Event.{timeout}
 use Rattle.lsp_session.specs.Finish.{FinishAnswer, is_idle, Finishes, AwaitsWithin}
 use Rattle.lsp_session.specs.Turns.{Turn, got, TakesTurn}
 

@@ -7,7 +7,6 @@ use Rattle.lsp_message.specs.Message.{Message}
 use Rattle.lsp_message.specs.Written.{IsFrameOf, GetsFrames, Writes}
 use Rattle.lsp_message.specs.declared.frame.WriteFault.{WriteFault}
 use Rattle.lsp_message.specs.declared.frame.WriteFault.TheVariants.{Output, Memory}
-use Rattle.lsp_message.specs.declared.msg.Message as msg
 use Rattle.lsp_session.specs.Boxes.{Takes}
 use Rattle.lsp_session.specs.FrameBoxes.{FrameOutboxSends, IsClosed, Told, kept_write}
 use Rattle.lsp_session.specs.WriteLoop.{BreaksOffAt}

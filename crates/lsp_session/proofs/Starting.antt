@@ -1,6 +1,6 @@
 -- Laws of the wait for `initialize`.
 use Rattle.std.proofs.Common.{◌≡◌, refl, inl, inr, ℕ, ◌+◌, ◌<◌, Bool, false, List, [], ◌∷◌, ◌++◌, length, length-append, arith, Some, codes}
-use Rattle.std.specs.Prelude.{Result, Ok, Err}
+use Rattle.std.specs.Prelude.{Ok, Err}
 use Rattle.std.specs.List.{FoldsTo, AllZip}
 use Rattle.std.specs.Str.{bytes_eq}
 use Rattle.std.proofs.lemmas.Fn.{FoldsTo-push}
@@ -11,7 +11,7 @@ use Rattle.lsp_message.specs.Id.{Id}
 use Rattle.lsp_message.specs.Message.{Message, request}
 use Rattle.lsp_session.proofs.Waiting.{FoldsTo-append}
 use Rattle.lsp_session.specs.Boxes.{Sends, Receives}
-use Rattle.lsp_session.specs.Event.{Event, message}
+use Rattle.lsp_session.specs.Event.{message}
 use Rattle.lsp_session.specs.Start.{StartAnswer, is_undecided, request_of, IsEarlyReply, fault_of_refusal, PassesOver, Ends, StartsWithin}
 use Rattle.lsp_session.specs.Turns.{Turn, got, TakesTurn}
 use Rattle.lsp_session.specs.declared.lifecycle.SendFault.{SendFault}

@@ -1,14 +1,12 @@
 -- What an inbox over a reader gives, as what the reader's bytes give.
 use Rattle.std.proofs.Common.{◌≡◌, ◌∙◌, ap, refl, inl, inr, ℕ, List, [], ◌∷◌, ◌++◌, Option}
 use Rattle.std.specs.List.{FoldsTo}
-use Rattle.std.specs.Prelude.{Result}
 use Rattle.lsp_message.specs.Message.{Message}
 use Rattle.lsp_session.specs.Boxes.{Sends}
 use Rattle.lsp_session.specs.Event.{Event}
 use Rattle.lsp_session.specs.Finish.{FinishAnswer, FinishesAt}
 use Rattle.lsp_session.specs.StreamBoxes.{stream_of, StreamInboxGives}
 use Rattle.lsp_session.specs.Streams.{StreamGives}
-use Rattle.lsp_session.specs.declared.lifecycle.SendFault.{SendFault}
 use Rattle.lsp_session.specs.declared.loops.ReadEnd.{ReadEnd}
 use Rattle.lsp_session.specs.declared.loops.stream_inbox.StreamInbox.{StreamInbox}
 

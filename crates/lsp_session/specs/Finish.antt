@@ -2,7 +2,7 @@
 -- notification `initialized`.
 use Rattle.std.specs.Bool.{MatchBool}
 use Rattle.std.specs.List.{FoldsTo, list_all}
-use Rattle.std.specs.Prelude.{◌≡◌, ◌≤◌, ◌⊎◌, ℕ, Bool, true, false, List, [], ◌∷◌, ◌++◌, length, Option, Some, IsNone, MatchOption, Result, Ok, Err, IsErrAnd, codes}
+use Rattle.std.specs.Prelude.{◌≡◌, ◌≤◌, ◌⊎◌, ℕ, Bool, true, false, List, [], ◌∷◌, ◌++◌, length, Option, Some, IsNone, MatchOption, Result, Ok, Err, IsErrAnd}
 use Rattle.lsp_message.specs.Message.{Message}
 pub use Rattle.lsp_message.specs.Methods.{is_initialized}
 use Rattle.lsp_session.specs.Boxes.{Sends, Receives, Takes, WaitsFor}

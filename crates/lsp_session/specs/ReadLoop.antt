@@ -1,6 +1,6 @@
 -- What a loop over a reader's messages hands on.
 use Rattle.std.specs.List.{FoldsTo}
-use Rattle.std.specs.Prelude.{◌≡◌, ℕ, List, Option, Some, Result, Err}
+use Rattle.std.specs.Prelude.{◌≡◌, ℕ, List, Option, Some, Err}
 use Rattle.lsp_message.specs.Frame.{Begins, reading_within}
 use Rattle.lsp_message.specs.Letters.{PassesAll, Ending, exited, ended, failed, Letters}
 use Rattle.lsp_message.specs.Message.{Message}

@@ -1,6 +1,6 @@
 -- A session over boxes: what was received are its letters, and what the outbox got is its output.
 use Rattle.std.specs.List.{FoldsTo, list_all, filter_map}
-use Rattle.std.specs.Prelude.{◌≡◌, ◌≤◌, ◌-◌, ◌^◌, ◌⊎◌, Bool, true, false, List, [], ◌∷◌, ◌++◌, length, Option, Some, None, Result, Err}
+use Rattle.std.specs.Prelude.{◌≡◌, ◌≤◌, ◌-◌, ◌^◌, ◌⊎◌, Bool, true, false, List, [], ◌∷◌, ◌++◌, length, Option, Some, None, Err}
 use Rattle.lsp_message.specs.Message.{Message}
 use Rattle.lsp_session.specs.Boxes.{Sends, Receives, Offers, Takes}
 use Rattle.lsp_session.specs.Event.{Event, message, timeout, closed}

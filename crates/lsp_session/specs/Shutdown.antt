@@ -3,13 +3,11 @@ use Rattle.std.specs.Bool.{MatchBool}
 use Rattle.std.specs.Prelude.{◌≡◌, ◌⊎◌, ℕ, List, Bool, true, false, Result, Ok, Err, IsErrAnd, codes}
 use Rattle.std.specs.Str.{bytes_eq}
 use Rattle.lsp_message.specs.Id.{Id}
-use Rattle.lsp_message.specs.Message.{Message}
 use Rattle.lsp_message.specs.Methods.{is_exit}
 use Rattle.lsp_session.specs.Boxes.{Sends, Receives, Offers}
 use Rattle.lsp_session.specs.Event.{Event, message, timeout, closed}
 use Rattle.lsp_session.specs.ProtocolError.{ProtocolFault, unexpected_in_shutdown, shutdown_timeout, shutdown_disconnected, out_of_memory, Shows}
 use Rattle.lsp_session.specs.Replies.{null_reply}
-use Rattle.lsp_session.specs.declared.lifecycle.SendFault.{SendFault}
 
 abbrev pub ShutdownAnswer : Type 0
 ShutdownAnswer = Result Bool ProtocolFault

@@ -4,14 +4,14 @@ use Rattle.serde_json.specs.Data.{Data}
 use Rattle.serde_json.specs.View.{view}
 use Rattle.serde_json.specs.declared.value.Value.{Value}
 use Rattle.std.specs.List.{FoldsTo, AllZip, list_all, filter_map}
-use Rattle.std.specs.Prelude.{◌≡◌, ◌≤◌, length, IsNone, ℕ, Bool, true, false, not, List, [], ◌∷◌, ◌++◌, Option, Some, None, Result, Ok, Err, ◌⊎◌, codes, MatchOption, IsErrAnd}
+use Rattle.std.specs.Prelude.{◌≡◌, ◌≤◌, length, IsNone, ℕ, Bool, true, false, List, [], ◌∷◌, ◌++◌, Option, Some, None, Result, Ok, Err, ◌⊎◌, codes, MatchOption, IsErrAnd}
 use Rattle.std.specs.Str.{bytes_eq}
 use Rattle.lsp_message.specs.Id.{Id}
 use Rattle.lsp_message.specs.Message.{Message, request, notification, response}
 use Rattle.lsp_message.specs.Methods.{request_id, is_shown}
 pub use Rattle.lsp_message.specs.Methods.{is_early}
 use Rattle.lsp_session.specs.Boxes.{Sends, Receives, Takes}
-use Rattle.lsp_session.specs.Event.{Event, message, timeout, closed}
+use Rattle.lsp_session.specs.Event.{message, timeout, closed}
 use Rattle.lsp_session.specs.ProtocolError.{ProtocolFault, disconnected, expected_initialize, aborted, out_of_memory, Shows}
 pub use Rattle.lsp_session.specs.ProtocolError.{fault_of_refusal}
 pub use Rattle.lsp_session.specs.Replies.{IsEarlyReply}

@@ -6,8 +6,7 @@ use Rattle.lsp_message.specs.Written.{GetsFrames, GetsFramesAndPart}
 use Rattle.lsp_message.specs.declared.frame.WriteFault.{WriteFault}
 use Rattle.lsp_message.specs.declared.frame.WriteFault.TheVariants.{Output, Memory}
 use Rattle.lsp_session.specs.Boxes.{Sends, Receives, Offers, WaitsFor}
-use Rattle.lsp_session.specs.Event.{Event, message, closed}
-use Rattle.lsp_session.specs.declared.lifecycle.SendFault.{SendFault}
+use Rattle.lsp_session.specs.Event.{message, closed}
 use Rattle.lsp_session.specs.declared.loops.write.WriteEnd.{WriteEnd}
 use Rattle.lsp_session.specs.declared.loops.write.WriteEnd.TheVariants.{Closed, Fault}
 
