@@ -59,6 +59,8 @@ pub use Rattle.lsp_session.specs.SessionBytes
 pub use Rattle.lsp_session.specs.SessionFault
 pub use Rattle.lsp_session.specs.SessionRun
 pub use Rattle.lsp_session.specs.Shutdown
+pub use Rattle.lsp_session.specs.Speech
+pub use Rattle.lsp_session.specs.SpeechView
 pub use Rattle.lsp_session.specs.Start
 pub use Rattle.lsp_session.specs.StreamBoxes
 pub use Rattle.lsp_session.specs.Streams
