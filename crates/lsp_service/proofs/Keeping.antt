@@ -16,7 +16,7 @@ use Rattle.lsp_session.specs.Session.{SessionAnswer, Stop, decided, no_more, tim
 use Rattle.lsp_session.specs.SessionBytes.{all_of}
 use Rattle.lsp_session.specs.Start.{is_early, IsEarlyReply}
 use Rattle.lsp_service.specs.Desk.{Act, Desk, OpensSaying}
-use Rattle.lsp_service.specs.Law.{one_if, is_request_under, is_reply_under, how_many, held_under, EndsAtRequest, OnceOrEnded, IsWhole, IsOpened, RepliesFirst, NullLast, requests_in, TakesPart, GivesPayloads, KeepsLaws}
+use Rattle.lsp_service.specs.Law.{one_if, is_request_under, is_reply_under, how_many, held_under, EndsAtRequest, OnceOrEnded, IsWhole, IsOpened, RepliesFirst, NullLast, requests_in, IsUninvited, TakesPart, GivesPayloads, KeepsLaws}
 use Rattle.lsp_session.specs.Speech.{GivesAll, BreaksOff, GivesTo, IsLeft, Speaks, IsSilent, Opened, AfterInitialize, SpeechOut}
 use Rattle.lsp_service.specs.Working.{seen, desk_of}
 use Rattle.lsp_service.specs.declared.desk.Working.{Working}
@@ -299,10 +299,50 @@ module _ {S P : Type 0}
   abbrev Payloads : List Message → Stop → List Message → Type 0
   Payloads = GivesPayloads requested notified replied takes_back begins
 
-  payloads_after : (m : Message) (letters : List Message) (stop : Stop) (output : List Message) → Payloads letters stop output → Payloads (m ∷ letters) stop output
-  payloads_after m letters stop output payloads = elim payloads [
+  payloads_note : (method : List ℕ) (params : Data) (letters : List Message) (stop : Stop) (output : List Message)
+      → Payloads letters stop output → Payloads (notification method params ∷ letters) stop output
+  payloads_note method params letters stop output payloads = elim payloads [
     | inl none ↦ inl none
-    | inr p ↦ inr (m ∷ p.0, p.1, p.2, p.3, ap (λ ms. m ∷ ms) p.4, p.5, p.6, p.7)
+    | inr p ↦ inr (elim p [
+      | inl ends ↦ inl (record {
+        early = notification method params ∷ ends.early;
+        ask = ends.ask;
+        rest = ends.rest;
+        cut = ap (λ ms. notification method params ∷ ms) ends.cut;
+        asks = ends.asks;
+        uninvited = ends.uninvited;
+        refusals = ends.refusals;
+        id = ends.id;
+        result = ends.result;
+        sent = ends.sent;
+        refused_all = ends.refused_all;
+        each = omega (arith, ends.each);
+      })
+      | inr p ↦ inr (notification method params ∷ p.0, p.1, p.2, p.3, ap (λ ms. notification method params ∷ ms) p.4, p.5, p.6, p.7)
+    ])
+  ]
+
+  payloads_reply : (i : Id) (method : List ℕ) (params : Data) (error : ErrorObject) (letters : List Message) (stop : Stop) (output : List Message)
+      → Payloads letters stop output → Payloads (request i method params ∷ letters) stop (response i (Err error) ∷ output)
+  payloads_reply i method params error letters stop output payloads = elim payloads [
+    | inl none ↦ inl none
+    | inr p ↦ inr (elim p [
+      | inl ends ↦ inl (record {
+        early = request i method params ∷ ends.early;
+        ask = ends.ask;
+        rest = ends.rest;
+        cut = ap (λ ms. request i method params ∷ ms) ends.cut;
+        asks = ends.asks;
+        uninvited = ends.uninvited;
+        refusals = response i (Err error) ∷ ends.refusals;
+        id = ends.id;
+        result = ends.result;
+        sent = ap (λ ms. response i (Err error) ∷ ms) ends.sent;
+        refused_all = ends.refused_all;
+        each = omega (arith, ends.each);
+      })
+      | inr p ↦ inr (request i method params ∷ p.0, p.1, p.2, p.3, ap (λ ms. request i method params ∷ ms) p.4, p.5, p.6, p.7)
+    ])
   ]
 
   -- what is known of a part of a session, but for what is held
@@ -358,7 +398,7 @@ module _ {S P : Type 0}
         account = λ id. account_silent id (desk_of w'.client).held stop answer output null both.0 both.1;
         first = first_none [] output both.0;
         last = last_none [] null both.1;
-        payloads = inl (ap requests_in both.0);
+        payloads = inl (rw both.0 refl);
       }
 
   known_error : (Q : ProtocolFault → Type 0) (w w' : Working S P) (m : Message) (rest : List Message) (stop : Stop) (output : List Message) (null : Option Message) (answer : SessionAnswer)
@@ -369,17 +409,17 @@ module _ {S P : Type 0}
         account = λ id. account_error id (desk_of w'.client).held m rest stop answer output null last (is_error Q answer error) both.0 both.1;
         first = first_none (m ∷ rest) output both.0;
         last = last_none (m ∷ rest) null both.1;
-        payloads = inl (ap requests_in both.0);
+        payloads = inl (rw both.0 refl);
       }
 
-  known_reply : (w' : Working S P) (i : Id) (method : List ℕ) (params : Data) (outcome : Result Data ErrorObject) (letters later : List Message) (null : Option Message)
+  known_reply : (w' : Working S P) (i : Id) (method : List ℕ) (params : Data) (error : ErrorObject) (letters later : List Message) (null : Option Message)
       (stop : Stop) (answer : SessionAnswer)
-      → Known w' letters later null stop answer → Known w' (request i method params ∷ letters) (response i outcome ∷ later) null stop answer
-  known_reply w' i method params outcome letters later null stop answer known = record {
-    account = λ id. account_reply id i (desk_of w'.client).held method params outcome letters later null stop answer (known.account id);
-    first = first_reply (request i method params) letters later i outcome known.first;
+      → Known w' letters later null stop answer → Known w' (request i method params ∷ letters) (response i (Err error) ∷ later) null stop answer
+  known_reply w' i method params error letters later null stop answer known = record {
+    account = λ id. account_reply id i (desk_of w'.client).held method params (Err error) letters later null stop answer (known.account id);
+    first = first_reply (request i method params) letters later i (Err error) known.first;
     last = last_after (request i method params ∷ []) letters null known.last;
-    payloads = payloads_after (request i method params) letters stop later known.payloads;
+    payloads = payloads_reply i method params error letters stop later known.payloads;
   }
 
   -- the session from `initialized` on
@@ -430,7 +470,7 @@ module _ {S P : Type 0}
   record Replied (w' : Working S P) (letters output : List Message) (null : Option Message) (stop : Stop) (answer : SessionAnswer) : Type 0 where
     account : (id : Id) → Account id (desk_of w'.client).held letters (all_of output null) stop answer
     last : NullLast letters null
-    opened : (output ≡ []) ⊎ ((m : Message) × (rest : List Message) × (letters ≡ m ∷ rest) × (is_initialized m ≡ true) × Part rest stop (requests_in output))
+    opened : ((output ≡ []) × IsUninvited letters) ⊎ ((m : Message) × (rest : List Message) × (letters ≡ m ∷ rest) × (is_initialized m ≡ true) × Part rest stop (requests_in output))
 
   no_request : (id : Id) (m : Message) → is_initialized m ≡ true → is_request_under id m ≡ false
   no_request id (request i method params) e = absurd (cc (e))
@@ -441,7 +481,7 @@ module _ {S P : Type 0}
       → Clear w → Unasked w → AfterInitialize gives_at initializes_at opens_at starves_at w w' letters stop output null answer → Replied w' letters output null stop answer
   replied_after w w' [] stop output null answer clear unasked after =
       let known = known_none w w' stop output null answer after.1 in
-      record { account = known.account; last = known.last; opened = inl (silent_both stop w w' output null after.1).0 }
+      record { account = known.account; last = known.last; opened = inl ((silent_both stop w w' output null after.1).0, tt) }
   replied_after w w' (m ∷ rest) stop output null answer clear unasked after = at (is_initialized m) refl after
     where
       at : (b : Bool) → is_initialized m ≡ b
@@ -457,7 +497,7 @@ module _ {S P : Type 0}
           }
       at false e ended =
           let known = known_error (Shows expected_initialized) w w' m rest stop output null answer ended.0 ended.1 ended.2 in
-          record { account = known.account; last = known.last; opened = inl (silent_both stop w w' output null ended.2).0 }
+          record { account = known.account; last = known.last; opened = inl ((silent_both stop w w' output null ended.2).0, e) }
 
   known_started : (w' : Working S P) (i : Id) (method : List ℕ) (params : Data) (result : Data) (letters later : List Message) (null : Option Message)
       (stop : Stop) (answer : SessionAnswer) → is_initialize (request i method params) ≡ true
@@ -470,14 +510,27 @@ module _ {S P : Type 0}
       cut = refl;
       replies = refl;
       opened = elim replied.opened [
-        | inl none ↦ inl none
+        | inl none ↦ inl none.0
         | inr o ↦ inr ([], request i method params, o.0, o.1, ap (λ ms. request i method params ∷ ms) o.2, e, o.3)
       ];
     };
     last = last_after (request i method params ∷ []) letters null replied.last;
     payloads = elim replied.opened [
-      | inl none ↦ inl (ap requests_in none)
-      | inr o ↦ inr ([], request i method params, o.0, o.1, ap (λ ms. request i method params ∷ ms) o.2, e, o.3, o.4)
+      | inl none ↦ inr (inl (record {
+        early = [];
+        ask = request i method params;
+        rest = letters;
+        cut = refl;
+        asks = e;
+        uninvited = none.1;
+        refusals = [];
+        id = i;
+        result = result;
+        sent = ap (λ ms. response i (Ok result) ∷ ms) none.0;
+        refused_all = refl;
+        each = refl;
+      }))
+      | inr o ↦ inr (inr ([], request i method params, o.0, o.1, ap (λ ms. request i method params ∷ ms) o.2, e, o.3, o.4))
     ];
   }
 
@@ -495,7 +548,7 @@ module _ {S P : Type 0}
       at_outcome known (Ok result) mid later e clear unasked after =
           known_started w' i method params result rest later null stop answer e (replied_after mid w' rest stop later null answer clear unasked after)
       at_outcome known (Err error) mid later e clear unasked after =
-          known_reply w' i method params (Err error) rest later null stop answer (known mid later clear unasked after)
+          known_reply w' i method params error rest later null stop answer (known mid later clear unasked after)
 
       at : ((mid : Working S P) (later : List Message) → Clear mid → Unasked mid → Out mid w' rest stop later null answer → Known w' rest later null stop answer)
           → (b : Bool) → is_initialize (request i method params) ≡ b
@@ -523,7 +576,7 @@ module _ {S P : Type 0}
             account = λ id. account_note id (desk_of w'.client).held (notification method params) rest (all_of output null) stop answer refl (known.account id);
             first = first_after (notification method params) rest output known.first;
             last = last_after (notification method params ∷ []) rest null known.last;
-            payloads = payloads_after (notification method params) rest stop output known.payloads;
+            payloads = payloads_note method params rest stop output known.payloads;
           }
       at rest_known false last = known_error (Shows expected_initialize) w w' (notification method params) rest stop output null answer last.0 last.1 last.2
   known_out w w' (response i outcome ∷ rest) stop output null answer clear unasked out =

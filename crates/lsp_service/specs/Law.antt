@@ -3,7 +3,7 @@
 use Rattle.serde_json.specs.Data.{Data}
 use Rattle.std.specs.FinMap as map
 use Rattle.std.specs.Ordering.{eq_by_cmp}
-use Rattle.std.specs.Prelude.{◌≡◌, ◌≤◌, ◌⊎◌, ◌+◌, ◌||◌, ◌&&◌, ℕ, pos, Bool, true, false, List, [], ◌∷◌, ◌++◌, map as map_list, fold, length, Option, Some, None, is_some, Result, IsErr, if◌then◌else◌}
+use Rattle.std.specs.Prelude.{◌≡◌, ◌≤◌, ◌⊎◌, ◌+◌, ◌||◌, ◌&&◌, ℕ, pos, Bool, true, false, List, [], ◌∷◌, ◌++◌, map as map_list, fold, length, Option, Some, None, is_some, Result, Ok, Err, IsErr, if◌then◌else◌}
 use Rattle.std.specs.List.{list_all}
 use Rattle.lsp_message.specs.Id.{Id, id_cmp, number}
 use Rattle.lsp_message.specs.Message.{Message, ErrorObject, request, notification, response}
@@ -153,6 +153,38 @@ module _ {P : Type 0} where
         → is_reply_under id turn.letter ≡ true → turn.payload ≡ None
         → (kept_under id (all_sent 0 (begun ++ acts_of before)) ≡ None) ⊎ (was_given id before ≡ true)
 
+abbrev pub is_request : Message → Bool
+is_request (request i method params) = true
+is_request (notification method params) = false
+is_request (response i outcome) = false
+
+-- a reply that is an error
+abbrev pub is_refusal : Message → Bool
+is_refusal (request i method params) = false
+is_refusal (notification method params) = false
+is_refusal (response i (Ok result)) = false
+is_refusal (response i (Err error)) = true
+
+-- another message than `initialized` comes first, or nothing
+abbrev pub IsUninvited : List Message → Type 0
+IsUninvited [] = Unit {0}
+IsUninvited (m ∷ rest) = is_initialized m ≡ false
+
+-- `initialize` got its result, after each earlier request got an error, and `initialized` did not follow.
+pub record EndsAtResult (letters output : List Message) : Type 0 where
+  pub early : List Message
+  pub ask : Message
+  pub rest : List Message
+  pub cut : letters ≡ early ++ ask ∷ rest
+  pub asks : is_initialize ask ≡ true
+  pub uninvited : IsUninvited rest
+  pub refusals : List Message
+  pub id : Id
+  pub result : Data
+  pub sent : output ≡ refusals ++ response id (Ok result) ∷ []
+  pub refused_all : list_all is_refusal refusals ≡ true
+  pub each : how_many is_request early ≡ length refusals
+
 -- `shutdown` or `exit` comes first, or nothing
 abbrev pub IsUnserved : List Message → Type 0
 IsUnserved [] = Unit {0}
@@ -199,10 +231,12 @@ module _ {S P : Type 0}
     pub all : IsWhole stop → unsaid ≡ []
     pub payloads : GivesOwnPayloads begun turns
 
-  -- No request was sent, or the client sent `initialize`, then `initialized`, and the server took part from then on.
+  -- The session ended before it was opened: nothing but errors was sent, or then the result of `initialize`, and `initialized` did
+  -- not follow. Or the client sent `initialize`, then `initialized`, and the server took part from then on.
   abbrev pub GivesPayloads : List Message → Stop → List Message → Type 0
   GivesPayloads letters stop output =
-      (requests_in output ≡ [])
+      (list_all is_refusal output ≡ true)
+      ⊎ EndsAtResult letters output
       ⊎ ((early : List Message) × (first : Message) × (second : Message) × (later : List Message) × (letters ≡ early ++ first ∷ second ∷ later)
       × (is_initialize first ≡ true) × (is_initialized second ≡ true) × TakesPart later stop (requests_in output))
 
