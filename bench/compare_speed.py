@@ -1,10 +1,12 @@
 #!/usr/bin/env python3
-"""Measures `lsp_demo` beside the Rust crate, RapidJSON and a copy of frames without JSON: the processor time of a message.
+"""Measures `lsp_demo` and the sessions on one thread beside the Rust crate, RapidJSON and a copy of frames without JSON: the
+processor time of a message.
 
     compare_speed.py --crate FOLDER     the folder of the Rust crate's sources
 
 The programs take turns, round after round, over the same streams, and every byte that they write is compared. What counts is
-user and system time of the program alone, in microseconds a message, as the median of the rounds.
+user and system time of the program alone, in microseconds a message, as the median of the rounds; in brackets what that is to
+the crate's time.
 """
 import argparse
 import os
@@ -28,7 +30,6 @@ from speed_streams import INITIALIZE, make_streams
 
 HOST = "127.0.0.1"
 PIECE = 1 << 20
-WINDOWS = [1, 64]
 # How much may be unanswered at once, where the messages are large.
 MOST_UNANSWERED = 4_000_000
 
@@ -213,7 +214,7 @@ def can_run(program, way):
     return {"pump": "pump", "stream": "serve", "pipes": "serve", "tcp": "tcp"}[way] in program.modes
 
 
-def rows_of(streams, ways):
+def rows_of(streams, ways, windows):
     """Each way with each stream, and for a conversation how many requests are unanswered at once."""
     rows = []
     for way in ways:
@@ -222,7 +223,9 @@ def rows_of(streams, ways):
                 rows.append(Row(way, stream))
                 continue
             most = max(2, min(64, MOST_UNANSWERED // stream.largest))
-            rows += [Row(way, stream, min(window, most)) for window in WINDOWS]
+            # Over TCP the crate needs some 44 ms for one request at a time: it leaves Nagle's algorithm on.
+            unanswered = windows[-1:] if way == "tcp" else windows
+            rows += [Row(way, stream, min(window, most)) for window in unanswered]
     return rows
 
 
@@ -242,16 +245,16 @@ def median(runs):
     return statistics.median(run.microseconds for run in runs)
 
 
-def print_row(row, programs):
-    """A row of the table: our time, and of each peer its time and what ours is to it."""
-    ours = median(row.runs[programs[0].name])
-    cells = [NAMES[row.way] + row.window_text(), row.stream.name, digits(ours)]
-    for program in programs[1:]:
+def print_row(row, programs, base):
+    """A row of the table: each program's time, and in brackets what it is to that of the program named `base`."""
+    cells = [NAMES[row.way] + row.window_text(), row.stream.name]
+    for program in programs:
         if program.name not in row.runs:
             cells.append("")
             continue
-        theirs = median(row.runs[program.name])
-        cells.append(f"{digits(theirs)} ({ours / theirs:.2f})")
+        spent = median(row.runs[program.name])
+        ratio = "" if program.name == base else f" ({spent / median(row.runs[base]):.2f})"
+        cells.append(digits(spent) + ratio)
     peaks = [max(run.peak for run in row.runs.get(program.name, [Run(0)])) for program in programs[:2]]
     cells.append(" / ".join(f"{peak / 1e6:.1f}" for peak in peaks) if peaks[0] else "")
     print("| " + " | ".join(cells) + " |", flush=True)
@@ -265,11 +268,12 @@ def parse_arguments():
     parser = argparse.ArgumentParser(description=__doc__, formatter_class=argparse.RawDescriptionHelpFormatter)
     parser.add_argument("--crate", type=Path, help="the folder of the Rust crate's sources")
     parser.add_argument("--program", type=Path, default=SERVE, help="our program")
-    parser.add_argument("--session", type=Path, default=SESSION, help="our server on one thread, left out where it isn't built")
+    parser.add_argument("--session", type=Path, default=SESSION, help="our servers on one thread, left out where they aren't built")
     parser.add_argument("--before", type=Path, help="another build of our program, beside the other peers")
     parser.add_argument("--rounds", type=int, default=5, help="how many times each program runs")
     parser.add_argument("--quick", action="store_true", help="a tenth of the requests")
     parser.add_argument("--ways", nargs="+", default=list(NAMES), choices=list(NAMES))
+    parser.add_argument("--windows", nargs="+", type=int, default=[1, 64], help="how many requests are unanswered at once")
     parser.add_argument("--streams", nargs="+", help="these streams alone, by name")
     return parser.parse_args()
 
@@ -280,7 +284,8 @@ def all_programs(arguments):
     if arguments.before:
         programs.append(Program("before", arguments.before, ""))
     if os.access(arguments.session, os.X_OK):
-        programs.append(Program("session", arguments.session, "", modes=("serve",)))
+        programs.append(Program("session", arguments.session, "", modes=("serve",), words=()))
+        programs.append(Program("session_with", arguments.session, "", modes=("serve",), words=("speaking",)))
     return programs
 
 
@@ -290,10 +295,11 @@ def main():
         print(f"compare_speed.py: no program {arguments.program}: README.md says how it is built", file=sys.stderr)
         return 2
     programs = all_programs(arguments)
-    print(f"{machine()}; {arguments.rounds} rounds")
+    base = programs[1 if programs[1:] else 0].name
+    print(f"{time.strftime('%Y-%m-%d %H:%M')}; {machine()}; {arguments.rounds} rounds; microseconds (to {base})")
     for program in programs[1:]:
         print(f"{program.name}: {program.version}" if program.version else program.name)
-    columns = ["way", "requests", "ours, µs", *(f"{program.name}, µs (ours / it)" for program in programs[1:])]
+    columns = ["way", "requests", *(program.name for program in programs)]
     columns.append(f"peak MB, ours / {programs[1].name if programs[1:] else ''}")
     print("| " + " | ".join(columns) + " |\n" + "|---" * len(columns) + "|", flush=True)
     with tempfile.TemporaryDirectory() as folder:
@@ -301,9 +307,9 @@ def main():
         if arguments.streams:
             streams = [stream for stream in streams if stream.name in arguments.streams]
         try:
-            for row in rows_of(streams, arguments.ways):
+            for row in rows_of(streams, arguments.ways, arguments.windows):
                 measure(row, programs, arguments.rounds)
-                print_row(row, programs)
+                print_row(row, programs, base)
         except Failure as failure:
             print(f"compare_speed.py: FAILED: {failure}", file=sys.stderr)
             return 1

@@ -46,16 +46,17 @@ class Missing(Exception):
 
 @dataclass
 class Program:
-    """A program with the words `pump`, `serve` and `tcp ADDR`, as far as it knows them."""
+    """A program with the words `pump`, `serve` and `tcp ADDR`, as far as it knows them; or one that has other words for all."""
 
     name: str
     path: Path
     version: str
     modes: tuple = ("pump", "serve", "tcp")
     copies: bool = False
+    words: tuple | None = None
 
     def command(self, *words):
-        return [self.path, *words] if "pump" in self.modes else [self.path]
+        return [self.path, *(words if self.words is None else self.words)]
 
 
 def run(words, folder=None):

@@ -1,12 +1,19 @@
-//! A server on standard input and output that answers each request with its params, or with null where its one argument is
-//! `null`: what a session costs beside `pump`, and how it answers a recorded client.
+//! A server on standard input and output that answers each request with its params, or with null where `null` is one of its
+//! arguments: what a session costs beside `pump`, and how it answers a recorded client. With the argument `speaking` it is a
+//! server that speaks, which gives the same replies.
 #![tactic(auto)]
 
+mod speaking;
+
 use anyhow::{Result, bail};
-use lsp_server::{Handler, Notification, Request, Response, ResponseError, session};
+use lsp_server::{
+    Handler, Notification, Request, Response, ResponseError, SessionEnd, SessionFault, Working,
+    session, session_with,
+};
 use serde_json::{Map, Value};
+use speaking::Speaking;
 use std::alloc::{AllocError, Global};
-use std::io::{BufReader, Write};
+use std::io::{BufRead, BufReader, Write};
 use std::{env, io};
 
 /// How many bytes of standard input are asked for at once.
@@ -49,18 +56,40 @@ impl Handler for Echo {
 
 fn main(rt: HostRuntime) -> Result<()> {
     let alloc: Global = rt.alloc();
-    let is_null = env::args(&rt)?.skip(1).any(|word| word.as_str() == "null");
+    let mut is_null = false;
+    let mut is_speaking = false;
+    for word in env::args(&rt)?.skip(1) {
+        match word.as_str() {
+            "null" => is_null = true,
+            "speaking" => is_speaking = true,
+            _ => bail!("usage: bench_session [speaking] [null]"),
+        }
+    }
     let mut reader = BufReader::with_capacity(alloc, READ_AHEAD, rt.reader())?;
-    let mut handler = Echo { is_null };
-    let capabilities = Value::Object(Map::new(alloc));
-    match session(
+    match run(
         alloc,
         &mut reader,
         &mut io::writer(&rt),
-        capabilities,
-        &mut handler,
+        is_null,
+        is_speaking,
     ) {
         Ok(_) => Ok(()),
         Err(fault) => bail!("{fault}"),
     }
+}
+
+/// The whole session, of the one server or of the other.
+fn run<R: BufRead, W: Write>(
+    alloc: Global,
+    reader: &mut R,
+    writer: &mut W,
+    is_null: bool,
+    is_speaking: bool,
+) -> std::result::Result<SessionEnd, SessionFault> {
+    if is_speaking {
+        let mut server = Working::new(alloc, Speaking { alloc, is_null });
+        return session_with(alloc, reader, writer, &mut server);
+    }
+    let capabilities = Value::Object(Map::new(alloc));
+    session(alloc, reader, writer, capabilities, &mut Echo { is_null })
 }

@@ -1,0 +1,68 @@
+// The server as one that speaks, though it says nothing of its own.
+use lsp_server::{Act, Notification, Request, ResponseError, Server};
+use serde_json::{Map, Value, put};
+use std::alloc::{AllocError, Global};
+
+/// Answers with the params, or with null.
+#[derive(Drop)]
+pub struct Speaking {
+    pub alloc: Global,
+    pub is_null: bool,
+}
+
+type Acts = Vec<Act<()>>;
+
+impl Server for Speaking {
+    ghost use Rattle.serde_json.specs.Data.{null, object, member, no_members};
+    ghost use Rattle.std.specs.Prelude.{◌≡◌, ◌∷◌, [], Ok, codes, if◌then◌else◌};
+    ghost use Rattle.lsp_service.specs.Desk.{replies};
+
+    type Payload = ();
+
+    ghost initializes = { λ old _ outcome new. (new ≡ old) × (outcome ≡ Ok (object (member (codes "capabilities") (object no_members) no_members))) };
+
+    ghost begins = { λ old acts new. (new ≡ old) × (acts ≡ []) };
+
+    ghost requested = { λ old id _ params acts new. (new ≡ old) × (acts ≡ replies id (Ok (if old.is_null then null else params)) ∷ []) };
+
+    ghost notified = { λ old _ _ acts new. (new ≡ old) × (acts ≡ []) };
+
+    ghost replied = { λ old _ _ acts new. (new ≡ old) × (acts ≡ []) };
+
+    fn initialize(&mut self, _params: Value) -> Result<Result<Value, ResponseError>, AllocError> {
+        let mut result = Map::new(self.alloc);
+        let none = Value::Object(Map::new(self.alloc));
+        put(&mut result, self.alloc, "capabilities", none)?;
+        Ok(Ok(Value::Object(result)))
+    }
+
+    fn initialized(&mut self) -> Result<Acts, AllocError> {
+        Ok(Vec::new(self.alloc))
+    }
+
+    fn request(&mut self, request: Request) -> Result<Acts, AllocError> {
+        let Request {
+            id,
+            method: _,
+            params,
+        } = request;
+        let result = if self.is_null { Value::Null } else { params };
+        let mut acts = Vec::new(self.alloc);
+        match acts.push(Act::Reply(id, Ok(result))) {
+            Ok(()) => Ok(acts),
+            Err(_) => Err(AllocError),
+        }
+    }
+
+    fn notification(&mut self, _notification: Notification) -> Result<Acts, AllocError> {
+        Ok(Vec::new(self.alloc))
+    }
+
+    fn response(
+        &mut self,
+        _payload: (),
+        _outcome: Result<Value, ResponseError>,
+    ) -> Result<Acts, AllocError> {
+        Ok(Vec::new(self.alloc))
+    }
+}
