@@ -6,8 +6,8 @@
 
 use anyhow::{Result, bail};
 use lsp_server::{
-    FrameOutbox, Handler, Notification, ReadEnd, Request, Response, ResponseError, pump,
-    read_loop, run_threads, session,
+    FrameOutbox, Handler, Notification, ReadEnd, Request, Response, ResponseError, pump, read_loop,
+    run_threads, session,
 };
 use serde_json::{Map, Value};
 use std::alloc::{AllocError, Global};

@@ -296,7 +296,12 @@ fn a_handler_keeps_the_request(rt: HostRuntime) -> Result<(), Fail> {
     let frames = [INITIALIZE, INITIALIZED, ECHO, SHUTDOWN, EXIT];
     let outcome = run_parts(rt.alloc(), &frames, "", 1000, &mut Returns)?;
     assert_eq!(rt; outcome.end.as_str(), SHUT_DOWN);
-    assert!(rt; consists_of(outcome.written.as_slice(), &[CAPABILITIES, ECHO_REPLY, NULL]));
+    assert!(rt;
+        consists_of(
+            outcome.written.as_slice(),
+            &[CAPABILITIES, ECHO_REPLY, NULL]
+        )
+    );
     Ok(())
 }
 
