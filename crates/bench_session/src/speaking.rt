@@ -29,6 +29,8 @@ impl Server for Speaking {
 
     ghost replied = { λ old _ _ acts new. (new ≡ old) × (acts ≡ []) };
 
+    ghost takes_back = { λ old _ new. new ≡ old };
+
     fn initialize(&mut self, _params: Value) -> Result<Result<Value, ResponseError>, AllocError> {
         let mut result = Map::new(self.alloc);
         let none = Value::Object(Map::new(self.alloc));
@@ -64,5 +66,9 @@ impl Server for Speaking {
         _outcome: Result<Value, ResponseError>,
     ) -> Result<Acts, AllocError> {
         Ok(Vec::new(self.alloc))
+    }
+
+    fn unsent(&mut self, _payload: ()) -> Result<(), AllocError> {
+        Ok(())
     }
 }

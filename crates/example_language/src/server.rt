@@ -56,6 +56,8 @@ impl Server for Sums {
 
     ghost replied = { λ _ _ _ _ _. ⊤ };
 
+    ghost takes_back = { λ _ _ _. ⊤ };
+
     fn initialize(&mut self, params: Value) -> Result<Result<Value, ResponseError>, AllocError> {
         let path = "/capabilities/workspace/configuration";
         self.configures = params.pointer(path).and_then(|can| can.as_bool()) == Some(true);
@@ -122,6 +124,10 @@ impl Server for Sums {
             acts.push(told)?;
         }
         Ok(acts)
+    }
+
+    fn unsent(&mut self, _asked: Asked) -> Result<(), AllocError> {
+        Ok(())
     }
 }
 

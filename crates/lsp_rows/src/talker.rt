@@ -35,6 +35,8 @@ impl Server for Talker {
 
     ghost replied = { λ _ _ _ _ _. ⊤ };
 
+    ghost takes_back = { λ _ _ _. ⊤ };
+
     fn initialize(&mut self, _params: Value) -> Result<Result<Value, ResponseError>, AllocError> {
         Ok(Ok(json!(in self.alloc; { "capabilities": {} })?))
     }
@@ -76,6 +78,10 @@ impl Server for Talker {
         outcome: Result<Value, ResponseError>,
     ) -> Result<Acts, AllocError> {
         one(self.alloc, Act::Reply(asked, outcome))
+    }
+
+    fn unsent(&mut self, _asked: RequestId) -> Result<(), AllocError> {
+        Ok(())
     }
 }
 
