@@ -29,7 +29,7 @@ where
 }
 
 /// The messages of the session (LSP 3.17, "Server lifecycle").
-fn hold_session<R: Wait + AllocGlobal>(
+pub fn hold_session<R: Wait + AllocGlobal>(
     rt: &R,
     connection: &Connection,
     method: &str,

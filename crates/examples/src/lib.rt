@@ -4,5 +4,6 @@
 
 pub mod client;
 pub mod handshake;
+pub mod in_thread;
 pub mod message_loop;
 pub mod quiet;

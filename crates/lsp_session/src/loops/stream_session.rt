@@ -19,8 +19,10 @@ use std::error::Error;
 use std::fmt;
 use std::io::{BufRead, ErrorKind, Write};
 
-/// Why a session over a reader and a writer failed. Of several that fit it is the first of `Write`, `Memory`, `Read` and
+/// Why a session over a reader and a writer failed. If several fit, it is the first of `Write`, `Memory`, `Read` and
 /// `Protocol`.
+///
+/// It prints the text of the fault inside, and `out of memory` for `Memory`. To tell a person more, match on the variant.
 #[derive(Debug, Drop)]
 pub enum SessionFault {
     /// 1: the lifecycle does not allow what came, or the messages ended too early.
