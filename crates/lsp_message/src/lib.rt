@@ -10,5 +10,6 @@ mod msg;
 pub use error::ExtractError;
 pub use frame::extent::Front;
 pub use frame::scan::front;
+pub use frame::write::write_frames;
 pub use frame::{ReadFault, WriteFault};
 pub use msg::{ErrorCode, Message, Notification, Request, RequestId, Response, ResponseError};

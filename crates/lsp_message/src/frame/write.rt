@@ -23,7 +23,18 @@ pub(crate) fn write_body<W: Write>(
     ensures length { OnOk result (length (string_bytes body) < 2 ^ 64) }
 {
     let frame = with_header(alloc, body)?;
-    write_bytes(writer, frame.as_bytes())?;
+    write_frames(writer, frame.as_str())
+}
+
+/// Writes a text of whole frames, as `Message::to_frame` gives them (LSP 3.17, "Base Protocol"), and flushes the writer once.
+///
+/// The fault is `WriteFault::Output`. The writer got a beginning of the text then; all of it if only the flush failed.
+pub fn write_frames<W: Write>(writer: &mut W, frames: &str) -> Result<(), WriteFault>
+    ensures ok { OnOk result (Appends (W.contents writer.old) (W.contents writer.new) frames.now) }
+    ensures begun { AppendsBeginning (W.contents writer.old) (W.contents writer.new) frames.now }
+    ensures fault { IfErr result IsOutput }
+{
+    write_bytes(writer, frames.as_bytes())?;
     match writer.flush() {
         Ok(()) => Ok(()),
         Err(error) => Err(WriteFault::Output(error.kind())),
@@ -31,7 +42,7 @@ pub(crate) fn write_body<W: Write>(
 }
 
 /// Puts the header part before the body, in the body's own room.
-fn with_header(alloc: Global, body: String) -> Result<String, AllocError>
+pub(crate) fn with_header(alloc: Global, body: String) -> Result<String, AllocError>
     ensures text { IfOk result (λ frame. string_bytes frame ≡ frame_text (string_bytes body)) }
     ensures length { OnOk result (length (string_bytes body) < 2 ^ 64) }
 {

@@ -1,5 +1,5 @@
 // Messages, read from a reader and written to a writer.
-ghost use Rattle.std.specs.Prelude.{◌≡◌, ◌≢◌, ◌<◌, ◌≤◌, length, Err, IfSome, OnOk};
+ghost use Rattle.std.specs.Prelude.{◌≡◌, ◌≢◌, ◌<◌, ◌≤◌, length, Err, IfOk, IfSome, OnOk, string_bytes};
 ghost use Rattle.serde_json.specs.Read.{read as read_json, max_depth};
 ghost use Rattle.serde_json.specs.View.{view};
 ghost use Rattle.lsp_message.specs.Frame.{body_means, tree_means, no_message, RunsOut, no_limit, reading_of, reading_within};
@@ -9,15 +9,15 @@ ghost use Rattle.lsp_message.specs.Readable.{WritesReadably};
 ghost use Rattle.lsp_message.specs.Reading.{Answers};
 ghost use Rattle.lsp_message.specs.ReadingSteps.{Decodes};
 ghost use Rattle.lsp_message.specs.View.{message_view};
-ghost use Rattle.lsp_message.specs.Written.{Writes};
+ghost use Rattle.lsp_message.specs.Written.{IsFrameOf, Writes};
 
 use crate::frame::body::read_body;
 use crate::frame::read::read_header;
-use crate::frame::write::write_body;
+use crate::frame::write::{with_header, write_body};
 use crate::frame::{ReadFault, WriteFault};
 use crate::msg::Message;
 use serde_json::Value;
-use std::alloc::Global;
+use std::alloc::{AllocError, Global};
 use std::io::{BufRead, Write};
 
 impl Message {
@@ -77,6 +77,17 @@ impl Message {
     {
         let body = self.body_text(alloc)?;
         write_body(alloc, writer, body)
+    }
+
+    /// The frame of the message: the bytes that `write` writes (LSP 3.17, "Base Protocol"). The error means that an allocation
+    /// failed.
+    ///
+    /// `write_frames` writes it, alone or with others before and behind it.
+    pub fn to_frame(&self, alloc: Global) -> Result<String, AllocError>
+        ensures { IfOk result (λ frame. IsFrameOf (message_view self.now) (string_bytes frame)) }
+    {
+        let body = self.body_text(alloc)?;
+        with_header(alloc, body)
     }
 }
 
