@@ -1,3 +1,4 @@
+pub mod Frames
 pub mod Handed
 pub mod Passing
 pub mod Pumped

@@ -50,14 +50,14 @@ module _ (limit : ℕ) (text : List ℕ) (old new : Option (List ℕ)) where
   Pumps (Err (Write NoMemory)) = PassesOnSome
   Pumps (Err (Start fault)) = Keeps old new
 
--- A fault of writing comes before one of reading. For private clauses: where the outbox refused a message, it kept a fault.
+-- A fault of writing comes before one of reading. A frame that could not be made ends the reading. For private clauses: reading never ends at a closed outbox.
 abbrev pub pump_answer : ReadEnd → Option WriteFault → Result (Unit {0}) PumpFault
 pump_answer end (Some fault) = Err (Write fault)
 pump_answer Exit None = Ok tt
 pump_answer End None = Ok tt
 pump_answer (Fault fault) None = Err (Read fault)
 pump_answer Closed None = Ok tt
-pump_answer Full None = Ok tt
+pump_answer Full None = Err (Write NoMemory)
 
 -- what a fault prints
 abbrev pub start_fault_text : StartFault → Option (List ℕ)

@@ -2,7 +2,9 @@
 //! over them, `pump` and `run_threads`. `lsp_server` gives the public items on under the same names.
 #![tactic(auto)]
 
+mod ahead;
 mod boxes;
+mod framing;
 mod pumping;
 mod speaking;
 mod threads;

@@ -2,23 +2,18 @@
 ghost use Rattle.std.specs.Prelude.{◌≡◌, IfSome, Option};
 ghost use Rattle.lsp_message.specs.Frame.{no_limit};
 ghost use Rattle.lsp_threads.specs.Pump.{Pumps, pump_answer};
-ghost use Rattle.lsp_threads.specs.Workers.{write_fault};
 
-use crate::boxes::SPENT_ROOM;
-use crate::workers::{StartFault, start_reader, write_from};
-use crossbeam_channel::bounded;
-use lsp_message::{Message, ReadFault, WriteFault};
+use crate::framing::{PARCEL_ROOM, write_texts};
+use crate::workers::{StartFault, start_reader};
+use lsp_message::{ReadFault, WriteFault};
 use lsp_relay::{relay, settle_all};
-use lsp_session::{ReadEnd, WriteEnd};
+use lsp_session::ReadEnd;
 use std::alloc::Global;
 use std::error::Error;
 use std::fmt;
 use std::io::{BufRead, Write};
 use std::sync::Wait;
 use std::thread::{Builder, Threads};
-
-/// How many parcels may wait between two threads. It changes speed and memory only, and no answer.
-pub(crate) const ROOM: usize = 32;
 
 /// Why not all messages were passed on. If several faults fit, it is the one with the greatest number.
 ///
@@ -98,30 +93,17 @@ where
     W: Write,
     ensures { IfSome (R.remaining reader) (λ text. Pumps limit text (W.contents writer.old) (W.contents writer.new) result) }
 {
-    let Ok((tx, rx)) = relay::<Message>(alloc, ROOM) else {
+    let Ok((tx, rx)) = relay::<String>(alloc, PARCEL_ROOM) else {
         return Err(PumpFault::Start(StartFault::Memory));
     };
-    let Ok((spent, back)) = bounded::<Message, Global>(alloc, SPENT_ROOM) else {
-        return Err(PumpFault::Start(StartFault::Memory));
-    };
-    let reading = match start_reader::<Message, T, R>(rt, builder, alloc, reader, limit, tx, back) {
+    let reading = match start_reader::<String, T, R>(rt, builder, alloc, reader, limit, tx) {
         Ok(reading) => reading,
         Err(fault) => return Err(PumpFault::Start(fault)),
     };
-    let (rx, wrote) = write_from(*rt, alloc, rx, writer, spent);
+    let (rx, unwritten) = write_texts(rt, rx, writer);
     let (tx, read) = reading.join(rt);
     settle_all(rt, rx, tx);
-    answer_of(read, fault_of(wrote))
-}
-
-/// The fault of the writing that ended so.
-pub(crate) fn fault_of(end: WriteEnd) -> Option<WriteFault>
-    ensures { result ≡ write_fault end }
-{
-    match end {
-        WriteEnd::Closed => None,
-        WriteEnd::Fault(fault) => Some(fault),
-    }
+    answer_of(read, unwritten)
 }
 
 /// What comes of reading that ended so, and of this fault of writing.
@@ -131,6 +113,7 @@ fn answer_of(end: ReadEnd, unwritten: Option<WriteFault>) -> Result<(), PumpFaul
     match (unwritten, end) {
         (Some(fault), _) => Err(PumpFault::Write(fault)),
         (None, ReadEnd::Fault(fault)) => Err(PumpFault::Read(fault)),
-        (None, ReadEnd::Exit | ReadEnd::End | ReadEnd::Closed | ReadEnd::Memory) => Ok(()),
+        (None, ReadEnd::Memory) => Err(PumpFault::Write(WriteFault::Memory)),
+        (None, ReadEnd::Exit | ReadEnd::End | ReadEnd::Closed) => Ok(()),
     }
 }

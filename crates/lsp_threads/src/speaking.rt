@@ -5,9 +5,8 @@ ghost use Rattle.lsp_session.specs.Speech.{SpeechOut};
 ghost use Rattle.lsp_threads.specs.Threads.{ThreadsGive};
 
 use crate::boxes::{RelayInbox, RelayOutbox};
-use crate::pumping::fault_of;
 use crate::threads::{Builders, Threaded, Workers, session_end, start_both};
-use crate::workers::StartFault;
+use crate::workers::{StartFault, fault_of};
 use lsp_relay::settle_all;
 use lsp_session::{Opener, Speaker, serve_with, session_answer};
 use std::alloc::Global;

@@ -6,9 +6,8 @@ ghost use Rattle.lsp_session.specs.Session.{SessionOut};
 ghost use Rattle.lsp_threads.specs.Threads.{ThreadsGive, session_end as session_end_spec};
 
 use crate::boxes::{RelayInbox, RelayOutbox, SPENT_ROOM, deliver};
-use crate::pumping::{ROOM, fault_of};
-use crate::workers::{Reader, StartFault, Writer, start_reader, start_writer};
-use crossbeam_channel::{Receiver, bounded, never};
+use crate::workers::{ROOM, Reader, StartFault, Writer, fault_of, start_reader, start_writer};
+use crossbeam_channel::{Receiver, bounded};
 use lsp_message::Message;
 use lsp_relay::{Parcel, RelayRx, RelayTx, relay, settle_all};
 use lsp_session::{Handler, ReadEnd, SessionEnd, SessionFault, WriteEnd, serve, session_answer};
@@ -171,7 +170,7 @@ where
         Ok(writing) => writing,
         Err(fault) => return Err(fault),
     };
-    match start_reader::<Message, T, R>(rt, builders.reader, alloc, reader, limit, tx, never()) {
+    match start_reader::<Message, T, R>(rt, builders.reader, alloc, reader, limit, tx) {
         Ok(reading) => Ok(Workers {
             rx,
             replies,

@@ -1,12 +1,12 @@
 //! The threads that read and write, each over an end of a relay.
 ghost use Rattle.std.specs.Prelude.{◌≡◌, [], false, IfOk, IfSome};
 ghost use Rattle.lsp_relay.specs.Relay.{has_end, Sending};
-ghost use Rattle.lsp_threads.specs.Workers.{HandsOn, WritesToEnd, WritesTaken};
+ghost use Rattle.lsp_threads.specs.Workers.{HandsOn, WritesToEnd, WritesTaken, write_fault};
 ghost use Rattle.lsp_relay.specs.declared.ends.Parcel.{Parcel as parcel};
 
 use crate::boxes::{RelayInbox, RelayOutbox, Returns};
-use crossbeam_channel::{Receiver, Sender};
-use lsp_message::Message;
+use crossbeam_channel::{Sender, never};
+use lsp_message::{Message, WriteFault};
 use lsp_relay::{Parcel, RelayRx, RelayTx};
 use lsp_session::{ReadEnd, WriteEnd, read_loop_within, write_loop};
 use std::alloc::Global;
@@ -16,6 +16,9 @@ use std::io::{BufRead, Write};
 use std::snapshot::Snapshot;
 use std::sync::Wait;
 use std::thread::{Builder, Promise, PromisedHandle, Threads};
+
+/// How many parcels may wait between two threads. It changes speed and memory only, and no answer.
+pub const ROOM: usize = 32;
 
 /// Why the threads of a call were not started. Nothing was read or written then.
 ///
@@ -43,34 +46,39 @@ impl fmt::Display for StartFault {
 
 impl Error for StartFault {}
 
-/// What a relay carries from and to a thread. The threads are started for any such type, since the check finds that they may
-/// own the ends of its relays only where it need not look into the type.
+/// What a relay carries from a thread that reads. The thread is started for any such type, since the check finds that it may
+/// own the end of its relay only where it need not look into the type.
 pub trait Carried: Drop {
-    ghost use Rattle.std.specs.Prelude.{ℕ, List, Option};
+    ghost use Rattle.std.specs.Prelude.{ℕ, List};
     ghost use Rattle.lsp_relay.specs.Relay.{Sending};
     ghost use Rattle.lsp_relay.specs.declared.ends.Parcel.{Parcel as parcel};
     ghost use Rattle.lsp_session.specs.declared.loops.ReadEnd.{ReadEnd as read_end};
-    ghost use Rattle.lsp_session.specs.declared.loops.write.WriteEnd.{WriteEnd as write_end};
 
     /// The messages of these bytes, whose content parts have at most so many, were sent on this end of a relay and ended so, and
     /// these parcels were sent then.
     ghost hands_on: { ℕ → List ℕ → Sending Self → read_end → List (parcel Self) → Type 0 };
 
-    /// These parcels were taken and written, and the writing ended so.
-    ghost writes: { List (parcel Self) → write_end → Option (List ℕ) → Option (List ℕ) → Type 0 };
-
-    /// Sends the messages of a reader, whose content parts have at most `limit` bytes, and then End. It drops what comes back.
+    /// Sends the messages of a reader, whose content parts have at most `limit` bytes, and then End.
     fn read_into<R: Wait + Drop, S: BufRead + Drop>(
         rt: R,
         alloc: Global,
         reader: S,
         limit: u64,
         tx: RelayTx<Self>,
-        spent: Receiver<Self>,
     ) -> (RelayTx<Self>, ReadEnd)
         requires { tx.sent ≡ [] }
         ensures relay { result.0.relay ≡ tx.relay }
         ensures sent { IfSome (S.remaining reader) (λ text. hands_on limit text tx result.1 result.0.sent) };
+}
+
+/// What a relay carries to a thread that writes. The thread is started for any such type, for the same reason.
+pub trait WrittenOut: Drop {
+    ghost use Rattle.std.specs.Prelude.{ℕ, List, Option};
+    ghost use Rattle.lsp_relay.specs.declared.ends.Parcel.{Parcel as parcel};
+    ghost use Rattle.lsp_session.specs.declared.loops.write.WriteEnd.{WriteEnd as write_end};
+
+    /// These parcels were taken and written, and the writing ended so.
+    ghost writes: { List (parcel Self) → write_end → Option (List ℕ) → Option (List ℕ) → Type 0 };
 
     /// Writes each message up to End, and gives it back. After a fault it writes nothing more.
     fn write_out<R: Wait + Copy + Drop, W: Write + Drop>(
@@ -108,7 +116,7 @@ pub struct Writer<W, M: Drop> {
     pub rx: Snapshot<RelayRx<M>>,
 }
 
-impl<W: Write, M: Carried> Promise<(RelayRx<M>, W, WriteEnd)> for Writer<W, M> {
+impl<W: Write, M: WrittenOut> Promise<(RelayRx<M>, W, WriteEnd)> for Writer<W, M> {
     ghost use Rattle.std.specs.Prelude.{◌≡◌};
 
     ghost kept_by = { λ p r. (r.0.relay ≡ p.rx.value.relay)
@@ -123,7 +131,6 @@ pub fn start_reader<M, R, S>(
     reader: S,
     limit: u64,
     tx: RelayTx<M>,
-    spent: Receiver<M>,
 ) -> Result<PromisedHandle<(RelayTx<M>, ReadEnd), Reader<S, M>>, StartFault>
 where
     M: Carried + Drop + Send + 'static,
@@ -141,7 +148,7 @@ where
     match builder.spawn_with(
         rt,
         promise,
-        move || M::read_into(theirs, alloc, reader, limit, tx, spent),
+        move || M::read_into(theirs, alloc, reader, limit, tx),
     ) {
         Ok(handle) => Ok(handle),
         Err(_) => Err(StartFault::Thread),
@@ -158,7 +165,7 @@ pub fn start_writer<M, R, W>(
     spent: Sender<M>,
 ) -> Result<PromisedHandle<(RelayRx<M>, W, WriteEnd), Writer<W, M>>, StartFault>
 where
-    M: Carried + Drop + Send + 'static,
+    M: WrittenOut + Drop + Send + 'static,
     R: Threads + Wait + Copy + Drop + Send + 'static,
     W: Write + Drop + Send + 'static,
     requires { rx.taken ≡ [] }
@@ -180,11 +187,9 @@ where
 }
 
 impl Carried for Message {
-    ghost use Rattle.lsp_threads.specs.Workers.{HandsOn, WritesTaken};
+    ghost use Rattle.lsp_threads.specs.Workers.{HandsOn};
 
     ghost hands_on = { HandsOn };
-
-    ghost writes = { WritesTaken };
 
     fn read_into<R: Wait + Drop, S: BufRead + Drop>(
         rt: R,
@@ -192,17 +197,22 @@ impl Carried for Message {
         reader: S,
         limit: u64,
         tx: RelayTx<Message>,
-        spent: Receiver<Message>,
     ) -> (RelayTx<Message>, ReadEnd)
         requires { tx.sent ≡ [] }
         ensures relay { result.0.relay ≡ tx.relay }
         ensures sent { IfSome (S.remaining reader) (λ text. HandsOn limit text tx result.1 result.0.sent) }
     {
         let mut reader = reader;
-        let mut outbox = RelayOutbox::new(rt, tx, spent);
+        let mut outbox = RelayOutbox::new(rt, tx, never());
         let end = read_loop_within(alloc, &mut reader, &mut outbox, limit);
         (outbox.finish(), end)
     }
+}
+
+impl WrittenOut for Message {
+    ghost use Rattle.lsp_threads.specs.Workers.{WritesTaken};
+
+    ghost writes = { WritesTaken };
 
     fn write_out<R: Wait + Copy + Drop, W: Write + Drop>(
         rt: R,
@@ -222,7 +232,7 @@ impl Carried for Message {
 }
 
 /// Writes each message up to End, and gives it back. After a fault it writes nothing more.
-pub fn write_from<R: Wait + Copy + Drop, W: Write>(
+fn write_from<R: Wait + Copy + Drop, W: Write>(
     rt: R,
     alloc: Global,
     rx: RelayRx<Message>,
@@ -262,4 +272,14 @@ fn write_to_end<R: Wait + Drop, W: Write>(
         }
     }
     unreachable!()
+}
+
+/// The fault of the writing that ended so.
+pub fn fault_of(end: WriteEnd) -> Option<WriteFault>
+    ensures { result ≡ write_fault end }
+{
+    match end {
+        WriteEnd::Closed => None,
+        WriteEnd::Fault(fault) => Some(fault),
+    }
 }

@@ -1,0 +1,49 @@
+-- Frames that a relay carries as texts, several in one parcel.
+use Rattle.std.specs.Prelude.{◌≡◌, ◌<◌, ℕ, List, [], ◌∷◌, ◌++◌, length, Option, Some, None, Result, Ok, Err, String, string_bytes}
+use Rattle.std.specs.Io.KnownBytes.{Appends}
+use Rattle.std.specs.declared.alloc.Global.{Global}
+use Rattle.lsp_message.specs.Message as plain
+use Rattle.lsp_message.specs.Written.{AppendsBeginning, IsFrameOf, IsOutput}
+use Rattle.lsp_message.specs.declared.frame.WriteFault.{WriteFault}
+use Rattle.lsp_session.specs.ReadLoop.{Hands}
+use Rattle.lsp_session.specs.declared.lifecycle.SendFault.{SendFault}
+use Rattle.lsp_session.specs.declared.lifecycle.SendFault.TheVariants.{Closed, Memory}
+use Rattle.lsp_session.specs.declared.loops.ReadEnd.{ReadEnd}
+use Rattle.lsp_relay.specs.Relay.{Relay, ended, Sending}
+use Rattle.lsp_relay.specs.declared.ends.Parcel.{Parcel}
+use Rattle.lsp_relay.specs.declared.ends.Parcel.TheVariants as parcel
+
+-- the bytes of the parcels, in order
+abbrev pub parcel_bytes : List (Parcel (String Global)) → List ℕ
+parcel_bytes [] = []
+parcel_bytes (parcel.Message text ∷ rest) = string_bytes text ++ parcel_bytes rest
+parcel_bytes (parcel.End ∷ rest) = parcel_bytes rest
+
+-- an outbox that gathers frames, as callers see it: the bytes that were sent, and those that wait to be sent
+pub record Framing : Type 0 where
+  pub relay : Relay (String Global)
+  pub bytes : List ℕ
+
+-- the outbox adds a frame of each message; where an allocation fails, nothing; it is never closed
+abbrev pub FramingSends : Framing → plain.Message → Result (Unit {0}) SendFault → Framing → Type 0
+FramingSends old m (Ok done) new = (new.relay ≡ old.relay) × ((frame : List ℕ) × IsFrameOf m frame × (new.bytes ≡ old.bytes ++ frame))
+FramingSends old m (Err (Closed back)) new = ⊥
+FramingSends old m (Err (Memory back)) new = new ≡ old
+
+-- texts were sent, and then End
+abbrev pub AreEnded : List (Parcel (String Global)) → Type 0
+AreEnded sent = (texts : List (String Global)) × (sent ≡ ended texts)
+
+-- what was sent is the frames that a loop over the messages of the text hands on, whose content parts have at most so many bytes, and then End
+abbrev pub HandsFrames : ℕ → List ℕ → Sending (String Global) → ReadEnd → List (Parcel (String Global)) → Type 0
+HandsFrames limit text old end sent = (mid : Framing) × (left : Option (List ℕ))
+    × Hands limit FramingSends text (record { relay = old.relay; bytes = [] }) mid left end × (parcel_bytes sent ≡ mid.bytes) × AreEnded sent
+
+-- the bytes were written, or a write failed so after a beginning of them
+abbrev pub WritesBytes : List ℕ → Option WriteFault → Option (List ℕ) → Option (List ℕ) → Type 0
+WritesBytes bytes None old new = Appends old new bytes
+WritesBytes bytes (Some fault) old new = IsOutput fault × (0 < length bytes) × AppendsBeginning old new bytes
+
+-- texts and then End were taken, and written
+abbrev pub WritesParcels : List (Parcel (String Global)) → Option WriteFault → Option (List ℕ) → Option (List ℕ) → Type 0
+WritesParcels taken fault old new = AreEnded taken × WritesBytes (parcel_bytes taken) fault old new
