@@ -1,5 +1,5 @@
 // Messages written as frames (LSP 3.17, "Base Protocol").
-use lsp_server::{ErrorCode, Message, Request, RequestId, Response, WriteFault};
+use lsp_server::{ErrorCode, Message, Request, RequestId, Response, WriteFault, write_frames};
 use serde_json::Value;
 use std::alloc::{AllocError, Global};
 use std::io::ErrorKind;
@@ -59,6 +59,20 @@ fn all_agree(rt: &impl Abort, alloc: Global, message: &Message, frame: &str) -> 
 // The message is written as this frame, by one write and one flush, and the frame's content part is the body text.
 fn writes(rt: &impl Abort, alloc: Global, message: Message, frame: &str) -> Result<(), Fail> {
     all_agree(rt, alloc, &message, frame)
+}
+
+#[test]
+fn frames_at_once(rt: HostRuntime) -> Result<(), Fail> {
+    let alloc = rt.alloc();
+    let exit = note(alloc, "exit")?;
+    let mut frames = exit.to_frame(alloc)?;
+    assert_eq!(rt; frames.as_str(), EXIT);
+    frames.push_str(exit.to_frame(alloc)?.as_str())?;
+    let mut writer = LimitedWriter::unlimited(alloc);
+    write_frames(&mut writer, frames.as_str())?;
+    assert_eq!(rt; writer.taken.as_slice(), TWO_EXITS.as_bytes());
+    assert_eq!(rt; (writer.writes, writer.flushes), (1, 1));
+    Ok(())
 }
 
 #[test]
