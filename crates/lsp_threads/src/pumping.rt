@@ -46,12 +46,15 @@ impl fmt::Display for PumpFault {
 impl Error for PumpFault {}
 
 /// Writes each message of a reader again, as a frame, up to and with the first `exit` (LSP 3.17, "Base Protocol"). A thread
-/// reads and makes the frames, and the caller writes them. Frames whose messages came together may be written together. The
-/// messages are the same, but not their bytes: spaces go, and members change their order.
+/// reads and makes the frames, and the caller writes them. The messages are the same, but not their bytes: spaces go, and members
+/// change their order.
+///
+/// Frames whose messages the reader showed together are written together, and flushed once. None is kept back while the reader
+/// may wait for more.
 ///
 /// `Ok` means that the messages ended with `exit` or with the input. After a failed write nothing more is written, and the rest of
-/// the messages is read and dropped, so the call returns only when the reader comes to its end. If there is no memory for a frame,
-/// the fault is `PumpFault::Write` of `WriteFault::Memory`, and nothing more is read.
+/// the messages is read and dropped, so the call returns only when the reader comes to its end. If no memory is left for a frame,
+/// the fault is `PumpFault::Write` with `WriteFault::Memory`, and nothing more is read.
 pub fn pump<T, R, W>(rt: &T, alloc: Global, reader: R, writer: &mut W) -> Result<(), PumpFault>
 where
     T: Threads + Wait + Copy + Drop + Send + 'static,

@@ -207,14 +207,17 @@ fn a_failing_reader(rt: HostRuntime) -> Result<(), Fail> {
     Ok(())
 }
 
+// Messages that the reader shows one after another are written one by one, and those that it shows together at once.
 #[test]
-fn one_write_and_one_flush_a_message(rt: HostRuntime) -> Result<(), Fail> {
+fn writes_and_flushes(rt: HostRuntime) -> Result<(), Fail> {
     let alloc = rt.alloc();
-    let mut writer = LimitedWriter::unlimited(alloc);
-    assert_eq!(rt; pump(&rt, alloc, EACH_KIND, &mut writer), Ok(()));
-    assert_eq!(rt; writer.taken.as_slice(), EACH_KIND_FRAMES);
-    assert_eq!(rt; writer.writes, 4);
-    assert_eq!(rt; writer.flushes, 4);
+    for (step, count) in [(1, 4), (EACH_KIND.len(), 1)] {
+        let reader = StepReader::new(EACH_KIND, step);
+        let mut writer = LimitedWriter::unlimited(alloc);
+        assert_eq!(rt; pump(&rt, alloc, reader, &mut writer), Ok(()));
+        assert_eq!(rt; writer.taken.as_slice(), EACH_KIND_FRAMES);
+        assert_eq!(rt; (writer.writes, writer.flushes), (count, count), "{step}");
+    }
     Ok(())
 }
 
