@@ -8,7 +8,7 @@ mod speaking;
 use anyhow::{Result, bail};
 use lsp_server::{
     Handler, Notification, Request, Response, ResponseError, SessionEnd, SessionFault, Working,
-    session, session_with,
+    keep_freed_memory, session, session_with,
 };
 use serde_json::{Map, Value};
 use speaking::Speaking;
@@ -56,6 +56,7 @@ impl Handler for Echo {
 
 fn main(rt: HostRuntime) -> Result<()> {
     let alloc: Global = rt.alloc();
+    keep_freed_memory(alloc);
     let mut is_null = false;
     let mut is_speaking = false;
     for word in env::args(&rt)?.skip(1) {

@@ -11,6 +11,7 @@ mod serve;
 mod tests;
 mod work;
 
+use lsp_server::keep_freed_memory;
 use pump::pump_words;
 use report::{report, report_usage};
 use serve::{serve_stdio, tcp_on};
@@ -27,6 +28,7 @@ use std::{env, io};
 const READ_AHEAD: usize = 65536;
 
 fn main(rt: HostRuntime) -> ExitCode {
+    keep_freed_memory(rt.alloc());
     let mut errors = rt.stderr();
     ExitCode::from(match status(&rt, &mut errors) {
         Ok(status) => status,

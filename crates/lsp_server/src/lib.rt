@@ -8,6 +8,7 @@
 mod channels;
 pub mod dispatch;
 pub mod laws;
+mod memory;
 mod socket;
 mod stdio;
 
@@ -32,4 +33,5 @@ pub use lsp_threads::{
     PumpFault, StartFault, Threaded, pump, pump_within, run_threads, run_threads_with,
     run_threads_with_within, run_threads_within,
 };
+pub use memory::keep_freed_memory;
 pub use stdio::{CHANNEL_ROOM, IoFault, IoThreads};
