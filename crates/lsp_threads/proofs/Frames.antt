@@ -1,6 +1,6 @@
 -- Frames gathered in texts, sent, taken and written.
 use Rattle.std.proofs.Common.{◌≡◌, ◌⊎◌, inl, inr, ℕ, ◌<◌, arith, List, [], ◌∷◌, ◌++◌, ◌∙◌, ap, sym, refl, map, length, length-append, append_assoc, append-nil, Option, Some, None, IfSome, OnSome, Result, Ok, Err, OnOk, String, string_bytes, subst, Global}
-use Rattle.std.proofs.KnownBytes.{Appends-nil, Appends-trans}
+use Rattle.std.proofs.KnownBytes.{Appends-trans}
 use Rattle.std.specs.Io.KnownBytes.{Keeps}
 use Rattle.std.specs.List.{FoldsTo}
 use Rattle.lsp_message.specs.Letters.{Begins, PassesAll}
@@ -114,9 +114,6 @@ module _ (limit : ℕ) where
   Handed-kept (Some text) (Some left) (Some more) old new so_far kept = rw kept so_far
 
 -- ---- what was written
-pub writes_none : (a : Option (List ℕ)) → WritesBytes [] None a a
-writes_none a = Appends-nil a
-
 module _ (bytes text : List ℕ) (a b c : Option (List ℕ)) where
   -- a text more was written, or a beginning of it
   pub writes_more : (fault : Option WriteFault) → WritesBytes bytes None a b → WritesBytes text fault b c → WritesBytes (bytes ++ text) fault a c
