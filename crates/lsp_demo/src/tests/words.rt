@@ -207,11 +207,12 @@ fn a_failing_reader(rt: HostRuntime) -> Result<(), Fail> {
     Ok(())
 }
 
-// Messages that the reader shows one after another are written one by one, and those that it shows together at once.
+// Messages that the reader shows together are written at once. A message isn't kept back for the next one where the reader shows
+// nothing of that, or, as with 45 bytes at a time after the first message, only a beginning.
 #[test]
 fn writes_and_flushes(rt: HostRuntime) -> Result<(), Fail> {
     let alloc = rt.alloc();
-    for (step, count) in [(1, 4), (EACH_KIND.len(), 1)] {
+    for (step, count) in [(1, 4), (45, 4), (EACH_KIND.len(), 1)] {
         let reader = StepReader::new(EACH_KIND, step);
         let mut writer = LimitedWriter::unlimited(alloc);
         assert_eq!(rt; pump(&rt, alloc, reader, &mut writer), Ok(()));
