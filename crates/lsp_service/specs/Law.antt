@@ -30,6 +30,11 @@ is_reply_under id (request i method params) = false
 is_reply_under id (notification method params) = false
 is_reply_under id (response i outcome) = eq_by_cmp id_cmp id i
 
+abbrev pub is_reply : Message → Bool
+is_reply (request i method params) = false
+is_reply (notification method params) = false
+is_reply (response i outcome) = true
+
 -- how many of the messages have the property
 abbrev pub how_many : (Message → Bool) → List Message → ℕ
 how_many p [] = 0
@@ -93,6 +98,12 @@ pub record RepliesFirst (letters : List Message) (stop : Stop) (sent : List Mess
   pub cut : sent ≡ first ++ later
   pub replied : RepliesToEach (requests_of early) first
   pub opened : (EndsWithResult early first × IsInvited rest) ⊎ ((later ≡ []) × IsUnopened rest stop answer)
+
+-- The client sent `initialize`, and then `initialized`. These messages, which were sent, hold the result of `initialize`.
+abbrev pub OpenedBy : List Message → List Message → Type 0
+OpenedBy letters sent =
+    (early : List Message) × (rest : List Message) × (first : List Message) × (later : List Message)
+    × (letters ≡ early ++ rest) × (sent ≡ first ++ later) × EndsWithResult early first × IsInvited rest
 
 -- The null that was sent last is the reply to `shutdown`, after which at most one letter came.
 abbrev pub NullLast : List Message → Option Message → Type 0

@@ -1,9 +1,14 @@
 //! What a session of a server does, in its user's words.
-ghost use Rattle.std.specs.Prelude.{IfSome};
+ghost use Rattle.std.specs.Prelude.{◌≡◌, ◌⊎◌, true, false, List, ◌∷◌, ◌++◌, Err, IfSome};
 ghost use Rattle.lsp_message.specs.Frame.{no_limit};
+ghost use Rattle.lsp_message.specs.Id.{Id};
+ghost use Rattle.lsp_message.specs.Message.{Message};
+ghost use Rattle.lsp_queue.specs.Queue.{Pending};
+ghost use Rattle.lsp_session.specs.ProtocolError.{ProtocolFault, is_disconnected};
+ghost use Rattle.lsp_session.specs.Session.{SessionAnswer, Stop};
 ghost use Rattle.lsp_session.specs.SessionBytes.{Gives};
 ghost use Rattle.lsp_session.specs.SessionRun.{Runs};
-ghost use Rattle.lsp_service.specs.Law.{KeepsLaws};
+ghost use Rattle.lsp_service.specs.Law.{is_reply, is_reply_under, how_many, held_under, OnceOrEnded, RepliesFirst, OpenedBy, KeepsLaws};
 ghost use Rattle.lsp_service.specs.Working.{desk_of};
 
 use crate::desk::{Server, Working};
@@ -12,6 +17,20 @@ use lsp_session::{
 };
 use std::alloc::Global;
 use std::io::{BufRead, Write};
+
+/// Whatever is no reply is sent after the client sent `initialize` and then `initialized`, and after the result of
+/// `initialize` (LSP 3.17, "Server lifecycle"): a fact of each session that keeps the laws.
+pub fn only_replies_come_first()
+    ensures { (letters before more : List Message) (stop : Stop) (sent : Message) (answer : SessionAnswer)
+        → RepliesFirst letters stop (before ++ sent ∷ more) answer → is_reply sent ≡ false → OpenedBy letters before }
+{}
+
+/// Of a client that is gone, a request whose id was used once has its reply, or is still held: a fact of each session that
+/// keeps the laws.
+pub fn lost_client_is_owed_what_is_held()
+    ensures { (id : Id) (letters : List Message) (stop : Stop) (sent : List Message) (held : Pending (Unit {0})) (fault : ProtocolFault) → is_disconnected fault ≡ true
+        → OnceOrEnded id letters stop sent held (Err fault) → (how_many (is_reply_under id) sent ≡ 1) ⊎ (held_under id held ≡ 1) }
+{}
 
 /// `serve_with` of a server, with a contract in the user's words.
 ///
