@@ -34,11 +34,11 @@ pub fn lost_client_is_owed_what_is_held()
 
 /// `serve_with` of a server, with a contract in the user's words.
 ///
-/// Under no id are there more replies than requests of the client: no reply goes to anything else, and none comes twice. A
-/// request whose id the client used once has exactly one reply, or the session ended first: it is still held, or the session
-/// ended with an error at it. Before the client sent `initialize` and `initialized` nothing is sent but replies. Nothing
-/// follows the null of `shutdown`. Where the outbox refused a message, or an allocation failed, a request may be left without
-/// a reply; the rest holds there too.
+/// In the whole session the replies under an id are no more than the client's requests under it. A request whose id the
+/// client used once has exactly one reply. Or it has none: it is still held, or the session ended at it, since the lifecycle
+/// does not allow it, and the fault shows it. Each request up to and with `initialize` gets one reply, in order, and what
+/// follows these replies is sent after `initialized` came. Nothing follows the null of `shutdown`. Where the outbox refused a
+/// message, or an allocation failed, a request may be left without a reply; the rest holds there too.
 ///
 /// Each reply of the client comes to the server with the payload of its own request, once: what was kept with the request that
 /// was sent under its id. A reply under an id that is not pending reaches nobody.

@@ -83,8 +83,8 @@ module _ (limit : ℕ) (P : SessionPart) (text : List ℕ) (left old new : Optio
     pub part : P letters no_more output null answer
     pub written : GetsFrames (all_of output null) old new
 
-  -- A write failed. What was written of the output is all but its last message, and a beginning of that one. No byte after
-  -- the message that was read last was taken.
+  -- A write failed. What was written of the output is all but its last message, and a beginning of that one. Nothing after the
+  -- last letter was taken, but perhaps the next message after the null.
   pub record WriteFails : Type 0 where
     pub letters : List Message
     pub at : List ℕ
