@@ -87,8 +87,8 @@ abbrev pub IsUnopened : List Message → Stop → SessionAnswer → Type 0
 IsUnopened [] stop answer = Unit {0}
 IsUnopened (m ∷ rest) stop answer = IsLast rest stop × IsErrAnd answer (Shows expected_initialized)
 
--- First each request up to and with `initialize` gets one reply, in order, the result of `initialize` last. What follows these
--- replies is sent after `initialized` came. Where it does not come, nothing follows them, and no other request is left.
+-- First comes one reply to each request up to and with `initialize`, in order, the result of `initialize` last. Anything else follows
+-- these replies only where `initialized` is the next letter. Where it is not, no letter is left but the one in its place.
 pub record RepliesFirst (letters : List Message) (stop : Stop) (sent : List Message) (answer : SessionAnswer) : Type 0 where
   pub early : List Message
   pub rest : List Message

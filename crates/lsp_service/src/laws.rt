@@ -18,8 +18,8 @@ use lsp_session::{
 use std::alloc::Global;
 use std::io::{BufRead, Write};
 
-/// Whatever is no reply is sent after the client sent `initialize` and then `initialized`, and after the result of
-/// `initialize` (LSP 3.17, "Server lifecycle"): a fact of each session that keeps the laws.
+/// A message that is no reply stands behind the result of `initialize`, and only where the client sent `initialize` and, next,
+/// `initialized` (LSP 3.17, "Server lifecycle"): a fact of each session that keeps the laws.
 pub fn only_replies_come_first()
     ensures { (letters before more : List Message) (stop : Stop) (sent : Message) (answer : SessionAnswer)
         → RepliesFirst letters stop (before ++ sent ∷ more) answer → is_reply sent ≡ false → OpenedBy letters before }
@@ -36,9 +36,9 @@ pub fn lost_client_is_owed_what_is_held()
 ///
 /// In the whole session the replies under an id are no more than the client's requests under it. A request whose id the
 /// client used once has exactly one reply. Or it has none: it is still held, or the session ended at it, since the lifecycle
-/// does not allow it, and the fault shows it. Each request up to and with `initialize` gets one reply, in order, and what
-/// follows these replies is sent after `initialized` came. Nothing follows the null of `shutdown`. Where the outbox refused a
-/// message, or an allocation failed, a request may be left without a reply; the rest holds there too.
+/// does not allow it, and the fault shows it. First comes one reply to each request up to and with `initialize`, in order, and
+/// anything else follows these replies only if `initialized` came next. Nothing follows the null of `shutdown`. Where the
+/// outbox refused a message, or an allocation failed, a request may be left without a reply; the rest holds there too.
 ///
 /// Each reply of the client comes to the server with the payload of its own request, once: what was kept with the request that
 /// was sent under its id. A reply under an id that is not pending reaches nobody.
