@@ -12,8 +12,9 @@
 // Two more words, `in K`, say that no read or write moves more than K bytes.
 //
 // FAIL_ONCE_COUNTS names a file of 64 bytes. It holds, as 8 numbers of 64 bits, how many calls there were of memory, threads,
-// sockets, reads and writes, how many calls were made to fail, and how many threads still ran a second after `main` had
-// returned, where one was not started. It is kept up to date while the program runs, since a program may end in any way.
+// sockets, reads and writes, how many calls were made to fail, how many threads still ran a second after `main` had
+// returned, where one was not started, and the most bytes that one allocation asked for. It is kept up to date while the program
+// runs, since a program may end in any way.
 #define _GNU_SOURCE
 #include <dlfcn.h>
 #include <errno.h>
@@ -32,7 +33,7 @@
 #include <sys/uio.h>
 #include <unistd.h>
 
-enum kind { MEMORY, THREAD, SOCKET, READ, WRITE, FAILED, LEFT, NUMBERS = 8 };
+enum kind { MEMORY, THREAD, SOCKET, READ, WRITE, FAILED, LEFT, MOST, NUMBERS = 8 };
 enum how { IS_ERROR, IS_INTERRUPT, IS_SHORT };
 
 static _Atomic uint64_t not_shared[NUMBERS];
@@ -106,16 +107,29 @@ static void *refused(void) {
     return NULL;
 }
 
-void *malloc(size_t size) { return fails(MEMORY) ? refused() : __libc_malloc(size); }
+// Keeps the size, where it is the greatest so far, and says whether the allocation is to fail.
+static int fails_to_give(size_t size) {
+    uint64_t most = counts[MOST];
+    while (size > most && !atomic_compare_exchange_weak(&counts[MOST], &most, size))
+        ;
+    return fails(MEMORY);
+}
 
-void *calloc(size_t count, size_t size) { return fails(MEMORY) ? refused() : __libc_calloc(count, size); }
+void *malloc(size_t size) { return fails_to_give(size) ? refused() : __libc_malloc(size); }
 
-void *realloc(void *block, size_t size) { return fails(MEMORY) ? refused() : __libc_realloc(block, size); }
+void *calloc(size_t count, size_t size) {
+    size_t all;
+    if (__builtin_mul_overflow(count, size, &all))
+        all = SIZE_MAX;
+    return fails_to_give(all) ? refused() : __libc_calloc(count, size);
+}
 
-void *aligned_alloc(size_t align, size_t size) { return fails(MEMORY) ? refused() : __libc_memalign(align, size); }
+void *realloc(void *block, size_t size) { return fails_to_give(size) ? refused() : __libc_realloc(block, size); }
+
+void *aligned_alloc(size_t align, size_t size) { return fails_to_give(size) ? refused() : __libc_memalign(align, size); }
 
 int posix_memalign(void **block, size_t align, size_t size) {
-    if (fails(MEMORY))
+    if (fails_to_give(size))
         return ENOMEM;
     void *made = __libc_memalign(align, size);
     if (!made)

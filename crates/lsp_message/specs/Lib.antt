@@ -3,6 +3,7 @@ pub mod Converted
 pub mod ErrorCode
 pub mod Extract
 pub mod Faults
+pub mod Floats
 pub mod Frame
 pub mod Front
 pub mod Gathering

@@ -47,7 +47,7 @@ pub enum ReadFault {
     NoMessage,
     /// 11: an allocation failed. If it was the one for the content part, that part is unread.
     Memory,
-    /// 12: the content part is longer than the limit that was given. It is unread, and no memory was reserved for it.
+    /// 12: the content part is longer than the limit that was given. It is unread. That no memory was reserved for it is tested.
     TooLong,
     /// 13: the content part is a list. JSON-RPC 2.0 makes it a batch (section 6), and batches are not supported.
     Batch,

@@ -1,7 +1,10 @@
 //! Laws of messages, ids and frames. Each is the contract of a function, so the proofs of callers can use it.
 ghost use Rattle.std.specs.Prelude.{◌≡◌, ◌≢◌, ◌++◌, ◌<◌, ◌^◌, ℕ, List, length, take, IfOk};
+ghost use Rattle.lsp_message.specs.Floats.{HasNoFloat};
 ghost use Rattle.lsp_message.specs.Front.{front_of};
 ghost use Rattle.lsp_message.specs.Id.{printed, number as number_id, text as text_id};
+ghost use Rattle.lsp_message.specs.Message as plain;
+ghost use Rattle.lsp_message.specs.Text.{IsBodyOf, IsMemberText};
 ghost use Rattle.lsp_message.specs.Written.{frame_text};
 ghost use Rattle.lsp_message.specs.View.{error_view, request_view, notification_view, response_view, message_view};
 
@@ -51,6 +54,12 @@ pub fn kinds_print_apart(number: i32, text: &str)
     let _number = number;
     let _text = text;
 }
+
+/// A message that holds no float has one text and one content part: `member_text` and `body_text` are exact to the byte there.
+pub fn one_text_without_floats()
+    ensures member { (m : plain.Message) (t u : List ℕ) → HasNoFloat m → IsMemberText m t → IsMemberText m u → t ≡ u }
+    ensures body { (m : plain.Message) (t u : List ℕ) → HasNoFloat m → IsBodyOf m t → IsBodyOf m u → t ≡ u }
+{}
 
 /// `front` finds a whole frame whatever follows it, and answers `More` to any proper part of a frame.
 pub fn front_of_frame()

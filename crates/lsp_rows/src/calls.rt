@@ -6,9 +6,9 @@ use crate::escapes::escape;
 use crate::table::{Call, Case, Device};
 use crate::talker::Talker;
 use lsp_message::{Front, Message, ReadFault, WriteFault, front};
-use lsp_service::{Working, session_with};
-use lsp_session::{SessionEnd, SessionFault, session};
-use lsp_threads::{PumpFault, StartFault, pump, run_threads};
+use lsp_service::{Working, session_with, session_with_within};
+use lsp_session::{SessionEnd, SessionFault, session, session_within};
+use lsp_threads::{PumpFault, StartFault, pump, pump_within, run_threads, run_threads_within};
 use serde_json::{Map, Value};
 use std::alloc::{AllocError, Global};
 use std::io::ErrorKind;
@@ -31,27 +31,36 @@ where
 {
     let sent = match case.device {
         Device::Ends => &text[..count.min(text.len())],
-        Device::Breaks | Device::Fills | Device::Flushes | Device::Never => text,
+        Device::Breaks | Device::Fills | Device::Flushes | Device::Limits | Device::Never => text,
     };
+    let limit = limit_of(case, count);
     match case.call {
         Call::Front => front_answer(alloc, sent),
-        Call::Read => read_answer(alloc, reader_of(alloc, case, sent, step, count)?),
+        Call::Read => read_answer(alloc, reader_of(alloc, case, sent, step, count)?, limit),
         Call::Session => {
             let reader = reader_of(alloc, case, sent, step, count)?;
-            session_answer(alloc, reader, writer_of(alloc, case, count)?)
+            session_answer(alloc, reader, writer_of(alloc, case, count)?, limit)
         }
         Call::Speaks => {
             let reader = reader_of(alloc, case, sent, step, count)?;
-            speaks_answer(alloc, reader, writer_of(alloc, case, count)?)
+            speaks_answer(alloc, reader, writer_of(alloc, case, count)?, limit)
         }
         Call::Threads => {
             let reader = reader_of(alloc, case, sent, step, count)?;
-            threads_answer(rt, alloc, reader, writer_of(alloc, case, count)?)
+            threads_answer(rt, alloc, reader, writer_of(alloc, case, count)?, limit)
         }
         Call::Pump => {
             let reader = reader_of(alloc, case, sent, step, count)?;
-            pump_answer(rt, alloc, reader, writer_of(alloc, case, count)?)
+            pump_answer(rt, alloc, reader, writer_of(alloc, case, count)?, limit)
         }
+    }
+}
+
+/// The limit of a call that has one.
+fn limit_of(case: Case, count: usize) -> Option<u64> {
+    match case.device {
+        Device::Limits => Some(count as u64),
+        Device::Ends | Device::Breaks | Device::Fills | Device::Flushes | Device::Never => None,
     }
 }
 
@@ -64,9 +73,9 @@ fn reader_of(
 ) -> Result<CuttingReader, AllocError> {
     match case.device {
         Device::Breaks => CuttingReader::failing(alloc, bytes, step, count),
-        Device::Ends | Device::Fills | Device::Flushes | Device::Never => CuttingReader::new(
-            alloc, bytes, step,
-        ),
+        Device::Ends | Device::Fills | Device::Flushes | Device::Limits | Device::Never => {
+            CuttingReader::new(alloc, bytes, step)
+        }
     }
 }
 
@@ -79,7 +88,7 @@ fn writer_of(alloc: Global, case: Case, count: usize) -> Result<LimitedWriter, A
         Device::Fills => {
             LimitedWriter::new(alloc, count, AtLimit::FailsOnce(ErrorKind::BrokenPipe))
         }
-        Device::Ends | Device::Breaks | Device::Flushes | Device::Never => {
+        Device::Ends | Device::Breaks | Device::Flushes | Device::Limits | Device::Never => {
             LimitedWriter::unlimited(alloc)
         }
     };
@@ -91,8 +100,15 @@ fn writer_of(alloc: Global, case: Case, count: usize) -> Result<LimitedWriter, A
 }
 
 /// What one read gives, and what it leaves.
-fn read_answer(alloc: Global, mut reader: CuttingReader) -> Result<Attempt, AllocError> {
-    let read = Message::read(alloc, &mut reader);
+fn read_answer(
+    alloc: Global,
+    mut reader: CuttingReader,
+    limit: Option<u64>,
+) -> Result<Attempt, AllocError> {
+    let read = match limit {
+        Some(limit) => Message::read_within(alloc, &mut reader, limit),
+        None => Message::read(alloc, &mut reader),
+    };
     let left = escape(alloc, reader.left())?;
     match read {
         Ok(Some(message)) => {
@@ -120,10 +136,23 @@ fn session_answer(
     alloc: Global,
     mut reader: CuttingReader,
     mut writer: LimitedWriter,
+    limit: Option<u64>,
 ) -> Result<Attempt, AllocError> {
     let capabilities = Value::Object(Map::new(alloc));
     let mut echo = Echo::new(alloc);
-    let ended = session(alloc, &mut reader, &mut writer, capabilities, &mut echo);
+    let ended = match limit {
+        Some(limit) => {
+            session_within(
+                alloc,
+                &mut reader,
+                &mut writer,
+                capabilities,
+                &mut echo,
+                limit,
+            )
+        }
+        None => session(alloc, &mut reader, &mut writer, capabilities, &mut echo),
+    };
     ended_answer(alloc, ended, writer.taken.as_slice())
 }
 
@@ -132,9 +161,13 @@ fn speaks_answer(
     alloc: Global,
     mut reader: CuttingReader,
     mut writer: LimitedWriter,
+    limit: Option<u64>,
 ) -> Result<Attempt, AllocError> {
     let mut talker = Working::new(alloc, Talker::new(alloc));
-    let ended = session_with(alloc, &mut reader, &mut writer, &mut talker);
+    let ended = match limit {
+        Some(limit) => session_with_within(alloc, &mut reader, &mut writer, &mut talker, limit),
+        None => session_with(alloc, &mut reader, &mut writer, &mut talker),
+    };
     ended_answer(alloc, ended, writer.taken.as_slice())
 }
 
@@ -144,13 +177,20 @@ fn threads_answer<R>(
     alloc: Global,
     reader: CuttingReader,
     writer: LimitedWriter,
+    limit: Option<u64>,
 ) -> Result<Attempt, AllocError>
 where
     R: Threads + Wait + Copy + Drop + Send + 'static,
 {
     let capabilities = Value::Object(Map::new(alloc));
     let mut echo = Echo::new(alloc);
-    match run_threads(rt, alloc, reader, writer, capabilities, &mut echo) {
+    let ran = match limit {
+        Some(limit) => {
+            run_threads_within(rt, alloc, reader, writer, capabilities, &mut echo, limit)
+        }
+        None => run_threads(rt, alloc, reader, writer, capabilities, &mut echo),
+    };
+    match ran {
         Ok(done) => ended_answer(alloc, done.answer, done.writer.taken.as_slice()),
         Err(fault) => Ok(Attempt::Refused(format!(in alloc; "{fault}; wrote ")?)),
     }
@@ -196,11 +236,15 @@ fn pump_answer<R>(
     alloc: Global,
     reader: CuttingReader,
     mut writer: LimitedWriter,
+    limit: Option<u64>,
 ) -> Result<Attempt, AllocError>
 where
     R: Threads + Wait + Copy + Drop + Send + 'static,
 {
-    let ended = pump(rt, alloc, reader, &mut writer);
+    let ended = match limit {
+        Some(limit) => pump_within(rt, alloc, reader, &mut writer, limit),
+        None => pump(rt, alloc, reader, &mut writer),
+    };
     let written = escape(alloc, writer.taken.as_slice())?;
     match ended {
         Ok(()) => Ok(Attempt::Came(format!(in alloc; "passed on; wrote {written}")?)),

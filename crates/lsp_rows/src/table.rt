@@ -33,7 +33,7 @@ pub struct Case {
 /// What is called.
 #[derive(Clone, Copy)]
 pub enum Call {
-    /// `Message::read`, once.
+    /// `Message::read`, once; with a limit this and the others but `front` are the call `_within`.
     Read,
     /// `front`.
     Front,
@@ -58,6 +58,8 @@ pub enum Device {
     Fills,
     /// The flush of this number fails, from 1.
     Flushes,
+    /// The call has a limit: a content part has at most so many bytes.
+    Limits,
     /// Nothing: the whole text is read.
     Never,
 }
@@ -133,6 +135,7 @@ fn device_of(word: &str) -> Option<Device> {
         "breaks" => Some(Device::Breaks),
         "fills" => Some(Device::Fills),
         "flushes" => Some(Device::Flushes),
+        "limits" => Some(Device::Limits),
         _ => None,
     }
 }

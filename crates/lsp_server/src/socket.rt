@@ -39,7 +39,7 @@ impl Connection {
     }
 
     /// As `connect`, with a limit on what is read. If a content part is longer than `limit` bytes, `IoThreads::join` answers read
-    /// fault 12, and no memory is reserved for it.
+    /// fault 12.
     pub fn connect_within<R, A>(
         rt: &R,
         addr: A,
@@ -71,7 +71,7 @@ impl Connection {
     }
 
     /// As `listen`, with a limit on what is read. If a content part is longer than `limit` bytes, `IoThreads::join` answers read
-    /// fault 12, and no memory is reserved for it. Use it where strangers can connect.
+    /// fault 12. Use it where strangers can connect.
     pub fn listen_within<R, A>(
         rt: &R,
         addr: A,

@@ -200,7 +200,7 @@ impl Connection {
     }
 
     /// As `stdio`, with a limit on what is read (LSP 3.17, "Base Protocol"). If a content part is longer than `limit` bytes,
-    /// `IoThreads::join` answers read fault 12, and no memory is reserved for it.
+    /// `IoThreads::join` answers read fault 12.
     pub fn stdio_within<R>(rt: &R, limit: u64) -> Result<(Connection, IoThreads), IoFault>
     where
         R: Threads + Wait + Clock + AllocGlobal + Input + Print + Copy + Drop + Send + 'static,

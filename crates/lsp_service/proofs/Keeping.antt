@@ -1,22 +1,23 @@
 -- A session of a server keeps the laws.
-use Rattle.std.proofs.Common.{◌≡◌, refl, sym, ◌∙◌, ap, inl, inr, ◌⊎◌, ℕ, zero, suc, ◌+◌, ◌≤◌, Bool, true, false, List, [], ◌∷◌, ◌++◌, length, append_assoc, arith, Option, Some, None}
+use Rattle.std.proofs.Common.{◌≡◌, refl, sym, ◌∙◌, ap, inl, inr, ◌⊎◌, ℕ, zero, suc, ◌+◌, ◌≤◌, Bool, true, false, List, [], ◌∷◌, ◌++◌, length, append_assoc, append-nil, arith, Option, Some, None}
 use Rattle.std.specs.Bool.{MatchBool}
 use Rattle.std.specs.FinMap as map
 use Rattle.std.specs.FinMap.{get-empty}
 use Rattle.std.specs.Ordering.{eq_by_cmp}
-use Rattle.std.specs.Prelude.{Result, Ok, Err, IsErr, IsErrAnd, MatchResult, is_some}
+use Rattle.std.specs.Prelude.{Result, Ok, Err, IsErrAnd, MatchResult, is_some}
 use Rattle.serde_json.specs.Data.{Data}
 use Rattle.lsp_message.specs.Id.{Id, id_cmp}
 use Rattle.lsp_message.specs.Message.{Message, ErrorObject, request, notification, response}
 use Rattle.lsp_queue.specs.Queue.{Pending}
+use Rattle.lsp_session.specs.Answered.{requests_of}
 use Rattle.lsp_session.specs.Finish.{is_initialized}
-use Rattle.lsp_session.specs.ProtocolError.{ProtocolFault, Shows, expected_initialize, expected_initialized, unexpected_in_shutdown}
+use Rattle.lsp_session.specs.ProtocolError.{Shows, ShowsUnallowed, expected_initialize, expected_initialized, unexpected_in_shutdown}
 use Rattle.lsp_session.specs.Replies.{null_reply}
-use Rattle.lsp_session.specs.Session.{SessionAnswer, Stop, decided, no_more, timed_out, refused, exhausted, IsLast, is_initialize, AfterShutdown, AfterServed}
+use Rattle.lsp_session.specs.Session.{SessionAnswer, Stop, decided, no_more, timed_out, refused, exhausted, IsLast, is_initialize, request_id, AfterShutdown, AfterServed}
 use Rattle.lsp_session.specs.SessionBytes.{all_of}
 use Rattle.lsp_session.specs.Start.{is_early, IsEarlyReply}
 use Rattle.lsp_service.specs.Desk.{Act, Desk, OpensSaying}
-use Rattle.lsp_service.specs.Law.{one_if, is_request_under, is_reply_under, how_many, held_under, EndsAtRequest, OnceOrEnded, IsWhole, IsOpened, RepliesFirst, NullLast, requests_in, IsUninvited, TakesPart, GivesPayloads, KeepsLaws}
+use Rattle.lsp_service.specs.Law.{one_if, is_request_under, is_reply_under, how_many, held_under, EndsAtRequest, OnceOrEnded, IsWhole, EndsWithResult, IsUnopened, RepliesFirst, NullLast, requests_in, IsUninvited, TakesPart, GivesPayloads, KeepsLaws}
 use Rattle.lsp_session.specs.Speech.{GivesAll, BreaksOff, GivesTo, IsLeft, Speaks, IsSilent, Opened, AfterInitialize, SpeechOut}
 use Rattle.lsp_service.specs.Working.{seen, desk_of}
 use Rattle.lsp_service.specs.declared.desk.Working.{Working}
@@ -34,27 +35,33 @@ all_count : (id : Id) (output : List Message) (null : Option Message)
 all_count id output None = omega arith
 all_count id output (Some n) = let both = how_many-append (is_reply_under id) output (n ∷ []) in omega (arith, both)
 
--- an answer that shows a message is an error
-is_error : (Q : ProtocolFault → Type 0) (answer : SessionAnswer) → IsErrAnd answer Q → IsErr answer
-is_error Q (Ok end) shows = absurd shows
-is_error Q (Err fault) shows = refl
+-- an answer that shows a letter in the place of `initialized`, or of `exit`
+uninvited_is : (answer : SessionAnswer) → IsErrAnd answer (Shows expected_initialized) → IsErrAnd answer ShowsUnallowed
+uninvited_is (Ok end) shows = absurd shows
+uninvited_is (Err fault) shows = inl shows
+
+unexpected_is : (answer : SessionAnswer) → IsErrAnd answer (Shows unexpected_in_shutdown) → IsErrAnd answer ShowsUnallowed
+unexpected_is (Ok end) shows = absurd shows
+unexpected_is (Err fault) shows = inr shows
 
 -- a request that the session ends at, after more letters
-ends_after : (id : Id) (before letters : List Message) (answer : SessionAnswer) → EndsAtRequest id letters answer → EndsAtRequest id (before ++ letters) answer
-ends_after id before letters answer ends = (ends.0, (before ++ ends.1.0, ends.1.1, rw (ends.1.2, append_assoc) refl, ends.1.3))
+ends_after : (id : Id) (before letters : List Message) (stop : Stop) (answer : SessionAnswer) → EndsAtRequest id letters stop answer
+    → EndsAtRequest id (before ++ letters) stop answer
+ends_after id before letters stop answer ends = ((before ++ ends.0.0, ends.0.1, rw (ends.0.2, append_assoc) refl, ends.0.3), ends.1, ends.2)
 
-ends_here : (id : Id) (m : Message) (answer : SessionAnswer) → IsErr answer → 1 ≤ how_many (is_request_under id) (m ∷ []) → EndsAtRequest id (m ∷ []) answer
-ends_here id m answer error some = at (is_request_under id m) refl some
+ends_here : (id : Id) (m : Message) (stop : Stop) (answer : SessionAnswer) → stop ≡ decided → IsErrAnd answer ShowsUnallowed
+    → 1 ≤ how_many (is_request_under id) (m ∷ []) → EndsAtRequest id (m ∷ []) stop answer
+ends_here id m stop answer by_it unallowed some = at (is_request_under id m) refl some
   where
-    at : (b : Bool) → is_request_under id m ≡ b → 1 ≤ one_if b + 0 → EndsAtRequest id (m ∷ []) answer
-    at true e some = (error, ([], m, refl, e))
+    at : (b : Bool) → is_request_under id m ≡ b → 1 ≤ one_if b + 0 → EndsAtRequest id (m ∷ []) stop answer
+    at true e some = (([], m, refl, e), by_it, unallowed)
     at false e some = absurd (omega (arith, some))
 
 -- what is said of the requests and the replies under one id
 record Account (id : Id) (held : Pending (Unit {0})) (letters sent : List Message) (stop : Stop) (answer : SessionAnswer) : Type 0 where
   most : how_many (is_reply_under id) sent ≤ how_many (is_request_under id) letters
   least : IsWhole stop → 1 ≤ how_many (is_request_under id) letters
-      → (1 ≤ how_many (is_reply_under id) sent + held_under id held) ⊎ EndsAtRequest id letters answer
+      → (1 ≤ how_many (is_reply_under id) sent + held_under id held) ⊎ EndsAtRequest id letters stop answer
 
 module _ (id : Id) (stop : Stop) (answer : SessionAnswer) where
   -- the letters after those that are served
@@ -64,12 +71,12 @@ module _ (id : Id) (stop : Stop) (answer : SessionAnswer) where
   null_most (notification method params ∷ rest) null after = rw after.2 (omega arith)
   null_most (response i outcome ∷ rest) null after = rw after.2 (omega arith)
 
-  ends_shut : (ask : Message) (rest : List Message) → AfterShutdown rest stop answer → 1 ≤ how_many (is_request_under id) rest → EndsAtRequest id (ask ∷ rest) answer
+  ends_shut : (ask : Message) (rest : List Message) → AfterShutdown rest stop answer → 1 ≤ how_many (is_request_under id) rest → EndsAtRequest id (ask ∷ rest) stop answer
   ends_shut ask [] after some = absurd (omega (arith, some))
   ends_shut ask (request i method params ∷ rest) after some =
       let none : rest ≡ [] = after.0.0 in
-      rw none (ends_after id (ask ∷ []) (request i method params ∷ []) answer
-      (ends_here id (request i method params) answer (is_error (Shows unexpected_in_shutdown) answer after.1) (rw none at some)))
+      rw none (ends_after id (ask ∷ []) (request i method params ∷ []) stop answer
+      (ends_here id (request i method params) stop answer after.0.1 (unexpected_is answer after.1) (rw none at some)))
   ends_shut ask (notification method params ∷ rest) after some = let none : rest ≡ [] = after.0.0 in absurd (nothing (rw none at some))
     where
       nothing : 1 ≤ 0 + 0 → ⊥
@@ -80,12 +87,12 @@ module _ (id : Id) (stop : Stop) (answer : SessionAnswer) where
       nothing some = omega (arith, some)
 
   null_least : (rest : List Message) (null : Option Message) → AfterServed rest stop null answer → 1 ≤ how_many (is_request_under id) rest
-      → (1 ≤ null_count id null) ⊎ EndsAtRequest id rest answer
+      → (1 ≤ null_count id null) ⊎ EndsAtRequest id rest stop answer
   null_least [] null after some = absurd (omega (arith, some))
   null_least (request i method params ∷ rest) null after some = rw after.1 (at (eq_by_cmp id_cmp id i) some)
     where
       at : (b : Bool) → 1 ≤ one_if b + how_many (is_request_under id) rest
-          → (1 ≤ one_if b) ⊎ EndsAtRequest id (request i method params ∷ rest) answer
+          → (1 ≤ one_if b) ⊎ EndsAtRequest id (request i method params ∷ rest) stop answer
       at true some = inl (omega arith)
       at false some = inr (ends_shut (request i method params) rest after.2 (omega (arith, some)))
   null_least (notification method params ∷ rest) null after some =
@@ -238,10 +245,10 @@ module _ {S P : Type 0}
       where
         at : IsWhole stop → (n : ℕ) → how_many (is_request_under id) speaks.middle ≡ n
             → 1 ≤ how_many (is_request_under id) speaks.middle + how_many (is_request_under id) speaks.rest
-            → (1 ≤ (how_many (is_reply_under id) output + null_count id null) + held_under id (desk_of w'.client).held) ⊎ EndsAtRequest id letters answer
+            → (1 ≤ (how_many (is_reply_under id) output + null_count id null) + held_under id (desk_of w'.client).held) ⊎ EndsAtRequest id letters stop answer
         at whole zero e some = elim (null_least id stop answer speaks.rest null speaks.end (omega (arith, e, some))) [
           | inl one ↦ inl (omega (arith, one))
-          | inr ends ↦ inr (rw speaks.cut (ends_after id speaks.middle speaks.rest answer ends))
+          | inr ends ↦ inr (rw speaks.cut (ends_after id speaks.middle speaks.rest stop answer ends))
         ]
         at whole (suc n) e some =
             let one = least_to stop null w speaks.after w' speaks.middle output clear whole speaks.given speaks.left (omega (arith, e)) in inl (omega (arith, one))
@@ -254,12 +261,12 @@ module _ {S P : Type 0}
       → output ≡ [] → null ≡ None → Account id held [] (all_of output null) stop answer
   account_silent id held stop answer output null silent none = rw (silent, none) (account_none id held stop answer)
 
-  -- the session ended with an error at a letter
+  -- the session ended at a letter that the lifecycle does not allow
   account_error : (id : Id) (held : Pending (Unit {0})) (m : Message) (rest : List Message) (stop : Stop) (answer : SessionAnswer) (output : List Message) (null : Option Message)
-      → IsLast rest stop → IsErr answer → output ≡ [] → null ≡ None → Account id held (m ∷ rest) (all_of output null) stop answer
-  account_error id held m rest stop answer output null last error silent none = rw (silent, none, last.0) (record {
+      → IsLast rest stop → IsErrAnd answer ShowsUnallowed → output ≡ [] → null ≡ None → Account id held (m ∷ rest) (all_of output null) stop answer
+  account_error id held m rest stop answer output null last unallowed silent none = rw (silent, none, last.0) (record {
     most = omega arith;
-    least = λ whole some. inr (ends_here id m answer error some);
+    least = λ whole some. inr (ends_here id m stop answer last.1 unallowed some);
   })
 
   -- a letter that is no request, and one that is replied to
@@ -269,7 +276,7 @@ module _ {S P : Type 0}
     most = rw other (omega (arith, account.most));
     least = λ whole some. elim (account.least whole (let s = (rw other at some) in omega (arith, s))) [
       | inl one ↦ inl one
-      | inr ends ↦ inr (ends_after id (m ∷ []) letters answer ends)
+      | inr ends ↦ inr (ends_after id (m ∷ []) letters stop answer ends)
     ];
   }
 
@@ -284,11 +291,11 @@ module _ {S P : Type 0}
     where
       at : IsWhole stop → (b : Bool) → 1 ≤ one_if b + how_many (is_request_under id) letters
           → (1 ≤ ((one_if b + how_many (is_reply_under id) later) + null_count id null) + held_under id held)
-          ⊎ EndsAtRequest id (request i method params ∷ letters) answer
+          ⊎ EndsAtRequest id (request i method params ∷ letters) stop answer
       at whole true some = inl (omega arith)
       at whole false some = elim (account.least whole (omega (arith, some))) [
         | inl one ↦ inl (let n = (rw (all_count id later null) at one) in omega (arith, n))
-        | inr ends ↦ inr (ends_after id (request i method params ∷ []) letters answer ends)
+        | inr ends ↦ inr (ends_after id (request i method params ∷ []) letters stop answer ends)
       ]
 
   -- ---- the whole session
@@ -348,34 +355,74 @@ module _ {S P : Type 0}
   -- what is known of a part of a session, but for what is held
   record Known (w' : Working S P) (letters output : List Message) (null : Option Message) (stop : Stop) (answer : SessionAnswer) : Type 0 where
     account : (id : Id) → Account id (desk_of w'.client).held letters (all_of output null) stop answer
-    first : RepliesFirst letters output
+    first : RepliesFirst letters stop (all_of output null) answer
     last : NullLast letters null
     payloads : Payloads letters stop output
 
-  first_none : (letters output : List Message) → output ≡ [] → RepliesFirst letters output
-  first_none letters output none = record { first = []; later = []; cut = none; replies = refl; opened = inl refl }
+  -- nothing was sent, and no request came
+  first_none : (letters : List Message) (stop : Stop) (output : List Message) (null : Option Message) (answer : SessionAnswer)
+      → requests_of letters ≡ [] → output ≡ [] → null ≡ None → RepliesFirst letters stop (all_of output null) answer
+  first_none letters stop output null answer unasked silent none = rw (silent, none) (record {
+    early = letters;
+    rest = [];
+    came = sym (append-nil letters);
+    first = [];
+    later = [];
+    cut = refl;
+    replied = rw unasked tt;
+    opened = inr (refl, tt);
+  })
 
-  opened_after : (m : Message) (letters : List Message) → IsOpened letters → IsOpened (m ∷ letters)
-  opened_after m letters o = (m ∷ o.0, o.1, o.2, o.3, ap (λ ms. m ∷ ms) o.4, o.5, o.6)
+  -- a letter and what was sent for it, before all others
+  result_after : (m : Message) (more early first : List Message) → EndsWithResult early first → EndsWithResult (m ∷ early) (more ++ first)
+  result_after m more early first ends = record {
+    before = m ∷ ends.before;
+    id = ends.id;
+    method = ends.method;
+    params = ends.params;
+    asks = ends.asks;
+    came = ap (λ ms. m ∷ ms) ends.came;
+    replies = more ++ ends.replies;
+    result = ends.result;
+    said = ap (λ ms. more ++ ms) ends.said ∙ sym (append_assoc more ends.replies (response ends.id (Ok ends.result) ∷ []));
+  }
 
-  first_after : (m : Message) (letters output : List Message) → RepliesFirst letters output → RepliesFirst (m ∷ letters) output
-  first_after m letters output f = record {
+  first_note : (method : List ℕ) (params : Data) (letters : List Message) (stop : Stop) (sent : List Message) (answer : SessionAnswer)
+      → RepliesFirst letters stop sent answer → RepliesFirst (notification method params ∷ letters) stop sent answer
+  first_note method params letters stop sent answer f = record {
+    early = notification method params ∷ f.early;
+    rest = f.rest;
+    came = ap (λ ms. notification method params ∷ ms) f.came;
     first = f.first;
     later = f.later;
     cut = f.cut;
-    replies = f.replies;
-    opened = elim f.opened [ inl none ↦ inl none | inr o ↦ inr (opened_after m letters o) ];
+    replied = f.replied;
+    opened = elim f.opened [
+      | inl opened ↦ inl (result_after (notification method params) [] f.early f.first opened.0, opened.1)
+      | inr none ↦ inr none
+    ];
   }
 
-  first_reply : (m : Message) (letters output : List Message) (i : Id) (outcome : Result Data ErrorObject) → RepliesFirst letters output
-      → RepliesFirst (m ∷ letters) (response i outcome ∷ output)
-  first_reply m letters output i outcome f = record {
+  all_of_more : (m : Message) (output : List Message) (null : Option Message) → all_of (m ∷ output) null ≡ m ∷ all_of output null
+  all_of_more m output None = refl
+  all_of_more m output (Some n) = refl
+
+  first_reply : (i : Id) (method : List ℕ) (params : Data) (outcome : Result Data ErrorObject) (letters : List Message) (stop : Stop) (output : List Message) (null : Option Message)
+      (answer : SessionAnswer) → RepliesFirst letters stop (all_of output null) answer
+      → RepliesFirst (request i method params ∷ letters) stop (all_of (response i outcome ∷ output) null) answer
+  first_reply i method params outcome letters stop output null answer f = rw (all_of_more (response i outcome) output null) (record {
+    early = request i method params ∷ f.early;
+    rest = f.rest;
+    came = ap (λ ms. request i method params ∷ ms) f.came;
     first = response i outcome ∷ f.first;
     later = f.later;
     cut = ap (λ ms. response i outcome ∷ ms) f.cut;
-    replies = f.replies;
-    opened = elim f.opened [ inl none ↦ inl none | inr o ↦ inr (opened_after m letters o) ];
-  }
+    replied = ((outcome, refl), f.replied);
+    opened = elim f.opened [
+      | inl opened ↦ inl (result_after (request i method params) (response i outcome ∷ []) f.early f.first opened.0, opened.1)
+      | inr none ↦ inr none
+    ];
+  })
 
   abbrev pub Out : Working S P → Working S P → List Message → Stop → List Message → Option Message → SessionAnswer → Type 0
   Out = SpeechOut gives_at initializes_at opens_at starves_at
@@ -396,18 +443,25 @@ module _ {S P : Type 0}
       let both = silent_both stop w w' output null silent in
       record {
         account = λ id. account_silent id (desk_of w'.client).held stop answer output null both.0 both.1;
-        first = first_none [] output both.0;
+        first = first_none [] stop output null answer refl both.0 both.1;
         last = last_none [] null both.1;
         payloads = inl (rw both.0 refl);
       }
 
-  known_error : (Q : ProtocolFault → Type 0) (w w' : Working S P) (m : Message) (rest : List Message) (stop : Stop) (output : List Message) (null : Option Message) (answer : SessionAnswer)
-      → IsLast rest stop → IsErrAnd answer Q → Silent stop w w' output null → Known w' (m ∷ rest) output null stop answer
-  known_error Q w w' m rest stop output null answer last error silent =
+  not_under : (id : Id) (m : Message) → request_id m ≡ None → is_request_under id m ≡ false
+  not_under id (request i method params) e = absurd (cc (e))
+  not_under id (notification method params) e = refl
+  not_under id (response i outcome) e = refl
+
+  -- a letter that is no request ended the session
+  known_other : (w w' : Working S P) (m : Message) (rest : List Message) (stop : Stop) (output : List Message) (null : Option Message) (answer : SessionAnswer)
+      → request_id m ≡ None → IsLast rest stop → Silent stop w w' output null → Known w' (m ∷ rest) output null stop answer
+  known_other w w' m rest stop output null answer other last silent =
       let both = silent_both stop w w' output null silent in
       record {
-        account = λ id. account_error id (desk_of w'.client).held m rest stop answer output null last (is_error Q answer error) both.0 both.1;
-        first = first_none (m ∷ rest) output both.0;
+        account = λ id. account_note id (desk_of w'.client).held m rest (all_of output null) stop answer (not_under id m other)
+            (rw last.0 (account_silent id (desk_of w'.client).held stop answer output null both.0 both.1));
+        first = first_none (m ∷ rest) stop output null answer (rw (last.0, other) refl) both.0 both.1;
         last = last_none (m ∷ rest) null both.1;
         payloads = inl (rw both.0 refl);
       }
@@ -417,7 +471,7 @@ module _ {S P : Type 0}
       → Known w' letters later null stop answer → Known w' (request i method params ∷ letters) (response i (Err error) ∷ later) null stop answer
   known_reply w' i method params error letters later null stop answer known = record {
     account = λ id. account_reply id i (desk_of w'.client).held method params (Err error) letters later null stop answer (known.account id);
-    first = first_reply (request i method params) letters later i (Err error) known.first;
+    first = first_reply i method params (Err error) letters stop later null answer known.first;
     last = last_after (request i method params ∷ []) letters null known.last;
     payloads = payloads_reply i method params error letters stop later known.payloads;
   }
@@ -470,7 +524,7 @@ module _ {S P : Type 0}
   record Replied (w' : Working S P) (letters output : List Message) (null : Option Message) (stop : Stop) (answer : SessionAnswer) : Type 0 where
     account : (id : Id) → Account id (desk_of w'.client).held letters (all_of output null) stop answer
     last : NullLast letters null
-    opened : ((output ≡ []) × IsUninvited letters) ⊎ ((m : Message) × (rest : List Message) × (letters ≡ m ∷ rest) × (is_initialized m ≡ true) × Part rest stop (requests_in output))
+    opened : ((output ≡ []) × (null ≡ None) × IsUninvited letters × IsUnopened letters stop answer) ⊎ ((m : Message) × (rest : List Message) × (letters ≡ m ∷ rest) × (is_initialized m ≡ true) × Part rest stop (requests_in output))
 
   no_request : (id : Id) (m : Message) → is_initialized m ≡ true → is_request_under id m ≡ false
   no_request id (request i method params) e = absurd (cc (e))
@@ -481,7 +535,7 @@ module _ {S P : Type 0}
       → Clear w → Unasked w → AfterInitialize gives_at initializes_at opens_at starves_at w w' letters stop output null answer → Replied w' letters output null stop answer
   replied_after w w' [] stop output null answer clear unasked after =
       let known = known_none w w' stop output null answer after.1 in
-      record { account = known.account; last = known.last; opened = inl ((silent_both stop w w' output null after.1).0, tt) }
+      record { account = known.account; last = known.last; opened = inl ((silent_both stop w w' output null after.1).0, (silent_both stop w w' output null after.1).1, tt, tt) }
   replied_after w w' (m ∷ rest) stop output null answer clear unasked after = at (is_initialized m) refl after
     where
       at : (b : Bool) → is_initialized m ≡ b
@@ -496,8 +550,12 @@ module _ {S P : Type 0}
             opened = inr (m, rest, refl, e, begun.part);
           }
       at false e ended =
-          let known = known_error (Shows expected_initialized) w w' m rest stop output null answer ended.0 ended.1 ended.2 in
-          record { account = known.account; last = known.last; opened = inl ((silent_both stop w w' output null ended.2).0, e) }
+          let both = silent_both stop w w' output null ended.2 in
+          record {
+            account = λ id. account_error id (desk_of w'.client).held m rest stop answer output null ended.0 (uninvited_is answer ended.1) both.0 both.1;
+            last = last_none (m ∷ rest) null both.1;
+            opened = inl (both.0, both.1, e, (ended.0, ended.1));
+          }
 
   known_started : (w' : Working S P) (i : Id) (method : List ℕ) (params : Data) (result : Data) (letters later : List Message) (null : Option Message)
       (stop : Stop) (answer : SessionAnswer) → is_initialize (request i method params) ≡ true
@@ -505,13 +563,29 @@ module _ {S P : Type 0}
   known_started w' i method params result letters later null stop answer e replied = record {
     account = λ id. account_reply id i (desk_of w'.client).held method params (Ok result) letters later null stop answer (replied.account id);
     first = record {
+      early = request i method params ∷ [];
+      rest = letters;
+      came = refl;
       first = response i (Ok result) ∷ [];
-      later = later;
-      cut = refl;
-      replies = refl;
+      later = all_of later null;
+      cut = all_of_more (response i (Ok result)) later null;
+      replied = ((Ok result, refl), tt);
       opened = elim replied.opened [
-        | inl none ↦ inl none.0
-        | inr o ↦ inr ([], request i method params, o.0, o.1, ap (λ ms. request i method params ∷ ms) o.2, e, o.3)
+        | inl none ↦ inr (rw (none.0, none.1) refl, none.3)
+        | inr o ↦ inl (
+          record {
+            before = [];
+            id = i;
+            method = method;
+            params = params;
+            asks = e;
+            came = refl;
+            replies = [];
+            result = result;
+            said = refl;
+          },
+          rw o.2 o.3,
+        )
       ];
     };
     last = last_after (request i method params ∷ []) letters null replied.last;
@@ -522,7 +596,7 @@ module _ {S P : Type 0}
         rest = letters;
         cut = refl;
         asks = e;
-        uninvited = none.1;
+        uninvited = none.2;
         refusals = [];
         id = i;
         result = result;
@@ -574,18 +648,18 @@ module _ {S P : Type 0}
           let known = rest_known early in
           record {
             account = λ id. account_note id (desk_of w'.client).held (notification method params) rest (all_of output null) stop answer refl (known.account id);
-            first = first_after (notification method params) rest output known.first;
+            first = first_note method params rest stop (all_of output null) answer known.first;
             last = last_after (notification method params ∷ []) rest null known.last;
             payloads = payloads_note method params rest stop output known.payloads;
           }
-      at rest_known false last = known_error (Shows expected_initialize) w w' (notification method params) rest stop output null answer last.0 last.1 last.2
+      at rest_known false last = known_other w w' (notification method params) rest stop output null answer refl last.0 last.2
   known_out w w' (response i outcome ∷ rest) stop output null answer clear unasked out =
-      known_error (Shows expected_initialize) w w' (response i outcome) rest stop output null answer out.0 out.1 out.2
+      known_other w w' (response i outcome) rest stop output null answer refl out.0 out.2
 
   -- one of two
-  once_or : (id : Id) (letters sent : List Message) (held : Pending (Unit {0})) (answer : SessionAnswer) (r : ℕ) → how_many (is_reply_under id) sent ≡ r → r ≤ 1
-      → ((1 ≤ r + held_under id held) ⊎ EndsAtRequest id letters answer) → OnceOrEnded id letters sent held answer
-  once_or id letters sent held answer zero e most least = inr (
+  once_or : (id : Id) (letters : List Message) (stop : Stop) (sent : List Message) (held : Pending (Unit {0})) (answer : SessionAnswer) (r : ℕ) → how_many (is_reply_under id) sent ≡ r → r ≤ 1
+      → ((1 ≤ r + held_under id held) ⊎ EndsAtRequest id letters stop answer) → OnceOrEnded id letters stop sent held answer
+  once_or id letters stop sent held answer zero e most least = inr (
     e,
     elim least [
       | inl one ↦ inl (is_one (map.get held id) one)
@@ -596,7 +670,7 @@ module _ {S P : Type 0}
       is_one : (o : Option (Unit {0})) → 1 ≤ 0 + one_if (is_some o) → one_if (is_some o) ≡ 1
       is_one None one = absurd (omega (arith, one))
       is_one (Some u) one = refl
-  once_or id letters sent held answer (suc r) e most least = inl (omega (arith, e, most))
+  once_or id letters stop sent held answer (suc r) e most least = inl (omega (arith, e, most))
 
   -- a session of a server keeps the laws
   pub keeps_laws : (w w' : Working S P) → desk_of w.client ≡ record { held = map.empty; asked = (map.empty, 0); said = [] }
@@ -608,7 +682,7 @@ module _ {S P : Type 0}
         no_other = λ id. (known.account id).most;
         once = λ whole id one. (
             let account = known.account id in
-            once_or id letters (all_of output null) (desk_of w'.client).held answer (how_many (is_reply_under id) (all_of output null)) refl
+            once_or id letters stop (all_of output null) (desk_of w'.client).held answer (how_many (is_reply_under id) (all_of output null)) refl
             (let most = account.most in omega (arith, most, one)) (account.least whole (omega (arith, one)))
             );
         first = known.first;

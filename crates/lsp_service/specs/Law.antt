@@ -3,14 +3,16 @@
 use Rattle.serde_json.specs.Data.{Data}
 use Rattle.std.specs.FinMap as map
 use Rattle.std.specs.Ordering.{eq_by_cmp}
-use Rattle.std.specs.Prelude.{◌≡◌, ◌≤◌, ◌⊎◌, ◌+◌, ◌||◌, ◌&&◌, ℕ, pos, Bool, true, false, List, [], ◌∷◌, ◌++◌, map as map_list, fold, length, Option, Some, None, is_some, Result, Ok, Err, IsErr, if◌then◌else◌}
+use Rattle.std.specs.Prelude.{◌≡◌, ◌≤◌, ◌⊎◌, ◌+◌, ◌||◌, ◌&&◌, ℕ, pos, Bool, true, false, List, [], ◌∷◌, ◌++◌, map as map_list, fold, length, Option, Some, None, is_some, Result, Ok, Err, IsErrAnd, if◌then◌else◌}
 use Rattle.std.specs.List.{list_all}
 use Rattle.lsp_message.specs.Id.{Id, id_cmp, number}
 use Rattle.lsp_message.specs.Message.{Message, ErrorObject, request, notification, response}
 use Rattle.lsp_queue.specs.Queue.{Pending}
+use Rattle.lsp_session.specs.Answered.{RepliesToEach, requests_of}
 use Rattle.lsp_session.specs.Finish.{is_initialized}
+use Rattle.lsp_session.specs.ProtocolError.{Shows, ShowsUnallowed, expected_initialized}
 use Rattle.lsp_session.specs.Replies.{null_reply}
-use Rattle.lsp_session.specs.Session.{SessionAnswer, Stop, decided, no_more, timed_out, refused, exhausted, is_initialize, is_served, is_shutdown}
+use Rattle.lsp_session.specs.Session.{SessionAnswer, Stop, decided, no_more, timed_out, refused, exhausted, IsLast, is_initialize, is_served, is_shutdown}
 use Rattle.lsp_session.specs.SessionBytes.{all_of}
 use Rattle.lsp_service.specs.Desk.{Act, tells, asks, replies, cancels, is_spent, ids_after, unsent, TakesBack}
 
@@ -42,16 +44,18 @@ how_many p (m ∷ ms) = one_if (p m) + how_many p ms
 abbrev pub held_under : Id → Pending (Unit {0}) → ℕ
 held_under id held = one_if (is_some (map.get held id))
 
--- the session ended with an error at a request under this id
-abbrev pub EndsAtRequest : Id → List Message → SessionAnswer → Type 0
-EndsAtRequest id letters answer = IsErr answer × ((before : List Message) × (last : Message) × (letters ≡ before ++ last ∷ []) × (is_request_under id last ≡ true))
+-- The last letter is a request under this id. The lifecycle does not allow it, and it decided: the fault shows it.
+abbrev pub EndsAtRequest : Id → List Message → Stop → SessionAnswer → Type 0
+EndsAtRequest id letters stop answer =
+    ((before : List Message) × (last : Message) × (letters ≡ before ++ last ∷ []) × (is_request_under id last ≡ true))
+    × (stop ≡ decided) × IsErrAnd answer ShowsUnallowed
 
--- A request under this id, which the client used once, has exactly one reply, or the session ended first: it is still held,
--- or the session ended with an error at it.
-abbrev pub OnceOrEnded : Id → List Message → List Message → Pending (Unit {0}) → SessionAnswer → Type 0
-OnceOrEnded id letters sent held answer =
+-- A request under this id, which the client used once, has exactly one reply. Or it has none: it is still held, or the session
+-- ended at it, since the lifecycle does not allow it.
+abbrev pub OnceOrEnded : Id → List Message → Stop → List Message → Pending (Unit {0}) → SessionAnswer → Type 0
+OnceOrEnded id letters stop sent held answer =
     (how_many (is_reply_under id) sent ≡ 1)
-    ⊎ ((how_many (is_reply_under id) sent ≡ 0) × ((held_under id held ≡ 1) ⊎ EndsAtRequest id letters answer))
+    ⊎ ((how_many (is_reply_under id) sent ≡ 0) × ((held_under id held ≡ 1) ⊎ EndsAtRequest id letters stop answer))
 
 -- the outbox refused no message, and memory did not run out
 abbrev pub IsWhole : Stop → Type 0
@@ -61,19 +65,45 @@ IsWhole timed_out = Unit {0}
 IsWhole (refused fault) = ⊥
 IsWhole exhausted = ⊥
 
--- the client sent `initialize`, and then `initialized`
-abbrev pub IsOpened : List Message → Type 0
-IsOpened letters =
-    (before : List Message) × (first : Message) × (second : Message) × (rest : List Message)
-    × (letters ≡ before ++ first ∷ second ∷ rest) × (is_initialize first ≡ true) × (is_initialized second ≡ true)
+-- The last of these letters is `initialize`, and the last of these messages its result.
+pub record EndsWithResult (letters sent : List Message) : Type 0 where
+  pub before : List Message
+  pub id : Id
+  pub method : List ℕ
+  pub params : Data
+  pub asks : is_initialize (request id method params) ≡ true
+  pub came : letters ≡ before ++ request id method params ∷ []
+  pub replies : List Message
+  pub result : Data
+  pub said : sent ≡ replies ++ response id (Ok result) ∷ []
 
--- Before `initialized` nothing is sent but replies.
-pub record RepliesFirst (letters sent : List Message) : Type 0 where
+-- `initialized` comes first
+abbrev pub IsInvited : List Message → Type 0
+IsInvited [] = ⊥
+IsInvited (m ∷ rest) = is_initialized m ≡ true
+
+-- No letter is left, or the one that decided: it came in the place of `initialized`, and the fault shows it.
+abbrev pub IsUnopened : List Message → Stop → SessionAnswer → Type 0
+IsUnopened [] stop answer = Unit {0}
+IsUnopened (m ∷ rest) stop answer = IsLast rest stop × IsErrAnd answer (Shows expected_initialized)
+
+-- First comes one reply to each request up to and with `initialize`, in order, the result of `initialize` last. Anything else follows
+-- these replies only where `initialized` is the next letter. Where it is not, no letter is left but the one in its place.
+pub record RepliesFirst (letters : List Message) (stop : Stop) (sent : List Message) (answer : SessionAnswer) : Type 0 where
+  pub early : List Message
+  pub rest : List Message
+  pub came : letters ≡ early ++ rest
   pub first : List Message
   pub later : List Message
   pub cut : sent ≡ first ++ later
-  pub replies : list_all is_reply first ≡ true
-  pub opened : (later ≡ []) ⊎ IsOpened letters
+  pub replied : RepliesToEach (requests_of early) first
+  pub opened : (EndsWithResult early first × IsInvited rest) ⊎ ((later ≡ []) × IsUnopened rest stop answer)
+
+-- The client sent `initialize`, and then `initialized`. These messages, which were sent, hold the result of `initialize`.
+abbrev pub OpenedBy : List Message → List Message → Type 0
+OpenedBy letters sent =
+    (early : List Message) × (rest : List Message) × (first : List Message) × (later : List Message)
+    × (letters ≡ early ++ rest) × (sent ≡ first ++ later) × EndsWithResult early first × IsInvited rest
 
 -- The null that was sent last is the reply to `shutdown`, after which at most one letter came.
 abbrev pub NullLast : List Message → Option Message → Type 0
@@ -242,10 +272,10 @@ module _ {S P : Type 0}
 
   -- the laws of a session, in whose end these requests are held
   pub record KeepsLaws (held : Pending (Unit {0})) (letters : List Message) (stop : Stop) (output : List Message) (null : Option Message) (answer : SessionAnswer) : Type 0 where
-    -- under no id are there more replies than requests: no reply goes to anything else, and none comes twice
+    -- in the whole session the replies under an id are no more than the client's requests under it
     pub no_other : (id : Id) → how_many (is_reply_under id) (all_of output null) ≤ how_many (is_request_under id) letters
-    pub once : IsWhole stop → (id : Id) → how_many (is_request_under id) letters ≡ 1 → OnceOrEnded id letters (all_of output null) held answer
-    pub first : RepliesFirst letters output
+    pub once : IsWhole stop → (id : Id) → how_many (is_request_under id) letters ≡ 1 → OnceOrEnded id letters stop (all_of output null) held answer
+    pub first : RepliesFirst letters stop (all_of output null) answer
     pub last : NullLast letters null
     -- each reply of the client comes to the server with the payload of its own request, once
     pub payloads : GivesPayloads letters stop output

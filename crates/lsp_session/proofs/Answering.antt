@@ -2,7 +2,7 @@
 use Rattle.std.proofs.Common.{◌≡◌, refl, subst, inl, inr, ◌⊎◌, ℕ, Bool, true, false, List, [], ◌∷◌, ◌++◌, append_assoc, append-nil, Some, None, Option, IfSome}
 use Rattle.std.specs.Bool.{MatchBool}
 use Rattle.std.specs.List.{AllZip}
-use Rattle.std.specs.Prelude.{Result, Ok, Err, IsErr, IsErrAnd}
+use Rattle.std.specs.Prelude.{Result, Ok, Err, IsErrAnd}
 use Rattle.std.proofs.lemmas.List.Elements.{filter_map-append}
 use Rattle.serde_json.specs.Data.{Data, null as null_tree}
 use Rattle.lsp_message.specs.Id.{Id}
@@ -12,7 +12,7 @@ use Rattle.lsp_message.specs.Written.{GetsFrames}
 use Rattle.lsp_session.proofs.Starting.{AllZip-append}
 use Rattle.lsp_session.specs.Answered.{RepliesTo, RepliesToEach, requests_of, AnswersAll, ReadsNoMore, AnswersAllButLast, AnswersRequests}
 use Rattle.lsp_session.specs.Finish.{is_initialized}
-use Rattle.lsp_session.specs.ProtocolError.{ProtocolFault, expected_initialized, unexpected_in_shutdown, Shows}
+use Rattle.lsp_session.specs.ProtocolError.{expected_initialized, unexpected_in_shutdown, Shows, ShowsUnallowed}
 use Rattle.lsp_session.specs.Session.{SessionAnswer, SessionPart, Stop, decided, no_more, timed_out, refused, exhausted, request_id, IsLast, IsSilent, Handles, HandlesAll, AfterShutdown, AfterServed, Serves, AfterInitialize, AfterEarly, SessionOut}
 use Rattle.lsp_session.specs.SessionBytes.{BeginsWith, all_of, LeftAfter, FailedAfter, Comes, Gives}
 use Rattle.lsp_session.specs.Start.{IsEarlyReply}
@@ -28,7 +28,7 @@ LastUnanswered letters answered =
 
 -- which requests may stay without a reply
 abbrev pub Few : Stop → SessionAnswer → List Message → List Id → List Id → Type 0
-Few decided answer letters answered extra = (extra ≡ []) ⊎ (IsErr answer × LastUnanswered letters answered)
+Few decided answer letters answered extra = (extra ≡ []) ⊎ (IsErrAnd answer ShowsUnallowed × LastUnanswered letters answered)
 Few no_more answer letters answered extra = extra ≡ []
 Few stop answer letters answered extra = Unit {0}
 
@@ -83,15 +83,19 @@ replied_after stop before rest output0 output answer each replied = record {
 replied_none : (stop : Stop) (answer : SessionAnswer) → Replied stop [] [] answer
 replied_none stop answer = record { answered = []; extra = []; all = refl; each = tt; few = few_none stop answer [] [] }
 
--- an error in the place of a reply to the last letter
-replied_last : (m : Message) (answer : SessionAnswer) → IsErr answer → Replied decided (m ∷ []) [] answer
+-- an error in the place of a reply to the last letter, which the lifecycle does not allow
+replied_last : (m : Message) (answer : SessionAnswer) → IsErrAnd answer ShowsUnallowed → Replied decided (m ∷ []) [] answer
 replied_last (request i method params) answer failed = record { answered = []; extra = i ∷ []; all = refl; each = tt; few = inr (failed, ([], i, method, params, refl, refl)) }
 replied_last (notification method params) answer failed = record { answered = []; extra = []; all = refl; each = tt; few = inl refl }
 replied_last (response i outcome) answer failed = record { answered = []; extra = []; all = refl; each = tt; few = inl refl }
 
-failed_is : (P : ProtocolFault → Type 0) (answer : SessionAnswer) → IsErrAnd answer P → IsErr answer
-failed_is P (Ok end) failed = absurd failed
-failed_is P (Err fault) failed = refl
+uninvited_is : (answer : SessionAnswer) → IsErrAnd answer (Shows expected_initialized) → IsErrAnd answer ShowsUnallowed
+uninvited_is (Ok end) shows = absurd shows
+uninvited_is (Err fault) shows = inl shows
+
+unexpected_is : (answer : SessionAnswer) → IsErrAnd answer (Shows unexpected_in_shutdown) → IsErrAnd answer ShowsUnallowed
+unexpected_is (Ok end) shows = absurd shows
+unexpected_is (Err fault) shows = inr shows
 
 -- after `shutdown`
 exit_replied : (m : Message) (b : Bool) (answer : SessionAnswer) → is_exit m ≡ b → MatchBool b (answer ≡ Ok ShutDown) (IsErrAnd answer (Shows unexpected_in_shutdown))
@@ -99,7 +103,7 @@ exit_replied : (m : Message) (b : Bool) (answer : SessionAnswer) → is_exit m �
 exit_replied (request i method params) true answer exits decides = absurd (cc (exits))
 exit_replied (notification method params) true answer exits decides = record { answered = []; extra = []; all = refl; each = tt; few = inl refl }
 exit_replied (response i outcome) true answer exits decides = absurd (cc (exits))
-exit_replied m false answer exits decides = replied_last m answer (failed_is (Shows unexpected_in_shutdown) answer decides)
+exit_replied m false answer exits decides = replied_last m answer (unexpected_is answer decides)
 
 shutdown_replied : (letters : List Message) (stop : Stop) (answer : SessionAnswer) → AfterShutdown letters stop answer → Replied stop letters [] answer
 shutdown_replied [] stop answer after = replied_none stop answer
@@ -149,8 +153,14 @@ module _ {H : Type 0} (answers : H → Id → List ℕ → Data → Result Data 
         (rw serves.cut (replied_after stop serves.middle serves.rest output (all_of [] null) answer (handles_replied h serves.after serves.middle output serves.handled)
         (served_replied serves.rest stop null answer serves.end)))
 
-    silent_last : (m : Message) (rest output : List Message) → IsLast rest stop → IsErr answer → IsSilent answers notes h h' output null → Replied stop (m ∷ rest) (all_of output null) answer
+    silent_last : (m : Message) (rest output : List Message) → IsLast rest stop → IsErrAnd answer ShowsUnallowed → IsSilent answers notes h h' output null → Replied stop (m ∷ rest) (all_of output null) answer
     silent_last m rest output last failed silent = rw (last.0, last.1, silent.1, silent.2) (replied_last m answer failed)
+
+    -- the same where the letter is no request
+    silent_other : (m : Message) (rest output : List Message) → requests_of (m ∷ []) ≡ [] → IsLast rest stop → IsSilent answers notes h h' output null
+        → Replied stop (m ∷ rest) (all_of output null) answer
+    silent_other m rest output none last silent =
+        rw (last.0, last.1, silent.1, silent.2) (record { answered = []; extra = []; all = none; each = tt; few = inl refl })
 
     initialized_replied : (b : Bool) (m : Message) (rest output : List Message) → is_initialized m ≡ b
         → MatchBool b (Serves answers notes h h' rest stop output null answer) (IsLast rest stop × IsErrAnd answer (Shows expected_initialized) × IsSilent answers notes h h' output null)
@@ -158,7 +168,7 @@ module _ {H : Type 0} (answers : H → Id → List ℕ → Data → Result Data 
     initialized_replied true m rest output is serves =
         replied_after stop (m ∷ []) rest [] (all_of output null) answer (rw (no_request m is) tt) (serves_replied rest output serves)
     initialized_replied false m rest output is after =
-        silent_last m rest output after.0 (failed_is (Shows expected_initialized) answer after.1) after.2
+        silent_last m rest output after.0 (uninvited_is answer after.1) after.2
 
     initialize_replied : (letters output : List Message) → AfterInitialize answers notes h h' letters stop output null answer → Replied stop letters (all_of output null) answer
     initialize_replied [] output after = rw (after.1.1, after.1.2) (replied_none stop answer)
@@ -171,8 +181,8 @@ module _ {H : Type 0} (answers : H → Id → List ℕ → Data → Result Data 
           let later = after.1 in
           rw (later.1, all_of_after (_ ∷ []) later.0 null)
           (replied_after stop (request i method params ∷ []) rest (_ ∷ []) (all_of later.0 null) answer ((_, refl), tt) (initialize_replied rest later.0 later.2))
-      early_replied (notification method params ∷ rest) output after = silent_last (notification method params) rest output after.1 (failed_is _ answer after.2) after.3
-      early_replied (response i outcome ∷ rest) output after = silent_last (response i outcome) rest output after.1 (failed_is _ answer after.2) after.3
+      early_replied (notification method params ∷ rest) output after = silent_other (notification method params) rest output refl after.1 after.3
+      early_replied (response i outcome ∷ rest) output after = silent_other (response i outcome) rest output refl after.1 after.3
 
       -- the replies to early requests
       early_each : (ids : List Id) (replies : List Message) → AllZip IsEarlyReply ids replies → RepliesToEach ids replies
@@ -205,40 +215,42 @@ module _ (limit : ℕ) (P : SessionPart)
     }
 
     stopped_answered : (stop : Stop) → LeftAfter limit stop at left → Replied stop letters output answer
-        → AnswersAll limit text left a b (ReadsNoMore limit text left a b) ⊎ (IsErr answer × AnswersAllButLast limit text left a b)
+        → AnswersAll limit text left a b (ReadsNoMore limit text left a b) ⊎ IsErrAnd answer (AnswersAllButLast limit text left a b)
     stopped_answered decided rest replied = elim replied.few [
       | inl none ↦ inl (all_answered (ReadsNoMore limit text left a b) decided (decided, rest) replied none)
-      | inr last ↦ inr (
-        last.0,
-        record {
-          before = last.1.0;
-          id = last.1.1;
-          method = last.1.2;
-          params = last.1.3;
+      | inr last ↦ inr (but_last answer last.0 last.1)
+    ]
+      where
+        but_last : (given : SessionAnswer) → IsErrAnd given ShowsUnallowed → LastUnanswered letters replied.answered → IsErrAnd given (AnswersAllButLast limit text left a b)
+        but_last (Ok end) shows last = absurd shows
+        but_last (Err fault) shows last = record {
+          unallowed = shows;
+          before = last.0;
+          id = last.1;
+          method = last.2;
+          params = last.3;
           at = at;
-          read = rw last.1.4 at read;
+          read = rw last.4 at read;
           rest = rest;
           replies = output;
-          replied = rw last.1.5 at replied.each;
+          replied = rw last.5 at replied.each;
           written = written;
-        },
-      )
-    ]
+        }
     stopped_answered no_more rest replied = inl (all_answered (ReadsNoMore limit text left a b) no_more (no_more, rest) replied replied.few)
     stopped_answered timed_out rest replied = absurd rest
     stopped_answered (refused fault) rest replied = absurd rest
     stopped_answered exhausted rest replied = absurd rest
 
   comes_answered : (answer : SessionAnswer) → Comes limit P text left a b answer
-      → AnswersAll limit text left a b (ReadsNoMore limit text left a b) ⊎ (IsErr answer × AnswersAllButLast limit text left a b)
+      → AnswersAll limit text left a b (ReadsNoMore limit text left a b) ⊎ IsErrAnd answer (AnswersAllButLast limit text left a b)
   comes_answered answer comes =
       stopped_answered comes.letters comes.at (all_of comes.output comes.null) answer comes.read comes.written comes.stop comes.rest
       (replies comes.letters comes.stop comes.output comes.null answer comes.part)
 
   -- what became of a session's requests
   pub answers_requests : (answer : Result SessionEnd SessionFault) → Gives limit P text left a b answer → AnswersRequests limit text left a b answer
-  answers_requests (Ok end) comes = elim (comes_answered (Ok end) comes) [ inl all ↦ all | inr last ↦ absurd (cc (last.0)) ]
-  answers_requests (Err (Protocol fault)) comes = elim (comes_answered (Err fault) comes) [ inl all ↦ inl all | inr last ↦ inr last.1 ]
+  answers_requests (Ok end) comes = elim (comes_answered (Ok end) comes) [ inl all ↦ all | inr last ↦ absurd last ]
+  answers_requests (Err (Protocol fault)) comes = comes_answered (Err fault) comes
   answers_requests (Err (Read fault)) fails =
       let replied = replies fails.letters no_more fails.output fails.null fails.answer fails.part in
       all_answered fails.letters fails.at (all_of fails.output fails.null) fails.answer fails.read fails.written (λ at. FailedAfter limit fault at left) no_more fails.rest replied replied.few

@@ -3,6 +3,7 @@ pub mod Answering
 pub mod Carrying
 pub mod Deciding
 pub mod Describing
+pub mod Ending
 pub mod Finishing
 pub mod FrameSteps
 pub mod Handing

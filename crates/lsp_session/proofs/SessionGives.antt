@@ -21,7 +21,7 @@ use Rattle.lsp_session.specs.Event.{Event, closed}
 use Rattle.lsp_session.specs.FrameBoxes.{FrameOutboxSends}
 use Rattle.lsp_session.specs.ProtocolError.{out_of_memory}
 use Rattle.lsp_session.specs.Session.{SessionAnswer, SessionPart, Stop, decided, no_more, timed_out, refused, exhausted}
-use Rattle.lsp_session.specs.SessionBytes.{BeginsWith, all_of, BreaksOffLast, GetsFirst, IsUnsent, FailedAfter, Comes, Fails, WriteFails, RunsOut, Gives}
+use Rattle.lsp_session.specs.SessionBytes.{BeginsWith, all_of, BreaksOffLast, GetsFirst, IsUnsent, LeftUnwritten, FailedAfter, Comes, Fails, WriteFails, RunsOut, Gives}
 use Rattle.lsp_session.specs.SessionFault.{ran_out, came_to_no_more, plain_answer, read_fault, read_answer, session_answer}
 use Rattle.lsp_session.specs.SessionRun.{message_in, is_open, Brings, Runs}
 use Rattle.lsp_session.specs.StreamBoxes.{stream_of, StreamInboxGives}
@@ -58,7 +58,7 @@ module _ (limit : ℕ) where
 
     -- a write failed
     write_fails : (left : Option (List ℕ)) (stop : Stop) (answer : SessionAnswer) → P letters stop output null answer
-        → (at : List ℕ) × BeginsWith limit text letters at × StopsWithin left (reading_within limit at) → IsUnsent stop null → BreaksOffLast (all_of output null) a b → WriteFails limit P text left a b
+        → (at : List ℕ) × BeginsWith limit text letters at × LeftUnwritten limit null at left → IsUnsent stop null → BreaksOffLast (all_of output null) a b → WriteFails limit P text left a b
     write_fails left stop answer part read unsent written = record {
       letters = letters;
       at = read.0;
@@ -197,6 +197,14 @@ module _ (limit : ℕ) where
         let after : (reading_within limit parts.0).rest ≡ all.at = ap (λ (r : Reading Message). r.rest) parts.2.1 ∙ parts.2.2 in
         (parts.0, parts.1, ([], rw after all.left))
 
+    -- where a message was not sent, nothing after the last letter was taken, but for what is awaited after the null
+    left_unsent : (letters : List Message) (stop : Stop) (null : Option Message) (answer : SessionAnswer) → Brings events letters stop → Facts stop letters answer → IsUnsent stop null
+        → (at : List ℕ) × BeginsWith limit text letters at × LeftUnwritten limit null at new.remaining
+    left_unsent letters stop (Some null) answer brought facts unsent = left_within letters stop answer brought facts
+    left_unsent letters (refused fault) None answer brought facts unsent =
+        let all = rw brought.0 at (brought_open limit events text old new unended known run brought.1) in (all.at, all.read, all.left)
+    left_unsent letters stop None answer brought facts unsent = absurd unsent
+
   module _ (P : SessionPart)
       (knows : (letters : List Message) (stop : Stop) (output : List Message) (null : Option Message) (answer : SessionAnswer) → P letters stop output null answer → Facts stop letters answer)
       (text : List ℕ) (old new : Stream) (unended : old.end ≡ None) (known : old.remaining ≡ Some text)
@@ -257,7 +265,9 @@ module _ (limit : ℕ) where
         at (Some (Output kind)) unwritten = (
           tt,
           write_fails P text (contents outbox.writer.now) (contents outbox'.writer.now) runs.letters runs.output runs.null (remaining inbox'.reader.now) runs.stop answer runs.part
-              within unwritten.0 unwritten.1,
+              (left_unsent text (stream_of remaining inbox) (stream_of remaining inbox') unended known runs.events run runs.letters runs.stop runs.null answer runs.brought
+              (knows runs.letters runs.stop runs.output runs.null answer runs.part) unwritten.0)
+              unwritten.0 unwritten.1,
         )
         at (Some NoMemory) unwritten =
             runs_out P text (contents outbox.writer.now) (contents outbox'.writer.now) runs.letters runs.output runs.null (remaining inbox'.reader.now) runs.stop answer runs.part

@@ -502,9 +502,6 @@ module _ {H I O : Type 0} (gives : H → Message → List Message → H → Type
     pub handled : GivesAll gives h (filter_map message_in events) output h'
     pub taken : FoldsTo (Takes sends) old.1 output new.1
 
-  pub served_none : (h : H) (old : I × O) → Served h 0 old h old
-  served_none h old = record { events = []; many = omega arith; still_open = refl; received = refl; served = refl; output = []; handled = (refl, refl); taken = refl }
-
   pub served_more : (h h' h'' : H) (count : ℕ) (old : I × O) (i i' i'' : I) (o o' : O) (m : Message)
       → Served h count old h' (i, o) → WaitsFor receives i (message m) i' → SpeaksOn gives receives sends m (h', i', o) (h'', i'', o')
       → Served h (count + 1) old h'' (i'', o')

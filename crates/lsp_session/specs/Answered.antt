@@ -6,6 +6,7 @@ use Rattle.lsp_message.specs.Id.{Id}
 use Rattle.lsp_message.specs.Message.{Message, ErrorObject, request, response}
 use Rattle.lsp_message.specs.Methods.{request_id}
 use Rattle.lsp_message.specs.Written.{GetsFrames}
+use Rattle.lsp_session.specs.ProtocolError.{ProtocolFault, ShowsUnallowed}
 use Rattle.lsp_session.specs.Session.{Stop}
 use Rattle.lsp_session.specs.SessionBytes.{BeginsWith, LeftAfter, FailedAfter}
 use Rattle.lsp_session.specs.declared.loops.serving.SessionEnd.{SessionEnd}
@@ -38,8 +39,9 @@ module _ (limit : ℕ) (text : List ℕ) (left old new : Option (List ℕ)) wher
   abbrev pub ReadsNoMore : List ℕ → Type 0
   ReadsNoMore at = (stop : Stop) × LeftAfter limit stop at left
 
-  -- The same but for the last message that was read, a request that the lifecycle does not allow.
-  pub record AnswersAllButLast : Type 0 where
+  -- The same but for the last message that was read, a request that the lifecycle does not allow: the fault shows it.
+  pub record AnswersAllButLast (fault : ProtocolFault) : Type 0 where
+    pub unallowed : ShowsUnallowed fault
     pub before : List Message
     pub id : Id
     pub method : List ℕ
@@ -54,7 +56,7 @@ module _ (limit : ℕ) (text : List ℕ) (left old new : Option (List ℕ)) wher
   -- what became of a session's requests; where writing failed or memory ran out, this says nothing
   abbrev pub AnswersRequests : Result SessionEnd SessionFault → Type 0
   AnswersRequests (Ok end) = AnswersAll ReadsNoMore
-  AnswersRequests (Err (Protocol fault)) = AnswersAll ReadsNoMore ⊎ AnswersAllButLast
+  AnswersRequests (Err (Protocol fault)) = AnswersAll ReadsNoMore ⊎ AnswersAllButLast fault
   AnswersRequests (Err (Read fault)) = AnswersAll (λ at. FailedAfter limit fault at left)
   AnswersRequests (Err (Write fault)) = Unit {0}
   AnswersRequests (Err Memory) = Unit {0}

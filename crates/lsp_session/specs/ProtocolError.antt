@@ -1,6 +1,6 @@
 -- Why a handshake, or the end of a session, failed (LSP 3.17, "Server lifecycle"), and the text of each cause.
 use Rattle.std.specs.Bool.{beq}
-use Rattle.std.specs.Prelude.{◌≡◌, ℕ, List, [], ◌++◌, Bool, true, false, ◌&&◌, codes, string_bytes}
+use Rattle.std.specs.Prelude.{◌≡◌, ◌⊎◌, ℕ, List, [], ◌++◌, Bool, true, false, ◌&&◌, codes, string_bytes}
 use Rattle.std.specs.Str.{bytes_eq}
 use Rattle.lsp_session.specs.declared.error.ProtocolRepr.{ProtocolRepr}
 use Rattle.lsp_session.specs.declared.error.ProtocolRepr.TheVariants as variant
@@ -71,6 +71,11 @@ fault_kept variant.OutOfMemory = out_of_memory
 -- the fault is of this kind, and shows a message
 abbrev pub Shows : (List ℕ → ProtocolFault) → ProtocolFault → Type 0
 Shows fault answer = (shown : List ℕ) × (answer ≡ fault shown)
+
+-- The fault shows a message that the lifecycle does not allow where it came: in the place of `initialized`, or of `exit` after
+-- `shutdown`.
+abbrev pub ShowsUnallowed : ProtocolFault → Type 0
+ShowsUnallowed fault = Shows expected_initialized fault ⊎ Shows unexpected_in_shutdown fault
 
 -- the fault where the outbox refuses a message
 abbrev pub fault_of_refusal : SendFault → ProtocolFault

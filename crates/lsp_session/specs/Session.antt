@@ -53,6 +53,7 @@ Undecided exhausted at_end answer = answer ≡ Err out_of_memory
 -- After `shutdown` was answered, `exit` is awaited, and not for ever.
 abbrev pub AfterShutdown : List Message → Stop → SessionAnswer → Type 0
 AfterShutdown [] timed_out answer = answer ≡ Err shutdown_timeout
+AfterShutdown [] (refused fault) answer = ⊥
 AfterShutdown [] stop answer = Undecided stop (Err shutdown_disconnected) answer
 AfterShutdown (m ∷ rest) stop answer =
     IsLast rest stop × MatchBool (is_exit m) (answer ≡ Ok ShutDown) (IsErrAnd answer (Shows unexpected_in_shutdown))

@@ -53,6 +53,11 @@ FailedAfter limit (Input kind) at left = StopsWithin left (reading_within limit 
 FailedAfter limit NoMemoryToRead at left = ⊥
 FailedAfter limit fault at left = (rest : List ℕ) × (reading_within limit at ≡ record { outcome = Err fault; rest = rest }) × (left ≡ Some rest)
 
+-- What is left where a write failed: what follows the last letter. Only after the null, which is not waited for, may more have been taken.
+abbrev pub LeftUnwritten : ℕ → Option Message → List ℕ → Option (List ℕ) → Type 0
+LeftUnwritten limit None at left = left ≡ Some at
+LeftUnwritten limit (Some null) at left = StopsWithin left (reading_within limit at)
+
 module _ (limit : ℕ) (P : SessionPart) (text : List ℕ) (left old new : Option (List ℕ)) where
   -- The session came to its end: its letters are the first messages of the text, and all its output was written.
   pub record Comes (answer : SessionAnswer) : Type 0 where
@@ -78,16 +83,16 @@ module _ (limit : ℕ) (P : SessionPart) (text : List ℕ) (left old new : Optio
     pub part : P letters no_more output null answer
     pub written : GetsFrames (all_of output null) old new
 
-  -- A write failed. What was written of the output is all but its last message, and a beginning of that one. No byte after
-  -- the message that was read last was taken.
+  -- A write failed. What was written of the output is all but its last message, and a beginning of that one. Nothing after the
+  -- last letter was taken, but perhaps the next message after the null.
   pub record WriteFails : Type 0 where
     pub letters : List Message
     pub at : List ℕ
     pub read : BeginsWith limit text letters at
-    pub rest : StopsWithin left (reading_within limit at)
     pub stop : Stop
     pub output : List Message
     pub null : Option Message
+    pub rest : LeftUnwritten limit null at left
     pub unsent : IsUnsent stop null
     pub answer : SessionAnswer
     pub part : P letters stop output null answer

@@ -53,7 +53,7 @@ pub fn read_loop<R: BufRead, O: Outbox>(alloc: Global, reader: &mut R, outbox: &
 }
 
 /// Hands on a reader's messages, up to and with the first `exit`. A message whose content part has more than `limit` bytes
-/// ends the loop with `ReadFault::TooLong`, before any room is reserved for it.
+/// ends the loop with `ReadFault::TooLong`, and is unread.
 pub fn read_loop_within<R: BufRead, O: Outbox>(
     alloc: Global,
     reader: &mut R,

@@ -66,7 +66,7 @@ where
 }
 
 /// As `pump`, with a limit on what is read. If a content part is longer than `limit` bytes, the fault is `PumpFault::Read` with
-/// `ReadFault::TooLong`, and no memory is reserved for it.
+/// `ReadFault::TooLong`.
 pub fn pump_within<T, R, W>(
     rt: &T,
     alloc: Global,

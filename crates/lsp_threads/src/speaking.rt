@@ -38,7 +38,7 @@ where
 }
 
 /// `run_threads_with` over messages whose content part has at most `limit` bytes. A longer one is `SessionFault::Read` of
-/// `ReadFault::TooLong`, where the session came to it, before any memory is reserved for it.
+/// `ReadFault::TooLong`, where the session came to it.
 pub fn run_threads_with_within<T, R, W, S>(
     rt: &T,
     alloc: Global,

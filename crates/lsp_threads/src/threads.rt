@@ -53,7 +53,7 @@ where
 }
 
 /// As `run_threads`, with a limit on what is read. If the session comes to a content part longer than `limit` bytes, the fault is
-/// `SessionFault::Read` with `ReadFault::TooLong`, and no memory is reserved for it.
+/// `SessionFault::Read` with `ReadFault::TooLong`.
 pub fn run_threads_within<T, R, W, H>(
     rt: &T,
     alloc: Global,

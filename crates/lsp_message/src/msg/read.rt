@@ -41,8 +41,9 @@ impl Message {
 
     /// Reads one message whose content part has at most `limit` bytes, as `read` does (LSP 3.17, "Base Protocol").
     ///
-    /// If the length is above the limit, the answer is `TooLong`: no memory is reserved for the content part, and it stays
-    /// unread. If there are several lines with `Content-Length`, the last one counts.
+    /// If the length is above the limit, the answer is `TooLong`, and the content part stays unread. The answer is never that no
+    /// memory was left for it. That none is reserved for it is tested, and no part of the contract. If there are several lines
+    /// with `Content-Length`, the last one counts.
     pub fn read_within<R: BufRead>(
         alloc: Global,
         reader: &mut R,

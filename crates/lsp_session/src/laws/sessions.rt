@@ -1,10 +1,13 @@
 //! What a session does with the requests of its client.
 ghost use Rattle.serde_json.specs.Data.{Data};
-ghost use Rattle.std.specs.Prelude.{ℕ, List, Option, Result, IfSome};
+ghost use Rattle.std.specs.Prelude.{◌≡◌, true, ℕ, List, Option, None, Result, Err, IfSome};
 ghost use Rattle.lsp_message.specs.Frame.{no_limit};
-ghost use Rattle.lsp_session.specs.Answered.{AnswersRequests};
-ghost use Rattle.lsp_session.specs.Session.{SessionOut};
+ghost use Rattle.lsp_message.specs.Message.{Message};
+ghost use Rattle.lsp_session.specs.Answered.{AnswersAll, ReadsNoMore, AnswersRequests};
+ghost use Rattle.lsp_session.specs.ProtocolError.{ProtocolFault, is_disconnected};
+ghost use Rattle.lsp_session.specs.Session.{AfterServed, SessionAnswer, SessionOut, refused};
 ghost use Rattle.lsp_session.specs.SessionBytes.{Gives};
+ghost use Rattle.lsp_session.specs.declared.lifecycle.SendFault.{SendFault};
 ghost use Rattle.lsp_session.specs.declared.loops.serving.SessionEnd.{SessionEnd as EndOfSession};
 ghost use Rattle.lsp_session.specs.declared.loops.stream_session.SessionFault.{SessionFault as FaultOfSession};
 
@@ -19,6 +22,21 @@ pub fn session_answers_requests<H: Handler>()
     ensures { (limit : ℕ) (capabilities : Data) (before after : H) (text : List ℕ) (left old new : Option (List ℕ)) (answer : Result EndOfSession FaultOfSession)
         → Gives limit (SessionOut H.answers H.notes capabilities before after) text left old new answer
         → AnswersRequests limit text left old new answer }
+{}
+
+/// Where the answer is that the client is gone, each request that the session read has its reply: a request is left without
+/// one only where the fault shows it.
+pub fn lost_client_was_answered()
+    ensures { (limit : ℕ) (text : List ℕ) (left old new : Option (List ℕ)) (fault : ProtocolFault) → is_disconnected fault ≡ true
+        → AnswersRequests limit text left old new (Err (FaultOfSession.Protocol fault))
+        → AnswersAll limit text left old new (ReadsNoMore limit text left old new) }
+{}
+
+/// After a message that the outbox refused nothing more is sent, the null of `shutdown` neither: a fact of each session, from
+/// the letters on that its handler or its speaker no longer serves.
+pub fn nothing_follows_a_refusal()
+    ensures { (letters : List Message) (fault : SendFault) (null : Option Message) (answer : SessionAnswer)
+        → AfterServed letters (refused fault) null answer → null ≡ None }
 {}
 
 /// Each request of a session gets exactly one reply, under its id, in order, and no reply goes to anything else (JSON-RPC

@@ -77,9 +77,9 @@ pub trait Opener {
 /// `initialize` is answered with the speaker's result. Where the speaker gives an error, that is the reply, and the session
 /// goes on as before `initialize`: a client may send it again (LSP 3.17, "Initialize Request", `retry`). When `initialized`
 /// came, what the speaker says to it is sent. From then on each message goes to the speaker, a reply too, and what it gives is
-/// sent in order before the next message is received. `shutdown` is answered with null, and nothing follows it; `exit` then
-/// gives `ShutDown`. `Closed` comes where, from `initialized` on, `exit` comes without a `shutdown` or no more messages come.
-/// What comes at the wrong time is in the table of `lifecycle`.
+/// sent in order (before the next message is received: that is tested, and no part of the contract). `shutdown` is answered
+/// with null, and nothing follows it; `exit` then gives `ShutDown`. `Closed` comes where, from `initialized` on, `exit` comes
+/// without a `shutdown` or no more messages come. What comes at the wrong time is in the table of `lifecycle`.
 ///
 /// An outbox that is closed to a message ends the session with `disconnected channel`, and a failed allocation with
 /// `out of memory`; what was to follow for that message is not sent. That the null could not be sent is ignored. After
@@ -192,7 +192,7 @@ fn open<O: Outbox, S: Opener>(outbox: &mut O, speaker: &mut S) -> Result<(), Pro
 }
 
 /// Runs a session from `initialized` on: each message goes to the speaker, up to the first `shutdown` or `exit`, and what
-/// it gives is sent in order before the next message is received.
+/// it gives is sent in order. That this is before the next message is received is tested, and no part of the contract.
 pub fn speak<I: Inbox, O: Outbox, S: Speaker>(
     alloc: Global,
     inbox: &mut I,

@@ -57,9 +57,10 @@ impl Error for SessionFault {}
 /// (LSP 3.17, "Base Protocol" and "Server lifecycle").
 ///
 /// What follows the last message that the session used is left in the reader: what comes after the `exit` of a session
-/// that was shut down, for one. Each reply is written, and the writer flushed, before the next message is read. Where a
-/// write failed or memory ran out, no byte after the message that was being read was taken; the output's first messages
-/// were written, each whole, and after a failed write a beginning of the next one.
+/// that was shut down, for one. After a failed write that holds too, and all of the output but its last message was written,
+/// and a beginning of that one. Where memory ran out, the output's first messages were written, each whole. There, and where
+/// the null of `shutdown` was not written, the next message may have been taken too. Each reply is written, and the writer
+/// flushed, before the next message is read: that is tested, and no part of the contract.
 pub fn session<R: BufRead, W: Write, H: Handler>(
     alloc: Global,
     reader: &mut R,
@@ -75,7 +76,7 @@ pub fn session<R: BufRead, W: Write, H: Handler>(
 }
 
 /// Runs a session of a server, as `session` does, over messages whose content part has at most `limit` bytes. A longer one
-/// is `SessionFault::Read` of `ReadFault::TooLong`, before any room is reserved for it.
+/// is `SessionFault::Read` of `ReadFault::TooLong`, and is unread.
 pub fn session_within<R: BufRead, W: Write, H: Handler>(
     alloc: Global,
     reader: &mut R,
@@ -108,7 +109,7 @@ pub fn session_with<R: BufRead, W: Write, S: Speaker + Opener>(
 }
 
 /// `session_with` over messages whose content part has at most `limit` bytes. A longer one is `SessionFault::Read` of
-/// `ReadFault::TooLong`, before any room is reserved for it.
+/// `ReadFault::TooLong`, and is unread.
 pub fn session_with_within<R: BufRead, W: Write, S: Speaker + Opener>(
     alloc: Global,
     reader: &mut R,
