@@ -29,7 +29,6 @@ pub enum PumpFault {
 }
 
 impl fmt::Display for PumpFault {
-    ghost use Rattle.lsp_message.specs.Frame.{no_limit};
     ghost use Rattle.lsp_threads.specs.Pump.{pump_fault_text};
 
     ghost output = { pump_fault_text };

@@ -5,8 +5,8 @@ use std::sync::atomic::{AtomicU64, Ordering};
 use std::time::{Clock, Duration};
 use std::{io, thread};
 
-/// How often something that other threads do is looked for, a millisecond apart. It is never missed where they do it: ten seconds
-/// are long for a thread that has nothing to wait for.
+/// How often a wait looks for what other threads do, a millisecond apart. So no wait is given up before ten seconds, and none takes
+/// for ever.
 pub(crate) const LOOKS: u64 = 10_000;
 
 /// Waits until the count has come so far, and says whether it has.
@@ -92,6 +92,7 @@ pub(crate) struct FailsOnce<R> {
 }
 
 impl<R> FailsOnce<R> {
+    /// The failure, where it is due.
     fn check(&mut self) -> io::Result<()> {
         if self.fails_at.is_some_and(|place| place <= self.taken) {
             self.fails_at = None;
