@@ -2,7 +2,7 @@
 use Rattle.std.proofs.Common.{◌≡◌, ◌≢◌, ℕ, zero, suc, true, false, true≢false, List, [], ◌∷◌, ◌++◌, length, set, sym, refl, ap, ◌∙◌, subst, ⊎_elim, append_assoc}
 use mathlib.Core.Option.{some, some-ne-none}
 use lib.ListN.{get_elem?}
-use Rattle.crossbeam_channel.specs.Fifo.{Pushes, Pops, Forks, Merges, Learns}
+use Rattle.crossbeam_channel.specs.Fifo.{Pushes, Pops, Forks, Merges}
 use Rattle.atomic_table.proofs.Lists.{at_set, at_snoc}
 use Rattle.lsp_relay.specs.declared.account.Account.{Account}
 use Rattle.lsp_relay.specs.declared.ends.Parcel.{Parcel}
@@ -121,10 +121,6 @@ module _ {M : Type 0} where
         whole = h.whole;
         agree = each_set (Agrees h.sender pass h.sent h.taken) now other no_account ((λ p. never p), λ p. never p) (λ j y away e. apart j y e away);
       }
-
-  -- a pass with both roles learns what is held
-  pub compares : (pass : ℕ) (v : Account M) → v.sends ≡ true → v.takes ≡ true → Learns TakenThenHeldIsSent pass v (λ held. v.sent ≡ v.taken ++ held)
-  compares pass v a b held accounts h at = let mine = h.agree pass v at in (mine.0 a).1 ∙ h.whole ∙ ap (λ l. l ++ held) (sym (mine.1 b).1)
 
   -- a parcel after messages alone leaves at most one End, in the last place
   pub ends_after : (sent : List (Parcel M)) (x : Parcel M) → IsOpen sent → EndsAtMostOnce (sent ++ x ∷ [])

@@ -61,7 +61,6 @@ impl<M> Split<Account<M>> for Lend {
 pub(crate) struct Sent;
 
 impl<M> Outcome<Parcel<M>, Account<M>> for Sent {
-    ghost use Rattle.std.specs.Prelude.{◌++◌, ◌∷◌, []};
     ghost use Rattle.lsp_relay.specs.Relay.{sends_one};
 
     ghost then = { sends_one };

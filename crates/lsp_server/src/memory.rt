@@ -4,7 +4,8 @@ use std::alloc::Global;
 /// How many bytes the block has. glibc learns from blocks of up to 32 MB, its own bookkeeping included, so this is 64 KB less.
 const BLOCK_SIZE: usize = 33_488_896;
 
-/// Has the C library keep up to 64 MB that were freed for the messages to come. Call it once, when a program starts.
+/// Has the C library keep memory that was freed for the messages to come: up to 64 MB at the end of each heap. A program has a heap
+/// for each thread that allocates. Call it once, when a program starts.
 ///
 /// Without this call glibc gives freed memory back to the system soon after each large message, and the system clears every page
 /// anew for the next one. With messages of 1 MB that is up to half of the processor time. After a block of 32 MB was freed, glibc

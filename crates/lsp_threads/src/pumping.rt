@@ -29,7 +29,6 @@ pub enum PumpFault {
 }
 
 impl fmt::Display for PumpFault {
-    ghost use Rattle.lsp_message.specs.Frame.{no_limit};
     ghost use Rattle.lsp_threads.specs.Pump.{pump_fault_text};
 
     ghost output = { pump_fault_text };
@@ -49,8 +48,9 @@ impl Error for PumpFault {}
 /// reads and makes the frames, and the caller writes them. The messages are the same, but not their bytes: spaces go, and members
 /// change their order.
 ///
-/// Frames whose messages the reader showed together are written together, and flushed once. None is kept back while the reader
-/// may wait for more.
+/// Frames whose messages the reader showed together are written and flushed together, as soon as they have 65,536 bytes or no
+/// more were shown. None is kept back while the reader waits for more, if its `fill_buf` doesn't wait while it has bytes left to
+/// show.
 ///
 /// `Ok` means that the messages ended with `exit` or with the input. After a failed write nothing more is written, and the rest of
 /// the messages is read and dropped, so the call returns only when the reader comes to its end. If no memory is left for a frame,

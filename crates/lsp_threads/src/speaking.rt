@@ -15,7 +15,7 @@ use std::sync::Wait;
 use std::thread::{Builder, Threads};
 
 /// Runs a session of a server that speaks (LSP 3.17, "Server lifecycle") with a thread that reads, a thread that writes and the
-/// server on the caller's thread: in every schedule it comes to what `session_with` comes to.
+/// server on the caller's thread. In every schedule its answer and the bytes that it writes are such as `session_with` may give.
 ///
 /// Starts, faults and the end are those of `run_threads`. A message that the server sends is written while the server goes on.
 pub fn run_threads_with<T, R, W, S>(

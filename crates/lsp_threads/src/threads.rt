@@ -27,12 +27,13 @@ pub struct Threaded<W> {
 }
 
 /// Runs a session of a server (LSP 3.17, "Server lifecycle") with a thread that reads, a thread that writes and the handler on
-/// the caller's thread. In every schedule its answer is one that `session` may give.
+/// the caller's thread. In every schedule its answer and the bytes that it writes are such as `session` may give.
 ///
 /// - The fault means that a thread was not started, or that an allocation failed. Nothing was read or written then.
 /// - It returns only when the reader comes to its end, to a fault or to an `exit`. What is read after the session's answer is
 ///   dropped. A read fault counts only if the session came to it.
-/// - After a failed write nothing more is written, and the session goes on.
+/// - After a failed write nothing more is written, and the session goes on: the handler gets messages that `session` would not
+///   have read.
 pub fn run_threads<T, R, W, H>(
     rt: &T,
     alloc: Global,

@@ -1,15 +1,16 @@
 //! A session whose reader, handler and writer wait for each other: it comes to its end only where all three run at once.
+use crate::devices::comes_to;
 use crate::runs::said;
 use anyhow::Result;
 use lsp_server::{Handler, Notification, Request, ResponseError, run_threads};
 use serde_json::{Map, Value};
 use std::alloc::AllocError;
+use std::io;
 use std::io::{BufReader, ErrorKind, Read, Write};
 use std::sync::atomic::{AtomicU64, Ordering};
 use std::sync::{Arc, Wait};
 use std::thread::Threads;
-use std::time::{Clock, Duration};
-use std::{io, thread};
+use std::time::Clock;
 
 /// What the parts of the session tell one another.
 #[derive(Drop)]
@@ -27,17 +28,6 @@ impl Gates {
             rest: Arc::try_clone(&self.rest)?,
         })
     }
-}
-
-/// Waits until the count is not 0, for at most 10,000 turns of a millisecond's sleep, and says whether it is not.
-fn waits_for<C: Clock>(clock: &C, count: &AtomicU64) -> bool {
-    for _ in 0..10_000 {
-        if count.load(Ordering::SeqCst) > 0 {
-            return true;
-        }
-        thread::sleep(clock, Duration::from_millis(1));
-    }
-    false
 }
 
 const FIRST: &str =
@@ -73,13 +63,13 @@ impl<C: Clock> GatedReader<C> {
             Part::First => {
                 self.part = Part::Second;
                 self.left = SECOND.as_bytes();
-                waits_for(&self.clock, &self.gates.writes)
+                comes_to(&self.clock, &self.gates.writes, 1)
             }
             Part::Second => {
                 self.part = Part::Third;
                 self.left = THIRD.as_bytes();
                 self.gates.rest.fetch_add(1, Ordering::SeqCst);
-                waits_for(&self.clock, &self.gates.answers)
+                comes_to(&self.clock, &self.gates.answers, 1)
             }
             Part::Third => true,
         }
@@ -110,7 +100,7 @@ struct GatedWriter<C> {
 impl<C: Clock> Write for GatedWriter<C> {
     fn write(&mut self, buf: &[u8]) -> io::Result<usize> {
         self.gates.writes.fetch_add(1, Ordering::SeqCst);
-        if !waits_for(&self.clock, &self.gates.answers) {
+        if !comes_to(&self.clock, &self.gates.answers, 1) {
             return Err(io::Error::from(ErrorKind::TimedOut));
         }
         self.taken.extend_from_slice(buf)?;
@@ -138,7 +128,7 @@ impl<C: Clock> Handler for GatedEcho<C> {
 
     fn answer(&mut self, request: &Request) -> Result<Result<Value, ResponseError>, AllocError> {
         self.gates.answers.fetch_add(1, Ordering::SeqCst);
-        if !waits_for(&self.clock, &self.gates.rest) {
+        if !comes_to(&self.clock, &self.gates.rest, 1) {
             return Ok(Ok(Value::Null));
         }
         Ok(Ok(request.params.clone()?))

@@ -2,13 +2,21 @@
 //! table can hold: a session whose three parts wait for each other, a relay alone, and threads that are refused.
 //!
 //! A row has a kind, a name, how many bytes the writer takes before it fails, how many the reader gives before it fails (`-`: it
-//! does not fail), and then its items, with a tab between all of these. An item is the body of a message, whose frame is made; or,
-//! after `=`, text as it stands, in which `\r` and `\n` stand for the bytes 13 and 10; or a number and `*`: so often the next
-//! item comes.
+//! does not fail), and then its items, with a tab between all of these. An item is one of these:
+//!
+//! - the body of a message, whose frame is made;
+//! - after `=`, text as it stands, in which `\r` and `\n` stand for the bytes 13 and 10;
+//! - after `~`, the number of a byte;
+//! - a number and `*`: so often the next item comes;
+//! - after `?`, a number of bytes: the reader gives what follows only once so many were written and flushed, and the writer is slow;
+//! - after `<`, how many bytes a content part may have where a pump reads.
+//!
+//! Whoever waits here waits for ten seconds at most. Then the row says that a read failed, so nothing hangs.
 #![tactic(auto)]
 
 mod devices;
 mod gates;
+mod pumps;
 mod pusher;
 mod relays;
 mod rows;
@@ -16,12 +24,13 @@ mod runs;
 mod sweeps;
 
 use anyhow::{Context, Result};
-use rows::{Input, Kind, Row, row_of};
+use rows::{Kind, Row, row_of};
 use runs::Ran;
 use std::alloc::Global;
 use std::str;
 use std::sync::Wait;
 use std::thread::Threads;
+use std::time::Clock;
 
 /// How many bytes of output are shown at most.
 const SHOWN: usize = 600;
@@ -39,23 +48,26 @@ fn main(rt: HostRuntime) -> Result<()> {
 
 fn say_row<R>(rt: &R, alloc: Global, row: Row) -> Result<()>
 where
-    R: Threads + Wait + Print + Copy + Drop + Send + 'static,
+    R: Threads + Wait + Clock + Print + Copy + Drop + Send + 'static,
 {
     let Row { kind, name, input } = row;
     match kind {
         Kind::Session => {
-            let one = runs::alone(alloc, &input)?;
+            let one = runs::alone(rt, alloc, &input)?;
             let many = runs::in_threads(rt, alloc, &input)?;
             say_both(rt, alloc, name.as_str(), one, many)
         }
         Kind::Speaking => {
-            let one = runs::speaking_alone(alloc, &input)?;
+            let one = runs::speaking_alone(rt, alloc, &input)?;
             let many = runs::speaking_in_threads(rt, alloc, &input)?;
             say_both(rt, alloc, name.as_str(), one, many)
         }
         Kind::Readers => sweeps::say_readers(rt, alloc, name.as_str(), input),
         Kind::Writers => sweeps::say_writers(rt, alloc, name.as_str(), input),
-        Kind::Pump => say_pump(rt, alloc, name.as_str(), &input),
+        Kind::Pump => pumps::say(rt, alloc, name.as_str(), &input),
+        Kind::Burst => pumps::say_burst(rt, alloc, name.as_str(), input),
+        Kind::Waits => pumps::say_waits(rt, alloc, name.as_str(), input),
+        Kind::Looks => pumps::say_looks(rt, alloc, name.as_str(), input),
     }
 }
 
@@ -73,15 +85,6 @@ fn say_both<R: Print>(rt: &R, alloc: Global, name: &str, one: Ran, many: Ran) ->
         many.written.len()
     )?;
     say_text(rt, alloc, many.written.as_slice())
-}
-
-fn say_pump<R>(rt: &R, alloc: Global, name: &str, input: &Input) -> Result<()>
-where
-    R: Threads + Wait + Print + Copy + Drop + Send + 'static,
-{
-    let ran = runs::pumped(rt, alloc, input)?;
-    println!(rt; "{name}: {}, {} bytes written", ran.said, ran.written.len())?;
-    say_text(rt, alloc, ran.written.as_slice())
 }
 
 /// Says what was written, where it is short, with `\r` and `\n` for the bytes 13 and 10.

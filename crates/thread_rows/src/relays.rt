@@ -1,30 +1,34 @@
 //! A relay alone, and threads that are refused.
-use crate::devices::{Bytes, Short};
-use crate::runs::said;
+use crate::devices::LOOKS;
+use crate::rows::Input;
+use crate::runs::{devices_of, said};
 use anyhow::Result;
 use lsp_server::{Handler, Message, Notification, Parcel, Request, ResponseError, relay};
 use lsp_threads::{Builders, pump_by, run_threads_by};
 use serde_json::{Map, Value};
 use std::alloc::{AllocError, Global};
 use std::fmt::Display;
-use std::io::BufReader;
 use std::sync::atomic::{AtomicU64, Ordering};
 use std::sync::{Arc, Wait};
+use std::thread;
 use std::thread::{Builder, Threads};
+use std::time::{Clock, Duration};
 
 /// Says what a relay does and what comes where a thread is refused.
 pub(crate) fn say<R>(rt: &R) -> Result<()>
 where
-    R: Threads + Wait + Print + AllocGlobal + Copy + Drop + Send + 'static,
+    R: Threads + Wait + Clock + Print + AllocGlobal + Copy + Drop + Send + 'static,
 {
     say_relay(rt)?;
-    let (answer, calls) = pumped_without_a_thread(rt, rt.alloc())?;
-    println!(rt; "pump without a thread: {answer}, {calls} calls")?;
-    let (answer, calls) = served_without_a_thread(rt, rt.alloc(), SOME, usize::MAX)?;
-    println!(rt; "session without a reader's thread: {answer}, {calls} calls")?;
-    let (answer, calls) = served_without_a_thread(rt, rt.alloc(), usize::MAX, SOME)?;
-    println!(rt; "session without a writer's thread: {answer}, {calls} calls")?;
-    Ok(())
+    pumped_without_a_thread(rt, rt.alloc())?.say(rt, "pump without a thread")?;
+    served_without_a_thread(rt, rt.alloc(), SOME, usize::MAX)?.say(
+        rt,
+        "session without a reader's thread",
+    )?;
+    served_without_a_thread(rt, rt.alloc(), usize::MAX, SOME)?.say(
+        rt,
+        "session without a writer's thread",
+    )
 }
 
 /// The room of a stack that a thread gets. No thread gets `usize::MAX`.
@@ -84,40 +88,61 @@ impl Handler for Counting {
 const FRAME: &str =
     "Content-Length: 46\r\n\r\n{\"jsonrpc\":\"2.0\",\"id\":1,\"method\":\"initialize\"}";
 
-fn reader_of(alloc: Global, calls: &Arc<AtomicU64>) -> Result<BufReader<Bytes>> {
-    let mut bytes = Vec::new(alloc);
-    bytes.extend_from_slice(FRAME.as_bytes())?;
-    let reader = Bytes {
-        bytes,
-        given: 0,
-        step: usize::MAX,
-        fails_at: usize::MAX,
-        calls: Arc::try_clone(calls)?,
-    };
-    Ok(BufReader::with_capacity(alloc, 64, reader)?)
+fn frame_alone(alloc: Global) -> Result<Input> {
+    let mut input = Input::new(alloc);
+    input.bytes.extend_from_slice(FRAME.as_bytes())?;
+    Ok(input)
 }
 
-fn writer_of(alloc: Global, calls: &Arc<AtomicU64>) -> Result<Short> {
-    Ok(Short {
-        taken: Vec::new(alloc),
-        room: usize::MAX,
-        calls: Arc::try_clone(calls)?,
-    })
+/// Whether nobody else holds the count any more. A thread that still runs holds it, and it may take a while to end.
+fn is_alone<C: Clock>(clock: &C, count: &Arc<AtomicU64>) -> bool {
+    for _ in 0..LOOKS {
+        if Arc::strong_count(count) == 1 {
+            return true;
+        }
+        thread::sleep(clock, Duration::from_millis(1));
+    }
+    false
 }
 
-fn pumped_without_a_thread<R>(rt: &R, alloc: Global) -> Result<(String, u64)>
+/// What a call said that started no thread, or not both, and what is left of it.
+#[derive(Drop)]
+struct Refused {
+    answer: String,
+    /// How often the reader, the writer and the handler were called.
+    calls: u64,
+    /// Whether a thread still holds the reader or the writer.
+    is_left: bool,
+}
+
+impl Refused {
+    fn say<R: Print>(&self, rt: &R, name: &str) -> Result<()> {
+        let left = if self.is_left { "a thread" } else { "nothing" };
+        println!(rt;
+            "{name}: {}, {} calls, {left} left",
+            self.answer, self.calls
+        )?;
+        Ok(())
+    }
+}
+
+fn pumped_without_a_thread<R>(rt: &R, alloc: Global) -> Result<Refused>
 where
-    R: Threads + Wait + Copy + Drop + Send + 'static,
+    R: Threads + Wait + Clock + Copy + Drop + Send + 'static,
 {
-    let calls = Arc::new(alloc, AtomicU64::new(0))?;
-    let reader = reader_of(alloc, &calls)?;
-    let mut writer = writer_of(alloc, &calls)?;
+    let (reader, mut writer) = devices_of(rt, alloc, &frame_alone(alloc)?)?;
+    let calls = Arc::try_clone(&writer.calls)?;
     let builder = Builder::new().stack_size(usize::MAX);
     let answer = match pump_by(rt, builder, alloc, reader, &mut writer, u64::MAX) {
         Ok(()) => String::from_str(alloc, "passed on")?,
         Err(fault) => fault.to_string(alloc)?,
     };
-    Ok((answer, calls.load(Ordering::SeqCst)))
+    drop(writer);
+    Ok(Refused {
+        answer,
+        calls: calls.load(Ordering::SeqCst),
+        is_left: !is_alone(rt, &calls),
+    })
 }
 
 fn served_without_a_thread<R>(
@@ -125,13 +150,12 @@ fn served_without_a_thread<R>(
     alloc: Global,
     writers_stack: usize,
     readers_stack: usize,
-) -> Result<(String, u64)>
+) -> Result<Refused>
 where
-    R: Threads + Wait + Copy + Drop + Send + 'static,
+    R: Threads + Wait + Clock + Copy + Drop + Send + 'static,
 {
-    let calls = Arc::new(alloc, AtomicU64::new(0))?;
-    let reader = reader_of(alloc, &calls)?;
-    let writer = writer_of(alloc, &calls)?;
+    let (reader, writer) = devices_of(rt, alloc, &frame_alone(alloc)?)?;
+    let calls = Arc::try_clone(&writer.calls)?;
     let mut handler = Counting {
         calls: Arc::try_clone(&calls)?,
     };
@@ -153,5 +177,10 @@ where
         Ok(done) => said(alloc, done.answer)?,
         Err(fault) => fault.to_string(alloc)?,
     };
-    Ok((answer, calls.load(Ordering::SeqCst)))
+    drop(handler);
+    Ok(Refused {
+        answer,
+        calls: calls.load(Ordering::SeqCst),
+        is_left: !is_alone(rt, &calls),
+    })
 }

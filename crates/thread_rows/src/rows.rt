@@ -1,4 +1,5 @@
 //! The table: a row for each run.
+use crate::devices::Pause;
 use anyhow::{Context, Result, bail};
 use std::alloc::Global;
 
@@ -15,6 +16,12 @@ pub(crate) enum Kind {
     Writers,
     /// A pump.
     Pump,
+    /// A pump, with a reader that shows the whole input at once. It says how many writes there were, too.
+    Burst,
+    /// A pump, with a reader that gives what follows a place only after all frames before it were written, at each place in turn.
+    Waits,
+    /// A pump, with a reader that shows the whole input at once and fails once behind each frame in turn.
+    Looks,
 }
 
 /// What is run, and over what.
@@ -25,12 +32,68 @@ pub(crate) struct Row {
     pub(crate) input: Input,
 }
 
-/// What a run reads, and the bytes after which its devices fail.
+/// What a run reads and how, and the bytes after which its devices fail.
 #[derive(Drop)]
 pub(crate) struct Input {
     pub(crate) bytes: Vec<u8>,
+    /// Where the frames end, from the first to the last.
+    pub(crate) ends: Vec<usize>,
+    /// How many bytes the reader shows at most.
+    pub(crate) step: usize,
+    pub(crate) pauses: Vec<Pause>,
+    /// Whether the writer is slow, so that what is sent comes faster than it is written.
+    pub(crate) is_slow: bool,
+    /// How many bytes a content part may have.
+    pub(crate) limit: u64,
     pub(crate) writer_fails_at: usize,
     pub(crate) reader_fails_at: usize,
+}
+
+/// How many bytes a reader shows at most, so that it is asked more than once for a row.
+const STEP: usize = 100;
+
+impl Input {
+    /// Nothing is read, and no device fails.
+    pub(crate) fn new(alloc: Global) -> Input {
+        Input {
+            bytes: Vec::new(alloc),
+            ends: Vec::new(alloc),
+            step: STEP,
+            pauses: Vec::new(alloc),
+            is_slow: false,
+            limit: u64::MAX,
+            writer_fails_at: usize::MAX,
+            reader_fails_at: usize::MAX,
+        }
+    }
+
+    /// Adds what an item stands for.
+    fn push(&mut self, alloc: Global, item: &str) -> Result<()> {
+        if let Some(text) = item.strip_prefix('=') {
+            let text = unescaped(alloc, text)?;
+            self.bytes.extend_from_slice(text.as_bytes())?;
+            return Ok(());
+        }
+        if let Some(number) = item.strip_prefix('~') {
+            self.bytes.push(number.parse().context("a byte")?)?;
+            return Ok(());
+        }
+        if let Some(number) = item.strip_prefix('<') {
+            self.limit = number.parse().context("a limit")?;
+            return Ok(());
+        }
+        if let Some(number) = item.strip_prefix('?') {
+            let written = number.parse().context("a number of bytes")?;
+            let at = self.bytes.len();
+            self.pauses.push(Pause { at, written })?;
+            self.is_slow = true;
+            return Ok(());
+        }
+        let frame = format!(in alloc; "Content-Length: {}\r\n\r\n{item}", item.len())?;
+        self.bytes.extend_from_slice(frame.as_bytes())?;
+        self.ends.push(self.bytes.len())?;
+        Ok(())
+    }
 }
 
 /// The row that a line of the table holds.
@@ -38,24 +101,21 @@ pub(crate) fn row_of(alloc: Global, line: &str) -> Result<Row> {
     let mut parts = line.split('\t');
     let kind = kind_of(parts.next().context("a row has a kind")?)?;
     let name = String::from_str(alloc, parts.next().context("a row has a name")?)?;
-    let writer_fails_at = limit_of(parts.next().context("a row says where its writer fails")?)?;
-    let reader_fails_at = limit_of(parts.next().context("a row says where its reader fails")?)?;
-    let mut bytes = Vec::new(alloc);
+    let mut input = Input::new(alloc);
+    input.writer_fails_at = limit_of(parts.next().context("a row says where its writer fails")?)?;
+    input.reader_fails_at = limit_of(parts.next().context("a row says where its reader fails")?)?;
     let mut count = 1;
     for item in parts {
         match item.strip_suffix('*') {
             Some(times) => count = limit_of(times)?,
             None => {
-                push_items(alloc, item, count, &mut bytes)?;
+                for _ in 0..count {
+                    input.push(alloc, item)?;
+                }
                 count = 1;
             }
         }
     }
-    let input = Input {
-        bytes,
-        writer_fails_at,
-        reader_fails_at,
-    };
     Ok(Row { kind, name, input })
 }
 
@@ -66,6 +126,9 @@ fn kind_of(word: &str) -> Result<Kind> {
         "readers" => Ok(Kind::Readers),
         "writers" => Ok(Kind::Writers),
         "pump" => Ok(Kind::Pump),
+        "burst" => Ok(Kind::Burst),
+        "waits" => Ok(Kind::Waits),
+        "looks" => Ok(Kind::Looks),
         _ => bail!("no such kind: {word}"),
     }
 }
@@ -75,17 +138,6 @@ fn limit_of(word: &str) -> Result<usize> {
         return Ok(usize::MAX);
     }
     word.parse().context("a number or -")
-}
-
-fn push_items(alloc: Global, item: &str, count: usize, bytes: &mut Vec<u8>) -> Result<()> {
-    let text = match item.strip_prefix('=') {
-        Some(escaped) => unescaped(alloc, escaped)?,
-        None => format!(in alloc; "Content-Length: {}\r\n\r\n{item}", item.len())?,
-    };
-    for _ in 0..count {
-        bytes.extend_from_slice(text.as_bytes())?;
-    }
-    Ok(())
 }
 
 fn unescaped(alloc: Global, text: &str) -> Result<String> {

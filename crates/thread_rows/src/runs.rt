@@ -3,8 +3,8 @@ use crate::devices::{Bytes, Short};
 use crate::pusher::Pusher;
 use crate::rows::Input;
 use lsp_server::{
-    Handler, Notification, Request, ResponseError, SessionEnd, SessionFault, Working, pump,
-    run_threads, run_threads_with, session, session_with,
+    Handler, Notification, Request, ResponseError, SessionEnd, SessionFault, Working, run_threads,
+    run_threads_with, session, session_with,
 };
 use serde_json::{Map, Value};
 use std::alloc::{AllocError, Global};
@@ -14,9 +14,7 @@ use std::io::BufReader;
 use std::sync::atomic::AtomicU64;
 use std::sync::{Arc, Wait};
 use std::thread::Threads;
-
-/// How many bytes a reader gives at most, so that it is asked more than once for a row.
-const STEP: usize = 100;
+use std::time::Clock;
 
 /// What a run said, and what was written.
 #[derive(Drop)]
@@ -64,31 +62,44 @@ pub(crate) fn said(
     }
 }
 
-fn reader_of(alloc: Global, input: &Input) -> io::Result<BufReader<Bytes>> {
+/// The reader and the writer of a run, which count together.
+pub(crate) fn devices_of<C: Clock + Copy>(
+    clock: &C,
+    alloc: Global,
+    input: &Input,
+) -> io::Result<(BufReader<Bytes<C>>, Short<C>)> {
+    let calls = Arc::new(alloc, AtomicU64::new(0))?;
+    let written = Arc::new(alloc, AtomicU64::new(0))?;
     let mut bytes = Vec::new(alloc);
     bytes.extend_from_slice(input.bytes.as_slice())?;
+    let mut pauses = Vec::new(alloc);
+    pauses.extend_from_slice(input.pauses.as_slice())?;
     let reader = Bytes {
+        clock: *clock,
         bytes,
         given: 0,
-        step: STEP,
+        step: input.step,
         fails_at: input.reader_fails_at,
-        calls: Arc::new(alloc, AtomicU64::new(0))?,
+        pauses,
+        over: 0,
+        calls: Arc::try_clone(&calls)?,
+        written: Arc::try_clone(&written)?,
     };
-    BufReader::with_capacity(alloc, STEP, reader)
-}
-
-fn writer_of(alloc: Global, input: &Input) -> Result<Short, AllocError> {
-    Ok(Short {
+    let writer = Short {
+        clock: *clock,
+        is_slow: input.is_slow,
         taken: Vec::new(alloc),
         room: input.writer_fails_at,
-        calls: Arc::new(alloc, AtomicU64::new(0))?,
-    })
+        writes: 0,
+        calls,
+        written,
+    };
+    Ok((BufReader::with_capacity(alloc, input.step, reader)?, writer))
 }
 
 /// A session on one thread.
-pub(crate) fn alone(alloc: Global, input: &Input) -> io::Result<Ran> {
-    let mut reader = reader_of(alloc, input)?;
-    let mut writer = writer_of(alloc, input)?;
+pub(crate) fn alone<C: Clock + Copy>(clock: &C, alloc: Global, input: &Input) -> io::Result<Ran> {
+    let (mut reader, mut writer) = devices_of(clock, alloc, input)?;
     let capabilities = Value::Object(Map::new(alloc));
     let answer = session(alloc, &mut reader, &mut writer, capabilities, &mut Echo);
     Ok(Ran {
@@ -100,10 +111,9 @@ pub(crate) fn alone(alloc: Global, input: &Input) -> io::Result<Ran> {
 /// A session in threads.
 pub(crate) fn in_threads<R>(rt: &R, alloc: Global, input: &Input) -> io::Result<Ran>
 where
-    R: Threads + Wait + Copy + Drop + Send + 'static,
+    R: Threads + Wait + Clock + Copy + Drop + Send + 'static,
 {
-    let reader = reader_of(alloc, input)?;
-    let writer = writer_of(alloc, input)?;
+    let (reader, writer) = devices_of(rt, alloc, input)?;
     let capabilities = Value::Object(Map::new(alloc));
     match run_threads(rt, alloc, reader, writer, capabilities, &mut Echo) {
         Ok(done) => Ok(Ran {
@@ -118,9 +128,12 @@ where
 }
 
 /// A session of a server that speaks, on one thread.
-pub(crate) fn speaking_alone(alloc: Global, input: &Input) -> io::Result<Ran> {
-    let mut reader = reader_of(alloc, input)?;
-    let mut writer = writer_of(alloc, input)?;
+pub(crate) fn speaking_alone<C: Clock + Copy>(
+    clock: &C,
+    alloc: Global,
+    input: &Input,
+) -> io::Result<Ran> {
+    let (mut reader, mut writer) = devices_of(clock, alloc, input)?;
     let mut working = Working::new(alloc, Pusher::new(alloc));
     let answer = session_with(alloc, &mut reader, &mut writer, &mut working);
     Ok(Ran {
@@ -132,10 +145,9 @@ pub(crate) fn speaking_alone(alloc: Global, input: &Input) -> io::Result<Ran> {
 /// A session of a server that speaks, in threads.
 pub(crate) fn speaking_in_threads<R>(rt: &R, alloc: Global, input: &Input) -> io::Result<Ran>
 where
-    R: Threads + Wait + Copy + Drop + Send + 'static,
+    R: Threads + Wait + Clock + Copy + Drop + Send + 'static,
 {
-    let reader = reader_of(alloc, input)?;
-    let writer = writer_of(alloc, input)?;
+    let (reader, writer) = devices_of(rt, alloc, input)?;
     let mut working = Working::new(alloc, Pusher::new(alloc));
     match run_threads_with(rt, alloc, reader, writer, &mut working) {
         Ok(done) => Ok(Ran {
@@ -147,21 +159,4 @@ where
             written: Vec::new(alloc),
         }),
     }
-}
-
-/// A pump.
-pub(crate) fn pumped<R>(rt: &R, alloc: Global, input: &Input) -> io::Result<Ran>
-where
-    R: Threads + Wait + Copy + Drop + Send + 'static,
-{
-    let reader = reader_of(alloc, input)?;
-    let mut writer = writer_of(alloc, input)?;
-    let said = match pump(rt, alloc, reader, &mut writer) {
-        Ok(()) => String::from_str(alloc, "passed on")?,
-        Err(fault) => fault.to_string(alloc)?,
-    };
-    Ok(Ran {
-        said,
-        written: writer.taken,
-    })
 }

@@ -5,10 +5,11 @@ use anyhow::Result;
 use std::alloc::Global;
 use std::sync::Wait;
 use std::thread::Threads;
+use std::time::Clock;
 
-/// Runs of one kind, from the first byte to the last at which the device fails.
+/// Runs that came to the same, from the first place to the last.
 #[derive(Drop)]
-struct Group {
+pub(crate) struct Group {
     first: usize,
     last: usize,
     text: String,
@@ -17,7 +18,7 @@ struct Group {
 /// Where the reader fails.
 pub(crate) fn say_readers<R>(rt: &R, alloc: Global, name: &str, input: Input) -> Result<()>
 where
-    R: Threads + Wait + Print + Copy + Drop + Send + 'static,
+    R: Threads + Wait + Clock + Print + Copy + Drop + Send + 'static,
 {
     let mut input = input;
     let mut group: Option<Group> = None;
@@ -32,14 +33,14 @@ where
 /// Where the writer fails, up to the number of bytes that it would get.
 pub(crate) fn say_writers<R>(rt: &R, alloc: Global, name: &str, input: Input) -> Result<()>
 where
-    R: Threads + Wait + Print + Copy + Drop + Send + 'static,
+    R: Threads + Wait + Clock + Print + Copy + Drop + Send + 'static,
 {
     let mut input = input;
-    let whole = alone(alloc, &input)?.written;
+    let whole = alone(rt, alloc, &input)?.written;
     let mut group: Option<Group> = None;
     for fails_at in 0..=whole.len() {
         input.writer_fails_at = fails_at;
-        let one = alone(alloc, &input)?;
+        let one = alone(rt, alloc, &input)?;
         let many = in_threads(rt, alloc, &input)?;
         let is_first = one.written.as_slice() == &whole.as_slice()[..fails_at];
         let text = match one.is_same(&many) && is_first {
@@ -54,9 +55,9 @@ where
 /// What both runs come to.
 fn compared<R>(rt: &R, alloc: Global, input: &Input) -> Result<String>
 where
-    R: Threads + Wait + Copy + Drop + Send + 'static,
+    R: Threads + Wait + Clock + Copy + Drop + Send + 'static,
 {
-    let one: Ran = alone(alloc, input)?;
+    let one: Ran = alone(rt, alloc, input)?;
     let many = in_threads(rt, alloc, input)?;
     let same = if one.is_same(&many) {
         "the same"
@@ -68,7 +69,7 @@ where
 }
 
 /// The group with this run, or a new one after the group was said.
-fn joined<R: Print>(
+pub(crate) fn joined<R: Print>(
     rt: &R,
     name: &str,
     group: Option<Group>,
@@ -92,7 +93,8 @@ fn joined<R: Print>(
     }
 }
 
-fn end<R: Print>(rt: &R, name: &str, group: Option<Group>) -> Result<()> {
+/// Says the last group.
+pub(crate) fn end<R: Print>(rt: &R, name: &str, group: Option<Group>) -> Result<()> {
     if let Some(group) = group {
         println!(rt; "{name} {} to {}: {}", group.first, group.last, group.text)?;
     }
