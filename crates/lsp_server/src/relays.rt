@@ -1,4 +1,4 @@
-//! A relay of messages (the crate `lsp_relay` has one of anything).
+// The relay of `lsp_relay`, which carries anything, for messages.
 ghost use Rattle.std.specs.Prelude.{◌≡◌, ◌<◌, [], IfOk};
 
 use lsp_message::Message;
