@@ -86,7 +86,11 @@ impl Paths {
     fn ask(&mut self) -> Result<Request> {
         let method = String::from_str(self.alloc, "workspace/configuration")?;
         let params = json!(in self.alloc; { "items": [{ "section": "paths" }] })?;
-        match self.queue.outgoing.register_value(method, params, Asked::Name) {
+        match self
+            .queue
+            .outgoing
+            .register_value(method, params, Asked::Name)
+        {
             Ok(request) => Ok(request),
             Err(_) => bail!("a registration was refused"),
         }

@@ -5,8 +5,7 @@
 
 use anyhow::{Result as Answer, bail};
 use lsp_server::{
-    Act, Notification, Request, RequestId, ResponseError, Server, SessionEnd, Working,
-    session_with,
+    Act, Notification, Request, RequestId, ResponseError, Server, SessionEnd, Working, session_with,
 };
 use serde_json::{Value, json};
 use std::alloc::{AllocError, Global};

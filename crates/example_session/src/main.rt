@@ -2,9 +2,7 @@
 #![tactic(auto)]
 
 use anyhow::{Result, bail};
-use lsp_server::{
-    ErrorCode, Handler, Notification, Request, ResponseError, SessionEnd, session,
-};
+use lsp_server::{ErrorCode, Handler, Notification, Request, ResponseError, SessionEnd, session};
 use serde_json::{Value, json};
 use std::alloc::{AllocError, Global};
 use std::io;
