@@ -1,13 +1,30 @@
-//! A whole language server over standard input and output, as the README shows it. It says how long the path of a document
-//! is: a request `textDocument/hover` is answered with it.
+//! A whole language server over standard input and output, as a loop of its own. It says how long the path of a document
+//! is: a request `textDocument/hover` is answered with it. What to call a path it asks its client once, at the start, if the
+//! client can tell (`workspace/configuration`, section `paths`, a text).
 #![tactic(auto)]
 
 use anyhow::{Result, bail};
-use lsp_server::{Connection, ErrorCode, Message, Request, Response};
+use lsp_server::{Connection, ErrorCode, Message, ReqQueue, Request, Response};
 use serde_json::{Value, json};
 use std::alloc::{AllocError, Global};
 use std::sync::Wait;
 use std::time::Clock;
+
+/// What the server keeps between two messages.
+#[derive(Drop)]
+struct Paths {
+    alloc: Global,
+    /// What a hover calls a path.
+    name: String,
+    /// The server's own requests that have no reply yet, each with what it asked for.
+    queue: ReqQueue<(), Asked>,
+}
+
+/// What a request of the server's own asked for.
+#[derive(Drop)]
+enum Asked {
+    Name,
+}
 
 fn main(rt: HostRuntime) -> Result<()> {
     let (connection, threads) = Connection::stdio(&rt)?;
@@ -21,33 +38,95 @@ fn main(rt: HostRuntime) -> Result<()> {
 /// From `initialize` to `exit`. The connection is dropped at the end, so that its threads end too.
 fn serve<R: Wait + Clock + AllocGlobal>(rt: &R, connection: Connection) -> Result<()> {
     let capabilities = json!(in rt.alloc(); { "hoverProvider": true })?;
-    connection.initialize(rt, capabilities)?;
+    let params = connection.initialize(rt, capabilities)?;
+    let mut paths = Paths::new(rt.alloc())?;
+    if can_be_asked(&params) {
+        send(rt, &connection, Message::from(paths.ask()?))?;
+    }
     for message in connection.receiver.iter(rt) {
-        let Message::Request(request) = message else {
-            continue;
-        };
-        if connection.handle_shutdown(rt, &request)? {
-            return Ok(());
-        }
-        let reply = Message::from(answer(rt.alloc(), request)?);
-        if connection.sender.send(rt, reply).is_err() {
-            bail!("the client is gone");
+        match message {
+            Message::Request(request) => {
+                if connection.handle_shutdown(rt, &request)? {
+                    return Ok(());
+                }
+                send(rt, &connection, Message::from(paths.answer(request)?))?;
+            }
+            Message::Response(response) => paths.take(response)?,
+            Message::Notification(_note) => {}
         }
     }
     bail!("the client left without a shutdown")
 }
 
-fn answer(alloc: Global, request: Request) -> Result<Response, AllocError> {
-    if request.method.as_str() != "textDocument/hover" {
-        let message = String::from_str(alloc, "method not found")?;
-        return Ok(Response::new_err(request.id, ErrorCode::MethodNotFound.number(), message));
+fn send<R: Wait>(rt: &R, connection: &Connection, message: Message) -> Result<()> {
+    if connection.sender.send(rt, message).is_err() {
+        bail!("the client is gone");
     }
-    let length = uri_of(&request.params).map_or(0, |uri| uri.len() as u64);
-    let contents = format!(in alloc; "a path of {length} bytes")?;
-    Ok(Response {
-        id: request.id,
-        response_result: Ok(json!(in alloc; { "contents": contents })?),
-    })
+    Ok(())
+}
+
+/// Whether the client takes `workspace/configuration` (LSP 3.17, "Configuration Request").
+fn can_be_asked(params: &Value) -> bool {
+    params
+        .pointer("/capabilities/workspace/configuration")
+        .and_then(|value| value.as_bool())
+        .unwrap_or(false)
+}
+
+impl Paths {
+    fn new(alloc: Global) -> Result<Paths, AllocError> {
+        Ok(Paths {
+            alloc,
+            name: String::from_str(alloc, "a path")?,
+            queue: ReqQueue::default(alloc),
+        })
+    }
+
+    /// The request that asks for the name. It is pending until its response comes.
+    fn ask(&mut self) -> Result<Request> {
+        let method = String::from_str(self.alloc, "workspace/configuration")?;
+        let params = json!(in self.alloc; { "items": [{ "section": "paths" }] })?;
+        match self
+            .queue
+            .outgoing
+            .register_value(method, params, Asked::Name)
+        {
+            Ok(request) => Ok(request),
+            Err(_) => bail!("a registration was refused"),
+        }
+    }
+
+    /// Takes the response to a request of the server's own.
+    fn take(&mut self, response: Response) -> Result<(), AllocError> {
+        let Response {
+            id,
+            response_result: outcome,
+        } = response;
+        let Some(Asked::Name) = self.queue.outgoing.complete(id) else {
+            return Ok(());
+        };
+        if let Ok(values) = outcome
+            && let Some(name) = values.pointer("/0").and_then(|value| value.as_str())
+        {
+            self.name = String::from_str(self.alloc, name)?;
+        }
+        Ok(())
+    }
+
+    fn answer(&self, request: Request) -> Result<Response, AllocError> {
+        let alloc = self.alloc;
+        if request.method.as_str() != "textDocument/hover" {
+            let message = String::from_str(alloc, "method not found")?;
+            return Ok(Response::new_err(request.id, ErrorCode::MethodNotFound.number(), message));
+        }
+        let name = self.name.as_str();
+        let length = uri_of(&request.params).map_or(0, |uri| uri.len() as u64);
+        let contents = format!(in alloc; "{name} of {length} bytes")?;
+        Ok(Response {
+            id: request.id,
+            response_result: Ok(json!(in alloc; { "contents": contents })?),
+        })
+    }
 }
 
 /// The path of the document that the params of a request name (LSP 3.17, "TextDocumentPositionParams").

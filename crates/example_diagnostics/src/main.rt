@@ -5,7 +5,7 @@
 
 use anyhow::{Result as Answer, bail};
 use lsp_server::{
-    Act, Notification, Request, RequestId, ResponseError, Server, Working, session_with,
+    Act, Notification, Request, RequestId, ResponseError, Server, SessionEnd, Working, session_with,
 };
 use serde_json::{Value, json};
 use std::alloc::{AllocError, Global};
@@ -196,8 +196,8 @@ fn main(rt: HostRuntime) -> Answer<()> {
         waiting: Vec::new(alloc),
     };
     let mut working = Working::new(alloc, checker);
-    match session_with(alloc, &mut reader, &mut io::writer(&rt), &mut working) {
-        Ok(_) => Ok(()),
-        Err(fault) => bail!("{fault}"),
+    match session_with(alloc, &mut reader, &mut io::writer(&rt), &mut working)? {
+        SessionEnd::ShutDown => Ok(()),
+        SessionEnd::Closed => bail!("the client left without a shutdown"),
     }
 }

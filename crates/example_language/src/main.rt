@@ -15,7 +15,7 @@ mod server;
 mod sums;
 
 use anyhow::{Result, bail};
-use lsp_server::{Working, session_with};
+use lsp_server::{SessionEnd, Working, session_with};
 use server::Sums;
 use std::alloc::Global;
 use std::io;
@@ -28,8 +28,8 @@ fn main(rt: HostRuntime) -> Result<()> {
     let alloc: Global = rt.alloc();
     let mut reader = BufReader::with_capacity(alloc, READ_AHEAD, rt.reader())?;
     let mut working = Working::new(alloc, Sums::new(alloc));
-    match session_with(alloc, &mut reader, &mut io::writer(&rt), &mut working) {
-        Ok(_) => Ok(()),
-        Err(fault) => bail!("{fault}"),
+    match session_with(alloc, &mut reader, &mut io::writer(&rt), &mut working)? {
+        SessionEnd::ShutDown => Ok(()),
+        SessionEnd::Closed => bail!("the client left without a shutdown"),
     }
 }

@@ -1,8 +1,8 @@
 //! A whole server over standard input and output that answers requests: it knows how many documents its client has open.
 #![tactic(auto)]
 
-use anyhow::Result;
-use lsp_server::{ErrorCode, Handler, Notification, Request, ResponseError, session};
+use anyhow::{Result, bail};
+use lsp_server::{ErrorCode, Handler, Notification, Request, ResponseError, SessionEnd, session};
 use serde_json::{Value, json};
 use std::alloc::{AllocError, Global};
 use std::io;
@@ -57,12 +57,14 @@ fn main(rt: HostRuntime) -> Result<()> {
     };
     let mut reader = BufReader::new(alloc, rt.reader())?;
     let mut writer = io::writer(&rt);
-    session(
+    match session(
         alloc,
         &mut reader,
         &mut writer,
         capabilities,
         &mut documents,
-    )?;
-    Ok(())
+    )? {
+        SessionEnd::ShutDown => Ok(()),
+        SessionEnd::Closed => bail!("the client left without a shutdown"),
+    }
 }

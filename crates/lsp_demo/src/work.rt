@@ -46,18 +46,18 @@ impl Work {
     pub fn take(&mut self, message: Message) -> Result<Answer, WorkFault>
         ensures { IfOk result (λ answer. (answer_view answer, self.new.dispatcher) ≡ served self.old.dispatcher (message_view message)) }
     {
+        let pending = match &message {
+            Message::Request(request) => self.dispatcher.ticket_of(&request.id),
+            _ => None,
+        };
         let answer = match self.dispatcher.deliver(message) {
             Ok(answer) => answer,
             Err(fault) => return Err(WorkFault::Dispatch(fault)),
         };
         match answer {
-            Answer::Work {
-                request,
-                ticket,
-                replaced,
-            } => {
-                if let Some(old) = replaced {
-                    self.held.remove(&old);
+            Answer::Work { request, ticket } => {
+                if let Some(replaced) = pending {
+                    self.held.remove(&replaced);
                 }
                 self.start(request, ticket)
             }

@@ -9,12 +9,9 @@ use Rattle.lsp_dispatch.specs.DispatchAnswers.{Answer, answer_view, call_view}
 use Rattle.lsp_dispatch.specs.DispatchCalls.{Call, asked_by}
 use Rattle.lsp_dispatch.specs.declared.answer.Answer as code
 use Rattle.lsp_dispatch.specs.declared.calls.Call as code_call
-use Rattle.lsp_dispatch.specs.DispatchFaults.{dispatch_fault_number, IsSpent}
-use Rattle.lsp_dispatch.specs.declared.answer.DispatchFault.{DispatchFault}
-use Rattle.lsp_dispatch.specs.declared.answer.DispatchFault.TheVariants.{Memory, Spent}
 use Rattle.lsp_dispatch.proofs.Agreement.{Agrees}
 use Rattle.lsp_dispatch.specs.Dispatch.{asked, CallAnswer, Dispatches}
-use Rattle.lsp_dispatch.specs.DispatchTable.{Held, answered, all_tickets, no_work, answers_from}
+use Rattle.lsp_dispatch.specs.DispatchTable.{Held, answered, no_work, answers_from}
 use Rattle.lsp_dispatch.proofs.Rows.{row, new_agrees}
 
 dispatches_push : (start calls : List Call) (answers : List Answer) (c : Call) (a : Answer) → Dispatches start calls answers → CallAnswer (start ++ calls) c a → Dispatches start (calls ++ c ∷ []) (answers ++ a ∷ [])
@@ -63,11 +60,6 @@ replayed_new answers held none new = record {
   run = subst (λ (l : List code.Answer). Dispatches [] [] (each answer_view l)) (sym none) tt;
   agrees = new_agrees held new;
 }
-
--- a fault is want of memory, where tickets are left
-pub memory_only : (fault : DispatchFault) (count : ℕ) → (IsSpent fault → count ≡ all_tickets) → count ≢ all_tickets → dispatch_fault_number fault ≡ 1
-memory_only (Memory m) count spent left = refl
-memory_only (Spent m) count spent left = absurd (left (spent tt))
 
 -- the answers by the table are right for their places
 pub dispatches_from : (before : List Call) (held : Held) → Agrees before held → (calls : List Call) → Dispatches before calls (answers_from held calls)

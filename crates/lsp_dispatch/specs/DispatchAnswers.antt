@@ -23,7 +23,7 @@ pub data Answer : Type 0 where
 
 abbrev pub answer_view : code.Answer → Answer
 answer_view (answer.Unknown reply) = unknown (response_view reply)
-answer_view (answer.Work request ticket replaced) = work (request_view request) ticket
+answer_view (answer.Work request ticket) = work (request_view request) ticket
 answer_view (answer.Cancelled reply ticket) = cancelled_work (response_view reply) ticket
 answer_view (answer.Finished reply ticket) = finished_work (response_view reply) ticket
 answer_view (answer.Note notification) = note (notification_view notification)
@@ -41,12 +41,3 @@ reply_of (cancelled_work reply ticket) = Some reply
 reply_of (finished_work reply ticket) = Some reply
 reply_of (note message) = None
 reply_of nothing = None
-
--- the ticket that an answer calls replaced
-abbrev pub replaced_of : code.Answer → Option ℕ
-replaced_of (answer.Unknown reply) = None
-replaced_of (answer.Work request ticket replaced) = replaced
-replaced_of (answer.Cancelled reply ticket) = None
-replaced_of (answer.Finished reply ticket) = None
-replaced_of (answer.Note notification) = None
-replaced_of answer.Nothing = None

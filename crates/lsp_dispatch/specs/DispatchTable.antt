@@ -38,10 +38,6 @@ delivered held (notification method params) =
     else (note (notification method params), held)
 delivered held (response id outcome) = (nothing, held)
 
--- the ticket that is pending under the id of a request that comes
-abbrev pub replaced_in : Held → Message → Option ℕ
-replaced_in held message = option_and_then (λ id. map.get (pending_of held) id) (asked_in message)
-
 abbrev pub is_pending_with : ℕ → Option ℕ → Bool
 is_pending_with ticket None = false
 is_pending_with ticket (Some pending) = pending == ticket

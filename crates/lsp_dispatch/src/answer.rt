@@ -12,10 +12,9 @@ pub enum Answer {
     Work {
         /// The request.
         request: Request,
-        /// Its ticket. Tickets are 0, 1, 2, .. in the order in which requests come.
+        /// Its ticket. Tickets are 0, 1, 2, .. in the order in which requests come. A ticket that was pending under the same id
+        /// until now gets no reply any more: ask `Dispatcher::ticket_of` for it before `deliver`, and drop its work.
         ticket: u64,
-        /// The ticket that was pending under the same id until now. It gets no reply any more: drop its work.
-        replaced: Option<u64>,
     },
     /// Send this reply, and drop the work: the client cancelled the request (LSP 3.17, "Cancellation Support").
     Cancelled {

@@ -5,9 +5,9 @@ ghost use Rattle.serde_json.specs.View.{view};
 ghost use Rattle.lsp_message.specs.Id.{Id};
 ghost use Rattle.lsp_message.specs.View.{request_view, notification_view, response_view, message_view, outcome_view};
 ghost use Rattle.lsp_queue.specs.Queue.{pending_of, count_of};
-ghost use Rattle.lsp_dispatch.specs.DispatchAnswers.{answer_view, replaced_of};
+ghost use Rattle.lsp_dispatch.specs.DispatchAnswers.{answer_view};
 ghost use Rattle.lsp_dispatch.specs.DispatchCalls.{asked_in, not_found_reply, named_id as named_spec};
-ghost use Rattle.lsp_dispatch.specs.DispatchTable.{delivered, replaced_in, cancelling, finished, all_tickets, is_pending_with as pending_with};
+ghost use Rattle.lsp_dispatch.specs.DispatchTable.{delivered, cancelling, finished, all_tickets, is_pending_with as pending_with};
 ghost use Rattle.lsp_dispatch.specs.DispatchFaults.{handed_back, IsSpent};
 
 use crate::answer::{Answer, DispatchFault};
@@ -26,7 +26,7 @@ use std::marker::Model;
 ///
 /// A dispatcher sends nothing: send what `Answer::into_reply` gives. Before `deliver`, give each request to
 /// `Connection::handle_shutdown` or `shutdown`, which end the session.
-#[derive(Drop)]
+#[derive(Debug, Drop)]
 pub struct Dispatcher {
     alloc: Global,
     queue: ReqQueue<u64, u64>,
@@ -58,22 +58,35 @@ impl Dispatcher {
         }
     }
 
+    /// The ticket that is pending under this id. `None` means that the id has no request, or that its request was finished or
+    /// cancelled.
+    ///
+    /// Ask it before you `deliver` a request. If the answer is `Work`, the new ticket takes the place of this one, which gets no
+    /// reply any more: drop its work.
+    pub fn ticket_of(&self, id: &RequestId) -> Option<u64>
+        ensures { result ≡ map.get (pending_of self.now) id.now }
+    {
+        self.queue.incoming.data(id).copied()
+    }
+
     /// Takes a message, and says what to do about it. The first line that fits counts:
     ///
     /// | Message | Answer |
     /// |---|---|
     /// | request, method begins with `$/` | `Unknown`: code -32601, `method not found` |
-    /// | another request | `Work`: it is pending under its id with the next ticket; a ticket that was pending there is `replaced` |
+    /// | another request | `Work`: it is pending under its id with the next ticket, and a ticket that was pending there is not any more |
     /// | notification `$/cancelRequest`, params an object whose `id` is a good id that is pending | `Cancelled`: the reply of `Incoming::cancel`; the id is pending no more |
     /// | another notification, method begins with `$/` | `Nothing` |
     /// | another notification | `Note` |
-    /// | response | `Nothing` |
+    /// | response | `Nothing`, and the response is dropped |
+    ///
+    /// A dispatcher knows the client's requests alone. So if you ask your client something, take its responses before `deliver`, and
+    /// give their ids to `ReqQueue::outgoing.complete`.
     ///
     /// A good id is a text, or a whole number that fits an `i32`. `DispatchFault::Memory` means that an allocation failed, and
     /// `DispatchFault::Spent` that no ticket is left for the request. Both give the message back, and nothing has changed.
     pub fn deliver(&mut self, message: Message) -> Result<Answer, DispatchFault>
         ensures ok { IfOk result (λ answer. (answer_view answer, self.new) ≡ delivered self.old (message_view message)) }
-        ensures replaced { IfOk result (λ answer. replaced_of answer ≡ replaced_in self.old (message_view message)) }
         ensures err { OnErr result (self.new ≡ self.old) }
         ensures handed_back { IfErr result (λ fault. handed_back fault ≡ message) }
         ensures spent { IfErr result (λ fault. IsSpent fault → count_of self.old ≡ all_tickets) }
@@ -88,7 +101,6 @@ impl Dispatcher {
 
     fn deliver_request(&mut self, request: Request) -> Result<Answer, DispatchFault>
         ensures ok { IfOk result (λ answer. (answer_view answer, self.new) ≡ delivered self.old (request_view request)) }
-        ensures replaced { IfOk result (λ answer. replaced_of answer ≡ replaced_in self.old (request_view request)) }
         ensures err { OnErr result (self.new ≡ self.old) }
         ensures handed_back { IfErr result (λ fault. handed_back fault ≡ Message.Request request) }
         ensures spent { IfErr result (λ fault. IsSpent fault → count_of self.old ≡ all_tickets) }
@@ -104,15 +116,10 @@ impl Dispatcher {
         if ticket == u64::MAX {
             return Err(DispatchFault::Spent(Message::Request(request)));
         }
-        let replaced = self.ticket_of(&request.id);
         match self.keep(&request.id, ticket) {
             Ok(()) => {
                 self.tickets = ticket + 1;
-                Ok(Answer::Work {
-                    request,
-                    ticket,
-                    replaced,
-                })
+                Ok(Answer::Work { request, ticket })
             }
             Err(_) => Err(DispatchFault::Memory(Message::Request(request))),
         }
@@ -132,7 +139,6 @@ impl Dispatcher {
 
     fn deliver_notification(&mut self, notification: Notification) -> Result<Answer, DispatchFault>
         ensures ok { IfOk result (λ answer. (answer_view answer, self.new) ≡ delivered self.old (notification_view notification)) }
-        ensures replaced { IfOk result (λ answer. replaced_of answer ≡ None) }
         ensures err { OnErr result (self.new ≡ self.old) }
         ensures handed_back { IfErr result (λ fault. fault ≡ DispatchFault.Memory (Message.Notification notification)) }
     {
@@ -151,7 +157,6 @@ impl Dispatcher {
     /// Cancels the request that the params name, where it is pending.
     fn cancel(&mut self, params: &Value) -> Result<Answer, AllocError>
         ensures ok { IfOk result (λ answer. (answer_view answer, self.new) ≡ cancelling self.old (named_spec (view params.now))) }
-        ensures replaced { IfOk result (λ answer. replaced_of answer ≡ None) }
         ensures err { OnErr result (self.new ≡ self.old) }
     {
         let Some(id) = named_id(params)? else {
@@ -164,13 +169,6 @@ impl Dispatcher {
             Some(reply) => Ok(Answer::Cancelled { reply, ticket }),
             None => Ok(Answer::Nothing),
         }
-    }
-
-    /// The ticket under which the request is pending.
-    fn ticket_of(&self, id: &RequestId) -> Option<u64>
-        ensures { result ≡ map.get (pending_of self.now) id.now }
-    {
-        self.queue.incoming.data(id).copied()
     }
 
     /// Says that the work of a ticket is done. If the ticket is still pending under this id, the answer is `Finished` with the

@@ -2,6 +2,7 @@
 use Rattle.std.specs.Prelude.{ℕ, ◌-◌, List, [], ◌∷◌, length, Option, Some, None, Result, Ok, Err, nat_lt, if◌then◌else◌}
 use Rattle.std.specs.Io.BufRead.{ends_with_byte}
 use Rattle.std.specs.List.{concat}
+use Rattle.lsp_message.specs.Faults.{read_fault_number}
 use Rattle.lsp_message.specs.HeaderPart.{header_line, fields, after_fields, content_length, at_last_line, lines}
 use Rattle.lsp_message.specs.declared.frame.ReadFault.{ReadFault}
 use Rattle.lsp_message.specs.declared.frame.extent.Front.{Front}
@@ -9,7 +10,7 @@ use Rattle.lsp_message.specs.declared.frame.extent.Front.TheVariants.{Whole, Fau
 
 -- the header part ended, with so many of all the bytes after it
 abbrev pub at_header_end : ℕ → Result (Option ℕ) ReadFault → ℕ → Front
-at_header_end all (Err fault) left = Fault fault
+at_header_end all (Err fault) left = Fault (read_fault_number fault)
 at_header_end all (Ok None) left = More
 at_header_end all (Ok (Some n)) left = if nat_lt left n then More else Whole (all - (left - n))
 

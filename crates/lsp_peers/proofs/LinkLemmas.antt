@@ -69,11 +69,11 @@ module _ (bytes : List ℕ) (start end : ℕ) (ordered : start ≤ end) (within 
         (take_cases _ post small carries)
 
     -- there is no fault
-    pub never_fault : (fault : ReadFault) → front_of (line_of bytes start end).arrived ≡ Fault fault → ⊥
-    never_fault fault is =
+    pub never_fault : (number : ℕ) → front_of (line_of bytes start end).arrived ≡ Fault number → ⊥
+    never_fault number is =
         ⊎_elim
-        (λ none. let e : More ≡ Fault fault = sym none.1 ∙ is in cc)
-        (λ some. let shows = some.1 in let e : Whole (length some.0.frame) ≡ Fault fault = sym shows.front_is ∙ is in cc)
+        (λ none. let e : More ≡ Fault number = sym none.1 ∙ is in cc)
+        (λ some. let shows = some.1 in let e : Whole (length some.0.frame) ≡ Fault number = sym shows.front_is ∙ is in cc)
         (take_cases _ post small carries)
 
     -- the front is whole

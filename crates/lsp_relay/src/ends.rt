@@ -19,8 +19,11 @@ pub enum Parcel<M> {
 
 /// The sender's end of a relay. Contracts see which relay it belongs to and the parcels that were sent, in order.
 #[derive(Drop)]
+#[derive_where(Debug)]
 pub struct RelayTx<M: Drop> {
+    #[derive_where(skip)]
     sender: RuledSender<Parcel<M>, Account<M>, InOrder>,
+    #[derive_where(skip)]
     pass: Pass<Parcel<M>, Account<M>>,
 }
 
@@ -39,8 +42,11 @@ impl<M: Drop> Model for RelayTx<M> {
 
 /// The receiver's end of a relay. Contracts see which relay it belongs to and the parcels that were taken, in order.
 #[derive(Drop)]
+#[derive_where(Debug)]
 pub struct RelayRx<M: Drop> {
+    #[derive_where(skip)]
     receiver: RuledReceiver<Parcel<M>, Account<M>, InOrder>,
+    #[derive_where(skip)]
     pass: Pass<Parcel<M>, Account<M>>,
 }
 

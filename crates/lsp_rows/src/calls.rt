@@ -127,7 +127,7 @@ fn front_answer(alloc: Global, bytes: &[u8]) -> Result<Attempt, AllocError> {
     match front(bytes) {
         Front::Whole(length) => Ok(Attempt::Came(format!(in alloc; "whole, {length} bytes")?)),
         Front::More => Ok(Attempt::Came(String::from_str(alloc, "more")?)),
-        Front::Fault(fault) => Ok(Attempt::Came(format!(in alloc; "{fault}")?)),
+        Front::Fault(number) => Ok(Attempt::Came(format!(in alloc; "read fault {number}")?)),
     }
 }
 

@@ -35,15 +35,19 @@ fn attempt(alloc: Global, dispatcher: &mut Dispatcher, step: &str) -> Result<Att
         Call::Deliver(message) => deliver(alloc, dispatcher, message),
         Call::Finish { id, ticket, result } => {
             let answer = dispatcher.finish(id, ticket, result);
-            Ok(Attempt::Came(text_of(alloc, answer)?))
+            Ok(Attempt::Came(text_of(alloc, answer, None)?))
         }
     }
 }
 
 fn deliver(alloc: Global, dispatcher: &mut Dispatcher, message: Message) -> Result<Attempt, Stop> {
     let before = message.member_text(alloc)?;
+    let pending = match &message {
+        Message::Request(request) => dispatcher.ticket_of(&request.id),
+        _ => None,
+    };
     match dispatcher.deliver(message) {
-        Ok(answer) => Ok(Attempt::Came(text_of(alloc, answer)?)),
+        Ok(answer) => Ok(Attempt::Came(text_of(alloc, answer, pending)?)),
         Err(DispatchFault::Memory(back)) => {
             if back.member_text(alloc)? != before {
                 return Err(Stop::Broken("another message came back"));
@@ -73,7 +77,7 @@ fn texts_of(alloc: Global, answers: Vec<Answer>) -> Result<String, AllocError> {
         if !texts.is_empty() {
             texts.push_str("\n  ")?;
         }
-        texts.push_str(text_of(alloc, answer)?.as_str())?;
+        texts.push_str(text_of(alloc, answer, None)?.as_str())?;
     }
     Ok(texts)
 }
@@ -107,13 +111,10 @@ pub fn message_in(alloc: Global, text: &str) -> Result<Message, Stop> {
     }
 }
 
-fn text_of(alloc: Global, answer: Answer) -> Result<String, AllocError> {
+/// What an answer says. Before it this ticket was pending under the id of the request.
+fn text_of(alloc: Global, answer: Answer, pending: Option<u64>) -> Result<String, AllocError> {
     match answer {
-        Answer::Work {
-            request,
-            ticket,
-            replaced,
-        } => work_text(alloc, request, ticket, replaced),
+        Answer::Work { request, ticket } => work_text(alloc, request, ticket, pending),
         Answer::Note(notification) => note_text(alloc, notification),
         Answer::Nothing => String::from_str(alloc, "nothing"),
         answer => reply_text(alloc, answer),
@@ -124,10 +125,10 @@ fn work_text(
     alloc: Global,
     request: Request,
     ticket: u64,
-    replaced: Option<u64>,
+    pending: Option<u64>,
 ) -> Result<String, AllocError> {
     let text = Message::from(request).member_text(alloc)?;
-    match replaced {
+    match pending {
         Some(old) => format!(in alloc; "work {ticket} for {old}: {text}"),
         None => format!(in alloc; "work {ticket}: {text}"),
     }

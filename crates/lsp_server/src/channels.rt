@@ -165,7 +165,7 @@ impl Connection {
     /// <!-- from crates/example_connection/src/main.rt -->
     /// ```rust
     /// let capabilities = json!(in rt.alloc(); { "hoverProvider": true })?;
-    /// connection.initialize(rt, capabilities)?;
+    /// let params = connection.initialize(rt, capabilities)?;
     /// ```
     ///
     /// The errors are those of `initialize_start` and `initialize_finish`.

@@ -9,6 +9,7 @@ mod channels;
 pub mod dispatch;
 pub mod laws;
 mod memory;
+mod relays;
 mod socket;
 mod stdio;
 
@@ -19,7 +20,6 @@ pub use lsp_message::{
 };
 pub use lsp_peers::{Link, Outcome, Side, Step, World, WorldFault};
 pub use lsp_queue::{Incoming, Outgoing, RegisterFault, ReqQueue};
-pub use lsp_relay::{Parcel, RelayRx, RelayTx, relay};
 pub use lsp_service::{
     Act, Opener, Said, Server, Speaker, Working, serve_with, session_with, session_with_within,
 };
@@ -34,4 +34,5 @@ pub use lsp_threads::{
     run_threads_with_within, run_threads_within,
 };
 pub use memory::keep_freed_memory;
+pub use relays::{Parcel, RelayRx, RelayTx, relay};
 pub use stdio::{CHANNEL_ROOM, IoFault, IoThreads};

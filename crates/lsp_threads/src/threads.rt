@@ -18,7 +18,7 @@ use std::sync::Wait;
 use std::thread::{Builder, PromisedHandle, Threads};
 
 /// What `run_threads` gives back.
-#[derive(Drop)]
+#[derive(Debug, Drop)]
 pub struct Threaded<W> {
     /// The writer that you gave it.
     pub writer: W,

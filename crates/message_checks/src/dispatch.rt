@@ -80,16 +80,9 @@ fn calls(alloc: Global, steps: &[Step]) -> Result<Vec<Call>, Fail> {
 fn shown(alloc: Global, answer: &Answer) -> Result<String, AllocError> {
     match answer {
         Answer::Unknown(reply) => format!(in alloc; "Unknown {}; ", reply.id),
-        Answer::Work {
-            request,
-            ticket,
-            replaced: None,
-        } => format!(in alloc; "Work {ticket} {}; ", request.method),
-        Answer::Work {
-            request,
-            ticket,
-            replaced: Some(old),
-        } => format!(in alloc; "Work {ticket} {} for {old}; ", request.method),
+        Answer::Work { request, ticket } => {
+            format!(in alloc; "Work {ticket} {}; ", request.method)
+        }
         Answer::Cancelled { reply, ticket } => {
             format!(in alloc; "Cancelled {ticket} {}; ", reply.id)
         }
@@ -117,7 +110,7 @@ fn each_call_has_its_answer(rt: HostRuntime) -> Result<(), Fail> {
         ),
         (
             A_PENDING_ID_COMES_AGAIN.as_slice(),
-            "Work 0 a; Work 1 a for 0; Nothing; Finished 1 7; ",
+            "Work 0 a; Work 1 a; Nothing; Finished 1 7; ",
         ),
         (
             NOTHING_IS_PENDING.as_slice(),

@@ -1,5 +1,5 @@
-//! Tests of ids and messages, of reading and writing over devices that fail, of the queues, the dispatcher and two peers. What the
-//! bytes mean is in the stored run of `message_rows`.
+//! Tests of ids and messages, of reading and writing over devices that fail, of the queues, the dispatcher and two peers, and of
+//! the shape of public types. What the bytes mean is in the stored run of `message_rows`.
 #![tactic(auto)]
 
 #[cfg(test)]
@@ -14,5 +14,7 @@ mod peers;
 mod queues;
 #[cfg(test)]
 mod reading;
+#[cfg(test)]
+mod shapes;
 #[cfg(test)]
 mod writing;

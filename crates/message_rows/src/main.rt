@@ -67,6 +67,6 @@ fn front_text(alloc: Global, bytes: &[u8]) -> Result<String, AllocError> {
     match front(bytes) {
         Front::More => String::from_str(alloc, "more"),
         Front::Whole(count) => format!(in alloc; "whole, {count} bytes"),
-        Front::Fault(fault) => fault.to_string(alloc),
+        Front::Fault(number) => format!(in alloc; "read fault {number}"),
     }
 }

@@ -36,7 +36,7 @@ const SOME: usize = 1 << 20;
 
 fn say_relay<R: Wait + Print + AllocGlobal>(rt: &R) -> Result<()> {
     let alloc = rt.alloc();
-    let (mut tx, mut rx) = relay::<Message>(alloc, 2)?;
+    let (mut tx, mut rx) = relay(alloc, 2)?;
     let note = Message::Notification(Notification {
         method: String::from_str(alloc, "a")?,
         params: Value::Null,
@@ -52,7 +52,7 @@ fn say_relay<R: Wait + Print + AllocGlobal>(rt: &R) -> Result<()> {
     Ok(())
 }
 
-fn name_of(parcel: Option<Parcel<Message>>) -> &'static str {
+fn name_of(parcel: Option<Parcel>) -> &'static str {
     match parcel {
         Some(Parcel::Message(Message::Notification(_))) => "a notification",
         Some(Parcel::Message(_)) => "another message",

@@ -14,6 +14,7 @@ use memchr::memchr;
 pub fn front(bytes: &[u8]) -> Front
     ensures value { result ≡ front_of bytes.now }
     ensures within { (count : ℕ) → result ≡ Front.Whole count → count ≤ length bytes.now }
+    ensures fault { (number : ℕ) → result ≡ Front.Fault number → (2 ≤ number) × (number ≤ 6) }
 {
     scanned(bytes)
 }
@@ -31,7 +32,7 @@ fn scanned(bytes: &[u8]) -> Front
             Ok(HeaderLine::Length(count)) => length = Some(count),
             Ok(HeaderLine::Other) => {}
             Ok(HeaderLine::Blank) => return after_blank_line(bytes.len(), length, rest.len()),
-            Err(fault) => return Front::Fault(fault),
+            Err(fault) => return Front::Fault(fault.number()),
         }
     }
     Front::More
@@ -43,7 +44,7 @@ fn after_blank_line(all: usize, length: Option<u64>, left: usize) -> Front
     ensures { result ≡ at_header_end all (at_last_line length (Ok HeaderLine.Blank)) left }
 {
     match length {
-        None => Front::Fault(ReadFault::NoLength),
+        None => Front::Fault(ReadFault::NoLength.number()),
         Some(count) if count as usize <= left => Front::Whole(all - (left - count as usize)),
         Some(_) => Front::More,
     }

@@ -1,6 +1,5 @@
 /// The error codes that JSON-RPC 2.0 (section 5.1) and LSP 3.17 ("Response Message") define.
 #[derive(Clone, Copy, Debug, PartialEq, Eq)]
-#[non_exhaustive]
 pub enum ErrorCode {
     /// -32700: the text is not JSON (JSON-RPC 2.0, section 5.1).
     ParseError,

@@ -1,4 +1,5 @@
 use Rattle.std.proofs.Common.{◌≡◌, ◌+◌, ◌-◌, ◌≤◌, Ok, Err, Some, ℕ, List, length, take, drop, refl, sym, ap, ◌∙◌, arith, take_all, length-drop}
+use Rattle.lsp_message.specs.declared.frame.extent.Front.TheVariants.{Fault}
 use Rattle.lsp_message.specs.declared.frame.header.HeaderLine.TheVariants.{Length, Other, Blank}
 use Rattle.lsp_message.specs.Front.{at_header_end}
 use Rattle.lsp_message.specs.HeaderPart.{at_last_line}
@@ -37,7 +38,7 @@ returns-in-Ok-Blank c =
 pub returns-in-Err : goal.returns-in-Err
 returns-in-Err c =
     let line = sym c.header_line.ensures ∙ c.in-Err.is in
-    sym (c.loop-at.invariant.front ∙ at_last _ _ c.loop-at.rest.now c.in-Some.at (Err c.in-Err.fault) c.in-Some.ensures line refl)
+    ap Fault c.number.ensures ∙ sym (c.loop-at.invariant.front ∙ at_last _ _ c.loop-at.rest.now c.in-Some.at (Err c.in-Err.fault) c.in-Some.ensures line refl)
 
 pub returns : goal.returns
 returns c = sym (c.loop-at.invariant.front ∙ at_no_feed _ _ c.loop-at.rest.now c.in_default.ensures)

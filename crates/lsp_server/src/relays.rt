@@ -1,0 +1,23 @@
+// The relay of `lsp_relay`, which carries anything, for messages.
+ghost use Rattle.std.specs.Prelude.{◌≡◌, ◌<◌, [], IfOk};
+
+use lsp_message::Message;
+use std::alloc::{AllocError, Global};
+
+/// What a relay carries: a message, or `End`, the sign that no more follow.
+pub type Parcel = lsp_relay::Parcel<Message>;
+
+/// The sender's end of a relay. Contracts see which relay it belongs to and the parcels that were sent, in order.
+pub type RelayTx = lsp_relay::RelayTx<Message>;
+
+/// The receiver's end of a relay. Contracts see which relay it belongs to and the parcels that were taken, in order.
+pub type RelayRx = lsp_relay::RelayRx<Message>;
+
+/// Makes a relay with room for this many parcels, at least one. The error means that an allocation failed.
+pub fn relay(alloc: Global, room: usize) -> Result<(RelayTx, RelayRx), AllocError>
+    requires { 0 < room }
+    ensures one_relay { IfOk result (λ ends. ends.1.relay ≡ ends.0.relay) }
+    ensures empty { IfOk result (λ ends. (ends.0.sent ≡ []) × (ends.1.taken ≡ [])) }
+{
+    lsp_relay::relay(alloc, room)
+}
