@@ -1,5 +1,5 @@
 //! The bytes of one direction between two peers.
-ghost use Rattle.std.specs.Prelude.{◌≡◌, ◌≤◌, ℕ, length, Err, OnOk, OnErr, IfOk, option_map, min};
+ghost use Rattle.std.specs.Prelude.{◌≡◌, ◌≤◌, ℕ, length, Ok, Err, None, OnOk, OnErr, IfOk, option_map, min};
 ghost use Rattle.lsp_message.specs.Front.{front_of};
 ghost use Rattle.lsp_message.specs.View.{message_view};
 ghost use Rattle.lsp_peers.specs.WorldFault.{fault_of};
@@ -98,6 +98,7 @@ impl Link {
         ensures err { OnErr result (self.new ≡ self.old) }
         ensures memory { (post : Post) → Carries self.old post → IfNext ReadsBack post →
             OnErr result (result ≡ Err WorldFault.Memory) }
+        ensures waits { front_of self.old.arrived ≡ Front.More → result ≡ Ok None }
     {
         let arrived = &self.bytes[self.start..self.end];
         match front(arrived) {

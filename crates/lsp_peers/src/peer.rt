@@ -1,9 +1,10 @@
 //! One side: its queues, the link to it, and the messages that it took.
-ghost use Rattle.std.specs.Prelude.{◌≡◌, [], Err, Ok, OnErr, IfOk, string_bytes};
+ghost use Rattle.std.specs.Prelude.{◌≡◌, [], Err, Ok, None, OnErr, IfOk, string_bytes};
+ghost use Rattle.std.specs.FinMap as map;
 ghost use Rattle.serde_json.specs.View.{view};
 ghost use Rattle.lsp_message.specs.Message.{response};
 ghost use Rattle.lsp_message.specs.View.{message_view};
-ghost use Rattle.lsp_queue.specs.Queue.{cancelled};
+ghost use Rattle.lsp_queue.specs.Queue.{cancelled, count_of, all_ids};
 ghost use Rattle.lsp_peers.specs.Agreement.{PeerAgrees, Agrees};
 ghost use Rattle.lsp_peers.specs.Steps.{Accounts, Registers, Passes, Takes, Replies, GivesUp, StepDoes};
 ghost use Rattle.lsp_peers.specs.Post.{next, empty_post};
@@ -72,6 +73,7 @@ impl Peer {
         ensures ok { (old : Accounts) → Agrees self.old far.old old → IfOk result (λ outcome.
             (new : Accounts) × Registers (string_bytes method) (view params) payload old outcome new × Agrees self.new far.new new) }
         ensures err { OnErr result (result ≡ Err WorldFault.Memory) }
+        ensures spent { count_of self.old.queue.outgoing ≡ all_ids → result ≡ Ok Outcome.Spent }
     {
         match self.queue.outgoing.register_value(method, params, payload) {
             Ok(request) => {
@@ -96,6 +98,7 @@ impl Peer {
         ensures ok { (old : Accounts) → Agrees self.old far.old old → IfOk result (λ outcome.
             (new : Accounts) × Replies id (response id (Ok (view value))) (λ label. Outcome.Answered label) old outcome new × Agrees self.new far.new new) }
         ensures err { OnErr result (result ≡ Err WorldFault.Memory) }
+        ensures absent { map.get self.old.queue.incoming id ≡ None → result ≡ Ok Outcome.Absent }
     {
         match self.queue.incoming.complete(&id) {
             Some(label) => {
@@ -114,6 +117,7 @@ impl Peer {
         ensures ok { (old : Accounts) → Agrees self.old far.old old → IfOk result (λ outcome.
             (new : Accounts) × Replies id (cancelled id) (λ label. Outcome.Cancelled) old outcome new × Agrees self.new far.new new) }
         ensures err { OnErr result (result ≡ Err WorldFault.Memory) }
+        ensures absent { map.get self.old.queue.incoming id ≡ None → result ≡ Ok Outcome.Absent }
     {
         match self.queue.incoming.cancel(id) {
             Ok(Some(reply)) => {
