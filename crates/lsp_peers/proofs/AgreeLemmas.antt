@@ -4,7 +4,7 @@ use Rattle.std.proofs.lemmas.Bool.{lt-ltb}
 use Rattle.std.proofs.lemmas.List.{map-append}
 use Rattle.std.specs.FinMap as map
 use Rattle.std.specs.FinMap.{get-empty}
-use Rattle.std.specs.Prelude.{Option, None, Some, Result, Ok, Err, IfOk, IfSome, option_map, is_some, if◌then◌else◌, nat_lt, MatchBool, MatchOption, Bool, true, false, map as each, take, Vec}
+use Rattle.std.specs.Prelude.{Option, None, Some, Result, Ok, Err, IfOk, option_map, is_some, if◌then◌else◌, nat_lt, MatchBool, MatchOption, Bool, true, false, map as each, take, Vec}
 use Rattle.std.specs.declared.alloc.Global.{Global}
 use Rattle.serde_json.specs.Data.{Data}
 use Rattle.lsp_message.specs.Id.{Id, id_cmp}
@@ -23,24 +23,28 @@ use Rattle.lsp_peers.specs.declared.step.Step.{Step}
 use Rattle.lsp_peers.specs.Agreement.{PeerAgrees, Agrees}
 use Rattle.lsp_peers.specs.Ids.{nth_id, item_at, with_item}
 use Rattle.lsp_peers.specs.Steps.{Accounts, accounts, Registers, TakesMessage, Takes, Replies, GivesUp, StepDoes, WorldDoes, side_of, seen_from}
-use Rattle.lsp_peers.specs.Post.{Letter, Post, Line, ReadsBack, Carries, posted, next, one_taken, message_of, after_take, IfNext, empty_post}
+use Rattle.lsp_peers.specs.Post.{Letter, Post, Line, Carries, posted, next, one_taken, message_of, after_take, empty_post}
 use Rattle.lsp_peers.specs.Settling.{Settles}
-use Rattle.lsp_peers.specs.InOnePlace.{InOnePlace, AllReadBack, requests, replies, going, returning}
+use Rattle.lsp_peers.specs.InOnePlace.{InOnePlace, requests, replies, going, returning}
 use Rattle.lsp_peers.specs.Token.{OnTheWay, AtOther, ComingBack, Done, GivenUp, Token, token, owed, label_of, Goes}
 use Rattle.lsp_peers.proofs.IdLemmas.{get-nothing}
 use Rattle.lsp_peers.proofs.PlaceLemmas.{held_token, going_token, returning_token, next_first, request_of_own, reply_of_own}
 use Rattle.lsp_peers.proofs.TokenLemmas.{Sets, insert_sets, remove_sets, remove_none, push_sets, push_keeps, goes_sets, goes_keeps, goes-length}
 
 -- a choice between two facts, where the test is known
-match_true : (b : Bool) (P Q : Type 0) → b ≡ true → P → MatchBool b P Q
+pub match_true : (b : Bool) (P Q : Type 0) → b ≡ true → P → MatchBool b P Q
 match_true true P Q is p = p
 match_true false P Q is p = cc
 
-match_some : (o : Option ℕ) (P : Type 0) (Q : ℕ → Type 0) (x : ℕ) → o ≡ Some x → Q x → MatchOption o P Q
+pub match_false : (b : Bool) (P Q : Type 0) → b ≡ false → Q → MatchBool b P Q
+match_false false P Q is q = q
+match_false true P Q is q = cc
+
+pub match_some : (o : Option ℕ) (P : Type 0) (Q : ℕ → Type 0) (x : ℕ) → o ≡ Some x → Q x → MatchOption o P Q
 match_some None P Q x is q = cc
 match_some (Some y) P Q x is q = let e : x ≡ y = cc in subst Q e q
 
-match_none : (o : Option ℕ) (P : Type 0) (Q : ℕ → Type 0) → o ≡ None → P → MatchOption o P Q
+pub match_none : (o : Option ℕ) (P : Type 0) (Q : ℕ → Type 0) → o ≡ None → P → MatchOption o P Q
 match_none None P Q is p = p
 match_none (Some y) P Q is p = cc
 
@@ -247,14 +251,6 @@ pub letter_is : (o : Option Letter) (message : Message) → Some message ≡ mes
 letter_is None message is = cc
 letter_is (Some letter) message is = (letter, refl, cc)
 
--- the next letter reads back
-next_reads : (o : Option Letter) (waiting : List Letter) → AllReadBack waiting → ((letter : Letter) → o ≡ Some letter → (rest : List Letter) × (waiting ≡ letter ∷ rest)) → IfSome o (λ letter. ReadsBack letter.message)
-next_reads None waiting all first = tt
-next_reads (Some letter) waiting all first = (subst AllReadBack (first letter refl).1 all).0
-
-pub placed_reads : (old : Accounts) → InOnePlace old → IfNext ReadsBack old.here.post
-placed_reads old placed = next_reads (next old.here.post) old.here.post.waiting placed.here_reads (λ letter is. next_first old.here.post letter is)
-
 pub after_taken : (post : Post) (letter : Letter) → next post ≡ Some letter → after_take post ≡ one_taken post
 after_taken post letter is = ap (λ (o : Option Letter). if is_some o then one_taken post else post) is
 
@@ -269,18 +265,3 @@ held_under (Some label) reply id is = (label, refl, cc)
 pub held_nowhere : (o : Option ℕ) (id : Id) → ◌≡◌ {A = Option Message} None (option_map (λ (label : ℕ). cancelled id) o) → o ≡ None
 held_nowhere None id is = refl
 held_nowhere (Some label) id is = cc
-
--- the same accounts, seen from the other side
-pub turned_agrees : (near far : Peer) (p : Accounts) → Agrees near far p → Agrees far near (record { here = p.there; there = p.here })
-turned_agrees near far p agrees = record { near_side = agrees.far_side; far_side = agrees.near_side }
-
-pub turned_sound : (p : Accounts) → InOnePlace p → InOnePlace (record { here = p.there; there = p.here })
-turned_sound p placed = record { here_once = placed.there_once; there_once = placed.here_once; here_reads = placed.there_reads; there_reads = placed.here_reads }
-
--- a step of B, seen from A
-move_of_b : (step : Step) (old new : Accounts) (outcome : Outcome) → side_of step ≡ B → StepDoes (record { here = old.there; there = old.here }) step outcome new → WorldDoes old step outcome (record { here = new.there; there = new.here })
-move_of_b step old new outcome is moves = subst (λ (s : Side). StepDoes (seen_from s old) step outcome (seen_from s (record { here = new.there; there = new.here }))) (sym is) moves
-
-pub turned_step : (outcome : Result Outcome WorldFault) (near far : Peer) (step : Step) (old : Accounts) → side_of step ≡ B → IfOk outcome (λ o. (new : Accounts) × StepDoes (record { here = old.there; there = old.here }) step o new × Agrees near far new) → IfOk outcome (λ o. (new : Accounts) × WorldDoes old step o new × Agrees far near new)
-turned_step (Ok o) near far step old is made = (record { here = made.0.there; there = made.0.here }, move_of_b step old made.0 o is made.1, turned_agrees near far made.0 made.2)
-turned_step (Err fault) near far step old is made = tt

@@ -7,8 +7,9 @@ mod Kept
 mod LawLemmas
 mod LineLemmas
 mod LinkLemmas
+mod MailLemmas
+mod PlaceLemmas
 mod PostLemmas
 mod RunLemmas
 mod ShallowLemmas
-mod PlaceLemmas
 mod TokenLemmas

@@ -6,8 +6,6 @@ use Rattle.lsp_message.specs.View.{message_view}
 use Rattle.lsp_queue.specs.Queue.{pending_of, count_of}
 use Rattle.lsp_peers.specs.declared.peer.Peer.{Peer}
 use Rattle.lsp_peers.specs.declared.world.World.{World}
-use Rattle.lsp_peers.specs.declared.step.Side.{Side}
-use Rattle.lsp_peers.specs.declared.step.Side.TheVariants.{A, B}
 use Rattle.lsp_peers.specs.Ids.{item_at}
 use Rattle.lsp_peers.specs.Token.{Token, owed, label_of}
 use Rattle.lsp_peers.specs.Post.{Carries}
@@ -32,7 +30,3 @@ pub record Agrees (near far : Peer) (p : Accounts) : Type 0 where
 -- a world agrees with accounts that are seen from A
 abbrev pub WorldAgrees : World → Accounts → Type 0
 WorldAgrees world p = Agrees world.a world.b p
-
-abbrev pub peer_at : Side → World → Peer
-peer_at A world = world.a
-peer_at B world = world.b

@@ -12,6 +12,7 @@ use Rattle.lsp_peers.specs.declared.step.Step.TheVariants.{Register, Pass, Take,
 use Rattle.lsp_peers.specs.declared.step.Outcome.{Outcome}
 use Rattle.lsp_peers.specs.declared.step.Outcome.TheVariants.{Registered, Spent, Passed, Arrived, Returned, Waiting, Answered, Cancelled, GaveUp, Absent}
 use Rattle.lsp_peers.specs.Ids.{nth_id, item_at}
+pub use Rattle.lsp_peers.specs.Sides.{side_of}
 use Rattle.lsp_peers.specs.Token.{OnTheWay, AtOther, ComingBack, Done, GivenUp, Token, token, label_of, Goes}
 use Rattle.lsp_peers.specs.Post.{Letter, Post, posted, passed_on, unpassed, next, one_taken, empty_post}
 
@@ -96,15 +97,6 @@ StepDoes old (Take side label) outcome new = Takes label (next old.here.post) ol
 StepDoes old (Answer side id value) outcome new = Replies id (response id (Ok (view value))) (λ label. Answered label) old outcome new
 StepDoes old (Cancel side id) outcome new = Replies id (cancelled id) (λ label. Cancelled) old outcome new
 StepDoes old (GiveUp side id) outcome new = GivesUp id old outcome new
-
--- the side that a step names
-abbrev pub side_of : Step → Side
-side_of (Register side method params payload) = side
-side_of (Pass side bytes) = side
-side_of (Take side label) = side
-side_of (Answer side id value) = side
-side_of (Cancel side id) = side
-side_of (GiveUp side id) = side
 
 -- accounts seen from A, as this side sees them, and back
 abbrev pub seen_from : Side → Accounts → Accounts

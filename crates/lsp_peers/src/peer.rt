@@ -7,7 +7,7 @@ ghost use Rattle.lsp_message.specs.View.{message_view};
 ghost use Rattle.lsp_queue.specs.Queue.{cancelled, count_of, all_ids};
 ghost use Rattle.lsp_peers.specs.Agreement.{PeerAgrees, Agrees};
 ghost use Rattle.lsp_peers.specs.Steps.{Accounts, Registers, Passes, Takes, Replies, GivesUp, StepDoes};
-ghost use Rattle.lsp_peers.specs.Post.{next, empty_post};
+ghost use Rattle.lsp_peers.specs.Post.{ReadsBack, IfNext, next, empty_post};
 ghost use Rattle.lsp_peers.specs.Settling.{Settles};
 ghost use Rattle.lsp_peers.specs.InOnePlace.{InOnePlace};
 
@@ -40,9 +40,9 @@ impl Peer {
 
     /// A step of this side.
     pub(crate) fn step(&mut self, far: &mut Peer, step: Step) -> Result<Outcome, WorldFault>
-        ensures ok { (old : Accounts) → Agrees self.old far.old old → InOnePlace old → IfOk result (λ outcome.
+        ensures ok { (old : Accounts) → Agrees self.old far.old old → InOnePlace old → IfNext ReadsBack old.here.post → IfOk result (λ outcome.
             (new : Accounts) × StepDoes old step outcome new × Agrees self.new far.new new) }
-        ensures err { (old : Accounts) → Agrees self.old far.old old → InOnePlace old → OnErr result (result ≡ Err WorldFault.Memory) }
+        ensures err { (old : Accounts) → Agrees self.old far.old old → InOnePlace old → IfNext ReadsBack old.here.post → OnErr result (result ≡ Err WorldFault.Memory) }
     {
         match step {
             Step::Register {
@@ -140,9 +140,9 @@ impl Peer {
     }
 
     fn take(&mut self, far: &Peer, label: u64) -> Result<Outcome, WorldFault>
-        ensures ok { (old : Accounts) → Agrees self.old far.now old → InOnePlace old → IfOk result (λ outcome.
+        ensures ok { (old : Accounts) → Agrees self.old far.now old → InOnePlace old → IfNext ReadsBack old.here.post → IfOk result (λ outcome.
             (new : Accounts) × Takes label (next old.here.post) old outcome new × Agrees self.new far.now new) }
-        ensures err { (old : Accounts) → Agrees self.old far.now old → InOnePlace old → OnErr result (result ≡ Err WorldFault.Memory) }
+        ensures err { (old : Accounts) → Agrees self.old far.now old → InOnePlace old → IfNext ReadsBack old.here.post → OnErr result (result ≡ Err WorldFault.Memory) }
     {
         let Some(message) = self.link.take()? else {
             return Ok(Outcome::Waiting);

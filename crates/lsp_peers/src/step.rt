@@ -68,7 +68,7 @@ pub enum Step {
 
 impl Step {
     ghost use Rattle.std.specs.Prelude.{◌≡◌};
-    ghost use Rattle.lsp_peers.specs.Steps.{side_of};
+    ghost use Rattle.lsp_peers.specs.Sides.{side_of};
 
     /// The side that takes the step, or that the bytes arrive at.
     pub fn side(&self) -> Side
