@@ -57,10 +57,10 @@ of_other side history e is =
 abbrev turned : Accounts → Accounts
 turned p = record { here = p.there; there = p.here }
 
-turned_tied : (own others : List Event) (p : Accounts) → Tied own others p → Tied others own (turned p)
+pub turned_tied : (own others : List Event) (p : Accounts) → Tied own others p → Tied others own (turned p)
 turned_tied own others p tied = record { here = tied.there; there = tied.here; in_here = tied.in_there; in_there = tied.in_here }
 
-turned_placed : (p : Accounts) → InOnePlace p → InOnePlace (turned p)
+pub turned_placed : (p : Accounts) → InOnePlace p → InOnePlace (turned p)
 turned_placed p placed = record { here_once = placed.there_once; there_once = placed.here_once }
 
 -- the accounts that these events come to

@@ -45,7 +45,7 @@ pub record Claim (own others : List Event) (p : Accounts) (step : Step) (outcome
   pub tied : Tied (own ++ event step outcome wrote ∷ []) others new
 
 -- the one letter that was written, or none
-one_letter : (wrote : List Letter) (m : Message) → each (λ (l : Letter). l.message) wrote ≡ m ∷ [] → (letter : Letter) × (wrote ≡ letter ∷ []) × (letter.message ≡ m)
+pub one_letter : (wrote : List Letter) (m : Message) → each (λ (l : Letter). l.message) wrote ≡ m ∷ [] → (letter : Letter) × (wrote ≡ letter ∷ []) × (letter.message ≡ m)
 one_letter [] m is = cc
 one_letter (l ∷ []) m is = (l, refl, cc)
 one_letter (l ∷ k ∷ ls) m is = cc

@@ -1,6 +1,7 @@
 mod AgreeLemmas
 mod ExchangeLemmas
 mod FrontLemmas
+mod HistoryLaws
 mod HistoryLemmas
 mod IdLemmas
 mod Kept
@@ -10,6 +11,7 @@ mod LinkLemmas
 mod MailLemmas
 mod PlaceLemmas
 mod PostLemmas
+mod Refused
 mod RunLemmas
 mod ShallowLemmas
 mod TokenLemmas
