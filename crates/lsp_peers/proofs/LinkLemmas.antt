@@ -15,9 +15,16 @@ use Rattle.lsp_message.specs.declared.frame.ReadFault.TheVariants.{Input, LineNo
 use Rattle.lsp_message.specs.declared.frame.extent.Front.TheVariants.{Whole, Fault, More}
 use Rattle.lsp_peers.specs.WorldFault.{fault_of}
 use Rattle.lsp_peers.specs.declared.fault.WorldFault.TheVariants.{Memory as NoMemory}
-use Rattle.lsp_peers.specs.Post.{Letter, Post, Line, ReadsBack, line_of, Carries, posted, passed_on, unpassed, next, one_taken, message_of, after_take, IfNext}
+use Rattle.lsp_peers.specs.Post.{Letter, Post, Line, frames, ReadsBack, line_of, Carries, posted, passed_on, unpassed, next, one_taken, message_of, after_take, IfNext}
 use Rattle.lsp_peers.proofs.LineLemmas.{line_written, line_passed, line_taken}
 use Rattle.lsp_peers.proofs.PostLemmas.{take_cases, unpassed_is, carries_written, carries_passed}
+
+-- the same bytes, and so the same post
+pub carries_at : (new old : Line) (post : Post) → new.arrived ≡ old.arrived → new.on_way ≡ old.on_way → Carries old post → Carries new post
+carries_at new old post here away carries = record {
+  bytes = (λ i. here i ++ away i) ∙ carries.bytes;
+  count = ap (λ (l : List ℕ). length (frames post.taken) + length l) here ∙ carries.count;
+}
 
 -- a letter of what was written
 pub letter_written : (m : Message) (old new : List ℕ) → WritesReadably m (Some old) (Some new) → (letter : Letter) × (letter.message ≡ m) × (new ≡ old ++ letter.frame)

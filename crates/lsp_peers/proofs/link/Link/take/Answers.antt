@@ -1,4 +1,4 @@
-use Rattle.std.proofs.Common.{◌≡◌, ℕ, List, ◌-◌, ◌^◌, ◌<◌, ◌≤◌, ◌∙◌, length, take, drop, ap, sym, subst, refl, arith, length-drop}
+use Rattle.std.proofs.Common.{◌≡◌, ℕ, List, ◌+◌, ◌-◌, ◌^◌, ◌<◌, ◌≤◌, ◌∙◌, length, take, drop, ap, sym, subst, refl, arith, length-drop}
 use Rattle.std.proofs.lemmas.List.{length-take}
 use Rattle.std.specs.Prelude.{Option, Result, Ok, Err, Some, None, option_map}
 use Rattle.lsp_message.specs.Frame.{reading_of}
@@ -7,7 +7,8 @@ use Rattle.lsp_message.specs.Message as plain
 use Rattle.lsp_message.specs.View.{message_view}
 use Rattle.lsp_message.specs.declared.frame.ReadFault.{ReadFault}
 use Rattle.lsp_peers.specs.Post.{Line, Carries, after_take}
-use Rattle.lsp_peers.proofs.LinkLemmas.{more_keeps, never_fault, whole_shows, read_is, no_other_fault}
+use Rattle.lsp_peers.proofs.LineLemmas.{line_taken}
+use Rattle.lsp_peers.proofs.LinkLemmas.{carries_at, more_keeps, never_fault, whole_shows, read_is, no_other_fault}
 use Rattle.lsp_peers.proofs.link.Link.take.Goals as goal
 
 pub returns-in-More-clause-ok : goal.returns-in-More-clause-ok
@@ -42,7 +43,12 @@ returns-in-Ok-Some-clause-ok c = λ post carries readable.
     let found = read_is l.bytes.items l.start l.end c.self.invariant.0 within post before room c.in-Whole.count whole readable in
     let message : Ok (Some (message_view c.in-Ok-Some.message)) ≡ Ok (Some found.0.message) = ap (λ o. Ok (option_map message_view o)) (sym c.in-Ok-Some.field-0-is) ∙ sym c.in-Ok-Some.ensures.exact.0 ∙ text ∙ found.2 in
     let same : Some (message_view c.in-Ok-Some.message) ≡ Some found.0.message = cc in
-    (rw found.1 same, shown.4 (omega (arith, c.in-Whole.ensures.within c.in-Whole.count refl, length-take (l.end - l.start) (drop l.start c.deref.result.now), length-drop l.start c.deref.result.now)))
+    let fits : l.start + c.in-Whole.count ≤ l.end = omega (arith, c.in-Whole.ensures.within c.in-Whole.count refl, length-take (l.end - l.start) (drop l.start c.deref.result.now), length-drop l.start c.deref.result.now) in
+    let kept = shown.4 fits in
+    let taken = line_taken l.bytes.items l.start l.end c.in-Whole.count fits in
+    let here = c.remove.ensures.arrived ∙ ap (λ (x : Line). drop c.in-Whole.count x.arrived) (sym c.self.view_is) ∙ sym (ap (λ (x : Line). x.arrived) taken) in
+    let away = c.remove.ensures.on_way ∙ ap (λ (x : Line). x.on_way) (sym c.self.view_is) ∙ sym (ap (λ (x : Line). x.on_way) taken) in
+    (rw found.1 same, carries_at c.remove.new.self _ (after_take post) here away kept)
 
 pub returns-in-Ok-None-clause-memory : goal.returns-in-Ok-None-clause-memory
 returns-in-Ok-None-clause-memory c = λ post carries readable.
