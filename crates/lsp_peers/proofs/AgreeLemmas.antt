@@ -4,7 +4,7 @@ use Rattle.std.proofs.lemmas.Bool.{lt-ltb}
 use Rattle.std.proofs.lemmas.List.{map-append}
 use Rattle.std.specs.FinMap as map
 use Rattle.std.specs.FinMap.{get-empty}
-use Rattle.std.specs.Prelude.{Option, None, Some, Result, Ok, Err, IfOk, option_map, is_some, if◌then◌else◌, nat_lt, MatchBool, MatchOption, Bool, true, false, map as each, take, Vec}
+use Rattle.std.specs.Prelude.{Option, None, Some, option_map, is_some, if◌then◌else◌, nat_lt, MatchBool, MatchOption, Bool, true, false, map as each, take, Vec}
 use Rattle.std.specs.declared.alloc.Global.{Global}
 use Rattle.serde_json.specs.Data.{Data}
 use Rattle.lsp_message.specs.Id.{Id, id_cmp}
@@ -13,16 +13,12 @@ use Rattle.lsp_message.specs.View.{message_view}
 use Rattle.lsp_message.specs.declared.msg.Message as code
 use Rattle.lsp_queue.specs.Queue.{Asked, Pending, pending_of, count_of, all_ids, cancelled}
 use Rattle.lsp_queue.specs.declared.req_queue.ReqQueue.{ReqQueue}
-use Rattle.lsp_peers.specs.declared.fault.WorldFault.{WorldFault}
 use Rattle.lsp_peers.specs.declared.peer.Peer.{Peer}
 use Rattle.lsp_peers.specs.declared.step.Outcome.{Outcome}
 use Rattle.lsp_peers.specs.declared.step.Outcome.TheVariants.{Registered, Returned, GaveUp, Absent}
-use Rattle.lsp_peers.specs.declared.step.Side.{Side}
-use Rattle.lsp_peers.specs.declared.step.Side.TheVariants.{B}
-use Rattle.lsp_peers.specs.declared.step.Step.{Step}
 use Rattle.lsp_peers.specs.Agreement.{PeerAgrees, Agrees}
 use Rattle.lsp_peers.specs.Ids.{nth_id, item_at, with_item}
-use Rattle.lsp_peers.specs.Steps.{Accounts, accounts, Registers, TakesMessage, Takes, Replies, GivesUp, StepDoes, WorldDoes, side_of, seen_from}
+use Rattle.lsp_peers.specs.Steps.{Accounts, accounts, Registers, TakesMessage, Takes, Replies, GivesUp}
 use Rattle.lsp_peers.specs.Post.{Letter, Post, Line, Carries, posted, next, one_taken, message_of, after_take, empty_post}
 use Rattle.lsp_peers.specs.Settling.{Settles}
 use Rattle.lsp_peers.specs.InOnePlace.{InOnePlace, requests, replies, going, returning}

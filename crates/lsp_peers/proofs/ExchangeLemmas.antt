@@ -18,8 +18,8 @@ use Rattle.lsp_peers.specs.declared.step.Step.{Step}
 use Rattle.lsp_peers.specs.declared.world.World.{World}
 use Rattle.lsp_peers.specs.Agreement.{PeerAgrees, Agrees, WorldAgrees}
 use Rattle.lsp_peers.specs.Exchange.{seen, seen_at, SideAfter, WorldAfter}
-use Rattle.lsp_peers.specs.History.{Event, written_in, payloads, pending, passed, letters, taken_count, letters_taken, returned, Follows, if_of, events_of, Happens, AllHappen, IsHistory}
-use Rattle.lsp_peers.specs.Ids.{item_at, has}
+use Rattle.lsp_peers.specs.History.{Event, written_in, payloads, pending, passed, letters, taken_count, Follows, if_of, events_of, Happens, AllHappen, IsHistory}
+use Rattle.lsp_peers.specs.Ids.{item_at}
 use Rattle.lsp_peers.specs.InOnePlace.{InOnePlace}
 use Rattle.lsp_peers.specs.Post.{Letter, Post, frames, next, IfNext, ReadsBack}
 use Rattle.lsp_peers.specs.Shallow.{AllReadable, AreReadable}

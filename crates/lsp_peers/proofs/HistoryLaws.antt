@@ -3,25 +3,25 @@ use Rattle.std.proofs.Common.{◌≡◌, ℕ, ◌<◌, List, [], ◌∷◌, ◌+
 use Rattle.std.specs.Prelude.{Option, None, Some, false, IsSome, option_map}
 use Rattle.lsp_message.specs.Id.{Id}
 use Rattle.lsp_message.specs.Message.{Message, request, notification, response}
-use Rattle.lsp_peers.specs.History.{Event, payloads, labels, returned, taking, taking_message, next_letter, outcome_of, Follows, events_of, Happens, AllHappen, IsHistory}
+use Rattle.lsp_peers.specs.History.{Event, payloads, labels, returned, taking, taking_message, next_letter, outcome_of, events_of, Happens, AllHappen, IsHistory}
 use Rattle.lsp_peers.specs.Ids.{nth_id, item_at, has}
 use Rattle.lsp_peers.specs.InOnePlace.{InOnePlace, replies, returning}
 use Rattle.lsp_peers.specs.Post.{Letter, next}
 use Rattle.lsp_peers.specs.Sides.{side_of, other}
 use Rattle.lsp_peers.specs.Steps.{Accounts}
 use Rattle.lsp_peers.specs.Token.{Token}
-use Rattle.lsp_peers.specs.declared.step.Outcome.TheVariants.{Arrived, Returned, Waiting}
+use Rattle.lsp_peers.specs.declared.step.Outcome.TheVariants.{Arrived, Returned}
 use Rattle.lsp_peers.specs.declared.step.Outcome.{Outcome}
 use Rattle.lsp_peers.specs.declared.step.Side.{Side}
 use Rattle.lsp_peers.specs.declared.step.Side.TheVariants.{A, B}
 use Rattle.lsp_peers.specs.declared.step.Step.{Step}
 use Rattle.lsp_peers.specs.declared.step.Step.TheVariants.{Take}
-use Rattle.lsp_peers.proofs.ExchangeLemmas.{Made, made_of, turned_tied, turned_placed}
+use Rattle.lsp_peers.proofs.ExchangeLemmas.{made_of, turned_tied, turned_placed}
 use Rattle.lsp_peers.proofs.HistoryLemmas.{arrives}
 use Rattle.lsp_peers.proofs.IdLemmas.{item_at-map}
 use Rattle.lsp_peers.proofs.Kept.{Kept, done_at}
 use Rattle.lsp_peers.proofs.LawLemmas.{Tied}
-use Rattle.lsp_peers.proofs.MailLemmas.{IsPlain, next_is, first_plain}
+use Rattle.lsp_peers.proofs.MailLemmas.{next_is}
 use Rattle.lsp_peers.proofs.PlaceLemmas.{next_first, returning_token, reply_of_own}
 
 beginning : (before xs ys : List Event) → AllHappen before (xs ++ ys) → AllHappen before xs

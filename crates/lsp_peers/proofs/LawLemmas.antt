@@ -1,8 +1,8 @@
 -- A step moves tokens and letters as the events before it say: one way, from tokens to events, and the other.
-use Rattle.std.proofs.Common.{◌≡◌, ℕ, ◌<◌, ◌+◌, List, [], ◌∷◌, ◌++◌, length, String, Global, refl, sym, ap, ◌∙◌, subst, arith, ⊎_elim, min}
+use Rattle.std.proofs.Common.{◌≡◌, ℕ, ◌<◌, List, [], ◌∷◌, ◌++◌, length, String, Global, refl, sym, ap, ◌∙◌, subst, arith, ⊎_elim, min}
 use Rattle.std.proofs.lemmas.Bool.{cases_Bool, cond-true, cond-false, MatchBool-at_true, MatchBool-at_false}
 use Rattle.std.proofs.lemmas.List.{length-map}
-use Rattle.std.specs.Prelude.{Option, None, Some, Result, Ok, Bool, true, false, nat_lt, if◌then◌else◌, MatchOption, drop, option_map, map as each, string_bytes}
+use Rattle.std.specs.Prelude.{Option, None, Some, Result, Ok, true, false, nat_lt, if◌then◌else◌, MatchOption, drop, option_map, map as each, string_bytes}
 use Rattle.serde_json.specs.Data.{Data}
 use Rattle.serde_json.specs.View.{view}
 use Rattle.serde_json.specs.declared.value.Value.{Value}
@@ -16,15 +16,15 @@ use Rattle.lsp_peers.specs.declared.step.Side.{Side}
 use Rattle.lsp_peers.specs.declared.step.Step.{Step}
 use Rattle.lsp_peers.specs.declared.step.Step.TheVariants.{Register, Pass, Take, Answer, Cancel, GiveUp}
 use Rattle.lsp_peers.specs.Token.{OnTheWay, AtOther, ComingBack, Done, GivenUp, Token, token, label_of, Goes}
-use Rattle.lsp_peers.specs.Post.{Letter, Post, posted, passed_on, next, one_taken, unpassed}
-use Rattle.lsp_peers.specs.Steps.{Accounts, accounts, nothing, Registers, Passes, TakesMessage, Takes, StepDoes}
+use Rattle.lsp_peers.specs.Post.{Letter, posted, passed_on, next, one_taken, unpassed}
+use Rattle.lsp_peers.specs.Steps.{Accounts, accounts, Registers, TakesMessage, Takes, StepDoes}
 use Rattle.lsp_peers.specs.InOnePlace.{InOnePlace, requests, replies, going, returning}
-use Rattle.lsp_peers.specs.History.{Event, written_in, payload_in, arrival_in, settled_in, returned_in, count_in, bytes_in, payloads, passed, letters, taken_count, held, where_held, taking, taking_message, next_letter, bytes_left, outcome_of, Follows}
+use Rattle.lsp_peers.specs.History.{Event, written_in, payload_in, arrival_in, settled_in, returned_in, count_in, bytes_in, payloads, passed, letters, taken_count, held, where_held, taking, taking_message, outcome_of, Follows}
 use Rattle.lsp_peers.proofs.AgreeLemmas.{match_true, match_false, match_some, match_none, takes_at}
-use Rattle.lsp_peers.proofs.Kept.{Kept, settled_at, done_at}
+use Rattle.lsp_peers.proofs.Kept.{Kept}
 use Rattle.lsp_peers.proofs.PlaceLemmas.{next_first, held_token, going_token, returning_token, request_of_own, reply_of_own}
 use Rattle.lsp_peers.proofs.HistoryLemmas.{kept_own, kept_others, kept_registered, kept_settled, kept_returned, kept_replies, kept_reply_taken, kept_arrived}
-use Rattle.lsp_peers.proofs.IdLemmas.{get-nothing, item_at-map}
+use Rattle.lsp_peers.proofs.IdLemmas.{item_at-map}
 use Rattle.lsp_peers.proofs.MailLemmas.{IsPlain, Mail, mail_own, mail_arrived, mail_took, mail_none, mail_wrote, next_is, bytes_are, first_plain}
 use Rattle.lsp_peers.proofs.RunLemmas.{outcome_in}
 

@@ -1,8 +1,8 @@
 -- Outcomes that no history has: these lists of steps and outcomes are refused, whatever the messages' frames are.
-use Rattle.std.proofs.Common.{◌≡◌, ℕ, ◌+◌, ◌-◌, ◌≤◌, List, [], ◌∷◌, ◌++◌, String, Global, length, codes, min, refl, sym, ap, ◌∙◌, subst, arith, length-append, append-nil}
+use Rattle.std.proofs.Common.{◌≡◌, ℕ, ◌+◌, ◌-◌, ◌≤◌, List, [], ◌∷◌, ◌++◌, String, Global, length, codes, min, ap, ◌∙◌, arith, length-append}
 use Rattle.std.proofs.lemmas.Bool.{le-leb, cond-true}
 use Rattle.std.specs.Fmt.{decimal}
-use Rattle.std.specs.Prelude.{Option, None, Some, Bool, true, false, Ok, if◌then◌else◌, nat_le, string_bytes}
+use Rattle.std.specs.Prelude.{Option, None, Some, Bool, true, false, if◌then◌else◌, nat_le, string_bytes}
 use Rattle.serde_json.specs.View.{view}
 use Rattle.serde_json.specs.declared.value.Value.{Value}
 use Rattle.lsp_message.specs.Id.{Id}
@@ -11,10 +11,8 @@ use Rattle.lsp_message.specs.Written.{frame_text}
 use Rattle.lsp_peers.specs.History.{Event, IsHistory, taking, taking_message, next_letter}
 use Rattle.lsp_peers.specs.Ids.{nth_id}
 use Rattle.lsp_peers.specs.Letter.{Letter, frames, messages}
-use Rattle.lsp_peers.specs.declared.step.Outcome.{Outcome}
 use Rattle.lsp_peers.specs.declared.step.Outcome.TheVariants.{Registered, Passed, Arrived, Returned, Waiting, Answered}
 use Rattle.lsp_peers.specs.declared.step.Side.TheVariants.{A, B}
-use Rattle.lsp_peers.specs.declared.step.Step.{Step}
 use Rattle.lsp_peers.specs.declared.step.Step.TheVariants.{Register, Pass, Take, Answer}
 use Rattle.lsp_peers.proofs.LawLemmas.{event, one_letter}
 

@@ -1,5 +1,5 @@
 -- Each step keeps that each token is in one place, and a run goes on by one step.
-use Rattle.std.proofs.Common.{◌≡◌, ℕ, ◌≤◌, List, [], ◌∷◌, ◌++◌, length, refl, sym, ap, ◌∙◌, subst, arith, ⊎_elim, append-nil}
+use Rattle.std.proofs.Common.{◌≡◌, ℕ, List, [], ◌∷◌, ◌++◌, length, refl, sym, ap, ◌∙◌, subst, arith, ⊎_elim, append-nil}
 use Rattle.std.proofs.lemmas.Bool.{cases_Bool, MatchBool-at_true, MatchBool-at_false}
 use Rattle.std.specs.Prelude.{Option, None, Some, Result, Ok, nat_lt, MatchOption, drop, string_bytes}
 use Rattle.serde_json.specs.Data.{Data}
@@ -12,8 +12,6 @@ use Rattle.lsp_peers.specs.declared.step.Outcome.{Outcome}
 use Rattle.lsp_peers.specs.declared.step.Outcome.TheVariants.{Answered, Cancelled, GaveUp, Absent}
 use Rattle.lsp_peers.specs.declared.step.Step.{Step}
 use Rattle.lsp_peers.specs.declared.step.Step.TheVariants.{Register, Pass, Take, Answer, Cancel, GiveUp}
-use Rattle.lsp_peers.specs.declared.step.Side.{Side}
-use Rattle.lsp_peers.specs.declared.step.Side.TheVariants.{A, B}
 use Rattle.lsp_peers.specs.Token.{OnTheWay, AtOther, ComingBack, Done, GivenUp, Token, token, label_of, Goes}
 use Rattle.lsp_peers.specs.Post.{Letter, posted, next}
 use Rattle.lsp_peers.specs.Steps.{Accounts, accounts, nothing, Registers, Passes, TakesMessage, Takes, StepDoes, WorldDoes, Run}

@@ -1,6 +1,6 @@
-use Rattle.std.proofs.Common.{◌≡◌, ◌+◌, ◌-◌, ◌≤◌, ℕ, List, length, drop, take, ap, sym, ◌∙◌, arith, length-drop}
+use Rattle.std.proofs.Common.{◌+◌, ◌-◌, ◌≤◌, length, drop, take, ap, ◌∙◌, arith, length-drop}
 use Rattle.std.proofs.lemmas.List.{length-take}
-use Rattle.lsp_peers.specs.Post.{Line, line_of}
+use Rattle.lsp_peers.specs.Post.{Line}
 use Rattle.lsp_peers.proofs.LineLemmas.{line_taken}
 use Rattle.lsp_peers.proofs.link.Link.remove.Goals as goal
 

@@ -1,13 +1,11 @@
-use Rattle.std.proofs.Common.{◌≡◌, List, [], ◌∷◌, ◌++◌, ◌∙◌, refl, sym, ap, subst, append_assoc}
+use Rattle.std.proofs.Common.{◌≡◌, List, [], ◌∷◌, ◌++◌, ◌∙◌, sym, ap, subst, append_assoc}
 use Rattle.std.proofs.ResultArms.{chosen}
 use Rattle.std.proofs.lemmas.Result.{err_from_is_err_and}
 use Rattle.std.specs.Prelude.{not, Err}
 use Rattle.std.specs.Vec.Iter.{into_iter_items}
-use Rattle.lsp_peers.specs.Exchange.{WorldAfter}
 use Rattle.lsp_peers.specs.Shallow.{AllReadable, AllShallow}
 use Rattle.lsp_peers.specs.declared.fault.WorldFault.TheVariants.{Memory}
 use Rattle.lsp_peers.specs.declared.step.Step.{Step}
-use Rattle.lsp_peers.specs.declared.step.Outcome.{Outcome}
 use Rattle.lsp_peers.proofs.ExchangeLemmas.{made_of, world_agrees, run_of, readable_at, pushed_history}
 use Rattle.lsp_peers.proofs.RunLemmas.{all_taken}
 use Rattle.lsp_peers.proofs.ShallowLemmas.{shallow_readable, shallow_before, readable_before}
