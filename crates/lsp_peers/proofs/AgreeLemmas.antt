@@ -15,10 +15,10 @@ use Rattle.lsp_queue.specs.Queue.{Asked, Pending, pending_of, count_of, all_ids,
 use Rattle.lsp_queue.specs.declared.req_queue.ReqQueue.{ReqQueue}
 use Rattle.lsp_peers.specs.declared.peer.Peer.{Peer}
 use Rattle.lsp_peers.specs.declared.step.Outcome.{Outcome}
-use Rattle.lsp_peers.specs.declared.step.Outcome.TheVariants.{Registered, Returned, GaveUp, Absent}
+use Rattle.lsp_peers.specs.declared.step.Outcome.TheVariants.{Registered, Told, Returned, GaveUp, Absent}
 use Rattle.lsp_peers.specs.Agreement.{PeerAgrees, Agrees}
 use Rattle.lsp_peers.specs.Ids.{nth_id, item_at, with_item}
-use Rattle.lsp_peers.specs.Steps.{Accounts, accounts, Registers, TakesMessage, Takes, Replies, GivesUp}
+use Rattle.lsp_peers.specs.Steps.{Accounts, accounts, Registers, Tells, TakesMessage, Takes, Replies, GivesUp}
 use Rattle.lsp_peers.specs.Post.{Letter, Post, Line, Carries, posted, next, one_taken, message_of, after_take, empty_post}
 use Rattle.lsp_peers.specs.Settling.{Settles}
 use Rattle.lsp_peers.specs.InOnePlace.{InOnePlace, requests, replies, going, returning}
@@ -88,6 +88,22 @@ module _ (near far : Peer) (old : Accounts) (agrees : Agrees near far old) where
           };
         },
       )
+
+  pub tell_keeps : (line : Line) (method : List ℕ) (params : Data) (m : Message) → m ≡ notification method params → ((letter : Letter) × (letter.message ≡ m) × Carries line (posted old.there.post letter)) → (new : Accounts) × Tells method params old Told new × Agrees near (record { queue = far.queue; link = line; taken = far.taken }) new
+  tell_keeps line method params m is wrote = (
+    accounts old.here.tokens old.here.post old.there.tokens (posted old.there.post wrote.0),
+    (wrote.0, wrote.1 ∙ is, refl, refl),
+    record {
+      near_side = agrees.near_side;
+      far_side = record {
+        out = agrees.far_side.out;
+        held = agrees.far_side.held;
+        count = agrees.far_side.count;
+        line = wrote.2;
+        taken = agrees.far_side.taken;
+      };
+    },
+  )
 
   -- nothing is held under the id
   module _ (pending : Pending ℕ) (id : Id) (absent : map.get near.queue.incoming id ≡ None) (removed : pending ≡ map.remove near.queue.incoming id) where

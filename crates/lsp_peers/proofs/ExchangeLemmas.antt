@@ -227,11 +227,6 @@ nest_from side before (e ∷ events) happen readable =
     subst Nest (sym (flat_map-append (λ (x : Event). x.wrote) (if_of side (side_of e.step) e) (events_of side events)))
     (nest_append (letters (if_of side (side_of e.step) e)) (letters (events_of side events)) (nest_of side (side_of e.step) e (nest_map e.wrote (written_in e.step e.outcome) happen.0.wrote readable.0)) (nest_from side (before ++ e ∷ []) events happen.1 readable.1))
 
-plain_same : (m : Message) → IsPlain m → without_null_details m ≡ m
-plain_same (request i method params) plain = plain
-plain_same (response i answer) plain = plain
-plain_same (notification method params) plain = absurd plain
-
 mail_reads : {n bytes : ℕ} {sent : List Letter} {post : Post} → Mail n bytes sent post → Nest sent → IfNext ReadsBack post
 mail_reads {n} {bytes} {sent} {post} mail nest = at (next post) (λ letter is. next_first post letter is)
   where
@@ -240,7 +235,7 @@ mail_reads {n} {bytes} {sent} {post} mail nest = at (next post) (λ letter is. n
     at (Some letter) first =
         let f = first letter refl in
         let all : Nest (letter ∷ f.0) = subst Nest (mail.left ∙ f.1) (nest_drop n sent nest) in
-        record { nests = all.0; same = plain_same letter.message (first_plain mail letter f.0 f.1) }
+        record { nests = all.0; same = first_plain mail letter f.0 f.1 }
 
 pub reads_a : (history : List Event) (p : Accounts) → IsHistory history → AreReadable history → Made history p → IfNext ReadsBack p.here.post
 reads_a history p lawful readable made = mail_reads made.tied.in_here (nest_from B [] history lawful readable)

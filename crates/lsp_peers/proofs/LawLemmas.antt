@@ -11,19 +11,19 @@ use Rattle.lsp_message.specs.Message.{Message, ErrorObject, request, notificatio
 use Rattle.lsp_queue.specs.Queue.{all_ids, cancelled}
 use Rattle.lsp_peers.specs.Ids.{nth_id, item_at, with_item}
 use Rattle.lsp_peers.specs.declared.step.Outcome.{Outcome}
-use Rattle.lsp_peers.specs.declared.step.Outcome.TheVariants.{Registered, Spent, Passed, Arrived, Returned, Waiting, Answered, Cancelled, GaveUp, Absent}
+use Rattle.lsp_peers.specs.declared.step.Outcome.TheVariants.{Registered, Spent, Told, Passed, Arrived, Returned, Notified, Waiting, Answered, Cancelled, GaveUp, Absent}
 use Rattle.lsp_peers.specs.declared.step.Side.{Side}
 use Rattle.lsp_peers.specs.declared.step.Step.{Step}
-use Rattle.lsp_peers.specs.declared.step.Step.TheVariants.{Register, Pass, Take, Answer, Cancel, GiveUp}
+use Rattle.lsp_peers.specs.declared.step.Step.TheVariants.{Register, Tell, Pass, Take, Answer, Cancel, GiveUp}
 use Rattle.lsp_peers.specs.Token.{OnTheWay, AtOther, ComingBack, Done, GivenUp, Token, token, label_of, Goes}
 use Rattle.lsp_peers.specs.Post.{Letter, posted, passed_on, next, one_taken, unpassed}
-use Rattle.lsp_peers.specs.Steps.{Accounts, accounts, Registers, TakesMessage, Takes, StepDoes}
+use Rattle.lsp_peers.specs.Steps.{Accounts, accounts, Registers, Tells, TakesMessage, Takes, StepDoes}
 use Rattle.lsp_peers.specs.InOnePlace.{InOnePlace, requests, replies, going, returning}
 use Rattle.lsp_peers.specs.History.{Event, written_in, payload_in, arrival_in, settled_in, returned_in, count_in, bytes_in, payloads, passed, letters, taken_count, held, where_held, taking, taking_message, outcome_of, Follows}
 use Rattle.lsp_peers.proofs.AgreeLemmas.{match_true, match_false, match_some, match_none, takes_at}
-use Rattle.lsp_peers.proofs.Kept.{Kept}
+use Rattle.lsp_peers.proofs.Kept.{Kept, ids_in}
 use Rattle.lsp_peers.proofs.PlaceLemmas.{next_first, held_token, going_token, returning_token, request_of_own, reply_of_own}
-use Rattle.lsp_peers.proofs.HistoryLemmas.{kept_own, kept_others, kept_registered, kept_settled, kept_returned, kept_replies, kept_reply_taken, kept_arrived}
+use Rattle.lsp_peers.proofs.HistoryLemmas.{kept_own, kept_others, kept_registered, kept_settled, kept_returned, kept_unasked, kept_unasked_taken, kept_arrived}
 use Rattle.lsp_peers.proofs.IdLemmas.{item_at-map}
 use Rattle.lsp_peers.proofs.MailLemmas.{IsPlain, Mail, mail_own, mail_arrived, mail_took, mail_none, mail_wrote, next_is, bytes_are, first_plain}
 use Rattle.lsp_peers.proofs.RunLemmas.{outcome_in}
@@ -105,6 +105,20 @@ module _ (own others : List Event) (p : Accounts) (tied : Tied own others p) whe
         (subst (λ (k : ℕ). Spent ≡ (if nat_lt k all_ids then Registered (nth_id k) else Spent)) (sym count_is) (sym (cond-false (nat_lt (length p.here.tokens) all_ids) _ _ full)))
         refl refl refl refl refl refl refl
 
+  claim_told : (side : Side) (method : String Global) (params : Value) (letter : Letter) → letter.message ≡ notification (string_bytes method) (view params) → Claim own others p (Tell side method params) Told (letter ∷ []) (accounts p.here.tokens p.here.post p.there.tokens (posted p.there.post letter))
+  claim_told side method params letter is =
+      let e : Event = event (Tell side method params) Told (letter ∷ []) in
+      record {
+        does = (letter, is, refl, refl);
+        follows = record { outcome = refl; wrote = ap (λ (m : Message). m ∷ []) is };
+        tied = record {
+          here = kept_unasked (kept_own tied.here e refl refl) letter (ap ids_in is);
+          there = kept_others tied.there e refl refl;
+          in_here = mail_own own others tied.in_here e refl refl;
+          in_there = mail_wrote others own tied.in_there e letter refl (subst IsPlain (sym is) refl);
+        };
+      }
+
   claim_passed : (side : Side) (bytes : ℕ) → Claim own others p (Pass side bytes) (Passed (min bytes (unpassed p.here.post))) [] (accounts p.here.tokens (passed_on p.here.post bytes) p.there.tokens p.there.post)
   claim_passed side bytes =
       let e : Event = event (Pass side bytes) (Passed (min bytes (unpassed p.here.post))) [] in
@@ -160,7 +174,21 @@ module _ (own others : List Event) (p : Accounts) (tied : Tied own others p) whe
             follows = record { outcome = ap (λ (o : Option ℕ). Returned key o) (sym paid) ∙ taken_as (response key answer) is; wrote = refl };
             tied = record {
               here = kept_returned tied.here e key payload tokens refl refl goes;
-              there = kept_others (subst (λ (ls : List Letter). Kept others own p.there.tokens ls) left (kept_reply_taken waiting key answer is)) e refl refl;
+              there = kept_others (subst (λ (ls : List Letter). Kept others own p.there.tokens ls) left (kept_unasked_taken waiting (ap ids_in is))) e refl refl;
+              in_here = mail_took own others tied.in_here e letter rest first refl refl;
+              in_there = mail_none others own tied.in_there e refl;
+            };
+          }
+
+      claim_notified : (method : List ℕ) (params : Data) → letter.message ≡ notification method params → Claim own others p (Take side label) Notified [] (accounts p.here.tokens (one_taken p.here.post) p.there.tokens p.there.post)
+      claim_notified method params is =
+          let e : Event = event (Take side label) Notified [] in
+          record {
+            does = takes_at label (next p.here.post) letter (notification method params) p _ Notified some (sym is) (refl, refl);
+            follows = record { outcome = taken_as (notification method params) is; wrote = refl };
+            tied = record {
+              here = kept_own tied.here e refl refl;
+              there = kept_others (subst (λ (ls : List Letter). Kept others own p.there.tokens ls) left (kept_unasked_taken waiting (ap ids_in is))) e refl refl;
               in_here = mail_took own others tied.in_here e letter rest first refl refl;
               in_there = mail_none others own tied.in_there e refl;
             };
@@ -180,7 +208,7 @@ module _ (own others : List Event) (p : Accounts) (tied : Tied own others p) whe
           does = match_some (label_of (item_at p.there.tokens id)) _ _ label found (payload, tokens, letter, goes, is, refl, refl);
           follows = record { outcome = held_as (λ l. Answered l); wrote = ap (λ (m : Message). m ∷ []) is };
           tied = record {
-            here = kept_replies (kept_own tied.here e refl refl) letter id (Ok (view value)) is;
+            here = kept_unasked (kept_own tied.here e refl refl) letter (ap ids_in is);
             there = kept_settled tied.there e id label payload ComingBack tokens refl refl goes refl refl refl;
             in_here = mail_own own others tied.in_here e refl refl;
             in_there = mail_wrote others own tied.in_there e letter refl (subst IsPlain (sym is) refl);
@@ -194,7 +222,7 @@ module _ (own others : List Event) (p : Accounts) (tied : Tied own others p) whe
           does = match_some (label_of (item_at p.there.tokens id)) _ _ label found (payload, tokens, letter, goes, is, refl, refl);
           follows = record { outcome = held_as (λ l. Cancelled); wrote = ap (λ (m : Message). m ∷ []) is };
           tied = record {
-            here = kept_replies (kept_own tied.here e refl refl) letter id (outcome_in (cancelled id)) is;
+            here = kept_unasked (kept_own tied.here e refl refl) letter (ap ids_in is);
             there = kept_settled tied.there e id label payload ComingBack tokens refl refl goes refl refl refl;
             in_here = mail_own own others tied.in_here e refl refl;
             in_there = mail_wrote others own tied.in_there e letter refl (subst IsPlain (sym is) refl);
@@ -230,25 +258,25 @@ module _ (own others : List Event) (p : Accounts) (tied : Tied own others p) whe
 
   -- ---- from tokens to events
 
-  abbrev Told : Step → Outcome → Accounts → Type 0
-  Told step outcome new = (wrote : List Letter) × Claim own others p step outcome wrote new
+  abbrev Retold : Step → Outcome → Accounts → Type 0
+  Retold step outcome new = (wrote : List Letter) × Claim own others p step outcome wrote new
 
-  told_registers : (side : Side) (method : String Global) (params : Value) (payload : ℕ) (outcome : Outcome) (new : Accounts) → Registers (string_bytes method) (view params) payload p outcome new → Told (Register side method params payload) outcome new
+  told_registers : (side : Side) (method : String Global) (params : Value) (payload : ℕ) (outcome : Outcome) (new : Accounts) → Registers (string_bytes method) (view params) payload p outcome new → Retold (Register side method params payload) outcome new
   told_registers side method params payload outcome new moves =
       ⊎_elim
       (λ room. let made = MatchBool-at_true _ _ room moves in (made.0 ∷ [], claim_at (Register side method params payload) outcome _ (made.0 ∷ []) (made.0 ∷ []) new _ made.2 refl made.3 (claim_registered side method params payload room made.0 made.1)))
       (λ full. let made = MatchBool-at_false _ _ full moves in ([], claim_at (Register side method params payload) outcome Spent [] [] new p made.0 refl made.1 (claim_spent side method params payload full)))
       (cases_Bool (nat_lt (length p.here.tokens) all_ids))
 
-  told_message : (side : Side) (label : ℕ) (letter : Letter) (rest : List Letter) (m : Message) (outcome : Outcome) (new : Accounts) → next p.here.post ≡ Some letter → p.here.post.waiting ≡ letter ∷ rest → letter.message ≡ m → TakesMessage label m p outcome new → Told (Take side label) outcome new
+  told_message : (side : Side) (label : ℕ) (letter : Letter) (rest : List Letter) (m : Message) (outcome : Outcome) (new : Accounts) → next p.here.post ≡ Some letter → p.here.post.waiting ≡ letter ∷ rest → letter.message ≡ m → TakesMessage label m p outcome new → Retold (Take side label) outcome new
   told_message side label letter rest (request key method params) outcome new some first is moves =
       ([], claim_at (Take side label) outcome _ [] [] new _ moves.3 refl moves.4 (claim_arrived side label letter rest some first key method params moves.0 moves.1 is moves.2))
   told_message side label letter rest (response key answer) outcome new some first is moves =
       ([], claim_at (Take side label) outcome _ [] [] new _ moves.3 refl moves.4 (claim_returned side label letter rest some first key answer moves.0 moves.1 is moves.2))
   told_message side label letter rest (notification method params) outcome new some first is moves =
-      let never : IsPlain (notification method params) = subst IsPlain is (first_plain tied.in_here letter rest first) in absurd never
+      ([], claim_at (Take side label) outcome _ [] [] new _ moves.0 refl moves.1 (claim_notified side label letter rest some first method params is))
 
-  told_takes : (side : Side) (label : ℕ) (o : Option Letter) (outcome : Outcome) (new : Accounts) → next p.here.post ≡ o → Takes label o p outcome new → Told (Take side label) outcome new
+  told_takes : (side : Side) (label : ℕ) (o : Option Letter) (outcome : Outcome) (new : Accounts) → next p.here.post ≡ o → Takes label o p outcome new → Retold (Take side label) outcome new
   told_takes side label None outcome new is moves = ([], claim_at (Take side label) outcome Waiting [] [] new p moves.0 refl moves.1 (claim_waits side label is))
   told_takes side label (Some letter) outcome new is moves =
       let first = next_first p.here.post letter is in
@@ -256,27 +284,28 @@ module _ (own others : List Event) (p : Accounts) (tied : Tied own others p) whe
 
   told_answers : (side : Side) (id : Id) (value : Value) (o : Option ℕ) (outcome : Outcome) (new : Accounts) → label_of (item_at p.there.tokens id) ≡ o →
       MatchOption o ((outcome ≡ Absent) × (new ≡ p))
-      (λ label. (payload : ℕ) × (tokens : List Token) × (letter : Letter) × Goes id (AtOther label) ComingBack payload p.there.tokens tokens × (letter.message ≡ response id (Ok (view value))) × (outcome ≡ Answered label) × (new ≡ accounts p.here.tokens p.here.post tokens (posted p.there.post letter))) → Told (Answer side id value) outcome new
+      (λ label. (payload : ℕ) × (tokens : List Token) × (letter : Letter) × Goes id (AtOther label) ComingBack payload p.there.tokens tokens × (letter.message ≡ response id (Ok (view value))) × (outcome ≡ Answered label) × (new ≡ accounts p.here.tokens p.here.post tokens (posted p.there.post letter))) → Retold (Answer side id value) outcome new
   told_answers side id value None outcome new is moves = ([], claim_at (Answer side id value) outcome Absent [] [] new p moves.0 refl moves.1 (claim_no_answer side id is value))
   told_answers side id value (Some label) outcome new is moves =
       (moves.2 ∷ [], claim_at (Answer side id value) outcome (Answered label) (moves.2 ∷ []) (moves.2 ∷ []) new _ moves.5 refl moves.6 (claim_answered side id label moves.0 moves.1 is value moves.2 moves.4 moves.3))
 
   told_cancels : (side : Side) (id : Id) (o : Option ℕ) (outcome : Outcome) (new : Accounts) → label_of (item_at p.there.tokens id) ≡ o →
       MatchOption o ((outcome ≡ Absent) × (new ≡ p))
-      (λ label. (payload : ℕ) × (tokens : List Token) × (letter : Letter) × Goes id (AtOther label) ComingBack payload p.there.tokens tokens × (letter.message ≡ cancelled id) × (outcome ≡ Cancelled) × (new ≡ accounts p.here.tokens p.here.post tokens (posted p.there.post letter))) → Told (Cancel side id) outcome new
+      (λ label. (payload : ℕ) × (tokens : List Token) × (letter : Letter) × Goes id (AtOther label) ComingBack payload p.there.tokens tokens × (letter.message ≡ cancelled id) × (outcome ≡ Cancelled) × (new ≡ accounts p.here.tokens p.here.post tokens (posted p.there.post letter))) → Retold (Cancel side id) outcome new
   told_cancels side id None outcome new is moves = ([], claim_at (Cancel side id) outcome Absent [] [] new p moves.0 refl moves.1 (claim_no_cancel side id is))
   told_cancels side id (Some label) outcome new is moves =
       (moves.2 ∷ [], claim_at (Cancel side id) outcome Cancelled (moves.2 ∷ []) (moves.2 ∷ []) new _ moves.5 refl moves.6 (claim_cancelled side id label moves.0 moves.1 is moves.2 moves.4 moves.3))
 
   told_gives_up : (side : Side) (id : Id) (o : Option ℕ) (outcome : Outcome) (new : Accounts) → label_of (item_at p.there.tokens id) ≡ o →
       MatchOption o ((outcome ≡ Absent) × (new ≡ p))
-      (λ label. (payload : ℕ) × (tokens : List Token) × Goes id (AtOther label) GivenUp payload p.there.tokens tokens × (outcome ≡ GaveUp label) × (new ≡ accounts p.here.tokens p.here.post tokens p.there.post)) → Told (GiveUp side id) outcome new
+      (λ label. (payload : ℕ) × (tokens : List Token) × Goes id (AtOther label) GivenUp payload p.there.tokens tokens × (outcome ≡ GaveUp label) × (new ≡ accounts p.here.tokens p.here.post tokens p.there.post)) → Retold (GiveUp side id) outcome new
   told_gives_up side id None outcome new is moves = ([], claim_at (GiveUp side id) outcome Absent [] [] new p moves.0 refl moves.1 (claim_no_give_up side id is))
   told_gives_up side id (Some label) outcome new is moves =
       ([], claim_at (GiveUp side id) outcome (GaveUp label) [] [] new _ moves.3 refl moves.4 (claim_gave_up side id label moves.0 moves.1 is moves.2))
 
-  pub told : (step : Step) (outcome : Outcome) (new : Accounts) → StepDoes p step outcome new → Told step outcome new
+  pub told : (step : Step) (outcome : Outcome) (new : Accounts) → StepDoes p step outcome new → Retold step outcome new
   told (Register side method params payload) outcome new moves = told_registers side method params payload outcome new moves
+  told (Tell side method params) outcome new moves = (moves.0 ∷ [], claim_at (Tell side method params) outcome Told (moves.0 ∷ []) (moves.0 ∷ []) new _ moves.2 refl moves.3 (claim_told side method params moves.0 moves.1))
   told (Pass side bytes) outcome new moves = ([], claim_at (Pass side bytes) outcome _ [] [] new _ moves.0 refl moves.1 (claim_passed side bytes))
   told (Take side label) outcome new moves = told_takes side label (next p.here.post) outcome new refl moves
   told (Answer side id value) outcome new moves = told_answers side id value (label_of (item_at p.there.tokens id)) outcome new refl moves
@@ -324,7 +353,7 @@ module _ (own others : List Event) (p : Accounts) (tied : Tied own others p) whe
         let goes : Goes key ComingBack Done sent.0 p.here.tokens tokens = record { was = sent.1; now = refl } in
         moved_none (Take side label) (Returned key (Some sent.0)) _ (claim_returned side label letter rest some first key answer sent.0 tokens is goes) refl outcome wrote follows
     moved_message side label letter rest (notification method params) outcome wrote some first is follows =
-        let never : IsPlain (notification method params) = subst IsPlain is (first_plain tied.in_here letter rest first) in absurd never
+        moved_none (Take side label) Notified _ (claim_notified side label letter rest some first method params is) refl outcome wrote follows
 
     moved_takes : (side : Side) (label : ℕ) (o : Option Letter) (outcome : Outcome) (wrote : List Letter) → next p.here.post ≡ o → Follows own others (event (Take side label) outcome wrote) → Moved (Take side label) outcome wrote
     moved_takes side label None outcome wrote is follows = moved_none (Take side label) Waiting p (claim_waits side label is) refl outcome wrote follows
@@ -360,8 +389,14 @@ module _ (own others : List Event) (p : Accounts) (tied : Tied own others p) whe
         let goes : Goes id (AtOther label) GivenUp there.0 p.there.tokens tokens = record { was = there.1; now = refl } in
         moved_none (GiveUp side id) (GaveUp label) _ (claim_gave_up side id label there.0 tokens is goes) refl outcome wrote follows
 
+    moved_tells : (side : Side) (method : String Global) (params : Value) (outcome : Outcome) (wrote : List Letter) → Follows own others (event (Tell side method params) outcome wrote) → Moved (Tell side method params) outcome wrote
+    moved_tells side method params outcome wrote follows =
+        let one = moved_one (Tell side method params) Told (notification (string_bytes method) (view params)) refl refl outcome wrote follows in
+        (_, claim_at (Tell side method params) outcome _ wrote (one.1.0 ∷ []) _ _ one.0 one.1.1 refl (claim_told side method params one.1.0 one.1.2))
+
     pub moved : (step : Step) (outcome : Outcome) (wrote : List Letter) → Follows own others (event step outcome wrote) → Moved step outcome wrote
     moved (Register side method params payload) outcome wrote follows = moved_registers side method params payload outcome wrote follows
+    moved (Tell side method params) outcome wrote follows = moved_tells side method params outcome wrote follows
     moved (Pass side bytes) outcome wrote follows = moved_none (Pass side bytes) _ _ (claim_passed side bytes) refl outcome wrote follows
     moved (Take side label) outcome wrote follows = moved_takes side label (next p.here.post) outcome wrote refl follows
     moved (Answer side id value) outcome wrote follows = moved_answers side id value (label_of (item_at p.there.tokens id)) outcome wrote refl follows

@@ -4,16 +4,15 @@ use Rattle.std.proofs.lemmas.Grind.{flat_map-append}
 use Rattle.std.proofs.lemmas.List.{take-append-le, drop-append-le, drop-drop}
 use Rattle.std.proofs.Math.Seq.{take-add}
 use Rattle.std.specs.List.{AllByRecursion}
-use Rattle.lsp_message.specs.Message.{Message, notification}
+use Rattle.lsp_message.specs.Message.{Message}
 use Rattle.lsp_message.specs.Tree.{without_null_details}
 use Rattle.lsp_peers.specs.History.{Event, count_in, bytes_in, taken_count, passed, letters, letters_taken, letters_left, next_letter, bytes_left}
 use Rattle.lsp_peers.specs.Letter.{Letter, frames, first_passed}
 use Rattle.lsp_peers.specs.Post.{Post, posted, unpassed, one_taken, next}
 use Rattle.lsp_peers.proofs.HistoryLemmas.{flat_push, flat_push_none}
 
--- a request or a reply, and no error in it has data that is null
+-- no error in the message has data that is null
 abbrev pub IsPlain : Message → Type 0
-IsPlain (notification method params) = ⊥
 IsPlain message = without_null_details message ≡ message
 
 abbrev pub ArePlain : List Letter → Type 0

@@ -11,10 +11,10 @@ use Rattle.lsp_peers.specs.Ids.{nth_id, item_at}
 use Rattle.lsp_peers.specs.declared.step.Outcome.{Outcome}
 use Rattle.lsp_peers.specs.declared.step.Outcome.TheVariants.{Answered, Cancelled, GaveUp, Absent}
 use Rattle.lsp_peers.specs.declared.step.Step.{Step}
-use Rattle.lsp_peers.specs.declared.step.Step.TheVariants.{Register, Pass, Take, Answer, Cancel, GiveUp}
+use Rattle.lsp_peers.specs.declared.step.Step.TheVariants.{Register, Tell, Pass, Take, Answer, Cancel, GiveUp}
 use Rattle.lsp_peers.specs.Token.{OnTheWay, AtOther, ComingBack, Done, GivenUp, Token, token, label_of, Goes}
 use Rattle.lsp_peers.specs.Post.{Letter, posted, next}
-use Rattle.lsp_peers.specs.Steps.{Accounts, accounts, nothing, Registers, Passes, TakesMessage, Takes, StepDoes, WorldDoes, Run}
+use Rattle.lsp_peers.specs.Steps.{Accounts, accounts, nothing, Registers, Tells, Passes, TakesMessage, Takes, StepDoes, WorldDoes, Run}
 use Rattle.lsp_peers.specs.InOnePlace.{request_of, reply_of, requests, replies, going, returning, MatchLetters, InOnePlace}
 use Rattle.lsp_peers.proofs.TokenLemmas.{push_sets, push_keeps, goes_sets, goes_keeps}
 use Rattle.lsp_peers.proofs.IdLemmas.{get-end, get-nothing}
@@ -40,6 +40,18 @@ module _ {tokens : List Token} {outbound inbound : List Letter} (once : MatchLet
   once_reply_goes key answer is = record {
     out = λ n. omega (arith, requests-push outbound letter n, no_request letter.message key answer is n, once.out n);
     back = once.back;
+  }
+
+  once_told_out : (method : List ℕ) (params : Data) → letter.message ≡ notification method params → MatchLetters tokens (outbound ++ letter ∷ []) inbound
+  once_told_out method params is = record {
+    out = λ n. omega (arith, requests-push outbound letter n, ap (λ (m : Message). request_of m n) is, once.out n);
+    back = once.back;
+  }
+
+  once_told_in : (method : List ℕ) (params : Data) → letter.message ≡ notification method params → MatchLetters tokens outbound (inbound ++ letter ∷ [])
+  once_told_in method params is = record {
+    out = once.out;
+    back = λ n. omega (arith, replies-push inbound letter n, ap (λ (m : Message). reply_of m n) is, once.back n);
   }
 
   once_replied : (key : Id) (label payload : ℕ) (answer : Result Data ErrorObject) (new : List Token) → Goes key (AtOther label) ComingBack payload tokens new → letter.message ≡ response key answer → MatchLetters new outbound (inbound ++ letter ∷ [])
@@ -121,6 +133,14 @@ module _ (old : Accounts) (placed : InOnePlace old) where
       (λ full. let made = MatchBool-at_false _ _ full moves in subst InOnePlace (sym made.1) placed)
       (cases_Bool (nat_lt (length old.here.tokens) all_ids))
 
+  placed_tells : (method : List ℕ) (params : Data) (outcome : Outcome) (new : Accounts) → Tells method params old outcome new → InOnePlace new
+  placed_tells method params outcome new moves =
+      let letter : Letter = moves.0 in
+      subst InOnePlace (sym moves.3) (record {
+        here_once = once_told_out placed.here_once letter method params moves.1;
+        there_once = once_told_in placed.there_once letter method params moves.1;
+      })
+
   placed_passes : (bytes : ℕ) (outcome : Outcome) (new : Accounts) → Passes bytes old outcome new → InOnePlace new
   placed_passes bytes outcome new moves = subst InOnePlace (sym moves.1) (record { here_once = placed.here_once; there_once = placed.there_once })
 
@@ -172,6 +192,7 @@ module _ (old : Accounts) (placed : InOnePlace old) where
 
 pub placed_moves : (step : Step) (old : Accounts) → InOnePlace old → (outcome : Outcome) (new : Accounts) → StepDoes old step outcome new → InOnePlace new
 placed_moves (Register side method params payload) old placed outcome new moves = placed_registers old placed (string_bytes method) (view params) payload outcome new moves
+placed_moves (Tell side method params) old placed outcome new moves = placed_tells old placed (string_bytes method) (view params) outcome new moves
 placed_moves (Pass side bytes) old placed outcome new moves = placed_passes old placed bytes outcome new moves
 placed_moves (Take side label) old placed outcome new moves = placed_takes old placed label (next old.here.post) outcome new (λ letter is. next_first old.here.post letter is) moves
 placed_moves (Answer side id value) old placed outcome new moves = placed_replies_at old placed (label_of (item_at old.there.tokens id)) id (Ok (view value)) (λ label. Answered label) outcome new moves

@@ -8,9 +8,9 @@ use Rattle.lsp_queue.specs.Queue.{all_ids, cancelled}
 use Rattle.lsp_peers.specs.declared.step.Side.{Side}
 use Rattle.lsp_peers.specs.declared.step.Side.TheVariants.{A, B}
 use Rattle.lsp_peers.specs.declared.step.Step.{Step}
-use Rattle.lsp_peers.specs.declared.step.Step.TheVariants.{Register, Pass, Take, Answer, Cancel, GiveUp}
+use Rattle.lsp_peers.specs.declared.step.Step.TheVariants.{Register, Tell, Pass, Take, Answer, Cancel, GiveUp}
 use Rattle.lsp_peers.specs.declared.step.Outcome.{Outcome}
-use Rattle.lsp_peers.specs.declared.step.Outcome.TheVariants.{Registered, Spent, Passed, Arrived, Returned, Waiting, Answered, Cancelled, GaveUp, Absent}
+use Rattle.lsp_peers.specs.declared.step.Outcome.TheVariants.{Registered, Spent, Told, Passed, Arrived, Returned, Notified, Waiting, Answered, Cancelled, GaveUp, Absent}
 use Rattle.lsp_peers.specs.Ids.{nth_id, item_at, has}
 use Rattle.lsp_peers.specs.Letter.{Letter, messages, frames, first_passed}
 use Rattle.lsp_peers.specs.Sides.{side_of, other}
@@ -26,6 +26,7 @@ pub record Event : Type 0 where
 -- the message that it writes to the other side
 abbrev pub written_in : Step → Outcome → List Message
 written_in (Register side method params payload) (Registered id) = request id (string_bytes method) (view params) ∷ []
+written_in (Tell side method params) Told = notification (string_bytes method) (view params) ∷ []
 written_in (Answer side id value) (Answered label) = response id (Ok (view value)) ∷ []
 written_in (Cancel side id) Cancelled = cancelled id ∷ []
 written_in step outcome = []
@@ -56,6 +57,7 @@ returned_in step outcome = []
 abbrev pub count_in : Step → Outcome → ℕ
 count_in (Take side label) (Arrived id) = 1
 count_in (Take side label) (Returned id payload) = 1
+count_in (Take side label) Notified = 1
 count_in step outcome = 0
 
 -- how many bytes arrived
@@ -143,7 +145,7 @@ module _ (own others : List Event) where
   abbrev pub taking_message : Message → Outcome
   taking_message (request id method params) = Arrived id
   taking_message (response id answer) = Returned id (item_at (payloads own) id)
-  taking_message (notification method params) = Waiting
+  taking_message (notification method params) = Notified
 
   abbrev pub taking : Option Letter → Outcome
   taking None = Waiting
@@ -152,6 +154,7 @@ module _ (own others : List Event) where
   -- what comes of a step of this side
   abbrev pub outcome_of : Step → Outcome
   outcome_of (Register side method params payload) = if nat_lt (length (payloads own)) all_ids then Registered (nth_id (length (payloads own))) else Spent
+  outcome_of (Tell side method params) = Told
   outcome_of (Pass side bytes) = Passed (min bytes bytes_left)
   outcome_of (Take side label) = taking next_letter
   outcome_of (Answer side id value) = where_held (held own id) (λ label. Answered label)

@@ -7,7 +7,7 @@ use Rattle.serde_json.specs.View.{view}
 use Rattle.lsp_message.specs.Ranges.{nesting}
 use Rattle.lsp_peers.specs.declared.step.Outcome.{Outcome}
 use Rattle.lsp_peers.specs.declared.step.Step.{Step}
-use Rattle.lsp_peers.specs.declared.step.Step.TheVariants.{Register, Answer}
+use Rattle.lsp_peers.specs.declared.step.Step.TheVariants.{Register, Tell, Answer}
 use Rattle.lsp_peers.specs.History.{Event, written_in}
 
 -- each message that these steps wrote nests at most 127 levels, where these are their outcomes
@@ -22,6 +22,7 @@ AreReadable history = AllReadable (each (λ event. event.step) history) (each (�
 -- The params or the result of the step nest at most 126 levels. So what it writes nests at most 127.
 abbrev pub IsShallow : Step → Type 0
 IsShallow (Register side method params payload) = depth (view params) ≤ 126
+IsShallow (Tell side method params) = depth (view params) ≤ 126
 IsShallow (Answer side id value) = depth (view value) ≤ 126
 IsShallow step = Unit {0}
 

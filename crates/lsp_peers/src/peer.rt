@@ -6,7 +6,7 @@ ghost use Rattle.lsp_message.specs.Message.{response};
 ghost use Rattle.lsp_message.specs.View.{message_view};
 ghost use Rattle.lsp_queue.specs.Queue.{cancelled, count_of, all_ids};
 ghost use Rattle.lsp_peers.specs.Agreement.{PeerAgrees, Agrees};
-ghost use Rattle.lsp_peers.specs.Steps.{Accounts, Registers, Passes, Takes, Replies, GivesUp, StepDoes};
+ghost use Rattle.lsp_peers.specs.Steps.{Accounts, Registers, Tells, Passes, Takes, Replies, GivesUp, StepDoes};
 ghost use Rattle.lsp_peers.specs.Post.{ReadsBack, IfNext, next, empty_post};
 ghost use Rattle.lsp_peers.specs.Settling.{Settles};
 ghost use Rattle.lsp_peers.specs.InOnePlace.{InOnePlace};
@@ -14,7 +14,7 @@ ghost use Rattle.lsp_peers.specs.InOnePlace.{InOnePlace};
 use crate::fault::WorldFault;
 use crate::link::Link;
 use crate::step::{Outcome, Step};
-use lsp_message::{Message, RequestId, Response};
+use lsp_message::{Message, Notification, RequestId, Response};
 use lsp_queue::{RegisterFault, ReqQueue};
 use serde_json::Value;
 use std::alloc::Global;
@@ -51,6 +51,11 @@ impl Peer {
                 params,
                 payload,
             } => self.register(far, method, params, payload),
+            Step::Tell {
+                side: _,
+                method,
+                params,
+            } => self.tell(far, method, params),
             Step::Pass { to: _, bytes } => Ok(self.pass(far, bytes)),
             Step::Take { side: _, label } => self.take(far, label),
             Step::Answer {
@@ -85,6 +90,21 @@ impl Peer {
             Err(RegisterFault::Memory(_)) => Err(WorldFault::Memory),
             Err(RegisterFault::Unwritable(_)) => Err(WorldFault::Memory),
         }
+    }
+
+    fn tell(
+        &self,
+        far: &mut Peer,
+        method: String,
+        params: Value,
+    ) -> Result<Outcome, WorldFault>
+        ensures ok { (old : Accounts) → Agrees self.now far.old old → IfOk result (λ outcome.
+            (new : Accounts) × Tells (string_bytes method) (view params) old outcome new × Agrees self.now far.new new) }
+        ensures err { OnErr result (result ≡ Err WorldFault.Memory) }
+    {
+        let notification = Notification { method, params };
+        far.link.write(&Message::Notification(notification))?;
+        Ok(Outcome::Told)
     }
 
     fn pass(&mut self, far: &Peer, bytes: usize) -> Outcome
@@ -157,7 +177,7 @@ impl Peer {
     }
 }
 
-/// What a taken message does: a request becomes pending with the label, a reply completes its id.
+/// What a taken message does: a request becomes pending with the label, a reply completes its id, a notification does nothing.
 fn settle(
     queue: &mut ReqQueue<u64, u64>,
     message: &Message,
@@ -178,6 +198,6 @@ fn settle(
             let payload = queue.outgoing.complete(response.id.clone()?);
             Ok(Outcome::Returned(id, payload))
         }
-        Message::Notification(_) => Ok(Outcome::Waiting),
+        Message::Notification(_) => Ok(Outcome::Notified),
     }
 }
