@@ -1,10 +1,10 @@
 -- Each kind of step keeps that two peers agree with tokens and posts.
-use Rattle.std.proofs.Common.{◌≡◌, ℕ, ◌+◌, ◌<◌, List, [], ◌∷◌, ◌++◌, length, refl, sym, ap, ◌∙◌, subst, arith, length-append}
-use Rattle.std.proofs.lemmas.Bool.{lt-ltb}
+use Rattle.std.proofs.Common.{◌≡◌, ℕ, ◌+◌, ◌<◌, List, [], ◌∷◌, ◌++◌, length, refl, sym, ap, ◌∙◌, subst, arith, append_assoc, length-append}
+use Rattle.std.proofs.lemmas.Bool.{ne_eqb}
 use Rattle.std.proofs.lemmas.List.{map-append}
 use Rattle.std.specs.FinMap as map
 use Rattle.std.specs.FinMap.{get-empty}
-use Rattle.std.specs.Prelude.{Option, None, Some, option_map, is_some, if◌then◌else◌, nat_lt, MatchBool, MatchOption, Bool, true, false, map as each, take, Vec}
+use Rattle.std.specs.Prelude.{Option, None, Some, option_map, is_some, ◌==◌, if◌then◌else◌, MatchBool, MatchOption, Bool, true, false, map as each, take, Vec}
 use Rattle.std.specs.declared.alloc.Global.{Global}
 use Rattle.serde_json.specs.Data.{Data}
 use Rattle.lsp_message.specs.Id.{Id, id_cmp}
@@ -49,7 +49,7 @@ pub request_is : (i j : Id) (method other : List ℕ) (params others : Data) →
 request_is i j method other params others a b c = λ k. request (a k) (b k) (c k)
 
 -- a side at which nothing happened
-pub new_agrees : (queue : ReqQueue ℕ ℕ) (line : Line) (taken : Vec code.Message Global) → queue.incoming ≡ map.empty → queue.outgoing ≡ (map.empty, 0) → Carries line empty_post → taken.items ≡ [] → PeerAgrees (record { queue = queue; link = line; taken = taken }) (record { tokens = []; post = empty_post }) []
+pub new_agrees : (queue : ReqQueue ℕ ℕ) (line : Line) (taken : Vec code.Message Global) → queue.incoming ≡ map.empty → queue.outgoing ≡ (map.empty, 0) → Carries line empty_post → taken.items ≡ [] → PeerAgrees (record { queue = queue; link = line; taken = taken }) [] (record { tokens = []; post = empty_post }) []
 new_agrees queue line taken incoming outgoing carries none = record {
   out = λ id. ap (λ (a : Asked ℕ). map.get (pending_of a) id) outgoing ∙ get-empty id_cmp id ∙ sym (ap owed (get-nothing id));
   held = λ id. ap (λ (p : Pending ℕ). map.get p id) incoming ∙ get-empty id_cmp id ∙ sym (ap label_of (get-nothing id));
@@ -61,8 +61,8 @@ new_agrees queue line taken incoming outgoing carries none = record {
 length-push : (tokens : List Token) (t : Token) → length (tokens ++ t ∷ []) ≡ length tokens + 1
 length-push tokens t = length-append tokens (t ∷ [])
 
-module _ (near far : Peer) (old : Accounts) (agrees : Agrees near far old) where
-  pub register_keeps : (asked : Asked ℕ) (line : Line) (method : List ℕ) (params : Data) (payload : ℕ) (id : Id) (m : Message) → m ≡ request (nth_id (count_of near.queue.outgoing)) method params → count_of near.queue.outgoing < all_ids → asked ≡ (map.insert (pending_of near.queue.outgoing) (nth_id (count_of near.queue.outgoing)) payload, count_of near.queue.outgoing + 1) → ((letter : Letter) × (letter.message ≡ m) × Carries line (posted old.there.post letter)) → id ≡ nth_id (count_of near.queue.outgoing) → (new : Accounts) × Registers method params payload old (Registered id) new × Agrees (record { queue = record { incoming = near.queue.incoming; outgoing = asked }; link = near.link; taken = near.taken }) (record { queue = far.queue; link = line; taken = far.taken }) new
+module _ (near far : Peer) {mine theirs : List Message} (old : Accounts) (agrees : Agrees near far mine theirs old) where
+  pub register_keeps : (asked : Asked ℕ) (line : Line) (method : List ℕ) (params : Data) (payload : ℕ) (id : Id) (m : Message) → m ≡ request (nth_id (count_of near.queue.outgoing)) method params → count_of near.queue.outgoing < all_ids → asked ≡ (map.insert (pending_of near.queue.outgoing) (nth_id (count_of near.queue.outgoing)) payload, count_of near.queue.outgoing + 1) → ((letter : Letter) × (letter.message ≡ m) × Carries line (posted old.there.post letter)) → id ≡ nth_id (count_of near.queue.outgoing) → (new : Accounts) × Registers method params payload old (Registered id) new × Agrees (record { queue = record { incoming = near.queue.incoming; outgoing = asked }; link = near.link; taken = near.taken }) (record { queue = far.queue; link = line; taken = far.taken }) mine theirs new
   register_keeps asked line method params payload id m is few outgoing wrote id_is =
       let n : count_of near.queue.outgoing ≡ length old.here.tokens = agrees.near_side.count in
       let room : length old.here.tokens < all_ids = omega (arith, few, n) in
@@ -70,7 +70,7 @@ module _ (near far : Peer) (old : Accounts) (agrees : Agrees near far old) where
       let t : Token = token payload OnTheWay in
       let pending : Pending ℕ = map.insert (pending_of near.queue.outgoing) (nth_id (count_of near.queue.outgoing)) payload in (
         accounts (old.here.tokens ++ t ∷ []) old.here.post old.there.tokens (posted old.there.post letter),
-        match_true (nat_lt (length old.here.tokens) all_ids) _ _ (lt-ltb _ _ room) (letter, wrote.1 ∙ is ∙ ap (λ (k : ℕ). request (nth_id k) method params) n, ap (λ (i : Id). Registered i) (id_is ∙ ap (λ (k : ℕ). nth_id k) n), refl),
+        match_false (length old.here.tokens == all_ids) _ _ (ne_eqb _ _ (λ same. absurd (omega (arith, room, same)))) (letter, wrote.1 ∙ is ∙ ap (λ (k : ℕ). request (nth_id k) method params) n, ap (λ (i : Id). Registered i) (id_is ∙ ap (λ (k : ℕ). nth_id k) n), refl),
         record {
           near_side = record {
             out = λ key. ap (λ (a : Asked ℕ). map.get (pending_of a) key) outgoing ∙ push_sets owed old.here.tokens t (map.get (pending_of near.queue.outgoing)) (map.get pending) agrees.near_side.out (subst (λ (k : ℕ). Sets (map.get (pending_of near.queue.outgoing)) (map.get pending) (nth_id k) (Some payload)) n (insert_sets (pending_of near.queue.outgoing) (nth_id (count_of near.queue.outgoing)) payload)) key;
@@ -89,7 +89,7 @@ module _ (near far : Peer) (old : Accounts) (agrees : Agrees near far old) where
         },
       )
 
-  pub tell_keeps : (line : Line) (method : List ℕ) (params : Data) (m : Message) → m ≡ notification method params → ((letter : Letter) × (letter.message ≡ m) × Carries line (posted old.there.post letter)) → (new : Accounts) × Tells method params old Told new × Agrees near (record { queue = far.queue; link = line; taken = far.taken }) new
+  pub tell_keeps : (line : Line) (method : List ℕ) (params : Data) (m : Message) → m ≡ notification method params → ((letter : Letter) × (letter.message ≡ m) × Carries line (posted old.there.post letter)) → (new : Accounts) × Tells method params old Told new × Agrees near (record { queue = far.queue; link = line; taken = far.taken }) mine theirs new
   tell_keeps line method params m is wrote = (
     accounts old.here.tokens old.here.post old.there.tokens (posted old.there.post wrote.0),
     (wrote.0, wrote.1 ∙ is, refl, refl),
@@ -107,7 +107,7 @@ module _ (near far : Peer) (old : Accounts) (agrees : Agrees near far old) where
 
   -- nothing is held under the id
   module _ (pending : Pending ℕ) (id : Id) (absent : map.get near.queue.incoming id ≡ None) (removed : pending ≡ map.remove near.queue.incoming id) where
-    absent_agrees : Agrees (record { queue = record { incoming = pending; outgoing = near.queue.outgoing }; link = near.link; taken = near.taken }) far old
+    absent_agrees : Agrees (record { queue = record { incoming = pending; outgoing = near.queue.outgoing }; link = near.link; taken = near.taken }) far mine theirs old
     absent_agrees = record {
       near_side = record {
         out = agrees.near_side.out;
@@ -119,10 +119,10 @@ module _ (near far : Peer) (old : Accounts) (agrees : Agrees near far old) where
       far_side = agrees.far_side;
     }
 
-    pub absent_replies : (reply : Message) (answered : ℕ → Outcome) → (new : Accounts) × Replies id reply answered old Absent new × Agrees (record { queue = record { incoming = pending; outgoing = near.queue.outgoing }; link = near.link; taken = near.taken }) far new
+    pub absent_replies : (reply : Message) (answered : ℕ → Outcome) → (new : Accounts) × Replies id reply answered old Absent new × Agrees (record { queue = record { incoming = pending; outgoing = near.queue.outgoing }; link = near.link; taken = near.taken }) far mine theirs new
     absent_replies reply answered = (old, match_none (label_of (item_at old.there.tokens id)) _ _ (sym (agrees.near_side.held id) ∙ absent) (refl, refl), absent_agrees)
 
-    pub absent_gives_up : (new : Accounts) × GivesUp id old Absent new × Agrees (record { queue = record { incoming = pending; outgoing = near.queue.outgoing }; link = near.link; taken = near.taken }) far new
+    pub absent_gives_up : (new : Accounts) × GivesUp id old Absent new × Agrees (record { queue = record { incoming = pending; outgoing = near.queue.outgoing }; link = near.link; taken = near.taken }) far mine theirs new
     absent_gives_up = (old, match_none (label_of (item_at old.there.tokens id)) _ _ (sym (agrees.near_side.held id) ∙ absent) (refl, refl), absent_agrees)
 
   -- the request that is held under the id
@@ -130,7 +130,7 @@ module _ (near far : Peer) (old : Accounts) (agrees : Agrees near far old) where
     held_here : label_of (item_at old.there.tokens id) ≡ Some label
     held_here = sym (agrees.near_side.held id) ∙ found
 
-    pub replies_keep : (line : Line) (reply : Message) (answered : ℕ → Outcome) → ((letter : Letter) × (letter.message ≡ reply) × Carries line (posted old.there.post letter)) → (new : Accounts) × Replies id reply answered old (answered label) new × Agrees (record { queue = record { incoming = pending; outgoing = near.queue.outgoing }; link = near.link; taken = near.taken }) (record { queue = far.queue; link = line; taken = far.taken }) new
+    pub replies_keep : (line : Line) (reply : Message) (answered : ℕ → Outcome) → ((letter : Letter) × (letter.message ≡ reply) × Carries line (posted old.there.post letter)) → (new : Accounts) × Replies id reply answered old (answered label) new × Agrees (record { queue = record { incoming = pending; outgoing = near.queue.outgoing }; link = near.link; taken = near.taken }) (record { queue = far.queue; link = line; taken = far.taken }) mine theirs new
     replies_keep line reply answered wrote =
         let held = held_token (item_at old.there.tokens id) label held_here in
         let payload : ℕ = held.0 in
@@ -157,7 +157,7 @@ module _ (near far : Peer) (old : Accounts) (agrees : Agrees near far old) where
           },
         )
 
-    pub gives_up_keeps : (new : Accounts) × GivesUp id old (GaveUp label) new × Agrees (record { queue = record { incoming = pending; outgoing = near.queue.outgoing }; link = near.link; taken = near.taken }) far new
+    pub gives_up_keeps : (new : Accounts) × GivesUp id old (GaveUp label) new × Agrees (record { queue = record { incoming = pending; outgoing = near.queue.outgoing }; link = near.link; taken = near.taken }) far mine theirs new
     gives_up_keeps =
         let held = held_token (item_at old.there.tokens id) label held_here in
         let payload : ℕ = held.0 in
@@ -184,13 +184,13 @@ module _ (near far : Peer) (old : Accounts) (agrees : Agrees near far old) where
         )
 
   -- after a take, the one_taken post, and the messages taken
-  taken_more : (letter : Letter) (rest : List Letter) (m : code.Message) (taken : List code.Message) → old.here.post.waiting ≡ letter ∷ rest → message_view m ≡ letter.message → taken ≡ near.taken.items ++ m ∷ [] → each message_view taken ≡ each (λ (l : Letter). l.message) (one_taken old.here.post).taken
+  taken_more : (letter : Letter) (rest : List Letter) (m : code.Message) (taken : List code.Message) → old.here.post.waiting ≡ letter ∷ rest → message_view m ≡ letter.message → taken ≡ near.taken.items ++ m ∷ [] → mine ++ each message_view taken ≡ each (λ (l : Letter). l.message) (one_taken old.here.post).taken
   taken_more letter rest m taken waiting is pushed =
-      ap (each message_view) pushed ∙ map-append message_view near.taken.items (m ∷ []) ∙ ap (λ (ms : List Message). ms ++ message_view m ∷ []) agrees.near_side.taken ∙ ap (λ (x : Message). each (λ (l : Letter). l.message) old.here.post.taken ++ x ∷ []) is
+      ap (λ (l : List code.Message). mine ++ each message_view l) pushed ∙ ap (λ (l : List Message). mine ++ l) (map-append message_view near.taken.items (m ∷ [])) ∙ sym (append_assoc mine (each message_view near.taken.items) (message_view m ∷ [])) ∙ ap (λ (ms : List Message). ms ++ message_view m ∷ []) agrees.near_side.taken ∙ ap (λ (x : Message). each (λ (l : Letter). l.message) old.here.post.taken ++ x ∷ []) is
       ∙ sym (map-append (λ (l : Letter). l.message) old.here.post.taken (letter ∷ []))
       ∙ ap (λ (ls : List Letter). each (λ (l : Letter). l.message) (old.here.post.taken ++ take 1 ls)) (sym waiting)
 
-  pub takes_keep : (queue : ReqQueue ℕ ℕ) (line : Line) (taken : Vec code.Message Global) (label : ℕ) (letter : Letter) (m : code.Message) (message : Message) (outcome : Outcome) → message_view m ≡ message → InOnePlace old → next old.here.post ≡ Some letter → message ≡ letter.message → Carries line (one_taken old.here.post) → Settles message label near.queue outcome queue → taken.items ≡ near.taken.items ++ m ∷ [] → (new : Accounts) × TakesMessage label message old outcome new × Agrees (record { queue = queue; link = line; taken = taken }) far new
+  pub takes_keep : (queue : ReqQueue ℕ ℕ) (line : Line) (taken : Vec code.Message Global) (label : ℕ) (letter : Letter) (m : code.Message) (message : Message) (outcome : Outcome) → message_view m ≡ message → InOnePlace old → next old.here.post ≡ Some letter → message ≡ letter.message → Carries line (one_taken old.here.post) → Settles message label near.queue outcome queue → taken.items ≡ near.taken.items ++ m ∷ [] → (new : Accounts) × TakesMessage label message old outcome new × Agrees (record { queue = queue; link = line; taken = taken }) far mine theirs new
   takes_keep queue line taken label letter m (request id method params) outcome means placed is message_is carries settles pushed =
       let first = next_first old.here.post letter is in
       let waits : 0 < going (item_at old.there.tokens id) = omega (arith, sym (ap (λ (ls : List Letter). requests ls id) first.1) ∙ placed.there_once.out id, request_of_own letter.message id method params (sym message_is)) in

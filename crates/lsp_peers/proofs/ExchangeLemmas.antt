@@ -1,54 +1,59 @@
 -- What a history says of a world, and the tokens and posts that it comes from.
 use Rattle.std.proofs.Common.{◌≡◌, ℕ, ◌+◌, ◌≤◌, List, [], ◌∷◌, ◌++◌, length, zero, suc, drop, refl, sym, ap, ◌∙◌, subst, arith, append-nil, append_assoc}
+use Rattle.std.proofs.lemmas.Bool.{eqb-true}
 use Rattle.std.proofs.lemmas.Grind.{flat_map-append}
 use Rattle.std.proofs.lemmas.List.{map-append, length-map}
 use Rattle.std.specs.List.{AllByRecursion}
-use Rattle.std.specs.Prelude.{Option, None, Some, Result, Ok, Err, if◌then◌else◌, IfOk, IfSome, option_map, map as each}
+use Rattle.std.specs.Prelude.{◌==◌, Bool, true, false, nat_le, Option, None, Some, Result, Ok, Err, if◌then◌else◌, IfOk, IfSome, option_map, map as each}
 use Rattle.serde_json.specs.Read.{max_depth}
 use Rattle.lsp_message.specs.Id.{Id}
 use Rattle.lsp_message.specs.Message.{Message, request, notification, response}
 use Rattle.lsp_message.specs.Ranges.{nesting}
-use Rattle.lsp_message.specs.Tree.{without_null_details}
 use Rattle.lsp_peers.specs.declared.fault.WorldFault.{WorldFault}
 use Rattle.lsp_peers.specs.declared.peer.Peer.{Peer}
 use Rattle.lsp_peers.specs.declared.step.Side.{Side}
 use Rattle.lsp_peers.specs.declared.step.Side.TheVariants.{A, B}
 use Rattle.lsp_peers.specs.declared.step.Outcome.{Outcome}
+use Rattle.lsp_peers.specs.declared.step.Outcome.TheVariants.{Registered, Spent, Answered, Cancelled}
 use Rattle.lsp_peers.specs.declared.step.Step.{Step}
+use Rattle.lsp_peers.specs.declared.step.Step.TheVariants.{Register, Tell, Pass, Take, Answer, Cancel, GiveUp}
 use Rattle.lsp_peers.specs.declared.world.World.{World}
 use Rattle.lsp_peers.specs.Agreement.{PeerAgrees, Agrees, WorldAgrees}
-use Rattle.lsp_peers.specs.Exchange.{seen, seen_at, SideAfter, WorldAfter}
-use Rattle.lsp_peers.specs.History.{Event, written_in, payloads, pending, passed, letters, taken_count, Follows, if_of, events_of, Happens, AllHappen, IsHistory}
-use Rattle.lsp_peers.specs.Ids.{item_at}
+use Rattle.lsp_peers.specs.Exchange.{Seen, seen_at, SideAfter, WorldAfter}
+use Rattle.lsp_peers.specs.History.{Event, held, where_held, outcome_of_taking, outcome_of, written_in, payloads, pending, passed_count, letters_written, taken_count, next_letter, Follows, only_of, events_of, AllFollow, IsHistory}
+use Rattle.lsp_queue.specs.Queue.{all_ids}
+use Rattle.lsp_peers.specs.Ids.{nth_id, item_at}
 use Rattle.lsp_peers.specs.InOnePlace.{InOnePlace}
-use Rattle.lsp_peers.specs.Post.{Letter, Post, frames, next, IfNext, ReadsBack}
-use Rattle.lsp_peers.specs.Shallow.{AllReadable, AreReadable}
+use Rattle.lsp_peers.specs.Post.{Letter, Post, frames, first_passed, next, IfNext, ReadsBack}
+use Rattle.lsp_peers.specs.HistoryLaw.{NeedsNoMemory}
+use Rattle.lsp_peers.specs.Settling.{ReadsNext, IsFree}
+use Rattle.lsp_peers.specs.Shallow.{TakesReadable, AreReadable}
 use Rattle.lsp_peers.specs.Sides.{side_of, other}
 use Rattle.lsp_peers.specs.Steps.{Account, Accounts, nothing, StepDoes, WorldDoes, Run, seen_from}
 use Rattle.lsp_peers.specs.Token.{Place, OnTheWay, AtOther, ComingBack, Done, GivenUp, Token, payload_at, owed, label_of}
 use Rattle.lsp_peers.proofs.HistoryLemmas.{flat_push, flat_push_none}
 use Rattle.lsp_peers.proofs.IdLemmas.{get-nothing, item_at-map}
-use Rattle.lsp_peers.proofs.Kept.{Kept, is_done, settled_at, done_at}
+use Rattle.lsp_peers.proofs.Kept.{Happens, taking, Kept, is_done, settled_at, done_at}
 use Rattle.lsp_peers.proofs.LawLemmas.{Tied, event, Claim, told, moved}
-use Rattle.lsp_peers.proofs.MailLemmas.{IsPlain, Mail, first_plain}
+use Rattle.lsp_peers.proofs.MailLemmas.{Mail, next_is, first_plain}
 use Rattle.lsp_peers.proofs.PlaceLemmas.{next_first}
 use Rattle.lsp_peers.proofs.RunLemmas.{placed_moves, placed_nothing, run_more}
 
 -- ---- the events of a side, after one more
 
-of_own : (side : Side) (history : List Event) (e : Event) → side_of e.step ≡ side → events_of side (history ++ e ∷ []) ≡ events_of side history ++ e ∷ []
+pub of_own : (side : Side) (history : List Event) (e : Event) → side_of e.step ≡ side → events_of side (history ++ e ∷ []) ≡ events_of side history ++ e ∷ []
 of_own side history e is =
-    flat_push (λ (x : Event). if_of side (side_of x.step) x) history e ∙ ap (λ (l : List Event). events_of side history ++ l) (ap (λ (s : Side). if_of side s e) is ∙ at side)
+    flat_push (λ (x : Event). only_of side (side_of x.step) x) history e ∙ ap (λ (l : List Event). events_of side history ++ l) (ap (λ (s : Side). only_of side s e) is ∙ at side)
   where
-    at : (s : Side) → if_of s s e ≡ e ∷ []
+    at : (s : Side) → only_of s s e ≡ e ∷ []
     at A = refl
     at B = refl
 
-of_other : (side : Side) (history : List Event) (e : Event) → side_of e.step ≡ side → events_of (other side) (history ++ e ∷ []) ≡ events_of (other side) history
+pub of_other : (side : Side) (history : List Event) (e : Event) → side_of e.step ≡ side → events_of (other side) (history ++ e ∷ []) ≡ events_of (other side) history
 of_other side history e is =
-    flat_push_none (λ (x : Event). if_of (other side) (side_of x.step) x) history e (ap (λ (s : Side). if_of (other side) s e) is ∙ at side)
+    flat_push_none (λ (x : Event). only_of (other side) (side_of x.step) x) history e (ap (λ (s : Side). only_of (other side) s e) is ∙ at side)
   where
-    at : (s : Side) → if_of (other s) s e ≡ []
+    at : (s : Side) → only_of (other s) s e ≡ []
     at A = refl
     at B = refl
 
@@ -105,7 +110,7 @@ made_one B history p e is made follows =
     let move = moved (events_of B history) (events_of A history) (turned p) (turned_tied _ _ p made.tied) (turned_placed p made.placed) e.step e.outcome e.wrote follows in
     (turned move.0, made_b history p move.0 e.step e.outcome e.wrote is made move.1)
 
-made_from : (before events : List Event) (p : Accounts) → Made before p → AllHappen before events → (new : Accounts) × Made (before ++ events) new
+made_from : (before events : List Event) (p : Accounts) → Made before p → AllFollow before events → (new : Accounts) × Made (before ++ events) new
 made_from before [] p made happen = (p, subst (λ (l : List Event). Made l p) (sym (append-nil before)) made)
 made_from before (e ∷ events) p made happen =
     let one = made_one (side_of e.step) before p e refl made happen.0 in
@@ -129,7 +134,7 @@ made_nothing = record {
 pub made_of : (history : List Event) → IsHistory history → (p : Accounts) × Made history p
 made_of history is = made_from [] history nothing made_nothing is
 
-happen_more : (before events : List Event) (e : Event) → AllHappen before events → Happens (before ++ events) e → AllHappen before (events ++ e ∷ [])
+happen_more : (before events : List Event) (e : Event) → AllFollow before events → Happens (before ++ events) e → AllFollow before (events ++ e ∷ [])
 happen_more before [] e all happens = (subst (λ (l : List Event). Happens l e) (append-nil before) happens, tt)
 happen_more before (x ∷ events) e all happens =
     (all.0, happen_more (before ++ x ∷ []) events e all.1 (subst (λ (l : List Event). Happens l e) (sym (append_assoc before (x ∷ []) events)) happens))
@@ -147,7 +152,10 @@ owed_is (Some t) = at t.place t.payload
     at Done payload = refl
     at GivenUp payload = refl
 
-module _ {own others : List Event} (account : Account) {theirs : List Token} {outbound inbound : List Letter} (kept : Kept own others account.tokens outbound) (met : Kept others own theirs inbound) (mail : Mail (taken_count own) (passed own) (letters others) account.post) where
+abbrev seen : Peer → Seen
+seen peer = record { queue = peer.queue; arrived = peer.link.arrived; on_way = peer.link.on_way; taken = peer.taken.items }
+
+module _ {own others : List Event} (account : Account) {theirs : List Token} {outbound inbound : List Letter} (kept : Kept own others account.tokens outbound) (met : Kept others own theirs inbound) (mail : Mail (taken_count own) (passed_count own) (letters_written others) account.post) where
   pending_is : (id : Id) → owed (item_at account.tokens id) ≡ pending own id
   pending_is id =
       let there : item_at (payloads own) id ≡ option_map (λ (t : Token). t.payload) (item_at account.tokens id) = ap (λ (l : List ℕ). item_at l id) kept.all ∙ item_at-map (λ (t : Token). t.payload) account.tokens id in
@@ -156,7 +164,7 @@ module _ {own others : List Event} (account : Account) {theirs : List Token} {ou
   counted : length (payloads own) ≡ length account.tokens
   counted = ap (λ (l : List ℕ). length l) kept.all ∙ length-map account.tokens (λ (t : Token). t.payload)
 
-  pub peer_agrees : (peer : Peer) → SideAfter (seen peer) own others → PeerAgrees peer account theirs
+  pub peer_agrees : {handed : List Message} (peer : Peer) → SideAfter (seen peer) handed own others → PeerAgrees peer handed account theirs
   peer_agrees peer after = record {
     out = λ id. after.asks id ∙ sym (pending_is id);
     held = λ id. after.holds id ∙ met.there id;
@@ -168,7 +176,7 @@ module _ {own others : List Event} (account : Account) {theirs : List Token} {ou
     taken = after.took ∙ ap (each (λ (l : Letter). l.message)) mail.taken;
   }
 
-  pub side_after : (peer : Peer) → PeerAgrees peer account theirs → SideAfter (seen peer) own others
+  pub side_after : {handed : List Message} (peer : Peer) → PeerAgrees peer handed account theirs → SideAfter (seen peer) handed own others
   side_after peer agrees = record {
     took = agrees.taken ∙ ap (each (λ (l : Letter). l.message)) (sym mail.taken);
     in_link = agrees.line.bytes ∙ ap frames (sym mail.left);
@@ -178,21 +186,21 @@ module _ {own others : List Event} (account : Account) {theirs : List Token} {ou
     count = agrees.count ∙ sym counted;
   }
 
-pub world_agrees : (world : World) (history : List Event) (p : Accounts) → Made history p → WorldAfter world history → WorldAgrees world p
-world_agrees world history p made after = record {
+pub world_agrees : (world : World) (handed : Side → List Message) (history : List Event) (p : Accounts) → Made history p → WorldAfter world handed history → WorldAgrees world handed p
+world_agrees world handed history p made after = record {
   near_side = peer_agrees p.here made.tied.here made.tied.there made.tied.in_here world.a (after.sides A);
   far_side = peer_agrees p.there made.tied.there made.tied.here made.tied.in_there world.b (after.sides B);
 }
 
-pub world_after : (world : World) (history : List Event) (p : Accounts) → Made history p → IsHistory history → WorldAgrees world p → WorldAfter world history
-world_after world history p made lawful agrees = record { lawful = lawful; sides = at }
+pub world_after : (world : World) (handed : Side → List Message) (history : List Event) (p : Accounts) → Made history p → IsHistory history → WorldAgrees world handed p → WorldAfter world handed history
+world_after world handed history p made lawful agrees = record { lawful = lawful; sides = at }
   where
-    at : (side : Side) → SideAfter (seen_at side world) (events_of side history) (events_of (other side) history)
+    at : (side : Side) → SideAfter (seen_at side world) (handed side) (events_of side history) (events_of (other side) history)
     at A = side_after p.here made.tied.here made.tied.there made.tied.in_here world.a agrees.near_side
     at B = side_after p.there made.tied.there made.tied.here made.tied.in_there world.b agrees.far_side
 
-pub nothing_after : (world : World) → WorldAgrees world nothing → WorldAfter world []
-nothing_after world agrees = world_after world [] nothing made_nothing tt agrees
+pub nothing_after : (world : World) → WorldAgrees world (λ side. []) nothing → WorldAfter world (λ side. []) []
+nothing_after world agrees = world_after world (λ side. []) [] nothing made_nothing tt agrees
 
 -- ---- the next letter is read back
 
@@ -215,78 +223,112 @@ nest_drop zero xs all = all
 nest_drop (suc n) [] all = tt
 nest_drop (suc n) (x ∷ xs) all = nest_drop n xs all.1
 
-nest_of : (side at : Side) (e : Event) → Nest e.wrote → Nest (letters (if_of side at e))
+nest_of : (side at : Side) (e : Event) → Nest e.wrote → Nest (letters_written (only_of side at e))
 nest_of A A e nest = nest_append e.wrote [] nest tt
 nest_of B B e nest = nest_append e.wrote [] nest tt
 nest_of A B e nest = tt
 nest_of B A e nest = tt
 
-nest_from : (side : Side) (before events : List Event) → AllHappen before events → AreReadable events → Nest (letters (events_of side events))
+nest_from : (side : Side) (before events : List Event) → AllFollow before events → AreReadable events → Nest (letters_written (events_of side events))
 nest_from side before [] happen readable = tt
 nest_from side before (e ∷ events) happen readable =
-    subst Nest (sym (flat_map-append (λ (x : Event). x.wrote) (if_of side (side_of e.step) e) (events_of side events)))
-    (nest_append (letters (if_of side (side_of e.step) e)) (letters (events_of side events)) (nest_of side (side_of e.step) e (nest_map e.wrote (written_in e.step e.outcome) happen.0.wrote readable.0)) (nest_from side (before ++ e ∷ []) events happen.1 readable.1))
+    subst Nest (sym (flat_map-append (λ (x : Event). x.wrote) (only_of side (side_of e.step) e) (events_of side events)))
+    (nest_append (letters_written (only_of side (side_of e.step) e)) (letters_written (events_of side events)) (nest_of side (side_of e.step) e (nest_map e.wrote (written_in e.step e.outcome) happen.0.wrote_is readable.0)) (nest_from side (before ++ e ∷ []) events happen.1 readable.1))
 
-mail_reads : {n bytes : ℕ} {sent : List Letter} {post : Post} → Mail n bytes sent post → Nest sent → IfNext ReadsBack post
-mail_reads {n} {bytes} {sent} {post} mail nest = at (next post) (λ letter is. next_first post letter is)
+first_nests : (before passed : ℕ) (ls : List Letter) → Nest ls → IfSome (first_passed before passed ls) (λ letter. nesting letter.message ≤ max_depth)
+first_nests before passed [] nest = tt
+first_nests before passed (letter ∷ ls) nest = at (nat_le (before + length letter.frame) passed)
   where
-    at : (o : Option Letter) → ((letter : Letter) → o ≡ Some letter → (rest : List Letter) × (post.waiting ≡ letter ∷ rest)) → IfSome o (λ (letter : Letter). ReadsBack letter.message)
-    at None first = tt
-    at (Some letter) first =
-        let f = first letter refl in
-        let all : Nest (letter ∷ f.0) = subst Nest (mail.left ∙ f.1) (nest_drop n sent nest) in
-        record { nests = all.0; same = first_plain mail letter f.0 f.1 }
+    at : (b : Bool) → IfSome (if b then Some letter else None) (λ (l : Letter). nesting l.message ≤ max_depth)
+    at true = nest.0
+    at false = tt
 
-pub reads_a : (history : List Event) (p : Accounts) → IsHistory history → AreReadable history → Made history p → IfNext ReadsBack p.here.post
-reads_a history p lawful readable made = mail_reads made.tied.in_here (nest_from B [] history lawful readable)
+-- after a history whose messages nest at most 127 levels, each step may be taken
+pub takes_any : (history : List Event) (step : Step) → IsHistory history → AreReadable history → TakesReadable history step
+takes_any history (Take side label) lawful readable =
+    first_nests _ _ _ (nest_drop (taken_count (events_of side history)) (letters_written (events_of (other side) history)) (nest_from (other side) [] history lawful readable))
+takes_any history step lawful readable = tt
 
-pub reads_b : (history : List Event) (p : Accounts) → IsHistory history → AreReadable history → Made history p → IfNext ReadsBack p.there.post
-reads_b history p lawful readable made = mail_reads made.tied.in_there (nest_from A [] history lawful readable)
+mail_reads : (own others : List Event) (post : Post) → Mail (taken_count own) (passed_count own) (letters_written others) post → IfSome (next_letter own others) (λ letter. nesting letter.message ≤ max_depth) → IfNext ReadsBack post
+mail_reads own others post mail nests = at (next post) (λ letter is. next_first post letter is) (subst (λ (o : Option Letter). IfSome o (λ (l : Letter). nesting l.message ≤ max_depth)) (next_is own others mail) nests)
+  where
+    at : (o : Option Letter) → ((letter : Letter) → o ≡ Some letter → (rest : List Letter) × (post.waiting ≡ letter ∷ rest)) → IfSome o (λ (letter : Letter). nesting letter.message ≤ max_depth) → IfSome o (λ (letter : Letter). ReadsBack letter.message)
+    at None first nests = tt
+    at (Some letter) first nests = let f = first letter refl in record { nests = nests; same = first_plain mail letter f.0 f.1 }
+
+-- what the step takes is read back
+pub reads_a : (step : Step) (history : List Event) (p : Accounts) → Made history p → side_of step ≡ A → TakesReadable history step → ReadsNext p step
+reads_a (Take side label) history p made is readable =
+    mail_reads (events_of A history) (events_of B history) p.here.post made.tied.in_here (subst (λ (s : Side). IfSome (next_letter (events_of s history) (events_of (other s) history)) (λ letter. nesting letter.message ≤ max_depth)) is readable)
+reads_a step history p made is readable = tt
+
+pub reads_b : (step : Step) (history : List Event) (p : Accounts) → Made history p → side_of step ≡ B → TakesReadable history step → ReadsNext (record { here = p.there; there = p.here }) step
+reads_b (Take side label) history p made is readable =
+    mail_reads (events_of B history) (events_of A history) p.there.post made.tied.in_there (subst (λ (s : Side). IfSome (next_letter (events_of s history) (events_of (other s) history)) (λ letter. nesting letter.message ≤ max_depth)) is readable)
+reads_b step history p made is readable = tt
+
+-- ---- which steps need no memory
+
+not_held : (o : Option ℕ) (outcome : ℕ → Outcome) → ((label : ℕ) → NeedsNoMemory (outcome label) → ⊥) → NeedsNoMemory (where_held o outcome) → o ≡ None
+not_held None outcome never free = refl
+not_held (Some label) outcome never free = absurd (never label free)
+
+free_from : (own others : List Event) (p : Accounts) → Tied own others p → (step : Step) → NeedsNoMemory (outcome_of own others step) → IsFree p step
+free_from own others p tied (Register side method params payload) free = at (length (payloads own) == all_ids) refl free
+  where
+    count : length (payloads own) ≡ length p.here.tokens
+    count = ap (λ (l : List ℕ). length l) tied.here.all ∙ length-map p.here.tokens (λ (t : Token). t.payload)
+
+    at : (b : Bool) → (length (payloads own) == all_ids) ≡ b → NeedsNoMemory (if b then Spent else Registered (nth_id (length (payloads own)))) → length p.here.tokens ≡ all_ids
+    at true is free = sym count ∙ eqb-true _ _ is
+    at false is free = absurd free
+free_from own others p tied (Tell side method params) free = free
+free_from own others p tied (Pass side bytes) free = tt
+free_from own others p tied (Take side label) free = at (next p.here.post) (subst (λ (o : Option Letter). NeedsNoMemory (taking own others o)) (next_is own others tied.in_here) free)
+  where
+    never : (m : Message) → NeedsNoMemory (outcome_of_taking own others m) → ⊥
+    never (request id method params) free = free
+    never (response id answer) free = free
+    never (notification method params) free = free
+
+    at : (o : Option Letter) → NeedsNoMemory (taking own others o) → o ≡ None
+    at None free = refl
+    at (Some letter) free = absurd (never letter.message free)
+free_from own others p tied (Answer side id value) free = sym (tied.there.there id) ∙ not_held (held own id) (λ label. Answered label) (λ label never. never) free
+free_from own others p tied (Cancel side id) free = sym (tied.there.there id) ∙ not_held (held own id) (λ label. Cancelled) (λ label never. never) free
+free_from own others p tied (GiveUp side id) free = tt
+
+pub free_a : (step : Step) (history : List Event) (p : Accounts) → Made history p → side_of step ≡ A → NeedsNoMemory (outcome_of (events_of (side_of step) history) (events_of (other (side_of step)) history) step) → IsFree p step
+free_a step history p made is free = free_from _ _ p made.tied step (subst (λ (s : Side). NeedsNoMemory (outcome_of (events_of s history) (events_of (other s) history) step)) is free)
+
+pub free_b : (step : Step) (history : List Event) (p : Accounts) → Made history p → side_of step ≡ B → NeedsNoMemory (outcome_of (events_of (side_of step) history) (events_of (other (side_of step)) history) step) → IsFree (record { here = p.there; there = p.here }) step
+free_b step history p made is free = free_from _ _ (turned p) (turned_tied _ _ p made.tied) step (subst (λ (s : Side). NeedsNoMemory (outcome_of (events_of s history) (events_of (other s) history) step)) is free)
 
 -- ---- one step of a world
 
-pub go_a : (result : Result Outcome WorldFault) (near far : Peer) (step : Step) (history : List Event) (p : Accounts) → IsHistory history → Made history p → side_of step ≡ A →
-    IfOk result (λ outcome. (new : Accounts) × StepDoes p step outcome new × Agrees near far new) →
-    IfOk result (λ outcome. (e : Event) × (e.step ≡ step) × (e.outcome ≡ outcome) × WorldAfter (record { a = near; b = far }) (history ++ e ∷ []))
-go_a (Err fault) near far step history p lawful made is went = tt
-go_a (Ok outcome) near far step history p lawful made is went =
+pub go_a : (result : Result Outcome WorldFault) (near far : Peer) (handed : Side → List Message) (step : Step) (history : List Event) (p : Accounts) → IsHistory history → Made history p → side_of step ≡ A →
+    IfOk result (λ outcome. (new : Accounts) × StepDoes p step outcome new × Agrees near far (handed A) (handed B) new) →
+    IfOk result (λ outcome. (e : Event) × (e.step ≡ step) × (e.outcome ≡ outcome) × WorldAfter (record { a = near; b = far }) handed (history ++ e ∷ []))
+go_a (Err fault) near far handed step history p lawful made is went = tt
+go_a (Ok outcome) near far handed step history p lawful made is went =
     let tells = told (events_of A history) (events_of B history) p made.tied step outcome went.0 went.1 in
     let e : Event = event step outcome tells.0 in
     let happens : Happens history e = subst (λ (s : Side). Follows (events_of s history) (events_of (other s) history) e) (sym is) tells.1.follows in
-    (e, refl, refl, world_after (record { a = near; b = far }) (history ++ e ∷ []) went.0 (made_a history p went.0 step outcome tells.0 is made tells.1) (happen_more [] history e lawful happens) went.2)
+    (e, refl, refl, world_after (record { a = near; b = far }) handed (history ++ e ∷ []) went.0 (made_a history p went.0 step outcome tells.0 is made tells.1) (happen_more [] history e lawful happens) went.2)
 
-pub go_b : (result : Result Outcome WorldFault) (near far : Peer) (step : Step) (history : List Event) (p : Accounts) → IsHistory history → Made history p → side_of step ≡ B →
-    IfOk result (λ outcome. (new : Accounts) × StepDoes (record { here = p.there; there = p.here }) step outcome new × Agrees near far new) →
-    IfOk result (λ outcome. (e : Event) × (e.step ≡ step) × (e.outcome ≡ outcome) × WorldAfter (record { a = far; b = near }) (history ++ e ∷ []))
-go_b (Err fault) near far step history p lawful made is went = tt
-go_b (Ok outcome) near far step history p lawful made is went =
+pub go_b : (result : Result Outcome WorldFault) (near far : Peer) (handed : Side → List Message) (step : Step) (history : List Event) (p : Accounts) → IsHistory history → Made history p → side_of step ≡ B →
+    IfOk result (λ outcome. (new : Accounts) × StepDoes (record { here = p.there; there = p.here }) step outcome new × Agrees near far (handed B) (handed A) new) →
+    IfOk result (λ outcome. (e : Event) × (e.step ≡ step) × (e.outcome ≡ outcome) × WorldAfter (record { a = far; b = near }) handed (history ++ e ∷ []))
+go_b (Err fault) near far handed step history p lawful made is went = tt
+go_b (Ok outcome) near far handed step history p lawful made is went =
     let tells = told (events_of B history) (events_of A history) (turned p) (turned_tied _ _ p made.tied) step outcome went.0 went.1 in
     let e : Event = event step outcome tells.0 in
     let happens : Happens history e = subst (λ (s : Side). Follows (events_of s history) (events_of (other s) history) e) (sym is) tells.1.follows in
-    (e, refl, refl, world_after (record { a = far; b = near }) (history ++ e ∷ []) (turned went.0) (made_b history p went.0 step outcome tells.0 is made tells.1) (happen_more [] history e lawful happens) (record { near_side = went.2.far_side; far_side = went.2.near_side }))
+    (e, refl, refl, world_after (record { a = far; b = near }) handed (history ++ e ∷ []) (turned went.0) (made_b history p went.0 step outcome tells.0 is made tells.1) (happen_more [] history e lawful happens) (record { near_side = went.2.far_side; far_side = went.2.near_side }))
 
 -- a world that agrees, seen from B
-pub turned_agrees : (world : World) (p : Accounts) → WorldAgrees world p → Agrees world.b world.a (record { here = p.there; there = p.here })
-turned_agrees world p agrees = record { near_side = agrees.far_side; far_side = agrees.near_side }
+pub turned_agrees : (world : World) (handed : Side → List Message) (p : Accounts) → WorldAgrees world handed p → Agrees world.b world.a (handed B) (handed A) (record { here = p.there; there = p.here })
+turned_agrees world handed p agrees = record { near_side = agrees.far_side; far_side = agrees.near_side }
 
 pub placed_b : (p : Accounts) → InOnePlace p → InOnePlace (record { here = p.there; there = p.here })
 placed_b p placed = turned_placed p placed
-
--- ---- a list of steps
-
-pub readable_at : (history : List Event) (steps : List Step) (outcomes : List Outcome) → each (λ (e : Event). e.step) history ≡ steps → each (λ (e : Event). e.outcome) history ≡ outcomes → AllReadable steps outcomes → AreReadable history
-readable_at history steps outcomes es eo readable =
-    subst (λ (l : List Step). AllReadable l (each (λ (e : Event). e.outcome) history)) (sym es) (subst (AllReadable steps) (sym eo) readable)
-
-pub run_of : (history : List Event) (p : Accounts) (steps : List Step) (outcomes : List Outcome) → Made history p → each (λ (e : Event). e.step) history ≡ steps → each (λ (e : Event). e.outcome) history ≡ outcomes → Run nothing steps outcomes p
-run_of history p steps outcomes made es eo = subst (λ (l : List Step). Run nothing l outcomes p) es (subst (λ (l : List Outcome). Run nothing (each (λ (e : Event). e.step) history) l p) eo made.run)
-
--- the history after one more event
-pub pushed_history : (world : World) (history : List Event) (e : Event) (steps : List Step) (outcomes all : List Outcome) (step : Step) (outcome : Outcome) → each (λ (x : Event). x.step) history ≡ steps → each (λ (x : Event). x.outcome) history ≡ outcomes → e.step ≡ step → e.outcome ≡ outcome → all ≡ outcomes ++ outcome ∷ [] → WorldAfter world (history ++ e ∷ []) →
-    (new : List Event) × (each (λ (x : Event). x.step) new ≡ steps ++ step ∷ []) × (each (λ (x : Event). x.outcome) new ≡ all) × WorldAfter world new
-pushed_history world history e steps outcomes all step outcome es eo is came pushed after = (
-  history ++ e ∷ [],
-  map-append (λ (x : Event). x.step) history (e ∷ []) ∙ (λ i. es i ++ is i ∷ []),
-  map-append (λ (x : Event). x.outcome) history (e ∷ []) ∙ (λ i. eo i ++ came i ∷ []) ∙ sym pushed,
-  after,
-)

@@ -3,7 +3,7 @@ use Rattle.std.proofs.Common.{◌≡◌, ℕ, ◌<◌, List, [], ◌∷◌, ◌+
 use Rattle.std.specs.Prelude.{Option, None, Some, false, IsSome, option_map}
 use Rattle.lsp_message.specs.Id.{Id}
 use Rattle.lsp_message.specs.Message.{Message, request, notification, response}
-use Rattle.lsp_peers.specs.History.{Event, payloads, labels, returned, taking, taking_message, next_letter, outcome_of, events_of, Happens, AllHappen, IsHistory}
+use Rattle.lsp_peers.specs.History.{Event, payloads, labels, returned, outcome_of_taking, next_letter, outcome_of, events_of, AllFollow, IsHistory}
 use Rattle.lsp_peers.specs.Ids.{nth_id, item_at, has}
 use Rattle.lsp_peers.specs.InOnePlace.{InOnePlace, replies, returning}
 use Rattle.lsp_peers.specs.Post.{Letter, next}
@@ -19,19 +19,19 @@ use Rattle.lsp_peers.specs.declared.step.Step.TheVariants.{Take}
 use Rattle.lsp_peers.proofs.ExchangeLemmas.{made_of, turned_tied, turned_placed}
 use Rattle.lsp_peers.proofs.HistoryLemmas.{arrives}
 use Rattle.lsp_peers.proofs.IdLemmas.{item_at-map}
-use Rattle.lsp_peers.proofs.Kept.{Kept, done_at}
+use Rattle.lsp_peers.proofs.Kept.{Happens, taking, Kept, done_at}
 use Rattle.lsp_peers.proofs.LawLemmas.{Tied}
 use Rattle.lsp_peers.proofs.MailLemmas.{next_is}
 use Rattle.lsp_peers.proofs.PlaceLemmas.{next_first, returning_token, reply_of_own}
 
-beginning : (before xs ys : List Event) → AllHappen before (xs ++ ys) → AllHappen before xs
+beginning : (before xs ys : List Event) → AllFollow before (xs ++ ys) → AllFollow before xs
 beginning before [] ys all = tt
 beginning before (x ∷ xs) ys all = (all.0, beginning (before ++ x ∷ []) xs ys all.1)
 
 pub beginning_of : (xs ys : List Event) → IsHistory (xs ++ ys) → IsHistory xs
 beginning_of xs ys all = beginning [] xs ys all
 
-last_of : (before xs : List Event) (e : Event) → AllHappen before (xs ++ e ∷ []) → Happens (before ++ xs) e
+pub last_of : (before xs : List Event) (e : Event) → AllFollow before (xs ++ e ∷ []) → Happens (before ++ xs) e
 last_of before [] e all = subst (λ (l : List Event). Happens l e) (sym (append-nil before)) all.0
 last_of before (x ∷ xs) e all = subst (λ (l : List Event). Happens l e) (append_assoc before (x ∷ []) xs) (last_of (before ++ x ∷ []) xs e all.1)
 
@@ -43,7 +43,7 @@ abbrev Arrives : List Event → List Event → Id → Type 0
 Arrives own others id = (id ≡ nth_id (length (labels own))) × (length (labels own) < length (payloads others))
 
 module _ (own others : List Event) (p : Accounts) (tied : Tied own others p) (placed : InOnePlace p) where
-  back_message : (letter : Letter) (rest : List Letter) (m : Message) (id : Id) (payload : Option ℕ) → p.here.post.waiting ≡ letter ∷ rest → letter.message ≡ m → Returned id payload ≡ taking_message own others m → GivesBack own id payload
+  back_message : (letter : Letter) (rest : List Letter) (m : Message) (id : Id) (payload : Option ℕ) → p.here.post.waiting ≡ letter ∷ rest → letter.message ≡ m → Returned id payload ≡ outcome_of_taking own others m → GivesBack own id payload
   back_message letter rest (request key method params) id payload first is came = cc
   back_message letter rest (response key answer) id payload first is came =
       let waits : 0 < returning (item_at p.here.tokens key) = omega (arith, sym (ap (λ (ls : List Letter). replies ls key) first) ∙ placed.here_once.back key, reply_of_own letter.message key answer is) in
@@ -61,7 +61,7 @@ module _ (own others : List Event) (p : Accounts) (tied : Tied own others p) (pl
   gives_back None id payload is came = cc
   gives_back (Some letter) id payload is came = let f = next_first p.here.post letter is in back_message letter f.0 letter.message id payload f.1 refl came
 
-  comes_message : (letter : Letter) (rest : List Letter) (m : Message) (id : Id) → p.here.post.waiting ≡ letter ∷ rest → letter.message ≡ m → Arrived id ≡ taking_message own others m → Arrives own others id
+  comes_message : (letter : Letter) (rest : List Letter) (m : Message) (id : Id) → p.here.post.waiting ≡ letter ∷ rest → letter.message ≡ m → Arrived id ≡ outcome_of_taking own others m → Arrives own others id
   comes_message letter rest (request key method params) id first is came =
       let waiting : Kept others own p.there.tokens (letter ∷ rest) = subst (λ (ls : List Letter). Kept others own p.there.tokens ls) first tied.there in
       let come = arrives waiting key method params is in
@@ -77,7 +77,7 @@ module _ (own others : List Event) (p : Accounts) (tied : Tied own others p) (pl
 -- what a Take came to
 took : (before : List Event) (e : Event) (side : Side) (label : ℕ) (outcome : Outcome) → IsHistory (before ++ e ∷ []) → e.step ≡ Take side label → e.outcome ≡ outcome → outcome ≡ taking (events_of side before) (events_of (other side) before) (next_letter (events_of side before) (events_of (other side) before))
 took before e side label outcome history is came =
-    sym came ∙ (last_of [] before e history).outcome ∙ ap (λ (s : Step). outcome_of (events_of (side_of s) before) (events_of (other (side_of s)) before) s) is
+    sym came ∙ (last_of [] before e history).outcome_is ∙ ap (λ (s : Step). outcome_of (events_of (side_of s) before) (events_of (other (side_of s)) before) s) is
 
 pub back_law : (before : List Event) (e : Event) → IsHistory (before ++ e ∷ []) → (side : Side) (label : ℕ) (id : Id) (payload : Option ℕ) → e.step ≡ Take side label → e.outcome ≡ Returned id payload → GivesBack (events_of side before) id payload
 back_law before e history A label id payload is came =

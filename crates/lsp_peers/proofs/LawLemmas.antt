@@ -2,7 +2,7 @@
 use Rattle.std.proofs.Common.{◌≡◌, ℕ, ◌<◌, List, [], ◌∷◌, ◌++◌, length, String, Global, refl, sym, ap, ◌∙◌, subst, arith, ⊎_elim, min}
 use Rattle.std.proofs.lemmas.Bool.{cases_Bool, cond-true, cond-false, MatchBool-at_true, MatchBool-at_false}
 use Rattle.std.proofs.lemmas.List.{length-map}
-use Rattle.std.specs.Prelude.{Option, None, Some, Result, Ok, true, false, nat_lt, if◌then◌else◌, MatchOption, drop, option_map, map as each, string_bytes}
+use Rattle.std.specs.Prelude.{◌==◌, Option, None, Some, Result, Ok, true, false, if◌then◌else◌, MatchOption, drop, option_map, map as each, string_bytes}
 use Rattle.serde_json.specs.Data.{Data}
 use Rattle.serde_json.specs.View.{view}
 use Rattle.serde_json.specs.declared.value.Value.{Value}
@@ -17,23 +17,22 @@ use Rattle.lsp_peers.specs.declared.step.Step.{Step}
 use Rattle.lsp_peers.specs.declared.step.Step.TheVariants.{Register, Tell, Pass, Take, Answer, Cancel, GiveUp}
 use Rattle.lsp_peers.specs.Token.{OnTheWay, AtOther, ComingBack, Done, GivenUp, Token, token, label_of, Goes}
 use Rattle.lsp_peers.specs.Post.{Letter, posted, passed_on, next, one_taken, unpassed}
-use Rattle.lsp_peers.specs.Steps.{Accounts, accounts, Registers, Tells, TakesMessage, Takes, StepDoes}
+use Rattle.lsp_peers.specs.Steps.{Accounts, accounts, Registers, TakesMessage, Takes, StepDoes}
 use Rattle.lsp_peers.specs.InOnePlace.{InOnePlace, requests, replies, going, returning}
-use Rattle.lsp_peers.specs.History.{Event, written_in, payload_in, arrival_in, settled_in, returned_in, count_in, bytes_in, payloads, passed, letters, taken_count, held, where_held, taking, taking_message, outcome_of, Follows}
+use Rattle.lsp_peers.specs.History.{Event, written_in, payload_in, arrival_in, settled_in, returned_in, count_in, bytes_in, payloads, passed_count, letters_written, taken_count, held, where_held, outcome_of_taking, outcome_of, Follows}
 use Rattle.lsp_peers.proofs.AgreeLemmas.{match_true, match_false, match_some, match_none, takes_at}
-use Rattle.lsp_peers.proofs.Kept.{Kept, ids_in}
+use Rattle.lsp_peers.proofs.Kept.{Kept, ids_in, taking}
 use Rattle.lsp_peers.proofs.PlaceLemmas.{next_first, held_token, going_token, returning_token, request_of_own, reply_of_own}
 use Rattle.lsp_peers.proofs.HistoryLemmas.{kept_own, kept_others, kept_registered, kept_settled, kept_returned, kept_unasked, kept_unasked_taken, kept_arrived}
 use Rattle.lsp_peers.proofs.IdLemmas.{item_at-map}
-use Rattle.lsp_peers.proofs.MailLemmas.{IsPlain, Mail, mail_own, mail_arrived, mail_took, mail_none, mail_wrote, next_is, bytes_are, first_plain}
-use Rattle.lsp_peers.proofs.RunLemmas.{outcome_in}
+use Rattle.lsp_peers.proofs.MailLemmas.{IsPlain, Mail, mail_own, mail_arrived, mail_took, mail_none, mail_wrote, next_is, bytes_are}
 
 -- the events of the side from which the accounts are seen, and of the other side, tied to the accounts
 pub record Tied (own others : List Event) (p : Accounts) : Type 0 where
   pub here : Kept own others p.here.tokens p.there.post.waiting
   pub there : Kept others own p.there.tokens p.here.post.waiting
-  pub in_here : Mail (taken_count own) (passed own) (letters others) p.here.post
-  pub in_there : Mail (taken_count others) (passed others) (letters own) p.there.post
+  pub in_here : Mail (taken_count own) (passed_count own) (letters_written others) p.here.post
+  pub in_there : Mail (taken_count others) (passed_count others) (letters_written own) p.there.post
 
 abbrev pub event : Step → Outcome → List Letter → Event
 event step outcome wrote = record { step = step; outcome = outcome; wrote = wrote }
@@ -68,7 +67,7 @@ module _ (own others : List Event) (p : Accounts) (tied : Tied own others p) whe
       let e : Event = event step outcome [] in
       record {
         does = does;
-        follows = record { outcome = is; wrote = sym unwritten };
+        follows = record { outcome_is = is; wrote_is = sym unwritten };
         tied = record {
           here = kept_own tied.here e unpaid unreturned;
           there = kept_others tied.there e unarrived unsettled;
@@ -78,17 +77,17 @@ module _ (own others : List Event) (p : Accounts) (tied : Tied own others p) whe
       }
 
   module _ (side : Side) (method : String Global) (params : Value) (payload : ℕ) where
-    registered_as : nat_lt (length p.here.tokens) all_ids ≡ true → Registered (nth_id (length p.here.tokens)) ≡ outcome_of own others (Register side method params payload)
-    registered_as room = subst (λ (k : ℕ). Registered (nth_id (length p.here.tokens)) ≡ (if nat_lt k all_ids then Registered (nth_id k) else Spent)) (sym count_is) (sym (cond-true (nat_lt (length p.here.tokens) all_ids) _ _ room))
+    registered_as : (length p.here.tokens == all_ids) ≡ false → Registered (nth_id (length p.here.tokens)) ≡ outcome_of own others (Register side method params payload)
+    registered_as room = subst (λ (k : ℕ). Registered (nth_id (length p.here.tokens)) ≡ (if k == all_ids then Spent else Registered (nth_id k))) (sym count_is) (sym (cond-false (length p.here.tokens == all_ids) _ _ room))
 
-    claim_registered : nat_lt (length p.here.tokens) all_ids ≡ true → (letter : Letter) → letter.message ≡ request (nth_id (length p.here.tokens)) (string_bytes method) (view params) → Claim own others p (Register side method params payload) (Registered (nth_id (length p.here.tokens))) (letter ∷ []) (accounts (p.here.tokens ++ token payload OnTheWay ∷ []) p.here.post p.there.tokens (posted p.there.post letter))
+    claim_registered : (length p.here.tokens == all_ids) ≡ false → (letter : Letter) → letter.message ≡ request (nth_id (length p.here.tokens)) (string_bytes method) (view params) → Claim own others p (Register side method params payload) (Registered (nth_id (length p.here.tokens))) (letter ∷ []) (accounts (p.here.tokens ++ token payload OnTheWay ∷ []) p.here.post p.there.tokens (posted p.there.post letter))
     claim_registered room letter is =
         let e : Event = event (Register side method params payload) (Registered (nth_id (length p.here.tokens))) (letter ∷ []) in
         record {
-          does = match_true (nat_lt (length p.here.tokens) all_ids) _ _ room (letter, is, refl, refl);
+          does = match_false (length p.here.tokens == all_ids) _ _ room (letter, is, refl, refl);
           follows = record {
-            outcome = registered_as room;
-            wrote = ap (λ (m : Message). m ∷ []) is;
+            outcome_is = registered_as room;
+            wrote_is = ap (λ (m : Message). m ∷ []) is;
           };
           tied = record {
             here = kept_registered tied.here e payload (string_bytes method) (view params) letter refl refl is;
@@ -98,11 +97,11 @@ module _ (own others : List Event) (p : Accounts) (tied : Tied own others p) whe
           };
         }
 
-    claim_spent : nat_lt (length p.here.tokens) all_ids ≡ false → Claim own others p (Register side method params payload) Spent [] p
+    claim_spent : (length p.here.tokens == all_ids) ≡ true → Claim own others p (Register side method params payload) Spent [] p
     claim_spent full =
         quiet (Register side method params payload) Spent
-        (match_false (nat_lt (length p.here.tokens) all_ids) _ _ full (refl, refl))
-        (subst (λ (k : ℕ). Spent ≡ (if nat_lt k all_ids then Registered (nth_id k) else Spent)) (sym count_is) (sym (cond-false (nat_lt (length p.here.tokens) all_ids) _ _ full)))
+        (match_true (length p.here.tokens == all_ids) _ _ full (refl, refl))
+        (subst (λ (k : ℕ). Spent ≡ (if k == all_ids then Spent else Registered (nth_id k))) (sym count_is) (sym (cond-true (length p.here.tokens == all_ids) _ _ full)))
         refl refl refl refl refl refl refl
 
   claim_told : (side : Side) (method : String Global) (params : Value) (letter : Letter) → letter.message ≡ notification (string_bytes method) (view params) → Claim own others p (Tell side method params) Told (letter ∷ []) (accounts p.here.tokens p.here.post p.there.tokens (posted p.there.post letter))
@@ -110,7 +109,7 @@ module _ (own others : List Event) (p : Accounts) (tied : Tied own others p) whe
       let e : Event = event (Tell side method params) Told (letter ∷ []) in
       record {
         does = (letter, is, refl, refl);
-        follows = record { outcome = refl; wrote = ap (λ (m : Message). m ∷ []) is };
+        follows = record { outcome_is = refl; wrote_is = ap (λ (m : Message). m ∷ []) is };
         tied = record {
           here = kept_unasked (kept_own tied.here e refl refl) letter (ap ids_in is);
           there = kept_others tied.there e refl refl;
@@ -124,7 +123,7 @@ module _ (own others : List Event) (p : Accounts) (tied : Tied own others p) whe
       let e : Event = event (Pass side bytes) (Passed (min bytes (unpassed p.here.post))) [] in
       record {
         does = (refl, refl);
-        follows = record { outcome = ap (λ (k : ℕ). Passed (min bytes k)) (sym (bytes_are own others tied.in_here)); wrote = refl };
+        follows = record { outcome_is = ap (λ (k : ℕ). Passed (min bytes k)) (sym (bytes_are own others tied.in_here)); wrote_is = refl };
         tied = record {
           here = kept_own tied.here e refl refl;
           there = kept_others tied.there e refl refl;
@@ -148,15 +147,15 @@ module _ (own others : List Event) (p : Accounts) (tied : Tied own others p) whe
       waiting : Kept others own p.there.tokens (letter ∷ rest)
       waiting = subst (λ (ls : List Letter). Kept others own p.there.tokens ls) first tied.there
 
-      taken_as : (m : Message) → letter.message ≡ m → taking_message own others m ≡ outcome_of own others (Take side label)
-      taken_as m is = sym (ap (λ (o : Option Letter). taking own others o) (next_is own others tied.in_here ∙ some) ∙ ap (λ (x : Message). taking_message own others x) is)
+      taken_as : (m : Message) → letter.message ≡ m → outcome_of_taking own others m ≡ outcome_of own others (Take side label)
+      taken_as m is = sym (ap (λ (o : Option Letter). taking own others o) (next_is own others tied.in_here ∙ some) ∙ ap (λ (x : Message). outcome_of_taking own others x) is)
 
       claim_arrived : (key : Id) (method : List ℕ) (params : Data) (payload : ℕ) (tokens : List Token) → letter.message ≡ request key method params → Goes key OnTheWay (AtOther label) payload p.there.tokens tokens → Claim own others p (Take side label) (Arrived key) [] (accounts p.here.tokens (one_taken p.here.post) tokens p.there.post)
       claim_arrived key method params payload tokens is goes =
           let e : Event = event (Take side label) (Arrived key) [] in
           record {
             does = takes_at label (next p.here.post) letter (request key method params) p _ (Arrived key) some (sym is) (payload, tokens, goes, refl, refl);
-            follows = record { outcome = taken_as (request key method params) is; wrote = refl };
+            follows = record { outcome_is = taken_as (request key method params) is; wrote_is = refl };
             tied = record {
               here = kept_own tied.here e refl refl;
               there = subst (λ (ls : List Letter). Kept others (own ++ e ∷ []) tokens ls) left (kept_arrived waiting e key label payload method params tokens refl refl goes is);
@@ -171,7 +170,7 @@ module _ (own others : List Event) (p : Accounts) (tied : Tied own others p) whe
           let paid : item_at (payloads own) key ≡ Some payload = ap (λ (l : List ℕ). item_at l key) tied.here.all ∙ item_at-map (λ (t : Token). t.payload) p.here.tokens key ∙ ap (option_map (λ (t : Token). t.payload)) goes.was in
           record {
             does = takes_at label (next p.here.post) letter (response key answer) p _ (Returned key (Some payload)) some (sym is) (payload, tokens, goes, refl, refl);
-            follows = record { outcome = ap (λ (o : Option ℕ). Returned key o) (sym paid) ∙ taken_as (response key answer) is; wrote = refl };
+            follows = record { outcome_is = ap (λ (o : Option ℕ). Returned key o) (sym paid) ∙ taken_as (response key answer) is; wrote_is = refl };
             tied = record {
               here = kept_returned tied.here e key payload tokens refl refl goes;
               there = kept_others (subst (λ (ls : List Letter). Kept others own p.there.tokens ls) left (kept_unasked_taken waiting (ap ids_in is))) e refl refl;
@@ -185,7 +184,7 @@ module _ (own others : List Event) (p : Accounts) (tied : Tied own others p) whe
           let e : Event = event (Take side label) Notified [] in
           record {
             does = takes_at label (next p.here.post) letter (notification method params) p _ Notified some (sym is) (refl, refl);
-            follows = record { outcome = taken_as (notification method params) is; wrote = refl };
+            follows = record { outcome_is = taken_as (notification method params) is; wrote_is = refl };
             tied = record {
               here = kept_own tied.here e refl refl;
               there = kept_others (subst (λ (ls : List Letter). Kept others own p.there.tokens ls) left (kept_unasked_taken waiting (ap ids_in is))) e refl refl;
@@ -206,7 +205,7 @@ module _ (own others : List Event) (p : Accounts) (tied : Tied own others p) whe
         let e : Event = event (Answer side id value) (Answered label) (letter ∷ []) in
         record {
           does = match_some (label_of (item_at p.there.tokens id)) _ _ label found (payload, tokens, letter, goes, is, refl, refl);
-          follows = record { outcome = held_as (λ l. Answered l); wrote = ap (λ (m : Message). m ∷ []) is };
+          follows = record { outcome_is = held_as (λ l. Answered l); wrote_is = ap (λ (m : Message). m ∷ []) is };
           tied = record {
             here = kept_unasked (kept_own tied.here e refl refl) letter (ap ids_in is);
             there = kept_settled tied.there e id label payload ComingBack tokens refl refl goes refl refl refl;
@@ -220,7 +219,7 @@ module _ (own others : List Event) (p : Accounts) (tied : Tied own others p) whe
         let e : Event = event (Cancel side id) Cancelled (letter ∷ []) in
         record {
           does = match_some (label_of (item_at p.there.tokens id)) _ _ label found (payload, tokens, letter, goes, is, refl, refl);
-          follows = record { outcome = held_as (λ l. Cancelled); wrote = ap (λ (m : Message). m ∷ []) is };
+          follows = record { outcome_is = held_as (λ l. Cancelled); wrote_is = ap (λ (m : Message). m ∷ []) is };
           tied = record {
             here = kept_unasked (kept_own tied.here e refl refl) letter (ap ids_in is);
             there = kept_settled tied.there e id label payload ComingBack tokens refl refl goes refl refl refl;
@@ -234,7 +233,7 @@ module _ (own others : List Event) (p : Accounts) (tied : Tied own others p) whe
         let e : Event = event (GiveUp side id) (GaveUp label) [] in
         record {
           does = match_some (label_of (item_at p.there.tokens id)) _ _ label found (payload, tokens, goes, refl, refl);
-          follows = record { outcome = held_as (λ l. GaveUp l); wrote = refl };
+          follows = record { outcome_is = held_as (λ l. GaveUp l); wrote_is = refl };
           tied = record {
             here = kept_own tied.here e refl refl;
             there = kept_settled tied.there e id label payload GivenUp tokens refl refl goes refl refl refl;
@@ -264,9 +263,9 @@ module _ (own others : List Event) (p : Accounts) (tied : Tied own others p) whe
   told_registers : (side : Side) (method : String Global) (params : Value) (payload : ℕ) (outcome : Outcome) (new : Accounts) → Registers (string_bytes method) (view params) payload p outcome new → Retold (Register side method params payload) outcome new
   told_registers side method params payload outcome new moves =
       ⊎_elim
-      (λ room. let made = MatchBool-at_true _ _ room moves in (made.0 ∷ [], claim_at (Register side method params payload) outcome _ (made.0 ∷ []) (made.0 ∷ []) new _ made.2 refl made.3 (claim_registered side method params payload room made.0 made.1)))
-      (λ full. let made = MatchBool-at_false _ _ full moves in ([], claim_at (Register side method params payload) outcome Spent [] [] new p made.0 refl made.1 (claim_spent side method params payload full)))
-      (cases_Bool (nat_lt (length p.here.tokens) all_ids))
+      (λ full. let made = MatchBool-at_true _ _ full moves in ([], claim_at (Register side method params payload) outcome Spent [] [] new p made.0 refl made.1 (claim_spent side method params payload full)))
+      (λ room. let made = MatchBool-at_false _ _ room moves in (made.0 ∷ [], claim_at (Register side method params payload) outcome _ (made.0 ∷ []) (made.0 ∷ []) new _ made.2 refl made.3 (claim_registered side method params payload room made.0 made.1)))
+      (cases_Bool (length p.here.tokens == all_ids))
 
   told_message : (side : Side) (label : ℕ) (letter : Letter) (rest : List Letter) (m : Message) (outcome : Outcome) (new : Accounts) → next p.here.post ≡ Some letter → p.here.post.waiting ≡ letter ∷ rest → letter.message ≡ m → TakesMessage label m p outcome new → Retold (Take side label) outcome new
   told_message side label letter rest (request key method params) outcome new some first is moves =
@@ -319,24 +318,24 @@ module _ (own others : List Event) (p : Accounts) (tied : Tied own others p) whe
 
   moved_none : (step : Step) (o : Outcome) (new : Accounts) → Claim own others p step o [] new → written_in step o ≡ [] → (outcome : Outcome) (wrote : List Letter) → Follows own others (event step outcome wrote) → Moved step outcome wrote
   moved_none step o new claim unwritten outcome wrote follows =
-      let same : outcome ≡ o = follows.outcome ∙ sym claim.follows.outcome in
-      (new, claim_at step outcome o wrote [] new new same (no_letter wrote (follows.wrote ∙ ap (λ (x : Outcome). written_in step x) same ∙ unwritten)) refl claim)
+      let same : outcome ≡ o = follows.outcome_is ∙ sym claim.follows.outcome_is in
+      (new, claim_at step outcome o wrote [] new new same (no_letter wrote (follows.wrote_is ∙ ap (λ (x : Outcome). written_in step x) same ∙ unwritten)) refl claim)
 
   moved_one : (step : Step) (o : Outcome) (m : Message) → o ≡ outcome_of own others step → written_in step o ≡ m ∷ [] → (outcome : Outcome) (wrote : List Letter) → Follows own others (event step outcome wrote) → (outcome ≡ o) × ((letter : Letter) × (wrote ≡ letter ∷ []) × (letter.message ≡ m))
   moved_one step o m is written outcome wrote follows =
-      let same : outcome ≡ o = follows.outcome ∙ sym is in
-      (same, one_letter wrote m (follows.wrote ∙ ap (λ (x : Outcome). written_in step x) same ∙ written))
+      let same : outcome ≡ o = follows.outcome_is ∙ sym is in
+      (same, one_letter wrote m (follows.wrote_is ∙ ap (λ (x : Outcome). written_in step x) same ∙ written))
 
   moved_registers : (side : Side) (method : String Global) (params : Value) (payload : ℕ) (outcome : Outcome) (wrote : List Letter) → Follows own others (event (Register side method params payload) outcome wrote) → Moved (Register side method params payload) outcome wrote
   moved_registers side method params payload outcome wrote follows =
       let step : Step = Register side method params payload in
       ⊎_elim
+      (λ full. moved_none step Spent p (claim_spent side method params payload full) refl outcome wrote follows)
       (λ room.
       let one = moved_one step (Registered (nth_id (length p.here.tokens))) (request (nth_id (length p.here.tokens)) (string_bytes method) (view params)) (registered_as side method params payload room) refl outcome wrote follows in
       let letter : Letter = one.1.0 in
       (accounts (p.here.tokens ++ token payload OnTheWay ∷ []) p.here.post p.there.tokens (posted p.there.post letter), claim_at step outcome _ wrote (letter ∷ []) _ _ one.0 one.1.1 refl (claim_registered side method params payload room letter one.1.2)))
-      (λ full. moved_none step Spent p (claim_spent side method params payload full) refl outcome wrote follows)
-      (cases_Bool (nat_lt (length p.here.tokens) all_ids))
+      (cases_Bool (length p.here.tokens == all_ids))
 
   module _ (placed : InOnePlace p) where
     moved_message : (side : Side) (label : ℕ) (letter : Letter) (rest : List Letter) (m : Message) (outcome : Outcome) (wrote : List Letter) → next p.here.post ≡ Some letter → p.here.post.waiting ≡ letter ∷ rest → letter.message ≡ m → Follows own others (event (Take side label) outcome wrote) → Moved (Take side label) outcome wrote

@@ -1,11 +1,13 @@
 mod AgreeLemmas
 mod ExchangeLemmas
+mod FactLemmas
 mod FrontLemmas
 mod HistoryLaws
 mod HistoryLemmas
 mod IdLemmas
 mod Kept
 mod LawLemmas
+mod LeadLemmas
 mod LineLemmas
 mod LinkLemmas
 mod MailLemmas

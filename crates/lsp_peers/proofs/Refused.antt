@@ -8,12 +8,13 @@ use Rattle.serde_json.specs.declared.value.Value.{Value}
 use Rattle.lsp_message.specs.Id.{Id}
 use Rattle.lsp_message.specs.Message.{Message, request}
 use Rattle.lsp_message.specs.Written.{frame_text}
-use Rattle.lsp_peers.specs.History.{Event, IsHistory, taking, taking_message, next_letter}
+use Rattle.lsp_peers.specs.History.{Event, IsHistory, outcome_of_taking, next_letter}
 use Rattle.lsp_peers.specs.Ids.{nth_id}
 use Rattle.lsp_peers.specs.Letter.{Letter, frames, messages}
 use Rattle.lsp_peers.specs.declared.step.Outcome.TheVariants.{Registered, Passed, Arrived, Returned, Waiting, Answered}
 use Rattle.lsp_peers.specs.declared.step.Side.TheVariants.{A, B}
 use Rattle.lsp_peers.specs.declared.step.Step.TheVariants.{Register, Pass, Take, Answer}
+use Rattle.lsp_peers.proofs.Kept.{taking}
 use Rattle.lsp_peers.proofs.LawLemmas.{event, one_letter}
 
 -- a frame is not empty
@@ -25,25 +26,25 @@ frame_some l =
 
 -- what comes of taking a request, where it may have arrived
 not_returned : (own others : List Event) (l : Letter) (b : Bool) (key id : Id) (method : List ℕ) (params : _) (x : Option ℕ) → l.message ≡ request key method params → Returned id x ≡ taking own others (if b then Some l else None) → ⊥
-not_returned own others l true key id method params x is came = let e : Returned id x ≡ Arrived key = came ∙ ap (λ (m : Message). taking_message own others m) is in cc
+not_returned own others l true key id method params x is came = let e : Returned id x ≡ Arrived key = came ∙ ap (λ (m : Message). outcome_of_taking own others m) is in cc
 not_returned own others l false key id method params x is came = cc
 
 module _ (method : String Global) (params : Value) (result : Value) (rest : List Event) (w1 w2 w3 w4 w5 w6 w7 : List Letter) where
   -- a reply is taken before its request has arrived at the other side
   pub early : IsHistory (event (Register A method params 7) (Registered (nth_id 0)) w1 ∷ event (Take A 0) (Returned (nth_id 0) (Some 7)) w2 ∷ rest) → ⊥
-  early history = let came = history.1.0.outcome in cc
+  early history = let came = history.1.0.outcome_is in cc
 
   -- nothing arrives of a request
   pub unpassed_request : IsHistory (event (Register A method params 7) (Registered (nth_id 0)) w1 ∷ event (Pass B 1000) (Passed 0) w2 ∷ rest) → ⊥
   unpassed_request history =
-      let one = one_letter w1 _ history.0.wrote in
-      let came : Passed 0 ≡ Passed (min 1000 (length (frames (w1 ++ [])) - 0)) = history.1.0.outcome in
+      let one = one_letter w1 _ history.0.wrote_is in
+      let came : Passed 0 ≡ Passed (min 1000 (length (frames (w1 ++ [])) - 0)) = history.1.0.outcome_is in
       let none : 0 ≡ min 1000 (length (frames (w1 ++ [])) - 0) = cc in
       absurd (omega (arith, none, ap (λ (l : List Letter). length (frames (l ++ []))) one.1, length-append one.0.frame [], frame_some one.0))
 
   -- a request of which every byte has arrived is not taken
   pub lazy : length (frames w1) ≤ 1000 → IsHistory (event (Register A method params 7) (Registered (nth_id 0)) w1 ∷ event (Pass B 1000) (Passed (length (frames w1))) w2 ∷ event (Take B 0) Waiting w3 ∷ rest) → ⊥
-  lazy short history = at w1 history.0.wrote history.1.1.0.outcome
+  lazy short history = at w1 history.0.wrote_is history.1.1.0.outcome_is
     where
       own : List Letter → List Event
       own w = event (Pass B 1000) (Passed (length (frames w))) w2 ∷ []
@@ -56,12 +57,12 @@ module _ (method : String Global) (params : Value) (result : Value) (rest : List
       at (l ∷ ls) is came =
           let first : l.message ≡ request (nth_id 0) (string_bytes method) (view params) = cc in
           let whole : nat_le (0 + length l.frame) (length (l.frame ++ frames ls) + 0) ≡ true = le-leb (0 + length l.frame) (length (l.frame ++ frames ls) + 0) (omega (arith, length-append l.frame (frames ls))) in
-          let arrives : Waiting ≡ Arrived (nth_id 0) = came ∙ ap (λ (o : Option Letter). taking (own (l ∷ ls)) (theirs (l ∷ ls)) o) (cond-true (nat_le (0 + length l.frame) (length (l.frame ++ frames ls) + 0)) (Some l) None whole) ∙ ap (λ (m : Message). taking_message (own (l ∷ ls)) (theirs (l ∷ ls)) m) first in
+          let arrives : Waiting ≡ Arrived (nth_id 0) = came ∙ ap (λ (o : Option Letter). taking (own (l ∷ ls)) (theirs (l ∷ ls)) o) (cond-true (nat_le (0 + length l.frame) (length (l.frame ++ frames ls) + 0)) (Some l) None whole) ∙ ap (λ (m : Message). outcome_of_taking (own (l ∷ ls)) (theirs (l ∷ ls)) m) first in
           cc
 
   -- a reply is taken before a request that was written first
   pub swapped : (n m : ℕ) (key id : Id) (x : Option ℕ) → IsHistory (event (Register A method params 7) (Registered (nth_id 0)) w1 ∷ event (Register B method params 8) (Registered (nth_id 0)) w2 ∷ event (Pass B 1000) (Passed n) w3 ∷ event (Take B 5) (Arrived (nth_id 0)) w4 ∷ event (Answer B (nth_id 0) result) (Answered 5) w5 ∷ event (Pass A 1000) (Passed m) w6 ∷ event (Take A 6) (Returned id x) w7 ∷ rest) → ⊥
-  swapped n m key id x history = at w2 history.1.0.wrote history.1.1.1.1.1.1.0.outcome
+  swapped n m key id x history = at w2 history.1.0.wrote_is history.1.1.1.1.1.1.0.outcome_is
     where
       own : List Event
       own = event (Register A method params 7) (Registered (nth_id 0)) w1 ∷ event (Pass A 1000) (Passed m) w6 ∷ []

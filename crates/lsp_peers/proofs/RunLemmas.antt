@@ -1,7 +1,7 @@
 -- Each step keeps that each token is in one place, and a run goes on by one step.
 use Rattle.std.proofs.Common.{◌≡◌, ℕ, List, [], ◌∷◌, ◌++◌, length, refl, sym, ap, ◌∙◌, subst, arith, ⊎_elim, append-nil}
 use Rattle.std.proofs.lemmas.Bool.{cases_Bool, MatchBool-at_true, MatchBool-at_false}
-use Rattle.std.specs.Prelude.{Option, None, Some, Result, Ok, nat_lt, MatchOption, drop, string_bytes}
+use Rattle.std.specs.Prelude.{Option, None, Some, Result, Ok, ◌==◌, MatchOption, drop, string_bytes}
 use Rattle.serde_json.specs.Data.{Data}
 use Rattle.serde_json.specs.View.{view}
 use Rattle.lsp_message.specs.Id.{Id}
@@ -123,15 +123,15 @@ module _ (old : Accounts) (placed : InOnePlace old) where
   placed_registers method params payload outcome new moves =
       let id : Id = nth_id (length old.here.tokens) in
       ⊎_elim
+      (λ full. let made = MatchBool-at_true _ _ full moves in subst InOnePlace (sym made.1) placed)
       (λ room.
-      let made = MatchBool-at_true _ _ room moves in
+      let made = MatchBool-at_false _ _ room moves in
       let letter : Letter = made.0 in
       subst InOnePlace (sym made.3) (record {
         here_once = once_registered placed.here_once letter method params payload made.1;
         there_once = once_request_comes placed.there_once letter id method params made.1;
       }))
-      (λ full. let made = MatchBool-at_false _ _ full moves in subst InOnePlace (sym made.1) placed)
-      (cases_Bool (nat_lt (length old.here.tokens) all_ids))
+      (cases_Bool (length old.here.tokens == all_ids))
 
   placed_tells : (method : List ℕ) (params : Data) (outcome : Outcome) (new : Accounts) → Tells method params old outcome new → InOnePlace new
   placed_tells method params outcome new moves =

@@ -1,44 +1,47 @@
--- What a user sees of two peers, and what it is after the events of a run.
+-- What a user sees of two peers, what it is after the events of a run, and what a run promises.
 use Rattle.std.specs.FinMap as map
-use Rattle.std.specs.Prelude.{◌≡◌, ◌+◌, ℕ, List, ◌++◌, length, map as each}
+use Rattle.std.specs.Prelude.{◌≡◌, ◌+◌, ℕ, List, [], ◌∷◌, ◌++◌, length, map as each}
 use Rattle.lsp_message.specs.Id.{Id}
+use Rattle.lsp_message.specs.Message as plain
 use Rattle.lsp_message.specs.View.{message_view}
 use Rattle.lsp_message.specs.declared.msg.Message.{Message}
 use Rattle.lsp_queue.specs.Queue.{pending_of, count_of}
 use Rattle.lsp_queue.specs.declared.req_queue.ReqQueue.{ReqQueue}
 use Rattle.lsp_peers.specs.declared.peer.Peer.{Peer}
+use Rattle.lsp_peers.specs.declared.step.Outcome.{Outcome}
 use Rattle.lsp_peers.specs.declared.step.Side.{Side}
 use Rattle.lsp_peers.specs.declared.step.Side.TheVariants.{A, B}
+use Rattle.lsp_peers.specs.declared.step.Step.{Step}
 use Rattle.lsp_peers.specs.declared.world.World.{World}
-use Rattle.lsp_peers.specs.History.{Event, held, pending, payloads, passed, letters_taken, letters_left, events_of, IsHistory}
+use Rattle.lsp_peers.specs.History.{Event, held, pending, payloads, passed_count, letters_taken, letters_left, events_of, IsHistory}
 use Rattle.lsp_peers.specs.Letter.{messages, frames}
+use Rattle.lsp_peers.specs.Shallow.{TakesReadable}
 use Rattle.lsp_peers.specs.Sides.{other}
 
--- one side: its queues, the bytes that have arrived there, those on the way to it, and the messages that it took
+-- one side: its queues, the bytes that have arrived there, those on the way to it, and the messages that it took and still has
 pub record Seen : Type 0 where
   pub queue : ReqQueue ℕ ℕ
   pub arrived : List ℕ
   pub on_way : List ℕ
   pub taken : List Message
 
-abbrev pub seen : Peer → Seen
-seen peer = record { queue = peer.queue; arrived = peer.link.arrived; on_way = peer.link.on_way; taken = peer.taken.items }
-
 abbrev pub peer_at : Side → World → Peer
 peer_at A world = world.a
 peer_at B world = world.b
 
 abbrev pub seen_at : Side → World → Seen
-seen_at side world = seen (peer_at side world)
+seen_at side world =
+    let peer = peer_at side world in
+    record { queue = peer.queue; arrived = peer.link.arrived; on_way = peer.link.on_way; taken = peer.taken.items }
 
--- a side after its own events and those of the other side
-pub record SideAfter (side : Seen) (own others : List Event) : Type 0 where
+-- a side after its own events and those of the other side, where it handed these messages out
+pub record SideAfter (side : Seen) (handed : List plain.Message) (own others : List Event) : Type 0 where
   -- it took the first messages that the other side wrote, in order
-  pub took : each message_view side.taken ≡ messages (letters_taken own others)
+  pub took : handed ++ each message_view side.taken ≡ messages (letters_taken own others)
   -- the frames of the others are in the link, and nothing else
   pub in_link : side.arrived ++ side.on_way ≡ frames (letters_left own others)
   -- as many bytes have arrived in all as were passed
-  pub here : length (frames (letters_taken own others)) + length side.arrived ≡ passed own
+  pub here : length (frames (letters_taken own others)) + length side.arrived ≡ passed_count own
   -- a payload is pending until the reply is taken
   pub asks : (id : Id) → map.get (pending_of side.queue.outgoing) id ≡ pending own id
   -- a request is held until it is settled
@@ -46,7 +49,36 @@ pub record SideAfter (side : Seen) (own others : List Event) : Type 0 where
   -- as many ids were given out as requests were registered
   pub count : count_of side.queue.outgoing ≡ length (payloads own)
 
--- A world after these events of both sides. Each of them follows those before it.
-pub record WorldAfter (world : World) (history : List Event) : Type 0 where
+-- A world after these events of both sides, where each side handed out the first of the messages that it took. Each event follows
+-- those before it.
+pub record WorldAfter (world : World) (handed : Side → List plain.Message) (history : List Event) : Type 0 where
   pub lawful : IsHistory history
-  pub sides : (side : Side) → SideAfter (seen_at side world) (events_of side history) (events_of (other side) history)
+  pub sides : (side : Side) → SideAfter (seen_at side world) (handed side) (events_of side history) (events_of (other side) history)
+
+-- What a run comes to. Its steps and outcomes begin as a history. This is all of them, and the world is what it is after it, with
+-- nothing handed out; or else the next step takes a message that nests more than 127 levels.
+pub record LeadTo (steps : List Step) (outcomes : List Outcome) (world : World) : Type 0 where
+  pub history : List Event
+  pub rest : List Step
+  pub later : List Outcome
+  pub steps_are : each (λ event. event.step) history ++ rest ≡ steps
+  pub outcomes_are : each (λ event. event.outcome) history ++ later ≡ outcomes
+  pub paired : length later ≡ length rest
+  pub lawful : IsHistory history
+  pub whole : rest ≡ [] → WorldAfter world (λ side. []) history
+  pub cut : (step : Step) (more : List Step) → rest ≡ step ∷ more → ¬ TakesReadable history step
+
+-- some history begins these steps, and the step behind it takes a message that nests more than 127 levels
+pub record MeetsDeep (steps : List Step) : Type 0 where
+  pub history : List Event
+  pub step : Step
+  pub rest : List Step
+  pub steps_are : each (λ event. event.step) history ++ step ∷ rest ≡ steps
+  pub lawful : IsHistory history
+  pub deep : ¬ TakesReadable history step
+
+-- what was handed out, with these messages of a side behind it
+abbrev pub handed_on : Side → List plain.Message → (Side → List plain.Message) → Side → List plain.Message
+handed_on A given handed A = handed A ++ given
+handed_on B given handed B = handed B ++ given
+handed_on side given handed named = handed named

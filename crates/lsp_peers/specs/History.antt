@@ -1,6 +1,7 @@
 -- What two peers do: the events of a run, and what each of them comes to after those before it.
 use Rattle.std.specs.List.{flat_map}
-use Rattle.std.specs.Prelude.{◌≡◌, ℕ, ◌+◌, ◌-◌, List, [], ◌∷◌, ◌++◌, length, take, drop, min, Option, None, Some, Ok, nat_lt, if◌then◌else◌, string_bytes}
+use Rattle.std.specs.Option.{option_map_or}
+use Rattle.std.specs.Prelude.{◌≡◌, ◌==◌, ℕ, ◌+◌, ◌-◌, List, [], ◌∷◌, ◌++◌, length, take, drop, min, Option, None, Some, Ok, if◌then◌else◌, string_bytes}
 use Rattle.serde_json.specs.View.{view}
 use Rattle.lsp_message.specs.Id.{Id}
 use Rattle.lsp_message.specs.Message.{Message, request, notification, response}
@@ -15,7 +16,7 @@ use Rattle.lsp_peers.specs.Ids.{nth_id, item_at, has}
 use Rattle.lsp_peers.specs.Letter.{Letter, messages, frames, first_passed}
 use Rattle.lsp_peers.specs.Sides.{side_of, other}
 
--- a step with its outcome, and the message that it wrote to the other side, if it wrote one
+-- a step with its outcome, and the letter that it wrote to the other side, if it wrote one
 pub record Event : Type 0 where
   pub step : Step
   pub outcome : Outcome
@@ -65,35 +66,23 @@ abbrev pub bytes_in : Step → Outcome → ℕ
 bytes_in (Pass side bytes) (Passed count) = count
 bytes_in step outcome = 0
 
-abbrev pub payload_of : Event → List ℕ
-payload_of event = payload_in event.step event.outcome
-
-abbrev pub label_of_arrival : Event → List ℕ
-label_of_arrival event = arrival_in event.step event.outcome
-
-abbrev pub settled_id : Event → List Id
-settled_id event = settled_in event.step event.outcome
-
-abbrev pub returned_id : Event → List Id
-returned_id event = returned_in event.step event.outcome
-
 -- ---- what the events of one side come to
 
--- the payloads of its requests, which have the ids 0, 1, 2, ..
+-- The payloads of its requests. They have the ids 0, 1, 2, .., since `outcome_of` gives them out so.
 abbrev pub payloads : List Event → List ℕ
-payloads events = flat_map payload_of events
+payloads events = flat_map (λ event. payload_in event.step event.outcome) events
 
--- the labels of the requests that it took, which have the ids 0, 1, 2, ..
+-- The labels of the requests that it took. These have the ids 0, 1, 2, .. too: that is a law, `requests_arrive_in_order`.
 abbrev pub labels : List Event → List ℕ
-labels events = flat_map label_of_arrival events
+labels events = flat_map (λ event. arrival_in event.step event.outcome) events
 
 -- the ids of the requests that it answered, cancelled or gave up
 abbrev pub settled : List Event → List Id
-settled events = flat_map settled_id events
+settled events = flat_map (λ event. settled_in event.step event.outcome) events
 
 -- the ids of the replies that it took
 abbrev pub returned : List Event → List Id
-returned events = flat_map returned_id events
+returned events = flat_map (λ event. returned_in event.step event.outcome) events
 
 -- the label under which it holds a request: it took the request, and hasn't settled it
 abbrev pub held : List Event → Id → Option ℕ
@@ -104,8 +93,8 @@ abbrev pub pending : List Event → Id → Option ℕ
 pending events id = if has id (returned events) then None else item_at (payloads events) id
 
 -- what it wrote to the other side, in order
-abbrev pub letters : List Event → List Letter
-letters events = flat_map (λ event. event.wrote) events
+abbrev pub letters_written : List Event → List Letter
+letters_written events = flat_map (λ event. event.wrote) events
 
 -- how many messages it took
 abbrev pub taken_count : List Event → ℕ
@@ -113,9 +102,9 @@ taken_count [] = 0
 taken_count (event ∷ events) = count_in event.step event.outcome + taken_count events
 
 -- how many bytes arrived there
-abbrev pub passed : List Event → ℕ
-passed [] = 0
-passed (event ∷ events) = bytes_in event.step event.outcome + passed events
+abbrev pub passed_count : List Event → ℕ
+passed_count [] = 0
+passed_count (event ∷ events) = bytes_in event.step event.outcome + passed_count events
 
 -- what comes of a step that needs a request to be held
 abbrev pub where_held : Option ℕ → (ℕ → Outcome) → Outcome
@@ -127,65 +116,55 @@ where_held (Some label) outcome = outcome label
 module _ (own others : List Event) where
   -- the letters that it took: the first of those that the other side wrote
   abbrev pub letters_taken : List Letter
-  letters_taken = take (taken_count own) (letters others)
+  letters_taken = take (taken_count own) (letters_written others)
 
   -- the letters that it has yet to take
   abbrev pub letters_left : List Letter
-  letters_left = drop (taken_count own) (letters others)
+  letters_left = drop (taken_count own) (letters_written others)
 
   -- the first letter that it has yet to take, if the whole frame has arrived
   abbrev pub next_letter : Option Letter
-  next_letter = first_passed (length (frames letters_taken)) (passed own) letters_left
+  next_letter = first_passed (length (frames letters_taken)) (passed_count own) letters_left
 
-  -- how many bytes are on the way to it
-  abbrev pub bytes_left : ℕ
-  bytes_left = length (frames (letters others)) - passed own
-
-  -- what comes of taking a message: a request arrives, and a reply gives back the payload of its request
-  abbrev pub taking_message : Message → Outcome
-  taking_message (request id method params) = Arrived id
-  taking_message (response id answer) = Returned id (item_at (payloads own) id)
-  taking_message (notification method params) = Notified
-
-  abbrev pub taking : Option Letter → Outcome
-  taking None = Waiting
-  taking (Some letter) = taking_message letter.message
+  -- What comes of taking a message: a request arrives, a reply gives back the payload of its request. That no reply comes twice
+  -- is a law, `a_reply_gives_back_its_payload_once`.
+  abbrev pub outcome_of_taking : Message → Outcome
+  outcome_of_taking (request id method params) = Arrived id
+  outcome_of_taking (response id answer) = Returned id (item_at (payloads own) id)
+  outcome_of_taking (notification method params) = Notified
 
   -- what comes of a step of this side
   abbrev pub outcome_of : Step → Outcome
-  outcome_of (Register side method params payload) = if nat_lt (length (payloads own)) all_ids then Registered (nth_id (length (payloads own))) else Spent
+  outcome_of (Register side method params payload) = if length (payloads own) == all_ids then Spent else Registered (nth_id (length (payloads own)))
   outcome_of (Tell side method params) = Told
-  outcome_of (Pass side bytes) = Passed (min bytes bytes_left)
-  outcome_of (Take side label) = taking next_letter
+  outcome_of (Pass side bytes) = Passed (min bytes (length (frames (letters_written others)) - passed_count own))
+  outcome_of (Take side label) = option_map_or (λ letter. outcome_of_taking letter.message) next_letter Waiting
   outcome_of (Answer side id value) = where_held (held own id) (λ label. Answered label)
   outcome_of (Cancel side id) = where_held (held own id) (λ label. Cancelled)
   outcome_of (GiveUp side id) = where_held (held own id) (λ label. GaveUp label)
 
   -- An event of this side: its outcome is what comes of its step, and it writes what its step and outcome say.
   pub record Follows (event : Event) : Type 0 where
-    pub outcome : event.outcome ≡ outcome_of event.step
-    pub wrote : messages event.wrote ≡ written_in event.step event.outcome
+    pub outcome_is : event.outcome ≡ outcome_of event.step
+    pub wrote_is : messages event.wrote ≡ written_in event.step event.outcome
 
 -- ---- the events of both sides, one after another
 
--- an event, where it is one of the side
-abbrev pub if_of : Side → Side → Event → List Event
-if_of A A event = event ∷ []
-if_of B B event = event ∷ []
-if_of side named event = []
+-- an event, if it is one of the side
+abbrev pub only_of : Side → Side → Event → List Event
+only_of A A event = event ∷ []
+only_of B B event = event ∷ []
+only_of side named event = []
 
 -- the events of a side, in order
 abbrev pub events_of : Side → List Event → List Event
-events_of side history = flat_map (λ event. if_of side (side_of event.step) event) history
-
--- an event follows those that were before it
-abbrev pub Happens : List Event → Event → Type 0
-Happens before event = Follows (events_of (side_of event.step) before) (events_of (other (side_of event.step)) before) event
+events_of side history = flat_map (λ event. only_of side (side_of event.step) event) history
 
 -- each of these events follows those that were before it
-abbrev pub AllHappen : List Event → List Event → Type 0
-AllHappen before [] = Unit {0}
-AllHappen before (event ∷ events) = Happens before event × AllHappen (before ++ event ∷ []) events
+abbrev pub AllFollow : List Event → List Event → Type 0
+AllFollow before [] = Unit {0}
+AllFollow before (event ∷ events) =
+    Follows (events_of (side_of event.step) before) (events_of (other (side_of event.step)) before) event × AllFollow (before ++ event ∷ []) events
 
 abbrev pub IsHistory : List Event → Type 0
-IsHistory events = AllHappen [] events
+IsHistory events = AllFollow [] events

@@ -1,6 +1,6 @@
--- A letter: a message with a frame of it, and what is needed to read it back.
+-- A letter: a message with a frame of it.
 use Rattle.std.specs.List.{flat_map}
-use Rattle.std.specs.Prelude.{◌≡◌, ◌≤◌, ℕ, ◌+◌, List, [], ◌∷◌, ◌++◌, length, Option, None, Some, nat_le, if◌then◌else◌, map as each}
+use Rattle.std.specs.Prelude.{◌≤◌, ℕ, ◌+◌, List, [], ◌∷◌, ◌++◌, length, Option, None, Some, nat_le, if◌then◌else◌, map as each}
 use Rattle.serde_json.specs.Read.{max_depth}
 use Rattle.lsp_message.specs.Frame.{no_limit}
 use Rattle.lsp_message.specs.Letters.{Begins}
@@ -9,8 +9,8 @@ use Rattle.lsp_message.specs.Ranges.{nesting}
 use Rattle.lsp_message.specs.Tree.{without_null_details}
 use Rattle.lsp_message.specs.Written.{IsFrameOf}
 
--- A message with a frame of it (LSP 3.17, "Base Protocol"). Where the message nests at most 127 levels, it is read from the
--- front of the frame, whatever follows that.
+-- A message with a frame of it (LSP 3.17, "Base Protocol"). If the message nests at most 127 levels, it is read from the front of
+-- the frame, whatever follows that. That is known where the letter is written, and used where it is taken.
 pub record Letter : Type 0 where
   pub message : Message
   pub frame : List ℕ
@@ -29,8 +29,3 @@ frames letters = flat_map (λ letter. letter.frame) letters
 abbrev pub first_passed : ℕ → ℕ → List Letter → Option Letter
 first_passed before passed [] = None
 first_passed before passed (letter ∷ letters) = if nat_le (before + length letter.frame) passed then Some letter else None
-
--- The message is read back as it was written: it nests at most 127 levels, and has no error whose data is null.
-pub record ReadsBack (m : Message) : Type 0 where
-  pub nests : nesting m ≤ max_depth
-  pub same : without_null_details m ≡ m

@@ -1,6 +1,7 @@
 pub mod Agreement
 pub mod Exchange
 pub mod History
+pub mod HistoryLaw
 pub mod Ids
 pub mod InOnePlace
 pub mod Letter

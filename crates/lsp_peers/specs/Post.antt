@@ -1,7 +1,10 @@
 -- The post of one direction: all letters that were written, in order, and how far they have come.
-use Rattle.std.specs.Prelude.{◌≡◌, ℕ, ◌+◌, ◌-◌, List, [], ◌∷◌, ◌++◌, length, take, drop, Option, None, Some, if◌then◌else◌, min, IfSome, is_some}
+use Rattle.std.specs.Prelude.{◌≡◌, ◌≤◌, ℕ, ◌+◌, ◌-◌, List, [], ◌∷◌, ◌++◌, length, take, drop, Option, None, Some, if◌then◌else◌, min, IfSome, is_some}
 use Rattle.lsp_message.specs.Message.{Message}
-pub use Rattle.lsp_peers.specs.Letter.{Letter, frames, first_passed, ReadsBack}
+use Rattle.serde_json.specs.Read.{max_depth}
+use Rattle.lsp_message.specs.Ranges.{nesting}
+use Rattle.lsp_message.specs.Tree.{without_null_details}
+pub use Rattle.lsp_peers.specs.Letter.{Letter, frames, first_passed}
 
 -- The letters that were taken, then those that wait, in the order in which they were written; and how many bytes of their
 -- frames have arrived in all.
@@ -52,6 +55,11 @@ pub record Carries (line : Line) (post : Post) : Type 0 where
 abbrev pub message_of : Option Letter → Option Message
 message_of None = None
 message_of (Some letter) = Some letter.message
+
+-- The message is read back as it was written: it nests at most 127 levels, and has no error whose data is null.
+pub record ReadsBack (m : Message) : Type 0 where
+  pub nests : nesting m ≤ max_depth
+  pub same : without_null_details m ≡ m
 
 -- where there is a next letter, this holds of its message
 abbrev pub IfNext : (Message → Type 0) → Post → Type 0

@@ -1,5 +1,5 @@
 -- What a step does to tokens and posts, and its outcome.
-use Rattle.std.specs.Prelude.{◌≡◌, ℕ, List, [], ◌∷◌, ◌++◌, length, Option, None, Some, Ok, nat_lt, MatchBool, MatchOption, min, string_bytes}
+use Rattle.std.specs.Prelude.{◌≡◌, ◌==◌, ℕ, List, [], ◌∷◌, ◌++◌, length, Option, None, Some, Ok, MatchBool, MatchOption, min, string_bytes}
 use Rattle.serde_json.specs.Data.{Data}
 use Rattle.serde_json.specs.View.{view}
 use Rattle.lsp_message.specs.Id.{Id}
@@ -38,10 +38,10 @@ nothing = accounts [] empty_post [] empty_post
 abbrev pub Registers : List ℕ → Data → ℕ → Accounts → Outcome → Accounts → Type 0
 Registers method params payload old outcome new =
     let id = nth_id (length old.here.tokens) in
-    MatchBool (nat_lt (length old.here.tokens) all_ids)
+    MatchBool (length old.here.tokens == all_ids)
+    ((outcome ≡ Spent) × (new ≡ old))
     ((letter : Letter) × (letter.message ≡ request id method params) × (outcome ≡ Registered id)
     × (new ≡ accounts (old.here.tokens ++ token payload OnTheWay ∷ []) old.here.post old.there.tokens (posted old.there.post letter)))
-    ((outcome ≡ Spent) × (new ≡ old))
 
 -- the side writes a notification to the other side
 abbrev pub Tells : List ℕ → Data → Accounts → Outcome → Accounts → Type 0

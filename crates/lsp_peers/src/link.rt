@@ -1,5 +1,5 @@
 //! The bytes of one direction between two peers.
-ghost use Rattle.std.specs.Prelude.{◌≡◌, ◌≤◌, ℕ, length, Ok, Err, None, OnOk, OnErr, IfOk, option_map, min, drop, vec_len};
+ghost use Rattle.std.specs.Prelude.{◌≡◌, ◌≤◌, ℕ, length, Ok, Err, None, OnOk, OnErr, IfOk, option_map, is_some, min, drop, vec_len};
 ghost use Rattle.lsp_message.specs.Front.{front_of};
 ghost use Rattle.lsp_message.specs.View.{message_view};
 ghost use Rattle.lsp_peers.specs.WorldFault.{fault_of};
@@ -92,7 +92,7 @@ impl Link {
     /// Takes the first message if its whole frame has arrived, and gives `None` otherwise.
     ///
     /// `WorldFault::Memory` means that an allocation failed, and `WorldFault::NotReadBack` that the message nests more than 127
-    /// levels, so it is not read from its frame. After a fault the link is as it was; a frame that is not read stays in front.
+    /// levels, so it is not read from its frame. After a fault the link is as it was, with the frame in front: `skip` goes past it.
     pub fn take(&mut self) -> Result<Option<Message>, WorldFault>
         ensures ok { (post : Post) → Carries self.old post → IfNext ReadsBack post → IfOk result (λ taken.
             (option_map message_view taken ≡ message_of (next post)) × Carries self.new (after_take post)) }
@@ -100,6 +100,7 @@ impl Link {
         ensures memory { (post : Post) → Carries self.old post → IfNext ReadsBack post →
             OnErr result (result ≡ Err WorldFault.Memory) }
         ensures waits { front_of self.old.arrived ≡ Front.More → result ≡ Ok None }
+        ensures idle { (post : Post) → Carries self.old post → next post ≡ None → result ≡ Ok None }
     {
         let arrived = &self.bytes[self.start..self.end];
         match front(arrived) {
@@ -119,8 +120,24 @@ impl Link {
         }
     }
 
-    /// Removes the first of the bytes that have arrived. Once more bytes were taken than are left, it lets them go: so the memory
-    /// of a link follows what is in it, however long it runs.
+    /// Skips the first message if its whole frame has arrived, without reading it, and says whether it did. So a link goes on
+    /// behind a message that `take` can't read.
+    pub fn skip(&mut self) -> bool
+        ensures { (post : Post) → Carries self.old post → (result ≡ is_some (next post)) × Carries self.new (after_take post) }
+    {
+        let arrived = &self.bytes[self.start..self.end];
+        match front(arrived) {
+            Front::Whole(count) => {
+                self.remove(count);
+                true
+            }
+            Front::More => false,
+            Front::Fault(_) => false,
+        }
+    }
+
+    /// Removes the first of the bytes that have arrived. Once more bytes were taken than are left, it makes their room free
+    /// for what is written next. So a link keeps no more than twice the bytes that ever waited in it, however long it runs.
     fn remove(&mut self, count: usize)
         requires { count ≤ length self.old.arrived }
         ensures arrived { self.new.arrived ≡ drop count self.old.arrived }

@@ -1,14 +1,15 @@
 //! One side: its queues, the link to it, and the messages that it took.
-ghost use Rattle.std.specs.Prelude.{◌≡◌, [], Err, Ok, None, OnErr, IfOk, string_bytes};
+ghost use Rattle.std.specs.Prelude.{◌≡◌, [], List, Err, Ok, None, OnErr, IfOk, IsOk, string_bytes};
 ghost use Rattle.std.specs.FinMap as map;
 ghost use Rattle.serde_json.specs.View.{view};
+ghost use Rattle.lsp_message.specs.Message as plain;
 ghost use Rattle.lsp_message.specs.Message.{response};
 ghost use Rattle.lsp_message.specs.View.{message_view};
 ghost use Rattle.lsp_queue.specs.Queue.{cancelled, count_of, all_ids};
 ghost use Rattle.lsp_peers.specs.Agreement.{PeerAgrees, Agrees};
 ghost use Rattle.lsp_peers.specs.Steps.{Accounts, Registers, Tells, Passes, Takes, Replies, GivesUp, StepDoes};
 ghost use Rattle.lsp_peers.specs.Post.{ReadsBack, IfNext, next, empty_post};
-ghost use Rattle.lsp_peers.specs.Settling.{Settles};
+ghost use Rattle.lsp_peers.specs.Settling.{Settles, ReadsNext, IsFree};
 ghost use Rattle.lsp_peers.specs.InOnePlace.{InOnePlace};
 
 use crate::fault::WorldFault;
@@ -18,6 +19,7 @@ use lsp_message::{Message, Notification, RequestId, Response};
 use lsp_queue::{RegisterFault, ReqQueue};
 use serde_json::Value;
 use std::alloc::Global;
+use std::mem;
 
 /// One side: its queues, the link to it, and the messages that it took, in order.
 #[derive(Drop)]
@@ -29,7 +31,7 @@ pub(crate) struct Peer {
 
 impl Peer {
     pub(crate) fn new(alloc: Global) -> Peer
-        ensures { PeerAgrees result (record { tokens = []; post = empty_post }) [] }
+        ensures { PeerAgrees result [] (record { tokens = []; post = empty_post }) [] }
     {
         Peer {
             queue: ReqQueue::default(alloc),
@@ -40,9 +42,10 @@ impl Peer {
 
     /// A step of this side.
     pub(crate) fn step(&mut self, far: &mut Peer, step: Step) -> Result<Outcome, WorldFault>
-        ensures ok { (old : Accounts) → Agrees self.old far.old old → InOnePlace old → IfNext ReadsBack old.here.post → IfOk result (λ outcome.
-            (new : Accounts) × StepDoes old step outcome new × Agrees self.new far.new new) }
-        ensures err { (old : Accounts) → Agrees self.old far.old old → InOnePlace old → IfNext ReadsBack old.here.post → OnErr result (result ≡ Err WorldFault.Memory) }
+        ensures ok { (mine theirs : List plain.Message) (old : Accounts) → Agrees self.old far.old mine theirs old → InOnePlace old → ReadsNext old step → IfOk result (λ outcome.
+            (new : Accounts) × StepDoes old step outcome new × Agrees self.new far.new mine theirs new) }
+        ensures err { (mine theirs : List plain.Message) (old : Accounts) → Agrees self.old far.old mine theirs old → InOnePlace old → ReadsNext old step → OnErr result (result ≡ Err WorldFault.Memory) }
+        ensures free { (mine theirs : List plain.Message) (old : Accounts) → Agrees self.old far.old mine theirs old → IsFree old step → IsOk result }
     {
         match step {
             Step::Register {
@@ -75,8 +78,8 @@ impl Peer {
         params: Value,
         payload: u64,
     ) -> Result<Outcome, WorldFault>
-        ensures ok { (old : Accounts) → Agrees self.old far.old old → IfOk result (λ outcome.
-            (new : Accounts) × Registers (string_bytes method) (view params) payload old outcome new × Agrees self.new far.new new) }
+        ensures ok { (mine theirs : List plain.Message) (old : Accounts) → Agrees self.old far.old mine theirs old → IfOk result (λ outcome.
+            (new : Accounts) × Registers (string_bytes method) (view params) payload old outcome new × Agrees self.new far.new mine theirs new) }
         ensures err { OnErr result (result ≡ Err WorldFault.Memory) }
         ensures spent { count_of self.old.queue.outgoing ≡ all_ids → result ≡ Ok Outcome.Spent }
     {
@@ -98,8 +101,8 @@ impl Peer {
         method: String,
         params: Value,
     ) -> Result<Outcome, WorldFault>
-        ensures ok { (old : Accounts) → Agrees self.now far.old old → IfOk result (λ outcome.
-            (new : Accounts) × Tells (string_bytes method) (view params) old outcome new × Agrees self.now far.new new) }
+        ensures ok { (mine theirs : List plain.Message) (old : Accounts) → Agrees self.now far.old mine theirs old → IfOk result (λ outcome.
+            (new : Accounts) × Tells (string_bytes method) (view params) old outcome new × Agrees self.now far.new mine theirs new) }
         ensures err { OnErr result (result ≡ Err WorldFault.Memory) }
     {
         let notification = Notification { method, params };
@@ -108,15 +111,15 @@ impl Peer {
     }
 
     fn pass(&mut self, far: &Peer, bytes: usize) -> Outcome
-        ensures { (old : Accounts) → Agrees self.old far.now old →
-            (new : Accounts) × Passes bytes old result new × Agrees self.new far.now new }
+        ensures { (mine theirs : List plain.Message) (old : Accounts) → Agrees self.old far.now mine theirs old →
+            (new : Accounts) × Passes bytes old result new × Agrees self.new far.now mine theirs new }
     {
         Outcome::Passed(self.link.pass(bytes))
     }
 
     fn answer(&mut self, far: &mut Peer, id: RequestId, value: Value) -> Result<Outcome, WorldFault>
-        ensures ok { (old : Accounts) → Agrees self.old far.old old → IfOk result (λ outcome.
-            (new : Accounts) × Replies id (response id (Ok (view value))) (λ label. Outcome.Answered label) old outcome new × Agrees self.new far.new new) }
+        ensures ok { (mine theirs : List plain.Message) (old : Accounts) → Agrees self.old far.old mine theirs old → IfOk result (λ outcome.
+            (new : Accounts) × Replies id (response id (Ok (view value))) (λ label. Outcome.Answered label) old outcome new × Agrees self.new far.new mine theirs new) }
         ensures err { OnErr result (result ≡ Err WorldFault.Memory) }
         ensures absent { map.get self.old.queue.incoming id ≡ None → result ≡ Ok Outcome.Absent }
     {
@@ -134,8 +137,8 @@ impl Peer {
     }
 
     fn cancel(&mut self, far: &mut Peer, id: RequestId) -> Result<Outcome, WorldFault>
-        ensures ok { (old : Accounts) → Agrees self.old far.old old → IfOk result (λ outcome.
-            (new : Accounts) × Replies id (cancelled id) (λ label. Outcome.Cancelled) old outcome new × Agrees self.new far.new new) }
+        ensures ok { (mine theirs : List plain.Message) (old : Accounts) → Agrees self.old far.old mine theirs old → IfOk result (λ outcome.
+            (new : Accounts) × Replies id (cancelled id) (λ label. Outcome.Cancelled) old outcome new × Agrees self.new far.new mine theirs new) }
         ensures err { OnErr result (result ≡ Err WorldFault.Memory) }
         ensures absent { map.get self.old.queue.incoming id ≡ None → result ≡ Ok Outcome.Absent }
     {
@@ -150,8 +153,8 @@ impl Peer {
     }
 
     fn give_up(&mut self, far: &Peer, id: RequestId) -> Outcome
-        ensures { (old : Accounts) → Agrees self.old far.now old →
-            (new : Accounts) × GivesUp id old result new × Agrees self.new far.now new }
+        ensures { (mine theirs : List plain.Message) (old : Accounts) → Agrees self.old far.now mine theirs old →
+            (new : Accounts) × GivesUp id old result new × Agrees self.new far.now mine theirs new }
     {
         match self.queue.incoming.complete(&id) {
             Some(label) => Outcome::GaveUp(label),
@@ -160,9 +163,10 @@ impl Peer {
     }
 
     fn take(&mut self, far: &Peer, label: u64) -> Result<Outcome, WorldFault>
-        ensures ok { (old : Accounts) → Agrees self.old far.now old → InOnePlace old → IfNext ReadsBack old.here.post → IfOk result (λ outcome.
-            (new : Accounts) × Takes label (next old.here.post) old outcome new × Agrees self.new far.now new) }
-        ensures err { (old : Accounts) → Agrees self.old far.now old → InOnePlace old → IfNext ReadsBack old.here.post → OnErr result (result ≡ Err WorldFault.Memory) }
+        ensures ok { (mine theirs : List plain.Message) (old : Accounts) → Agrees self.old far.now mine theirs old → InOnePlace old → IfNext ReadsBack old.here.post → IfOk result (λ outcome.
+            (new : Accounts) × Takes label (next old.here.post) old outcome new × Agrees self.new far.now mine theirs new) }
+        ensures err { (mine theirs : List plain.Message) (old : Accounts) → Agrees self.old far.now mine theirs old → InOnePlace old → IfNext ReadsBack old.here.post → OnErr result (result ≡ Err WorldFault.Memory) }
+        ensures waits { (mine theirs : List plain.Message) (old : Accounts) → Agrees self.old far.now mine theirs old → next old.here.post ≡ None → result ≡ Ok Outcome.Waiting }
     {
         let Some(message) = self.link.take()? else {
             return Ok(Outcome::Waiting);
@@ -174,6 +178,16 @@ impl Peer {
             Ok(()) => Ok(outcome),
             Err(_) => Err(WorldFault::Memory),
         }
+    }
+
+    /// Hands out the messages that were taken, in order, and keeps none.
+    pub(crate) fn hand_out(&mut self, alloc: Global) -> Vec<Message>
+        ensures given { result.items ≡ self.old.taken.items }
+        ensures none { self.new.taken.items ≡ [] }
+        ensures queue { self.new.queue ≡ self.old.queue }
+        ensures link { self.new.link ≡ self.old.link }
+    {
+        mem::replace(&mut self.taken, Vec::new(alloc))
     }
 }
 

@@ -6,7 +6,7 @@ use Rattle.lsp_peers.proofs.AgreeLemmas.{takes_keep, letter_is, after_taken, tak
 use Rattle.lsp_peers.proofs.peer.Peer.take.Goals as goal
 
 pub returns-in-Ok-push-clause-ok : goal.returns-in-Ok-push-clause-ok
-returns-in-Ok-push-clause-ok c = λ old agrees placed reads.
+returns-in-Ok-push-clause-ok c = λ mine theirs old agrees placed reads.
     let took = (rw c.in-Some.is at c.in_ok-message.ensures.ok) old.here.post agrees.near_side.line reads in
     let found = letter_is (next old.here.post) (message_view c.in-Some.message) took.0 in
     let carries = subst (λ (p : Post). Carries c.take.new.self p) (after_taken old.here.post found.0 found.1) took.1 in
