@@ -1,18 +1,25 @@
--- Outcomes that no history has: these lists of steps and outcomes are refused, whatever the messages' frames are.
-use Rattle.std.proofs.Common.{◌≡◌, ℕ, ◌+◌, ◌-◌, ◌≤◌, List, [], ◌∷◌, ◌++◌, String, Global, length, codes, min, ap, ◌∙◌, arith, length-append}
+-- Outcomes that no history and no run has: these lists of steps and outcomes are refused, whatever the messages' frames are.
+use Rattle.std.proofs.Common.{◌≡◌, ℕ, ◌+◌, ◌-◌, ◌≤◌, List, [], ◌∷◌, ◌++◌, String, Global, length, codes, min, refl, ap, ◌∙◌, subst, arith, length-append}
 use Rattle.std.proofs.lemmas.Bool.{le-leb, cond-true}
+use Rattle.std.proofs.lemmas.List.{length-map}
 use Rattle.std.specs.Fmt.{decimal}
-use Rattle.std.specs.Prelude.{Option, None, Some, Bool, true, false, if◌then◌else◌, nat_le, string_bytes}
+use Rattle.std.specs.Prelude.{Option, None, Some, Bool, true, false, if◌then◌else◌, nat_le, string_bytes, map as each}
 use Rattle.serde_json.specs.View.{view}
 use Rattle.serde_json.specs.declared.value.Value.{Value}
 use Rattle.lsp_message.specs.Id.{Id}
 use Rattle.lsp_message.specs.Message.{Message, request}
 use Rattle.lsp_message.specs.Written.{frame_text}
-use Rattle.lsp_peers.specs.History.{Event, IsHistory, outcome_of_taking, next_letter}
+use Rattle.lsp_peers.specs.declared.world.World.{World}
+use Rattle.lsp_peers.specs.Exchange.{LeadTo}
+use Rattle.lsp_peers.specs.Shallow.{TakesReadable}
+use Rattle.lsp_peers.specs.Sides.{side_of, other}
+use Rattle.lsp_peers.specs.History.{Event, IsHistory, outcome_of_taking, outcome_of, next_letter, events_of}
 use Rattle.lsp_peers.specs.Ids.{nth_id}
 use Rattle.lsp_peers.specs.Letter.{Letter, frames, messages}
+use Rattle.lsp_peers.specs.declared.step.Outcome.{Outcome}
 use Rattle.lsp_peers.specs.declared.step.Outcome.TheVariants.{Registered, Passed, Arrived, Returned, Waiting, Answered}
 use Rattle.lsp_peers.specs.declared.step.Side.TheVariants.{A, B}
+use Rattle.lsp_peers.specs.declared.step.Step.{Step}
 use Rattle.lsp_peers.specs.declared.step.Step.TheVariants.{Register, Pass, Take, Answer}
 use Rattle.lsp_peers.proofs.Kept.{taking}
 use Rattle.lsp_peers.proofs.LawLemmas.{event, one_letter}
@@ -73,3 +80,37 @@ module _ (method : String Global) (params : Value) (result : Value) (rest : List
       at : (w : List Letter) → messages w ≡ request (nth_id 0) (string_bytes method) (view params) ∷ [] → Returned id x ≡ taking own (theirs w) (next_letter own (theirs w)) → ⊥
       at [] is came = cc
       at (l ∷ ls) is came = let first : l.message ≡ request (nth_id 0) (string_bytes method) (view params) = cc in not_returned own (theirs (l ∷ ls)) l (nat_le (0 + length l.frame) (0 + (m + 0))) (nth_id 0) id (string_bytes method) (view params) x first came
+
+-- an answer to a request that nobody holds, however deep its result is
+pub answered_nothing : (value : Value) (wrote : List Letter) (rest : List Event) → IsHistory (event (Answer A (nth_id 0) value) (Answered 0) wrote ∷ rest) → ⊥
+answered_nothing value wrote rest history = let came = history.0.outcome_is in cc
+
+module _ (world : World) where
+  -- no run has it either, whatever world it gives
+  pub answered_nothing_run : (value : Value) → LeadTo (Answer A (nth_id 0) value ∷ []) (Answered 0 ∷ []) world → ⊥
+  answered_nothing_run value lead = at lead.history lead.rest lead.lawful lead.steps_are lead.outcomes_are lead.cut
+    where
+      at : (history : List Event) (rest : List Step) {later : List Outcome} → IsHistory history → each (λ e. e.step) history ++ rest ≡ Answer A (nth_id 0) value ∷ [] → each (λ e. e.outcome) history ++ later ≡ Answered 0 ∷ [] → ((step : Step) (more : List Step) → rest ≡ step ∷ more → ¬ TakesReadable history step) → ⊥
+      at [] [] lawful steps outcomes cut = cc
+      at [] (s ∷ rest) lawful steps outcomes cut =
+          let same : Answer A (nth_id 0) value ≡ s = cc in
+          cut s rest refl (subst (λ (x : Step). TakesReadable [] x) same tt)
+      at (e ∷ history) rest lawful steps outcomes cut =
+          let step : e.step ≡ Answer A (nth_id 0) value = cc in
+          let outcome : e.outcome ≡ Answered 0 = cc in
+          let came : e.outcome ≡ outcome_of [] [] (Answer A (nth_id 0) value) = lawful.0.outcome_is ∙ ap (λ (x : Step). outcome_of (events_of (side_of x) []) (events_of (other (side_of x)) []) x) step in
+          cc
+
+  -- a run that stops before the last step, and gives any world: each step has its outcome
+  pub no_outcome_missing : (steps : List Step) (outcomes : List Outcome) → LeadTo steps outcomes world → length outcomes ≡ length steps
+  no_outcome_missing steps outcomes lead =
+      omega (
+        arith,
+        lead.paired,
+        ap (λ (l : List Step). length l) lead.steps_are,
+        ap (λ (l : List Outcome). length l) lead.outcomes_are,
+        length-append (each (λ (e : Event). e.step) lead.history) lead.rest,
+        length-append (each (λ (e : Event). e.outcome) lead.history) lead.later,
+        length-map lead.history (λ (e : Event). e.step),
+        length-map lead.history (λ (e : Event). e.outcome),
+      )

@@ -1,5 +1,5 @@
--- Each token is in one place: the letters that wait are exactly the requests whose tokens are on the way and the replies whose
--- tokens are coming back.
+-- Each token is in one place: the requests and replies among the letters that wait are exactly the requests whose tokens are on the
+-- way and the replies whose tokens are coming back. A notification has no token.
 use Rattle.std.specs.Prelude.{◌≡◌, ℕ, ◌+◌, List, [], ◌∷◌, Option, None, Some, if◌then◌else◌}
 use Rattle.lsp_message.specs.Id.{Id}
 use Rattle.lsp_message.specs.Message.{Message, request, response}
@@ -49,7 +49,7 @@ returning None = 0
 returning (Some t) = coming_back t.place
 
 -- The tokens of a side match the letters that wait for the other side and those that wait for this one: a request for each
--- token on the way, a reply for each that is coming back, once, and no other.
+-- token on the way, a reply for each that is coming back, once, and no other request or reply.
 pub record MatchLetters (tokens : List Token) (outbound inbound : List Letter) : Type 0 where
   pub out : (id : Id) → requests outbound id ≡ going (item_at tokens id)
   pub back : (id : Id) → replies inbound id ≡ returning (item_at tokens id)

@@ -136,8 +136,8 @@ impl Link {
         }
     }
 
-    /// Removes the first of the bytes that have arrived. Once more bytes were taken than are left, it makes their room free
-    /// for what is written next. So a link keeps no more than twice the bytes that ever waited in it, however long it runs.
+    /// Removes the first of the bytes that have arrived. Once more were taken than are left, it
+    /// moves the rest to the front. So a link holds at most twice the bytes that wait in it, however long it runs.
     fn remove(&mut self, count: usize)
         requires { count ≤ length self.old.arrived }
         ensures arrived { self.new.arrived ≡ drop count self.old.arrived }

@@ -33,6 +33,7 @@ pub use Rattle.lsp_message.specs.Written
 pub use Rattle.lsp_peers.specs.Agreement
 pub use Rattle.lsp_peers.specs.Exchange
 pub use Rattle.lsp_peers.specs.History
+pub use Rattle.lsp_peers.specs.HistoryLaw
 pub use Rattle.lsp_peers.specs.Ids
 pub use Rattle.lsp_peers.specs.InOnePlace
 pub use Rattle.lsp_peers.specs.Letter

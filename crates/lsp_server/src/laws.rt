@@ -5,6 +5,7 @@ pub use lsp_message::laws::{
     clone_of_error, clone_of_message, clone_of_notification, clone_of_request, clone_of_response,
     front_of_frame, kinds_print_apart,
 };
+pub use lsp_peers::laws as peers;
 pub use lsp_queue::laws::pending_is_last_registered;
 pub use lsp_service::laws::{serving_keeps_laws, session_keeps_laws};
 pub use lsp_session::laws::{sessions, streams, turns};

@@ -5,8 +5,8 @@ use Rattle.example_two_peers.proofs.exchange.run_through.Goals.{then-is_idle, el
 
 pub returns : goal.returns
 returns c = record {
-  all = λ readable idle.
-      let told = c.in_ok-world.ensures.exchanged readable in (
+  all = λ shallow idle.
+      let told = c.a_shallow_run_is_a_history.ensures _ _ _ c.in_ok-world.ensures.exchanged shallow in (
         told.0,
         told.1,
         told.2,
