@@ -30,7 +30,13 @@ cases_readable history step = inl tt
 
 pub lead_nothing : (world : World) → WorldAfter world (λ side. []) [] → LeadTo [] [] world
 lead_nothing world after = record {
-  history = []; rest = []; later = []; steps_are = refl; outcomes_are = refl; paired = refl; lawful = tt;
+  history = [];
+  rest = [];
+  later = [];
+  steps_are = refl;
+  outcomes_are = refl;
+  paired = refl;
+  lawful = tt;
   whole = λ none. after;
   cut = λ step more is. cc;
 }
@@ -49,7 +55,9 @@ module _ (steps : List Step) (outcomes : List Outcome) (world new : World) (step
       (λ readable.
       let more = goes (λ side. []) history after readable in
       record {
-        history = history ++ more.0 ∷ []; rest = []; later = [];
+        history = history ++ more.0 ∷ [];
+        rest = [];
+        later = [];
         steps_are = append-nil _ ∙ map-append (λ (e : Event). e.step) history (more.0 ∷ []) ∙ (λ i. es i ++ more.1 i ∷ []);
         outcomes_are = append-nil _ ∙ map-append (λ (e : Event). e.outcome) history (more.0 ∷ []) ∙ (λ i. eo i ++ more.2 i ∷ []);
         paired = refl;
@@ -58,7 +66,9 @@ module _ (steps : List Step) (outcomes : List Outcome) (world new : World) (step
         cut = λ s more is. cc;
       })
       (λ deep. record {
-        history = history; rest = step ∷ []; later = outcome ∷ [];
+        history = history;
+        rest = step ∷ [];
+        later = outcome ∷ [];
         steps_are = ap (λ (l : List Step). l ++ step ∷ []) es;
         outcomes_are = ap (λ (l : List Outcome). l ++ outcome ∷ []) eo;
         paired = refl;
@@ -76,7 +86,9 @@ module _ (steps : List Step) (outcomes : List Outcome) (world new : World) (step
       (lead.whole er) goes
   lead_at lead [] (o ∷ later) er el goes = absurd (omega (arith, lead.paired, ap (λ (l : List Step). length l) er, ap (λ (l : List Outcome). length l) el))
   lead_at lead (s ∷ rest) later er el goes = record {
-    history = lead.history; rest = lead.rest ++ step ∷ []; later = lead.later ++ outcome ∷ [];
+    history = lead.history;
+    rest = lead.rest ++ step ∷ [];
+    later = lead.later ++ outcome ∷ [];
     steps_are = sym (append_assoc (each (λ (e : Event). e.step) lead.history) lead.rest (step ∷ [])) ∙ ap (λ (l : List Step). l ++ step ∷ []) lead.steps_are;
     outcomes_are = sym (append_assoc (each (λ (e : Event). e.outcome) lead.history) lead.later (outcome ∷ [])) ∙ ap (λ (l : List Outcome). l ++ outcome ∷ []) lead.outcomes_are;
     paired = omega (arith, lead.paired, length-append lead.later (outcome ∷ []), length-append lead.rest (step ∷ []));
@@ -97,13 +109,17 @@ lead_fault steps outcomes world step rest all lead whole never = at lead.rest re
   where
     at : (left : List Step) → lead.rest ≡ left → MeetsDeep all
     at [] er = record {
-      history = lead.history; step = step; rest = rest;
+      history = lead.history;
+      step = step;
+      rest = rest;
       steps_are = ap (λ (l : List Step). l ++ step ∷ rest) (sym (append-nil _) ∙ ap (λ (l : List Step). each (λ (e : Event). e.step) lead.history ++ l) (sym er) ∙ lead.steps_are) ∙ whole;
       lawful = lead.lawful;
       deep = never lead.history (lead.whole er);
     }
     at (s ∷ left) er = record {
-      history = lead.history; step = s; rest = left ++ step ∷ rest;
+      history = lead.history;
+      step = s;
+      rest = left ++ step ∷ rest;
       steps_are = sym (append_assoc (each (λ (e : Event). e.step) lead.history) (s ∷ left) (step ∷ rest)) ∙ ap (λ (l : List Step). l ++ step ∷ rest) (ap (λ (l : List Step). each (λ (e : Event). e.step) lead.history ++ l) (sym er) ∙ lead.steps_are) ∙ whole;
       lawful = lead.lawful;
       deep = lead.cut s left er;

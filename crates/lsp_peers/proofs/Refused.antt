@@ -88,14 +88,14 @@ answered_nothing value wrote rest history = let came = history.0.outcome_is in c
 module _ (world : World) where
   -- no run has it either, whatever world it gives
   pub answered_nothing_run : (value : Value) → LeadTo (Answer A (nth_id 0) value ∷ []) (Answered 0 ∷ []) world → ⊥
-  answered_nothing_run value lead = at lead.history lead.rest lead.lawful lead.steps_are lead.outcomes_are lead.cut
+  answered_nothing_run value lead = at lead.history lead.rest lead.later lead.lawful lead.steps_are lead.outcomes_are lead.cut
     where
-      at : (history : List Event) (rest : List Step) {later : List Outcome} → IsHistory history → each (λ e. e.step) history ++ rest ≡ Answer A (nth_id 0) value ∷ [] → each (λ e. e.outcome) history ++ later ≡ Answered 0 ∷ [] → ((step : Step) (more : List Step) → rest ≡ step ∷ more → ¬ TakesReadable history step) → ⊥
-      at [] [] lawful steps outcomes cut = cc
-      at [] (s ∷ rest) lawful steps outcomes cut =
+      at : (history : List Event) (rest : List Step) (later : List Outcome) → IsHistory history → each (λ e. e.step) history ++ rest ≡ Answer A (nth_id 0) value ∷ [] → each (λ e. e.outcome) history ++ later ≡ Answered 0 ∷ [] → ((step : Step) (more : List Step) → rest ≡ step ∷ more → ¬ TakesReadable history step) → ⊥
+      at [] [] later lawful steps outcomes cut = cc
+      at [] (s ∷ rest) later lawful steps outcomes cut =
           let same : Answer A (nth_id 0) value ≡ s = cc in
           cut s rest refl (subst (λ (x : Step). TakesReadable [] x) same tt)
-      at (e ∷ history) rest lawful steps outcomes cut =
+      at (e ∷ history) rest later lawful steps outcomes cut =
           let step : e.step ≡ Answer A (nth_id 0) value = cc in
           let outcome : e.outcome ≡ Answered 0 = cc in
           let came : e.outcome ≡ outcome_of [] [] (Answer A (nth_id 0) value) = lawful.0.outcome_is ∙ ap (λ (x : Step). outcome_of (events_of (side_of x) []) (events_of (other (side_of x)) []) x) step in

@@ -13,7 +13,7 @@ use std::marker::Model;
 /// The bytes of one direction between two peers: those that have arrived, and behind them those on the way.
 ///
 /// They are frames (LSP 3.17, "Base Protocol"), one behind another. Their bytes arrive in any pieces.
-#[derive(Drop)]
+#[derive(Debug, Drop)]
 pub struct Link {
     alloc: Global,
     bytes: Vec<u8>,

@@ -22,7 +22,7 @@ use std::alloc::Global;
 use std::mem;
 
 /// One side: its queues, the link to it, and the messages that it took, in order.
-#[derive(Drop)]
+#[derive(Debug, Drop)]
 pub(crate) struct Peer {
     pub(crate) queue: ReqQueue<u64, u64>,
     pub(crate) link: Link,
@@ -95,12 +95,7 @@ impl Peer {
         }
     }
 
-    fn tell(
-        &self,
-        far: &mut Peer,
-        method: String,
-        params: Value,
-    ) -> Result<Outcome, WorldFault>
+    fn tell(&self, far: &mut Peer, method: String, params: Value) -> Result<Outcome, WorldFault>
         ensures ok { (mine theirs : List plain.Message) (old : Accounts) → Agrees self.now far.old mine theirs old → IfOk result (λ outcome.
             (new : Accounts) × Tells (string_bytes method) (view params) old outcome new × Agrees self.now far.new mine theirs new) }
         ensures err { OnErr result (result ≡ Err WorldFault.Memory) }

@@ -16,7 +16,7 @@ use lsp_queue::ReqQueue;
 use std::alloc::Global;
 
 /// Two peers, A and B, each with its queues, and a link to each (JSON-RPC 2.0, sections 4 and 5).
-#[derive(Drop)]
+#[derive(Debug, Drop)]
 pub struct World {
     a: Peer,
     b: Peer,
