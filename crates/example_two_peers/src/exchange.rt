@@ -1,11 +1,13 @@
 //! A caller of the world, who sees its public contract alone.
-ghost use Rattle.std.specs.Prelude.{◌≡◌, ◌++◌, [], true, IfOk, map as each};
+ghost use Rattle.std.specs.Prelude.{◌≡◌, ◌++◌, List, [], true, IfOk, map as each};
 ghost use Rattle.lsp_message.specs.View.{message_view};
-ghost use Rattle.lsp_peers.specs.Agreement.{peer_at};
-ghost use Rattle.lsp_peers.specs.Exchange.{written_by, events};
-ghost use Rattle.lsp_peers.specs.History.{other};
-ghost use Rattle.lsp_peers.specs.InOnePlace.{AllShallow};
+ghost use Rattle.lsp_peers.specs.Exchange.{seen_at};
+ghost use Rattle.lsp_peers.specs.History.{Event, IsHistory, events_of, letters_written};
+ghost use Rattle.lsp_peers.specs.Letter.{messages};
+ghost use Rattle.lsp_peers.specs.Shallow.{AllShallow};
+ghost use Rattle.lsp_peers.specs.Sides.{other};
 
+use lsp_peers::laws::a_shallow_run_is_a_history;
 use lsp_peers::{Outcome, Side, Step, World, WorldFault};
 use std::alloc::Global;
 
@@ -14,16 +16,19 @@ pub fn run_through(
     alloc: Global,
     steps: Vec<Step>,
 ) -> Result<(World, Vec<Outcome>, bool), WorldFault>
-    ensures all { AllShallow steps.items → IfOk result (λ r. r.2 ≡ true → (side : Side) →
-        each message_view (peer_at side r.0).taken.items ≡ written_by (events (other side) steps.items r.1.items)) }
+    ensures all { IfOk result (λ r. AllShallow steps.items → r.2 ≡ true → (history : List Event)
+        × (each (λ event. event.step) history ≡ steps.items) × (each (λ event. event.outcome) history ≡ r.1.items) × IsHistory history
+        × ((side : Side) → each message_view (seen_at side r.0).taken ≡ messages (letters_written (events_of (other side) history)))) }
 {
+    a_shallow_run_is_a_history();
     let (world, outcomes) = World::run(alloc, steps)?;
     let all = is_idle(&world, Side::A) && is_idle(&world, Side::B);
     Ok((world, outcomes, all))
 }
 
-fn is_idle(world: &World, side: Side) -> bool
-    ensures { result ≡ true → (peer_at side world.now).link.arrived ++ (peer_at side world.now).link.on_way ≡ [] }
+/// Whether no byte is in the link to a side.
+pub fn is_idle(world: &World, side: Side) -> bool
+    ensures { result ≡ true → (seen_at side world.now).arrived ++ (seen_at side world.now).on_way ≡ [] }
 {
     world.arrived(side).is_empty() && world.on_way(side).is_empty()
 }

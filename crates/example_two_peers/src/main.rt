@@ -1,18 +1,23 @@
 //! Two peers that send each other requests and replies, over links whose bytes arrive in any pieces (JSON-RPC 2.0, sections 4
 //! and 5; LSP 3.17, "Cancellation Support"). Each line of standard input is a step, as `script.rt` says. A line that begins
-//! with `#` is a title, and a blank line ends a run of two new peers. What came of each step is printed behind it.
+//! with `#` is a title, and a blank line ends a run of two new peers. What came of each step is printed behind it. The line `talk`
+//! lets a client and a server talk, as `talk.rt` says, and `requests 1000` runs so many requests in one world.
 #![tactic(auto)]
 
 mod exchange;
+mod long;
 mod script;
+mod talk;
 
 use anyhow::Result;
 use exchange::run_through;
+use long::ask_often;
 use lsp_message::Message;
-use lsp_peers::{Outcome, Side, World};
+use lsp_peers::{Outcome, Side, World, WorldFault};
 use script::{side_of, step_of};
 use std::alloc::Global;
 use std::io;
+use talk::talk;
 
 fn main(rt: HostRuntime) -> Result<()> {
     let alloc = rt.alloc();
@@ -24,6 +29,11 @@ fn main(rt: HostRuntime) -> Result<()> {
         } else if line.is_empty() {
             run_lines(&rt, alloc, lines.as_slice())?;
             lines.clear();
+        } else if line == "talk" {
+            show_talk(&rt, alloc)?;
+        } else if let Some((_, requests)) = line.split_once("requests ") {
+            let requests = requests.parse()?;
+            show_long(&rt, alloc, requests)?;
         } else {
             lines.push(line)?;
         }
@@ -46,17 +56,50 @@ fn run_lines<R: Print>(rt: &R, alloc: Global, lines: &[&str]) -> Result<()> {
             show_taken(rt, alloc, "A", world.taken(Side::A))?;
             show_taken(rt, alloc, "B", world.taken(Side::B))?;
             show_pending(rt, lines, outcomes.as_slice(), &world)?;
-            if all {
-                println!(rt; "Each took all that the other wrote.\n")?;
-            } else {
-                println!(rt; "Some bytes are still in the links.\n")?;
-            }
+            show_end(rt, all)
         }
-        Err(fault) => {
-            let number = fault.number();
-            println!(rt; "fault {number}: {fault}\n")?;
-        }
+        Err(fault) => show_fault(rt, fault),
     }
+}
+
+/// Lets a client and a server talk, and shows what each of them took.
+fn show_talk<R: Print>(rt: &R, alloc: Global) -> Result<()> {
+    match talk(alloc) {
+        Ok((world, all)) => {
+            show_taken(rt, alloc, "A", world.taken(Side::A))?;
+            show_taken(rt, alloc, "B", world.taken(Side::B))?;
+            show_end(rt, all)
+        }
+        Err(fault) => show_fault(rt, fault),
+    }
+}
+
+/// Lets A ask so often, and shows how many replies came back to their own request.
+fn show_long<R: Print>(rt: &R, alloc: Global, requests: u64) -> Result<()> {
+    match ask_often(alloc, requests) {
+        Ok(returned) => {
+            println!(rt;
+                "{returned} of {requests} replies gave back the payload of their request.\n"
+            )?;
+            Ok(())
+        }
+        Err(fault) => show_fault(rt, fault),
+    }
+}
+
+/// Says whether the links are empty.
+fn show_end<R: Print>(rt: &R, all: bool) -> Result<()> {
+    if all {
+        println!(rt; "Each took all that the other wrote.\n")?;
+    } else {
+        println!(rt; "Some bytes are still in the links.\n")?;
+    }
+    Ok(())
+}
+
+fn show_fault<R: Print>(rt: &R, fault: WorldFault) -> Result<()> {
+    let number = fault.number();
+    println!(rt; "fault {number}: {fault}\n")?;
     Ok(())
 }
 
@@ -64,12 +107,14 @@ fn text_of(alloc: Global, outcome: &Outcome) -> Result<String> {
     Ok(match outcome {
         Outcome::Registered(id) => format!(in alloc; "registered {id}")?,
         Outcome::Spent => format!(in alloc; "no id is left")?,
+        Outcome::Told => format!(in alloc; "told")?,
         Outcome::Passed(count) => format!(in alloc; "passed {count}")?,
         Outcome::Arrived(id) => format!(in alloc; "request {id} arrived")?,
         Outcome::Returned(id, Some(payload)) => format!(in alloc;
             "reply {id} gave back {payload}"
         )?,
         Outcome::Returned(id, None) => format!(in alloc; "reply {id} gave back nothing")?,
+        Outcome::Notified => format!(in alloc; "a notification arrived")?,
         Outcome::Waiting => format!(in alloc; "waiting")?,
         Outcome::Answered(label) => format!(in alloc; "answered, held as {label}")?,
         Outcome::Cancelled => format!(in alloc; "cancelled")?,

@@ -2,11 +2,13 @@
 //!
 //! ```text
 //! A registers p 10 [1,2]      a request `p` of A's, with the payload 10; without params they are null
+//! A tells p [1,2]             a notification `p` of A's
 //! B gets 59                   up to 59 bytes arrive at B
 //! B takes 2                   B takes a message; where it is a request, B holds it as 2
 //! B answers 0 true            B answers the request 0 with this result
 //! B cancels 0                 B replies that the request 0 was cancelled
 //! B gives-up 0                B forgets the request 0
+//! B gives-up "x"              and the request whose id is this text
 //! ```
 use anyhow::{Context, Result, bail};
 use lsp_message::RequestId;
@@ -30,11 +32,12 @@ pub fn step_of(alloc: Global, line: &str) -> Result<Step> {
     let (verb, rest) = words.split_once(" ").context("no step")?;
     match verb {
         "registers" => register(alloc, side, rest),
+        "tells" => tell(alloc, side, rest),
         "gets" => pass(side, rest),
         "takes" => take(side, rest),
         "answers" => answer(alloc, side, rest),
-        "cancels" => cancel(side, rest),
-        "gives-up" => give_up(side, rest),
+        "cancels" => cancel(alloc, side, rest),
+        "gives-up" => give_up(alloc, side, rest),
         _ => bail!("no such step: {line}"),
     }
 }
@@ -47,6 +50,15 @@ fn register(alloc: Global, side: Side, words: &str) -> Result<Step> {
         method: String::from_str(alloc, method)?,
         params: Value::from_str(alloc, params)?,
         payload: payload.parse()?,
+    })
+}
+
+fn tell(alloc: Global, side: Side, words: &str) -> Result<Step> {
+    let (method, params) = words.split_once(" ").unwrap_or((words, "null"));
+    Ok(Step::Tell {
+        side,
+        method: String::from_str(alloc, method)?,
+        params: Value::from_str(alloc, params)?,
     })
 }
 
@@ -64,22 +76,23 @@ fn answer(alloc: Global, side: Side, words: &str) -> Result<Step> {
     let (id, result) = words.split_once(" ").context("no result")?;
     Ok(Step::Answer {
         side,
-        id: id_of(id)?,
+        id: id_of(alloc, id)?,
         result: Value::from_str(alloc, result)?,
     })
 }
 
-fn cancel(side: Side, word: &str) -> Result<Step> {
-    let id = id_of(word)?;
+fn cancel(alloc: Global, side: Side, word: &str) -> Result<Step> {
+    let id = id_of(alloc, word)?;
     Ok(Step::Cancel { side, id })
 }
 
-fn give_up(side: Side, word: &str) -> Result<Step> {
-    let id = id_of(word)?;
+fn give_up(alloc: Global, side: Side, word: &str) -> Result<Step> {
+    let id = id_of(alloc, word)?;
     Ok(Step::GiveUp { side, id })
 }
 
-fn id_of(word: &str) -> Result<RequestId> {
-    let number: i32 = word.parse()?;
-    Ok(RequestId::from(number))
+/// The id that is written so in JSON: a number or a text.
+fn id_of(alloc: Global, word: &str) -> Result<RequestId> {
+    let value = Value::from_str(alloc, word)?;
+    RequestId::from_value(&value)?.context("no id")
 }

@@ -1,10 +1,10 @@
 -- Each kind of step keeps that two peers agree with tokens and posts.
-use Rattle.std.proofs.Common.{◌≡◌, ℕ, ◌+◌, ◌<◌, List, [], ◌∷◌, ◌++◌, length, refl, sym, ap, ◌∙◌, subst, arith, length-append}
-use Rattle.std.proofs.lemmas.Bool.{lt-ltb}
+use Rattle.std.proofs.Common.{◌≡◌, ℕ, ◌+◌, ◌<◌, List, [], ◌∷◌, ◌++◌, length, refl, sym, ap, ◌∙◌, subst, arith, append_assoc, length-append}
+use Rattle.std.proofs.lemmas.Bool.{ne_eqb}
 use Rattle.std.proofs.lemmas.List.{map-append}
 use Rattle.std.specs.FinMap as map
 use Rattle.std.specs.FinMap.{get-empty}
-use Rattle.std.specs.Prelude.{Option, None, Some, Result, Ok, Err, IfOk, IfSome, option_map, is_some, if◌then◌else◌, nat_lt, MatchBool, MatchOption, Bool, true, false, map as each, take, Vec}
+use Rattle.std.specs.Prelude.{Option, None, Some, option_map, is_some, ◌==◌, if◌then◌else◌, MatchBool, MatchOption, Bool, true, false, map as each, take, Vec}
 use Rattle.std.specs.declared.alloc.Global.{Global}
 use Rattle.serde_json.specs.Data.{Data}
 use Rattle.lsp_message.specs.Id.{Id, id_cmp}
@@ -13,34 +13,34 @@ use Rattle.lsp_message.specs.View.{message_view}
 use Rattle.lsp_message.specs.declared.msg.Message as code
 use Rattle.lsp_queue.specs.Queue.{Asked, Pending, pending_of, count_of, all_ids, cancelled}
 use Rattle.lsp_queue.specs.declared.req_queue.ReqQueue.{ReqQueue}
-use Rattle.lsp_peers.specs.declared.fault.WorldFault.{WorldFault}
 use Rattle.lsp_peers.specs.declared.peer.Peer.{Peer}
 use Rattle.lsp_peers.specs.declared.step.Outcome.{Outcome}
-use Rattle.lsp_peers.specs.declared.step.Outcome.TheVariants.{Registered, Returned, GaveUp, Absent}
-use Rattle.lsp_peers.specs.declared.step.Side.{Side}
-use Rattle.lsp_peers.specs.declared.step.Side.TheVariants.{B}
-use Rattle.lsp_peers.specs.declared.step.Step.{Step}
+use Rattle.lsp_peers.specs.declared.step.Outcome.TheVariants.{Registered, Told, Returned, GaveUp, Absent}
 use Rattle.lsp_peers.specs.Agreement.{PeerAgrees, Agrees}
 use Rattle.lsp_peers.specs.Ids.{nth_id, item_at, with_item}
-use Rattle.lsp_peers.specs.Steps.{Accounts, accounts, Registers, TakesMessage, Takes, Replies, GivesUp, StepDoes, WorldDoes, side_of, seen_from}
-use Rattle.lsp_peers.specs.Post.{Letter, Post, Line, ReadsBack, Carries, posted, next, one_taken, message_of, after_take, IfNext, empty_post}
+use Rattle.lsp_peers.specs.Steps.{Accounts, accounts, Registers, Tells, TakesMessage, Takes, Replies, GivesUp}
+use Rattle.lsp_peers.specs.Post.{Letter, Post, Line, Carries, posted, next, one_taken, message_of, after_take, empty_post}
 use Rattle.lsp_peers.specs.Settling.{Settles}
-use Rattle.lsp_peers.specs.InOnePlace.{InOnePlace, AllReadBack, requests, replies, going, returning}
+use Rattle.lsp_peers.specs.InOnePlace.{InOnePlace, requests, replies, going, returning}
 use Rattle.lsp_peers.specs.Token.{OnTheWay, AtOther, ComingBack, Done, GivenUp, Token, token, owed, label_of, Goes}
 use Rattle.lsp_peers.proofs.IdLemmas.{get-nothing}
 use Rattle.lsp_peers.proofs.PlaceLemmas.{held_token, going_token, returning_token, next_first, request_of_own, reply_of_own}
 use Rattle.lsp_peers.proofs.TokenLemmas.{Sets, insert_sets, remove_sets, remove_none, push_sets, push_keeps, goes_sets, goes_keeps, goes-length}
 
 -- a choice between two facts, where the test is known
-match_true : (b : Bool) (P Q : Type 0) → b ≡ true → P → MatchBool b P Q
+pub match_true : (b : Bool) (P Q : Type 0) → b ≡ true → P → MatchBool b P Q
 match_true true P Q is p = p
 match_true false P Q is p = cc
 
-match_some : (o : Option ℕ) (P : Type 0) (Q : ℕ → Type 0) (x : ℕ) → o ≡ Some x → Q x → MatchOption o P Q
+pub match_false : (b : Bool) (P Q : Type 0) → b ≡ false → Q → MatchBool b P Q
+match_false false P Q is q = q
+match_false true P Q is q = cc
+
+pub match_some : (o : Option ℕ) (P : Type 0) (Q : ℕ → Type 0) (x : ℕ) → o ≡ Some x → Q x → MatchOption o P Q
 match_some None P Q x is q = cc
 match_some (Some y) P Q x is q = let e : x ≡ y = cc in subst Q e q
 
-match_none : (o : Option ℕ) (P : Type 0) (Q : ℕ → Type 0) → o ≡ None → P → MatchOption o P Q
+pub match_none : (o : Option ℕ) (P : Type 0) (Q : ℕ → Type 0) → o ≡ None → P → MatchOption o P Q
 match_none None P Q is p = p
 match_none (Some y) P Q is p = cc
 
@@ -49,7 +49,7 @@ pub request_is : (i j : Id) (method other : List ℕ) (params others : Data) →
 request_is i j method other params others a b c = λ k. request (a k) (b k) (c k)
 
 -- a side at which nothing happened
-pub new_agrees : (queue : ReqQueue ℕ ℕ) (line : Line) (taken : Vec code.Message Global) → queue.incoming ≡ map.empty → queue.outgoing ≡ (map.empty, 0) → Carries line empty_post → taken.items ≡ [] → PeerAgrees (record { queue = queue; link = line; taken = taken }) (record { tokens = []; post = empty_post }) []
+pub new_agrees : (queue : ReqQueue ℕ ℕ) (line : Line) (taken : Vec code.Message Global) → queue.incoming ≡ map.empty → queue.outgoing ≡ (map.empty, 0) → Carries line empty_post → taken.items ≡ [] → PeerAgrees (record { queue = queue; link = line; taken = taken }) [] (record { tokens = []; post = empty_post }) []
 new_agrees queue line taken incoming outgoing carries none = record {
   out = λ id. ap (λ (a : Asked ℕ). map.get (pending_of a) id) outgoing ∙ get-empty id_cmp id ∙ sym (ap owed (get-nothing id));
   held = λ id. ap (λ (p : Pending ℕ). map.get p id) incoming ∙ get-empty id_cmp id ∙ sym (ap label_of (get-nothing id));
@@ -61,8 +61,8 @@ new_agrees queue line taken incoming outgoing carries none = record {
 length-push : (tokens : List Token) (t : Token) → length (tokens ++ t ∷ []) ≡ length tokens + 1
 length-push tokens t = length-append tokens (t ∷ [])
 
-module _ (near far : Peer) (old : Accounts) (agrees : Agrees near far old) where
-  pub register_keeps : (asked : Asked ℕ) (line : Line) (method : List ℕ) (params : Data) (payload : ℕ) (id : Id) (m : Message) → m ≡ request (nth_id (count_of near.queue.outgoing)) method params → count_of near.queue.outgoing < all_ids → asked ≡ (map.insert (pending_of near.queue.outgoing) (nth_id (count_of near.queue.outgoing)) payload, count_of near.queue.outgoing + 1) → ((letter : Letter) × (letter.message ≡ m) × Carries line (posted old.there.post letter)) → id ≡ nth_id (count_of near.queue.outgoing) → (new : Accounts) × Registers method params payload old (Registered id) new × Agrees (record { queue = record { incoming = near.queue.incoming; outgoing = asked }; link = near.link; taken = near.taken }) (record { queue = far.queue; link = line; taken = far.taken }) new
+module _ (near far : Peer) {mine theirs : List Message} (old : Accounts) (agrees : Agrees near far mine theirs old) where
+  pub register_keeps : (asked : Asked ℕ) (line : Line) (method : List ℕ) (params : Data) (payload : ℕ) (id : Id) (m : Message) → m ≡ request (nth_id (count_of near.queue.outgoing)) method params → count_of near.queue.outgoing < all_ids → asked ≡ (map.insert (pending_of near.queue.outgoing) (nth_id (count_of near.queue.outgoing)) payload, count_of near.queue.outgoing + 1) → ((letter : Letter) × (letter.message ≡ m) × Carries line (posted old.there.post letter)) → id ≡ nth_id (count_of near.queue.outgoing) → (new : Accounts) × Registers method params payload old (Registered id) new × Agrees (record { queue = record { incoming = near.queue.incoming; outgoing = asked }; link = near.link; taken = near.taken }) (record { queue = far.queue; link = line; taken = far.taken }) mine theirs new
   register_keeps asked line method params payload id m is few outgoing wrote id_is =
       let n : count_of near.queue.outgoing ≡ length old.here.tokens = agrees.near_side.count in
       let room : length old.here.tokens < all_ids = omega (arith, few, n) in
@@ -70,7 +70,7 @@ module _ (near far : Peer) (old : Accounts) (agrees : Agrees near far old) where
       let t : Token = token payload OnTheWay in
       let pending : Pending ℕ = map.insert (pending_of near.queue.outgoing) (nth_id (count_of near.queue.outgoing)) payload in (
         accounts (old.here.tokens ++ t ∷ []) old.here.post old.there.tokens (posted old.there.post letter),
-        match_true (nat_lt (length old.here.tokens) all_ids) _ _ (lt-ltb _ _ room) (letter, wrote.1 ∙ is ∙ ap (λ (k : ℕ). request (nth_id k) method params) n, ap (λ (i : Id). Registered i) (id_is ∙ ap (λ (k : ℕ). nth_id k) n), refl),
+        match_false (length old.here.tokens == all_ids) _ _ (ne_eqb _ _ (λ same. absurd (omega (arith, room, same)))) (letter, wrote.1 ∙ is ∙ ap (λ (k : ℕ). request (nth_id k) method params) n, ap (λ (i : Id). Registered i) (id_is ∙ ap (λ (k : ℕ). nth_id k) n), refl),
         record {
           near_side = record {
             out = λ key. ap (λ (a : Asked ℕ). map.get (pending_of a) key) outgoing ∙ push_sets owed old.here.tokens t (map.get (pending_of near.queue.outgoing)) (map.get pending) agrees.near_side.out (subst (λ (k : ℕ). Sets (map.get (pending_of near.queue.outgoing)) (map.get pending) (nth_id k) (Some payload)) n (insert_sets (pending_of near.queue.outgoing) (nth_id (count_of near.queue.outgoing)) payload)) key;
@@ -89,9 +89,25 @@ module _ (near far : Peer) (old : Accounts) (agrees : Agrees near far old) where
         },
       )
 
+  pub tell_keeps : (line : Line) (method : List ℕ) (params : Data) (m : Message) → m ≡ notification method params → ((letter : Letter) × (letter.message ≡ m) × Carries line (posted old.there.post letter)) → (new : Accounts) × Tells method params old Told new × Agrees near (record { queue = far.queue; link = line; taken = far.taken }) mine theirs new
+  tell_keeps line method params m is wrote = (
+    accounts old.here.tokens old.here.post old.there.tokens (posted old.there.post wrote.0),
+    (wrote.0, wrote.1 ∙ is, refl, refl),
+    record {
+      near_side = agrees.near_side;
+      far_side = record {
+        out = agrees.far_side.out;
+        held = agrees.far_side.held;
+        count = agrees.far_side.count;
+        line = wrote.2;
+        taken = agrees.far_side.taken;
+      };
+    },
+  )
+
   -- nothing is held under the id
   module _ (pending : Pending ℕ) (id : Id) (absent : map.get near.queue.incoming id ≡ None) (removed : pending ≡ map.remove near.queue.incoming id) where
-    absent_agrees : Agrees (record { queue = record { incoming = pending; outgoing = near.queue.outgoing }; link = near.link; taken = near.taken }) far old
+    absent_agrees : Agrees (record { queue = record { incoming = pending; outgoing = near.queue.outgoing }; link = near.link; taken = near.taken }) far mine theirs old
     absent_agrees = record {
       near_side = record {
         out = agrees.near_side.out;
@@ -103,10 +119,10 @@ module _ (near far : Peer) (old : Accounts) (agrees : Agrees near far old) where
       far_side = agrees.far_side;
     }
 
-    pub absent_replies : (reply : Message) (answered : ℕ → Outcome) → (new : Accounts) × Replies id reply answered old Absent new × Agrees (record { queue = record { incoming = pending; outgoing = near.queue.outgoing }; link = near.link; taken = near.taken }) far new
+    pub absent_replies : (reply : Message) (answered : ℕ → Outcome) → (new : Accounts) × Replies id reply answered old Absent new × Agrees (record { queue = record { incoming = pending; outgoing = near.queue.outgoing }; link = near.link; taken = near.taken }) far mine theirs new
     absent_replies reply answered = (old, match_none (label_of (item_at old.there.tokens id)) _ _ (sym (agrees.near_side.held id) ∙ absent) (refl, refl), absent_agrees)
 
-    pub absent_gives_up : (new : Accounts) × GivesUp id old Absent new × Agrees (record { queue = record { incoming = pending; outgoing = near.queue.outgoing }; link = near.link; taken = near.taken }) far new
+    pub absent_gives_up : (new : Accounts) × GivesUp id old Absent new × Agrees (record { queue = record { incoming = pending; outgoing = near.queue.outgoing }; link = near.link; taken = near.taken }) far mine theirs new
     absent_gives_up = (old, match_none (label_of (item_at old.there.tokens id)) _ _ (sym (agrees.near_side.held id) ∙ absent) (refl, refl), absent_agrees)
 
   -- the request that is held under the id
@@ -114,7 +130,7 @@ module _ (near far : Peer) (old : Accounts) (agrees : Agrees near far old) where
     held_here : label_of (item_at old.there.tokens id) ≡ Some label
     held_here = sym (agrees.near_side.held id) ∙ found
 
-    pub replies_keep : (line : Line) (reply : Message) (answered : ℕ → Outcome) → ((letter : Letter) × (letter.message ≡ reply) × Carries line (posted old.there.post letter)) → (new : Accounts) × Replies id reply answered old (answered label) new × Agrees (record { queue = record { incoming = pending; outgoing = near.queue.outgoing }; link = near.link; taken = near.taken }) (record { queue = far.queue; link = line; taken = far.taken }) new
+    pub replies_keep : (line : Line) (reply : Message) (answered : ℕ → Outcome) → ((letter : Letter) × (letter.message ≡ reply) × Carries line (posted old.there.post letter)) → (new : Accounts) × Replies id reply answered old (answered label) new × Agrees (record { queue = record { incoming = pending; outgoing = near.queue.outgoing }; link = near.link; taken = near.taken }) (record { queue = far.queue; link = line; taken = far.taken }) mine theirs new
     replies_keep line reply answered wrote =
         let held = held_token (item_at old.there.tokens id) label held_here in
         let payload : ℕ = held.0 in
@@ -141,7 +157,7 @@ module _ (near far : Peer) (old : Accounts) (agrees : Agrees near far old) where
           },
         )
 
-    pub gives_up_keeps : (new : Accounts) × GivesUp id old (GaveUp label) new × Agrees (record { queue = record { incoming = pending; outgoing = near.queue.outgoing }; link = near.link; taken = near.taken }) far new
+    pub gives_up_keeps : (new : Accounts) × GivesUp id old (GaveUp label) new × Agrees (record { queue = record { incoming = pending; outgoing = near.queue.outgoing }; link = near.link; taken = near.taken }) far mine theirs new
     gives_up_keeps =
         let held = held_token (item_at old.there.tokens id) label held_here in
         let payload : ℕ = held.0 in
@@ -168,13 +184,13 @@ module _ (near far : Peer) (old : Accounts) (agrees : Agrees near far old) where
         )
 
   -- after a take, the one_taken post, and the messages taken
-  taken_more : (letter : Letter) (rest : List Letter) (m : code.Message) (taken : List code.Message) → old.here.post.waiting ≡ letter ∷ rest → message_view m ≡ letter.message → taken ≡ near.taken.items ++ m ∷ [] → each message_view taken ≡ each (λ (l : Letter). l.message) (one_taken old.here.post).taken
+  taken_more : (letter : Letter) (rest : List Letter) (m : code.Message) (taken : List code.Message) → old.here.post.waiting ≡ letter ∷ rest → message_view m ≡ letter.message → taken ≡ near.taken.items ++ m ∷ [] → mine ++ each message_view taken ≡ each (λ (l : Letter). l.message) (one_taken old.here.post).taken
   taken_more letter rest m taken waiting is pushed =
-      ap (each message_view) pushed ∙ map-append message_view near.taken.items (m ∷ []) ∙ ap (λ (ms : List Message). ms ++ message_view m ∷ []) agrees.near_side.taken ∙ ap (λ (x : Message). each (λ (l : Letter). l.message) old.here.post.taken ++ x ∷ []) is
+      ap (λ (l : List code.Message). mine ++ each message_view l) pushed ∙ ap (λ (l : List Message). mine ++ l) (map-append message_view near.taken.items (m ∷ [])) ∙ sym (append_assoc mine (each message_view near.taken.items) (message_view m ∷ [])) ∙ ap (λ (ms : List Message). ms ++ message_view m ∷ []) agrees.near_side.taken ∙ ap (λ (x : Message). each (λ (l : Letter). l.message) old.here.post.taken ++ x ∷ []) is
       ∙ sym (map-append (λ (l : Letter). l.message) old.here.post.taken (letter ∷ []))
       ∙ ap (λ (ls : List Letter). each (λ (l : Letter). l.message) (old.here.post.taken ++ take 1 ls)) (sym waiting)
 
-  pub takes_keep : (queue : ReqQueue ℕ ℕ) (line : Line) (taken : Vec code.Message Global) (label : ℕ) (letter : Letter) (m : code.Message) (message : Message) (outcome : Outcome) → message_view m ≡ message → InOnePlace old → next old.here.post ≡ Some letter → message ≡ letter.message → Carries line (one_taken old.here.post) → Settles message label near.queue outcome queue → taken.items ≡ near.taken.items ++ m ∷ [] → (new : Accounts) × TakesMessage label message old outcome new × Agrees (record { queue = queue; link = line; taken = taken }) far new
+  pub takes_keep : (queue : ReqQueue ℕ ℕ) (line : Line) (taken : Vec code.Message Global) (label : ℕ) (letter : Letter) (m : code.Message) (message : Message) (outcome : Outcome) → message_view m ≡ message → InOnePlace old → next old.here.post ≡ Some letter → message ≡ letter.message → Carries line (one_taken old.here.post) → Settles message label near.queue outcome queue → taken.items ≡ near.taken.items ++ m ∷ [] → (new : Accounts) × TakesMessage label message old outcome new × Agrees (record { queue = queue; link = line; taken = taken }) far mine theirs new
   takes_keep queue line taken label letter m (request id method params) outcome means placed is message_is carries settles pushed =
       let first = next_first old.here.post letter is in
       let waits : 0 < going (item_at old.there.tokens id) = omega (arith, sym (ap (λ (ls : List Letter). requests ls id) first.1) ∙ placed.there_once.out id, request_of_own letter.message id method params (sym message_is)) in
@@ -247,14 +263,6 @@ pub letter_is : (o : Option Letter) (message : Message) → Some message ≡ mes
 letter_is None message is = cc
 letter_is (Some letter) message is = (letter, refl, cc)
 
--- the next letter reads back
-next_reads : (o : Option Letter) (waiting : List Letter) → AllReadBack waiting → ((letter : Letter) → o ≡ Some letter → (rest : List Letter) × (waiting ≡ letter ∷ rest)) → IfSome o (λ letter. ReadsBack letter.message)
-next_reads None waiting all first = tt
-next_reads (Some letter) waiting all first = (subst AllReadBack (first letter refl).1 all).0
-
-pub placed_reads : (old : Accounts) → InOnePlace old → IfNext ReadsBack old.here.post
-placed_reads old placed = next_reads (next old.here.post) old.here.post.waiting placed.here_reads (λ letter is. next_first old.here.post letter is)
-
 pub after_taken : (post : Post) (letter : Letter) → next post ≡ Some letter → after_take post ≡ one_taken post
 after_taken post letter is = ap (λ (o : Option Letter). if is_some o then one_taken post else post) is
 
@@ -269,18 +277,3 @@ held_under (Some label) reply id is = (label, refl, cc)
 pub held_nowhere : (o : Option ℕ) (id : Id) → ◌≡◌ {A = Option Message} None (option_map (λ (label : ℕ). cancelled id) o) → o ≡ None
 held_nowhere None id is = refl
 held_nowhere (Some label) id is = cc
-
--- the same accounts, seen from the other side
-pub turned_agrees : (near far : Peer) (p : Accounts) → Agrees near far p → Agrees far near (record { here = p.there; there = p.here })
-turned_agrees near far p agrees = record { near_side = agrees.far_side; far_side = agrees.near_side }
-
-pub turned_sound : (p : Accounts) → InOnePlace p → InOnePlace (record { here = p.there; there = p.here })
-turned_sound p placed = record { here_once = placed.there_once; there_once = placed.here_once; here_reads = placed.there_reads; there_reads = placed.here_reads }
-
--- a step of B, seen from A
-move_of_b : (step : Step) (old new : Accounts) (outcome : Outcome) → side_of step ≡ B → StepDoes (record { here = old.there; there = old.here }) step outcome new → WorldDoes old step outcome (record { here = new.there; there = new.here })
-move_of_b step old new outcome is moves = subst (λ (s : Side). StepDoes (seen_from s old) step outcome (seen_from s (record { here = new.there; there = new.here }))) (sym is) moves
-
-pub turned_step : (outcome : Result Outcome WorldFault) (near far : Peer) (step : Step) (old : Accounts) → side_of step ≡ B → IfOk outcome (λ o. (new : Accounts) × StepDoes (record { here = old.there; there = old.here }) step o new × Agrees near far new) → IfOk outcome (λ o. (new : Accounts) × WorldDoes old step o new × Agrees far near new)
-turned_step (Ok o) near far step old is made = (record { here = made.0.there; there = made.0.here }, move_of_b step old made.0 o is made.1, turned_agrees near far made.0 made.2)
-turned_step (Err fault) near far step old is made = tt

@@ -1,254 +1,145 @@
--- What two peers exchange in a run.
-use Rattle.std.proofs.Common.{◌≡◌, ℕ, zero, suc, ◌+◌, ◌<◌, ◌≤◌, pos, negsuc, true≢false, List, [], ◌∷◌, ◌++◌, length, String, Global, refl, sym, ap, ◌∙◌, subst, arith, ⊎_elim, append-nil, append_assoc, length-append, take-append-drop}
-use Rattle.std.proofs.lemmas.Bool.{cases_Bool, MatchBool-at_true, MatchBool-at_false}
-use Rattle.std.proofs.lemmas.List.{map-append}
-use Rattle.std.specs.List.{flat_map, AllByRecursion}
-use Rattle.std.specs.Prelude.{Option, None, Some, Ok, Bool, true, false, if◌then◌else◌, nat_lt, MatchOption, IsSome, take, drop, map as each, string_bytes, slice_get, option_map}
-use Rattle.serde_json.specs.View.{view}
-use Rattle.serde_json.specs.declared.value.Value.{Value}
-use Rattle.lsp_message.specs.Id.{Id, number, text}
+-- What a history says of a world, and the tokens and posts that it comes from.
+use Rattle.std.proofs.Common.{◌≡◌, ℕ, ◌+◌, ◌≤◌, List, [], ◌∷◌, ◌++◌, length, zero, suc, drop, refl, sym, ap, ◌∙◌, subst, arith, append-nil, append_assoc}
+use Rattle.std.proofs.lemmas.Bool.{eqb-true}
+use Rattle.std.proofs.lemmas.Grind.{flat_map-append}
+use Rattle.std.proofs.lemmas.List.{map-append, length-map}
+use Rattle.std.specs.List.{AllByRecursion}
+use Rattle.std.specs.Prelude.{◌==◌, Bool, true, false, nat_le, Option, None, Some, Result, Ok, Err, if◌then◌else◌, IfOk, IfSome, option_map, map as each}
+use Rattle.serde_json.specs.Read.{max_depth}
+use Rattle.lsp_message.specs.Id.{Id}
 use Rattle.lsp_message.specs.Message.{Message, request, notification, response}
-use Rattle.lsp_message.specs.Written.{AreFramesOf}
-use Rattle.lsp_queue.specs.Queue.{all_ids, cancelled}
+use Rattle.lsp_message.specs.Ranges.{nesting}
+use Rattle.lsp_peers.specs.declared.fault.WorldFault.{WorldFault}
 use Rattle.lsp_peers.specs.declared.peer.Peer.{Peer}
 use Rattle.lsp_peers.specs.declared.step.Side.{Side}
 use Rattle.lsp_peers.specs.declared.step.Side.TheVariants.{A, B}
 use Rattle.lsp_peers.specs.declared.step.Outcome.{Outcome}
-use Rattle.lsp_peers.specs.declared.step.Outcome.TheVariants.{Registered, Spent, Passed, Arrived, Returned, Waiting, Answered, Cancelled, GaveUp, Absent}
+use Rattle.lsp_peers.specs.declared.step.Outcome.TheVariants.{Registered, Spent, Answered, Cancelled}
 use Rattle.lsp_peers.specs.declared.step.Step.{Step}
-use Rattle.lsp_peers.specs.declared.step.Step.TheVariants.{Register, Pass, Take, Answer, Cancel, GiveUp}
+use Rattle.lsp_peers.specs.declared.step.Step.TheVariants.{Register, Tell, Pass, Take, Answer, Cancel, GiveUp}
 use Rattle.lsp_peers.specs.declared.world.World.{World}
-use Rattle.lsp_peers.specs.Agreement.{PeerAgrees, WorldAgrees}
-use Rattle.lsp_peers.specs.Exchange.{written_in, written_by, given_back_in, given_back, arrived_in, arrived, request_id, reply_id, AreNumbered, AreDistinct, TakesInOrder, IsOwnPayload, GivesBackOnce, IsPending, after, Exchanges}
-use Rattle.lsp_peers.specs.History.{Event, payload_of, payloads, label_of_arrival, labels, returned_id, returned, Follows, Lawful, events_of, other, and_then}
-use Rattle.lsp_peers.specs.Ids.{nth_id, item_at, same_id, has}
-use Rattle.lsp_peers.specs.Steps.{Accounts, Account, accounts, nothing, Registers, Takes, TakesMessage, StepDoes, Run, side_of, seen_from}
-use Rattle.lsp_peers.specs.Post.{Letter, Post, frames, posted, one_taken, next}
-use Rattle.lsp_peers.specs.Token.{Place, OnTheWay, AtOther, ComingBack, Done, GivenUp, Token, Goes, payload_at, owed, label_of}
-use Rattle.lsp_peers.proofs.HistoryLemmas.{flat_push, flat_push_none, has-push_other}
-use Rattle.lsp_peers.proofs.IdLemmas.{same_own, item_at-map}
-use Rattle.lsp_peers.proofs.LawLemmas.{lawful_run, tied_run}
-use Rattle.lsp_peers.proofs.Kept.{Kept, is_done, done_at}
+use Rattle.lsp_peers.specs.Agreement.{PeerAgrees, Agrees, WorldAgrees}
+use Rattle.lsp_peers.specs.Exchange.{Seen, seen_at, SideAfter, WorldAfter}
+use Rattle.lsp_peers.specs.History.{Event, held, where_held, outcome_of_taking, outcome_of, written_in, payloads, pending, passed_count, letters_written, taken_count, next_letter, Follows, only_of, events_of, AllFollow, IsHistory}
+use Rattle.lsp_queue.specs.Queue.{all_ids}
+use Rattle.lsp_peers.specs.Ids.{nth_id, item_at}
+use Rattle.lsp_peers.specs.InOnePlace.{InOnePlace}
+use Rattle.lsp_peers.specs.Post.{Letter, Post, frames, first_passed, next, IfNext, ReadsBack}
+use Rattle.lsp_peers.specs.HistoryLaw.{NeedsNoMemory}
+use Rattle.lsp_peers.specs.Settling.{ReadsNext, IsFree}
+use Rattle.lsp_peers.specs.Shallow.{TakesReadable, AreReadable}
+use Rattle.lsp_peers.specs.Sides.{side_of, other}
+use Rattle.lsp_peers.specs.Steps.{Account, Accounts, nothing, StepDoes, WorldDoes, Run, seen_from}
+use Rattle.lsp_peers.specs.Token.{Place, OnTheWay, AtOther, ComingBack, Done, GivenUp, Token, payload_at, owed, label_of}
+use Rattle.lsp_peers.proofs.HistoryLemmas.{flat_push, flat_push_none}
+use Rattle.lsp_peers.proofs.IdLemmas.{get-nothing, item_at-map}
+use Rattle.lsp_peers.proofs.Kept.{Happens, taking, Kept, is_done, settled_at, done_at}
+use Rattle.lsp_peers.proofs.LawLemmas.{Tied, event, Claim, told, moved}
+use Rattle.lsp_peers.proofs.MailLemmas.{Mail, next_is, first_plain}
 use Rattle.lsp_peers.proofs.PlaceLemmas.{next_first}
+use Rattle.lsp_peers.proofs.RunLemmas.{placed_moves, placed_nothing, run_more}
 
--- ---- what was written is in the posts
+-- ---- the events of a side, after one more
 
--- all messages of a post, in the order in which they were written
-abbrev messages_in : List Letter → List Message
-messages_in letters = each (λ letter. letter.message) letters
+pub of_own : (side : Side) (history : List Event) (e : Event) → side_of e.step ≡ side → events_of side (history ++ e ∷ []) ≡ events_of side history ++ e ∷ []
+of_own side history e is =
+    flat_push (λ (x : Event). only_of side (side_of x.step) x) history e ∙ ap (λ (l : List Event). events_of side history ++ l) (ap (λ (s : Side). only_of side s e) is ∙ at side)
+  where
+    at : (s : Side) → only_of s s e ≡ e ∷ []
+    at A = refl
+    at B = refl
 
-abbrev messages : Post → List Message
-messages post = messages_in post.taken ++ messages_in post.waiting
+pub of_other : (side : Side) (history : List Event) (e : Event) → side_of e.step ≡ side → events_of (other side) (history ++ e ∷ []) ≡ events_of (other side) history
+of_other side history e is =
+    flat_push_none (λ (x : Event). only_of (other side) (side_of x.step) x) history e (ap (λ (s : Side). only_of (other side) s e) is ∙ at side)
+  where
+    at : (s : Side) → only_of (other s) s e ≡ []
+    at A = refl
+    at B = refl
 
-messages_written : (post : Post) (letter : Letter) → messages (posted post letter) ≡ messages post ++ letter.message ∷ []
-messages_written post letter =
-    ap (λ l. messages_in post.taken ++ l) (map-append (λ (l : Letter). l.message) post.waiting (letter ∷ []))
-    ∙ sym (append_assoc (messages_in post.taken) (messages_in post.waiting) (letter.message ∷ []))
+-- ---- the tokens and posts of a history
 
-messages_opened : (post : Post) → messages (one_taken post) ≡ messages post
-messages_opened post =
-    ap (λ l. l ++ messages_in (drop 1 post.waiting)) (map-append (λ (l : Letter). l.message) post.taken (take 1 post.waiting))
-    ∙ append_assoc (messages_in post.taken) (messages_in (take 1 post.waiting)) (messages_in (drop 1 post.waiting))
-    ∙ ap (λ l. messages_in post.taken ++ l) (sym (map-append (λ (l : Letter). l.message) (take 1 post.waiting) (drop 1 post.waiting)) ∙ ap messages_in (take-append-drop 1 post.waiting))
+abbrev turned : Accounts → Accounts
+turned p = record { here = p.there; there = p.here }
 
--- what a step does to the posts: it writes at most one message to the other side
-record Posts (step : Step) (outcome : Outcome) (old new : Accounts) : Type 0 where
-  here : messages new.here.post ≡ messages old.here.post
-  there : messages new.there.post ≡ messages old.there.post ++ written_in (step, outcome)
+pub turned_tied : (own others : List Event) (p : Accounts) → Tied own others p → Tied others own (turned p)
+turned_tied own others p tied = record { here = tied.there; there = tied.here; in_here = tied.in_there; in_there = tied.in_here }
 
-module _ (step : Step) (old : Accounts) where
-  posts_at : (outcome o : Outcome) (new n : Accounts) → outcome ≡ o → new ≡ n → Posts step o old n → Posts step outcome old new
-  posts_at outcome o new n is made posts = subst (λ (x : Outcome). Posts step x old new) (sym is) (subst (λ (x : Accounts). Posts step o old x) (sym made) posts)
+pub turned_placed : (p : Accounts) → InOnePlace p → InOnePlace (turned p)
+turned_placed p placed = record { here_once = placed.there_once; there_once = placed.here_once }
 
-  -- nothing is written
-  posts_quiet : (outcome : Outcome) (new : Accounts) → written_in (step, outcome) ≡ [] → messages new.here.post ≡ messages old.here.post → new.there.post ≡ old.there.post → Posts step outcome old new
-  posts_quiet outcome new none here there = record {
-    here = here;
-    there = ap messages there ∙ sym (append-nil (messages old.there.post)) ∙ ap (λ l. messages old.there.post ++ l) (sym none);
-  }
+-- the accounts that these events come to
+pub record Made (history : List Event) (p : Accounts) : Type 0 where
+  pub tied : Tied (events_of A history) (events_of B history) p
+  pub placed : InOnePlace p
+  pub run : Run nothing (each (λ (e : Event). e.step) history) (each (λ (e : Event). e.outcome) history) p
 
-  -- one message is written
-  posts_written : (outcome : Outcome) (new : Accounts) (letter : Letter) (m : Message) → written_in (step, outcome) ≡ m ∷ [] → letter.message ≡ m → new.here.post ≡ old.here.post → new.there.post ≡ posted old.there.post letter → Posts step outcome old new
-  posts_written outcome new letter m one is here there = record {
-    here = ap messages here;
-    there = ap messages there ∙ messages_written old.there.post letter ∙ ap (λ (x : Message). messages old.there.post ++ x ∷ []) is ∙ ap (λ l. messages old.there.post ++ l) (sym one);
-  }
+run_made : (history : List Event) (p new : Accounts) (e : Event) → Made history p → WorldDoes p e.step e.outcome new → Run nothing (each (λ (x : Event). x.step) (history ++ e ∷ [])) (each (λ (x : Event). x.outcome) (history ++ e ∷ [])) new
+run_made history p new e made does =
+    let more = run_more nothing p new (each (λ (x : Event). x.step) history) (each (λ (x : Event). x.outcome) history) e.step e.outcome made.run does in
+    subst (λ (l : List Step). Run nothing l (each (λ (x : Event). x.outcome) (history ++ e ∷ [])) new) (sym (map-append (λ (x : Event). x.step) history (e ∷ [])))
+    (subst (λ (l : List Outcome). Run nothing (each (λ (x : Event). x.step) history ++ e.step ∷ []) l new) (sym (map-append (λ (x : Event). x.outcome) history (e ∷ []))) more)
 
-  posts_replies : (o : Option ℕ) (id : Id) (reply : Message) (answered : ℕ → Outcome) (outcome : Outcome) (new : Accounts) → ((label : ℕ) → written_in (step, answered label) ≡ reply ∷ []) → written_in (step, Absent) ≡ [] →
-      MatchOption o ((outcome ≡ Absent) × (new ≡ old))
-      (λ label. (payload : ℕ) × (tokens : List Token) × (letter : Letter) × Goes id (AtOther label) ComingBack payload old.there.tokens tokens × (letter.message ≡ reply) × (outcome ≡ answered label) × (new ≡ accounts old.here.tokens old.here.post tokens (posted old.there.post letter))) → Posts step outcome old new
-  posts_replies None id reply answered outcome new one none moves = posts_at outcome Absent new old moves.0 moves.1 (posts_quiet Absent old none refl refl)
-  posts_replies (Some label) id reply answered outcome new one none moves =
-      posts_at outcome (answered label) new (accounts old.here.tokens old.here.post moves.1 (posted old.there.post moves.2)) moves.5 moves.6 (posts_written (answered label) (accounts old.here.tokens old.here.post moves.1 (posted old.there.post moves.2)) moves.2 reply (one label) moves.4 refl refl)
+tied_at : (a b own others : List Event) (p : Accounts) → a ≡ own → b ≡ others → Tied own others p → Tied a b p
+tied_at a b own others p ea eb tied = subst (λ (l : List Event). Tied l b p) (sym ea) (subst (λ (l : List Event). Tied own l p) (sym eb) tied)
 
-  posts_gives_up : (o : Option ℕ) (id : Id) (outcome : Outcome) (new : Accounts) → ((label : ℕ) → written_in (step, GaveUp label) ≡ []) → written_in (step, Absent) ≡ [] →
-      MatchOption o ((outcome ≡ Absent) × (new ≡ old))
-      (λ label. (payload : ℕ) × (tokens : List Token) × Goes id (AtOther label) GivenUp payload old.there.tokens tokens × (outcome ≡ GaveUp label) × (new ≡ accounts old.here.tokens old.here.post tokens old.there.post)) → Posts step outcome old new
-  posts_gives_up None id outcome new one none moves = posts_at outcome Absent new old moves.0 moves.1 (posts_quiet Absent old none refl refl)
-  posts_gives_up (Some label) id outcome new one none moves =
-      posts_at outcome (GaveUp label) new (accounts old.here.tokens old.here.post moves.1 old.there.post) moves.3 moves.4 (posts_quiet (GaveUp label) (accounts old.here.tokens old.here.post moves.1 old.there.post) (one label) refl refl)
-
-posts_registers : (side : Side) (method : String Global) (params : Value) (payload : ℕ) (old : Accounts) (outcome : Outcome) (new : Accounts) → Registers (string_bytes method) (view params) payload old outcome new → Posts (Register side method params payload) outcome old new
-posts_registers side method params payload old outcome new moves =
-    let step : Step = Register side method params payload in
-    let id : Id = nth_id (length old.here.tokens) in
-    ⊎_elim
-    (λ room. let made = MatchBool-at_true _ _ room moves in posts_at step old outcome (Registered id) new _ made.2 made.3 (posts_written step old (Registered id) _ made.0 (request id (string_bytes method) (view params)) refl made.1 refl refl))
-    (λ full. let made = MatchBool-at_false _ _ full moves in posts_at step old outcome Spent new old made.0 made.1 (posts_quiet step old Spent old refl refl refl))
-    (cases_Bool (nat_lt (length old.here.tokens) all_ids))
-
-posts_takes_message : (side : Side) (label : ℕ) (message : Message) (old : Accounts) (outcome : Outcome) (new : Accounts) → TakesMessage label message old outcome new → Posts (Take side label) outcome old new
-posts_takes_message side label (request id method params) old outcome new moves =
-    posts_at (Take side label) old outcome (Arrived id) new _ moves.3 moves.4 (posts_quiet (Take side label) old (Arrived id) _ refl (messages_opened old.here.post) refl)
-posts_takes_message side label (response id answer) old outcome new moves =
-    posts_at (Take side label) old outcome (Returned id (Some moves.0)) new _ moves.3 moves.4 (posts_quiet (Take side label) old (Returned id (Some moves.0)) _ refl (messages_opened old.here.post) refl)
-posts_takes_message side label (notification method params) old outcome new moves =
-    posts_at (Take side label) old outcome Waiting new _ moves.0 moves.1 (posts_quiet (Take side label) old Waiting _ refl (messages_opened old.here.post) refl)
-
-posts_takes : (side : Side) (label : ℕ) (o : Option Letter) (old : Accounts) (outcome : Outcome) (new : Accounts) → Takes label o old outcome new → Posts (Take side label) outcome old new
-posts_takes side label None old outcome new moves = posts_at (Take side label) old outcome Waiting new old moves.0 moves.1 (posts_quiet (Take side label) old Waiting old refl refl refl)
-posts_takes side label (Some letter) old outcome new moves = posts_takes_message side label letter.message old outcome new moves
-
-posts_moves : (step : Step) (old : Accounts) (outcome : Outcome) (new : Accounts) → StepDoes old step outcome new → Posts step outcome old new
-posts_moves (Register side method params payload) old outcome new moves = posts_registers side method params payload old outcome new moves
-posts_moves (Pass side bytes) old outcome new moves = posts_at (Pass side bytes) old outcome _ new _ moves.0 moves.1 (posts_quiet (Pass side bytes) old (Passed _) _ refl refl refl)
-posts_moves (Take side label) old outcome new moves = posts_takes side label (next old.here.post) old outcome new moves
-posts_moves (Answer side id value) old outcome new moves = posts_replies (Answer side id value) old (label_of (item_at old.there.tokens id)) id (response id (Ok (view value))) (λ label. Answered label) outcome new (λ label. refl) refl moves
-posts_moves (Cancel side id) old outcome new moves = posts_replies (Cancel side id) old (label_of (item_at old.there.tokens id)) id (cancelled id) (λ label. Cancelled) outcome new (λ label. refl) refl moves
-posts_moves (GiveUp side id) old outcome new moves = posts_gives_up (GiveUp side id) old (label_of (item_at old.there.tokens id)) id outcome new (λ label. refl) refl moves
-
--- ---- what was taken is in the outcomes
-
-record Receives (step : Step) (outcome : Outcome) (old new : Accounts) : Type 0 where
-  asked : flat_map request_id (messages_in new.here.post.taken) ≡ flat_map request_id (messages_in old.here.post.taken) ++ arrived_in (step, outcome)
-  told : flat_map reply_id (messages_in new.here.post.taken) ≡ flat_map reply_id (messages_in old.here.post.taken) ++ returned_id (step, outcome)
-  there : messages_in new.there.post.taken ≡ messages_in old.there.post.taken
-
-module _ (step : Step) (old : Accounts) where
-  receives_at : (outcome o : Outcome) (new n : Accounts) → outcome ≡ o → new ≡ n → Receives step o old n → Receives step outcome old new
-  receives_at outcome o new n is made receives = subst (λ (x : Outcome). Receives step x old new) (sym is) (subst (λ (x : Accounts). Receives step o old x) (sym made) receives)
-
-  receives_none : (outcome : Outcome) (new : Accounts) → arrived_in (step, outcome) ≡ [] → returned_id (step, outcome) ≡ [] → new.here.post.taken ≡ old.here.post.taken → new.there.post.taken ≡ old.there.post.taken → Receives step outcome old new
-  receives_none outcome new none never here there = record {
-    asked = ap (λ (ls : List Letter). flat_map request_id (messages_in ls)) here ∙ sym (append-nil _) ∙ ap (λ l. flat_map request_id (messages_in old.here.post.taken) ++ l) (sym none);
-    told = ap (λ (ls : List Letter). flat_map reply_id (messages_in ls)) here ∙ sym (append-nil _) ∙ ap (λ l. flat_map reply_id (messages_in old.here.post.taken) ++ l) (sym never);
-    there = ap messages_in there;
-  }
-
-  receives_one : (outcome : Outcome) (new : Accounts) (letter : Letter) (rest : List Letter) (m : Message) → request_id m ≡ arrived_in (step, outcome) → reply_id m ≡ returned_id (step, outcome) → letter.message ≡ m → old.here.post.waiting ≡ letter ∷ rest → new.here.post ≡ one_taken old.here.post → new.there.post ≡ old.there.post → Receives step outcome old new
-  receives_one outcome new letter rest m one other is first here there =
-      let more : messages_in new.here.post.taken ≡ messages_in old.here.post.taken ++ m ∷ [] =
-      ap (λ (p : Post). messages_in p.taken) here ∙ ap (λ (ls : List Letter). messages_in (old.here.post.taken ++ take 1 ls)) first ∙ map-append (λ (l : Letter). l.message) old.here.post.taken (letter ∷ []) ∙ ap (λ (x : Message). messages_in old.here.post.taken ++ x ∷ []) is in
-      record {
-        asked = ap (flat_map request_id) more ∙ flat_push request_id (messages_in old.here.post.taken) m ∙ ap (λ l. flat_map request_id (messages_in old.here.post.taken) ++ l) one;
-        told = ap (flat_map reply_id) more ∙ flat_push reply_id (messages_in old.here.post.taken) m ∙ ap (λ l. flat_map reply_id (messages_in old.here.post.taken) ++ l) other;
-        there = ap (λ (p : Post). messages_in p.taken) there;
-      }
-
-  receives_replies : (o : Option ℕ) (id : Id) (reply : Message) (answered : ℕ → Outcome) (outcome : Outcome) (new : Accounts) → ((x : Outcome) → arrived_in (step, x) ≡ []) → ((x : Outcome) → returned_id (step, x) ≡ []) →
-      MatchOption o ((outcome ≡ Absent) × (new ≡ old))
-      (λ label. (payload : ℕ) × (tokens : List Token) × (letter : Letter) × Goes id (AtOther label) ComingBack payload old.there.tokens tokens × (letter.message ≡ reply) × (outcome ≡ answered label) × (new ≡ accounts old.here.tokens old.here.post tokens (posted old.there.post letter))) → Receives step outcome old new
-  receives_replies None id reply answered outcome new none never moves = receives_at outcome Absent new old moves.0 moves.1 (receives_none Absent old (none Absent) (never Absent) refl refl)
-  receives_replies (Some label) id reply answered outcome new none never moves =
-      receives_at outcome (answered label) new (accounts old.here.tokens old.here.post moves.1 (posted old.there.post moves.2)) moves.5 moves.6 (receives_none (answered label) (accounts old.here.tokens old.here.post moves.1 (posted old.there.post moves.2)) (none (answered label)) (never (answered label)) refl refl)
-
-  receives_gives_up : (o : Option ℕ) (id : Id) (outcome : Outcome) (new : Accounts) → ((x : Outcome) → arrived_in (step, x) ≡ []) → ((x : Outcome) → returned_id (step, x) ≡ []) →
-      MatchOption o ((outcome ≡ Absent) × (new ≡ old))
-      (λ label. (payload : ℕ) × (tokens : List Token) × Goes id (AtOther label) GivenUp payload old.there.tokens tokens × (outcome ≡ GaveUp label) × (new ≡ accounts old.here.tokens old.here.post tokens old.there.post)) → Receives step outcome old new
-  receives_gives_up None id outcome new none never moves = receives_at outcome Absent new old moves.0 moves.1 (receives_none Absent old (none Absent) (never Absent) refl refl)
-  receives_gives_up (Some label) id outcome new none never moves =
-      receives_at outcome (GaveUp label) new (accounts old.here.tokens old.here.post moves.1 old.there.post) moves.3 moves.4 (receives_none (GaveUp label) (accounts old.here.tokens old.here.post moves.1 old.there.post) (none (GaveUp label)) (never (GaveUp label)) refl refl)
-
-receives_registers : (side : Side) (method : String Global) (params : Value) (payload : ℕ) (old : Accounts) (outcome : Outcome) (new : Accounts) → Registers (string_bytes method) (view params) payload old outcome new → Receives (Register side method params payload) outcome old new
-receives_registers side method params payload old outcome new moves =
-    let step : Step = Register side method params payload in
-    let id : Id = nth_id (length old.here.tokens) in
-    ⊎_elim
-    (λ room. let made = MatchBool-at_true _ _ room moves in receives_at step old outcome (Registered id) new _ made.2 made.3 (receives_none step old (Registered id) _ refl refl refl refl))
-    (λ full. let made = MatchBool-at_false _ _ full moves in receives_at step old outcome Spent new old made.0 made.1 (receives_none step old Spent old refl refl refl refl))
-    (cases_Bool (nat_lt (length old.here.tokens) all_ids))
-
-receives_message : (side : Side) (label : ℕ) (letter : Letter) (rest : List Letter) (message : Message) (old : Accounts) (outcome : Outcome) (new : Accounts) → old.here.post.waiting ≡ letter ∷ rest → letter.message ≡ message → TakesMessage label message old outcome new → Receives (Take side label) outcome old new
-receives_message side label letter rest (request id method params) old outcome new first is moves =
-    receives_at (Take side label) old outcome (Arrived id) new _ moves.3 moves.4 (receives_one (Take side label) old (Arrived id) _ letter rest (request id method params) refl refl is first refl refl)
-receives_message side label letter rest (response id answer) old outcome new first is moves =
-    receives_at (Take side label) old outcome (Returned id (Some moves.0)) new _ moves.3 moves.4 (receives_one (Take side label) old (Returned id (Some moves.0)) _ letter rest (response id answer) refl refl is first refl refl)
-receives_message side label letter rest (notification method params) old outcome new first is moves =
-    receives_at (Take side label) old outcome Waiting new _ moves.0 moves.1 (receives_one (Take side label) old Waiting _ letter rest (notification method params) refl refl is first refl refl)
-
-receives_takes : (side : Side) (label : ℕ) (o : Option Letter) (old : Accounts) (outcome : Outcome) (new : Accounts) → ((letter : Letter) → o ≡ Some letter → (rest : List Letter) × (old.here.post.waiting ≡ letter ∷ rest)) → Takes label o old outcome new → Receives (Take side label) outcome old new
-receives_takes side label None old outcome new first moves = receives_at (Take side label) old outcome Waiting new old moves.0 moves.1 (receives_none (Take side label) old Waiting old refl refl refl refl)
-receives_takes side label (Some letter) old outcome new first moves = receives_message side label letter (first letter refl).0 letter.message old outcome new (first letter refl).1 refl moves
-
-receives_moves : (step : Step) (old : Accounts) (outcome : Outcome) (new : Accounts) → StepDoes old step outcome new → Receives step outcome old new
-receives_moves (Register side method params payload) old outcome new moves = receives_registers side method params payload old outcome new moves
-receives_moves (Pass side bytes) old outcome new moves = receives_at (Pass side bytes) old outcome _ new _ moves.0 moves.1 (receives_none (Pass side bytes) old (Passed _) _ refl refl refl refl)
-receives_moves (Take side label) old outcome new moves = receives_takes side label (next old.here.post) old outcome new (λ letter is. next_first old.here.post letter is) moves
-receives_moves (Answer side id value) old outcome new moves = receives_replies (Answer side id value) old (label_of (item_at old.there.tokens id)) id (response id (Ok (view value))) (λ label. Answered label) outcome new (λ x. refl) (λ x. refl) moves
-receives_moves (Cancel side id) old outcome new moves = receives_replies (Cancel side id) old (label_of (item_at old.there.tokens id)) id (cancelled id) (λ label. Cancelled) outcome new (λ x. refl) (λ x. refl) moves
-receives_moves (GiveUp side id) old outcome new moves = receives_gives_up (GiveUp side id) old (label_of (item_at old.there.tokens id)) id outcome new (λ x. refl) (λ x. refl) moves
-
--- The post to a side holds what the other side wrote, and what was taken of it is in the outcomes.
-record Holds (own others : List Event) (post : Post) : Type 0 where
-  all : messages post ≡ written_by others
-  asked : flat_map request_id (messages_in post.taken) ≡ arrived own
-  told : flat_map reply_id (messages_in post.taken) ≡ returned own
-
-record BothHold (events : List Event × List Event) (p : Accounts) : Type 0 where
-  to_a : Holds events.0 events.1 p.here.post
-  to_b : Holds events.1 events.0 p.there.post
-
-holds_here : (step : Step) (outcome : Outcome) (old new : Accounts) (own others : List Event) → Holds own others old.here.post → StepDoes old step outcome new → Holds (own ++ (step, outcome) ∷ []) others new.here.post
-holds_here step outcome old new own others holds moves =
-    let posts = posts_moves step old outcome new moves in
-    let receives = receives_moves step old outcome new moves in
+made_a : (history : List Event) (p new : Accounts) (step : Step) (outcome : Outcome) (wrote : List Letter) → side_of step ≡ A → Made history p → Claim (events_of A history) (events_of B history) p step outcome wrote new → Made (history ++ event step outcome wrote ∷ []) new
+made_a history p new step outcome wrote is made claim =
+    let e : Event = event step outcome wrote in
     record {
-      all = posts.here ∙ holds.all;
-      asked = receives.asked ∙ ap (λ l. l ++ arrived_in (step, outcome)) holds.asked ∙ sym (flat_push arrived_in own (step, outcome));
-      told = receives.told ∙ ap (λ l. l ++ returned_id (step, outcome)) holds.told ∙ sym (flat_push returned_id own (step, outcome));
+      tied = tied_at _ _ _ _ new (of_own A history e is) (of_other A history e is) claim.tied;
+      placed = placed_moves step p made.placed outcome new claim.does;
+      run = run_made history p new e made (subst (λ (s : Side). StepDoes (seen_from s p) step outcome (seen_from s new)) (sym is) claim.does);
     }
 
-holds_there : (step : Step) (outcome : Outcome) (old new : Accounts) (own others : List Event) → Holds others own old.there.post → StepDoes old step outcome new → Holds others (own ++ (step, outcome) ∷ []) new.there.post
-holds_there step outcome old new own others holds moves =
-    let posts = posts_moves step old outcome new moves in
-    let receives = receives_moves step old outcome new moves in
+made_b : (history : List Event) (p new : Accounts) (step : Step) (outcome : Outcome) (wrote : List Letter) → side_of step ≡ B → Made history p → Claim (events_of B history) (events_of A history) (turned p) step outcome wrote new → Made (history ++ event step outcome wrote ∷ []) (turned new)
+made_b history p new step outcome wrote is made claim =
+    let e : Event = event step outcome wrote in
     record {
-      all = posts.there ∙ ap (λ l. l ++ written_in (step, outcome)) holds.all ∙ sym (flat_push written_in own (step, outcome));
-      asked = ap (flat_map request_id) receives.there ∙ holds.asked;
-      told = ap (flat_map reply_id) receives.there ∙ holds.told;
+      tied = tied_at _ _ _ _ (turned new) (of_other B history e is) (of_own B history e is) (turned_tied _ _ new claim.tied);
+      placed = turned_placed new (placed_moves step (turned p) (turned_placed p made.placed) outcome new claim.does);
+      run = run_made history p (turned new) e made (subst (λ (s : Side). StepDoes (seen_from s p) step outcome (seen_from s (turned new))) (sym is) claim.does);
     }
 
-holds_seen : (side : Side) (step : Step) (before : List Event × List Event) (old new : Accounts) (outcome : Outcome) → BothHold before old → StepDoes (seen_from side old) step outcome (seen_from side new) → BothHold (and_then side (step, outcome) before) new
-holds_seen A step before old new outcome holds moves = record {
-  to_a = holds_here step outcome old new before.0 before.1 holds.to_a moves;
-  to_b = holds_there step outcome old new before.0 before.1 holds.to_b moves;
+-- one more event, and the accounts that it comes to
+made_one : (side : Side) (history : List Event) (p : Accounts) (e : Event) → side_of e.step ≡ side → Made history p → Follows (events_of side history) (events_of (other side) history) e → (new : Accounts) × Made (history ++ e ∷ []) new
+made_one A history p e is made follows =
+    let move = moved (events_of A history) (events_of B history) p made.tied made.placed e.step e.outcome e.wrote follows in
+    (move.0, made_a history p move.0 e.step e.outcome e.wrote is made move.1)
+made_one B history p e is made follows =
+    let move = moved (events_of B history) (events_of A history) (turned p) (turned_tied _ _ p made.tied) (turned_placed p made.placed) e.step e.outcome e.wrote follows in
+    (turned move.0, made_b history p move.0 e.step e.outcome e.wrote is made move.1)
+
+made_from : (before events : List Event) (p : Accounts) → Made before p → AllFollow before events → (new : Accounts) × Made (before ++ events) new
+made_from before [] p made happen = (p, subst (λ (l : List Event). Made l p) (sym (append-nil before)) made)
+made_from before (e ∷ events) p made happen =
+    let one = made_one (side_of e.step) before p e refl made happen.0 in
+    let all = made_from (before ++ e ∷ []) events one.0 one.1 happen.1 in
+    (all.0, subst (λ (l : List Event). Made l all.0) (append_assoc before (e ∷ []) events) all.1)
+
+kept_nothing : Kept [] [] [] []
+kept_nothing = record { all = refl; order = refl; there = λ id. get-nothing id ∙ sym (ap label_of (get-nothing id)); gone = λ id. sym (ap settled_at (get-nothing id)); back = λ id. sym (ap done_at (get-nothing id)) }
+
+mail_nothing : Mail 0 0 [] (record { taken = []; waiting = []; passed = 0 })
+mail_nothing = record { taken = refl; left = refl; here = refl; within = omega arith; plain = tt }
+
+made_nothing : Made [] nothing
+made_nothing = record {
+  tied = record { here = kept_nothing; there = kept_nothing; in_here = mail_nothing; in_there = mail_nothing };
+  placed = placed_nothing;
+  run = refl;
 }
-holds_seen B step before old new outcome holds moves = record {
-  to_a = holds_there step outcome (record { here = old.there; there = old.here }) (record { here = new.there; there = new.here }) before.1 before.0 holds.to_a moves;
-  to_b = holds_here step outcome (record { here = old.there; there = old.here }) (record { here = new.there; there = new.here }) before.1 before.0 holds.to_b moves;
-}
 
-holds_from : (steps : List Step) (outcomes : List Outcome) (before : List Event × List Event) (old new : Accounts) → BothHold before old → Run old steps outcomes new → BothHold (after before steps outcomes) new
-holds_from [] [] before old new holds run = subst (BothHold before) (sym run) holds
-holds_from [] (outcome ∷ outcomes) before old new holds run = absurd run
-holds_from (step ∷ steps) [] before old new holds run = absurd run
-holds_from (step ∷ steps) (outcome ∷ outcomes) before old new holds run =
-    holds_from steps outcomes (and_then (side_of step) (step, outcome) before) run.0 new (holds_seen (side_of step) step before old run.0 outcome holds run.1) run.2
+-- the accounts that a history comes to
+pub made_of : (history : List Event) → IsHistory history → (p : Accounts) × Made history p
+made_of history is = made_from [] history nothing made_nothing is
 
-are_frames : (letters : List Letter) → AreFramesOf (messages_in letters) (frames letters)
-are_frames [] = refl
-are_frames (letter ∷ letters) = (letter.frame, frames letters, letter.framed, are_frames letters, refl)
+happen_more : (before events : List Event) (e : Event) → AllFollow before events → Happens (before ++ events) e → AllFollow before (events ++ e ∷ [])
+happen_more before [] e all happens = (subst (λ (l : List Event). Happens l e) (append-nil before) happens, tt)
+happen_more before (x ∷ events) e all happens =
+    (all.0, happen_more (before ++ x ∷ []) events e all.1 (subst (λ (l : List Event). Happens l e) (sym (append_assoc before (x ∷ []) events)) happens))
 
-takes_in_order : (peer : Peer) (account : Account) (others : List Token) (own theirs : List Event) → PeerAgrees peer account others → Holds own theirs account.post → TakesInOrder peer own (written_by theirs)
-takes_in_order peer account others own theirs agrees holds = record {
-  left = messages_in account.post.waiting;
-  in_order = ap (λ l. l ++ messages_in account.post.waiting) agrees.taken ∙ holds.all;
-  in_link = subst (AreFramesOf (messages_in account.post.waiting)) (sym agrees.line.bytes) (are_frames account.post.waiting);
-  requests = ap (flat_map request_id) agrees.taken ∙ holds.asked;
-  replies = ap (flat_map reply_id) agrees.taken ∙ holds.told;
-}
-
--- ---- what is pending
+-- ---- what a world shows
 
 owed_is : (o : Option Token) → owed o ≡ (if done_at o then None else option_map (λ (t : Token). t.payload) o)
 owed_is None = refl
@@ -261,200 +152,183 @@ owed_is (Some t) = at t.place t.payload
     at Done payload = refl
     at GivenUp payload = refl
 
-is_pending : (peer : Peer) (account : Account) (others : List Token) (own theirs : List Event) (outbound inbound : List Letter) → PeerAgrees peer account others → Kept own theirs account.tokens outbound → Kept theirs own others inbound → IsPending peer.queue own
-is_pending peer account others own theirs outbound inbound agrees kept met = record {
-  asked = λ id.
+abbrev seen : Peer → Seen
+seen peer = record { queue = peer.queue; arrived = peer.link.arrived; on_way = peer.link.on_way; taken = peer.taken.items }
+
+module _ {own others : List Event} (account : Account) {theirs : List Token} {outbound inbound : List Letter} (kept : Kept own others account.tokens outbound) (met : Kept others own theirs inbound) (mail : Mail (taken_count own) (passed_count own) (letters_written others) account.post) where
+  pending_is : (id : Id) → owed (item_at account.tokens id) ≡ pending own id
+  pending_is id =
       let there : item_at (payloads own) id ≡ option_map (λ (t : Token). t.payload) (item_at account.tokens id) = ap (λ (l : List ℕ). item_at l id) kept.all ∙ item_at-map (λ (t : Token). t.payload) account.tokens id in
-      agrees.out id ∙ owed_is (item_at account.tokens id) ∙ (λ i. if sym (kept.back id) i then None else sym there i);
-  holds = λ id. agrees.held id ∙ sym (met.there id);
-}
+      owed_is (item_at account.tokens id) ∙ (λ i. if sym (kept.back id) i then None else sym there i)
 
--- ---- what arrived
+  counted : length (payloads own) ≡ length account.tokens
+  counted = ap (λ (l : List ℕ). length l) kept.all ∙ length-map account.tokens (λ (t : Token). t.payload)
 
-numbered_push : (n : ℕ) (ids : List Id) → AreNumbered n ids → AreNumbered n (ids ++ nth_id (n + length ids) ∷ [])
-numbered_push n [] are = (ap (λ (k : ℕ). nth_id k) (omega arith), tt)
-numbered_push n (id ∷ ids) are = (are.0, subst (λ (k : ℕ). AreNumbered (suc n) (ids ++ nth_id k ∷ [])) (omega arith) (numbered_push (suc n) ids are.1))
-
-record Comes (own others : List Event) : Type 0 where
-  numbered : AreNumbered 0 (arrived own)
-  labelled : length (labels own) ≡ length (arrived own)
-  registered : length (arrived own) ≤ length (payloads others)
-
-comes_others : (own others : List Event) (e : Event) → Comes own others → Comes own (others ++ e ∷ [])
-comes_others own others e comes = record {
-  numbered = comes.numbered;
-  labelled = comes.labelled;
-  registered = omega (arith, comes.registered, ap (λ (l : List ℕ). length l) (flat_push payload_of others e), length-append (payloads others) (payload_of e));
-}
-
-comes_none : (own others : List Event) (e : Event) → Comes own others → arrived_in e ≡ [] → label_of_arrival e ≡ [] → Comes (own ++ e ∷ []) others
-comes_none own others e comes none never = record {
-  numbered = subst (AreNumbered 0) (sym (flat_push_none arrived_in own e none)) comes.numbered;
-  labelled = ap (λ (l : List ℕ). length l) (flat_push_none label_of_arrival own e never) ∙ comes.labelled ∙ ap (λ (l : List Id). length l) (sym (flat_push_none arrived_in own e none));
-  registered = subst (λ (l : List Id). length l ≤ length (payloads others)) (sym (flat_push_none arrived_in own e none)) comes.registered;
-}
-
-comes_one : (own others : List Event) (side : Side) (label : ℕ) (id : Id) → Comes own others → (id ≡ nth_id (length (labels own))) × (length (labels own) < length (payloads others)) → Comes (own ++ (Take side label, Arrived id) ∷ []) others
-comes_one own others side label id comes follows =
-    let more : arrived (own ++ (Take side label, Arrived id) ∷ []) ≡ arrived own ++ id ∷ [] = flat_push arrived_in own (Take side label, Arrived id) in
-    let size : length (arrived own ++ id ∷ []) ≡ length (arrived own) + 1 = length-append (arrived own) (id ∷ []) in
-    record {
-      numbered = subst (AreNumbered 0) (sym (more ∙ ap (λ (i : Id). arrived own ++ i ∷ []) (follows.0 ∙ ap (λ (k : ℕ). nth_id k) (comes.labelled ∙ omega arith)))) (numbered_push 0 (arrived own) comes.numbered);
-      labelled = ap (λ (l : List ℕ). length l) (flat_push label_of_arrival own (Take side label, Arrived id)) ∙ length-append (labels own) (label ∷ []) ∙ ap (λ (k : ℕ). k + 1) comes.labelled ∙ sym (ap (λ (l : List Id). length l) more ∙ size);
-      registered = subst (λ (l : List Id). length l ≤ length (payloads others)) (sym more) (omega (arith, size, comes.labelled, follows.1));
-    }
-
-comes_take : (side : Side) (label : ℕ) (outcome : Outcome) (own others : List Event) → Comes own others → Follows own others (Take side label) outcome → Comes (own ++ (Take side label, outcome) ∷ []) others
-comes_take side label (Arrived id) own others comes follows = comes_one own others side label id comes follows
-comes_take side label (Returned id x) own others comes follows = comes_none own others (Take side label, Returned id x) comes refl refl
-comes_take side label (Registered id) own others comes follows = comes_none own others (Take side label, Registered id) comes refl refl
-comes_take side label Spent own others comes follows = comes_none own others (Take side label, Spent) comes refl refl
-comes_take side label (Passed count) own others comes follows = comes_none own others (Take side label, Passed count) comes refl refl
-comes_take side label Waiting own others comes follows = comes_none own others (Take side label, Waiting) comes refl refl
-comes_take side label (Answered l) own others comes follows = comes_none own others (Take side label, Answered l) comes refl refl
-comes_take side label Cancelled own others comes follows = comes_none own others (Take side label, Cancelled) comes refl refl
-comes_take side label (GaveUp l) own others comes follows = comes_none own others (Take side label, GaveUp l) comes refl refl
-comes_take side label Absent own others comes follows = comes_none own others (Take side label, Absent) comes refl refl
-
-comes_next : (step : Step) (outcome : Outcome) (own others : List Event) → Comes own others → Follows own others step outcome → Comes (own ++ (step, outcome) ∷ []) others
-comes_next (Register side method params payload) outcome own others comes follows = comes_none own others (Register side method params payload, outcome) comes refl refl
-comes_next (Pass side bytes) outcome own others comes follows = comes_none own others (Pass side bytes, outcome) comes refl refl
-comes_next (Take side label) outcome own others comes follows = comes_take side label outcome own others comes follows
-comes_next (Answer side id value) outcome own others comes follows = comes_none own others (Answer side id value, outcome) comes refl refl
-comes_next (Cancel side id) outcome own others comes follows = comes_none own others (Cancel side id, outcome) comes refl refl
-comes_next (GiveUp side id) outcome own others comes follows = comes_none own others (GiveUp side id, outcome) comes refl refl
-
--- ---- what was given back
-
-distinct_push : (ids : List Id) (id : Id) → AreDistinct ids → has id ids ≡ false → AreDistinct (ids ++ id ∷ [])
-distinct_push [] id distinct new = (refl, tt)
-distinct_push (x ∷ ids) id distinct new = at (same_id x id) refl new (distinct_push ids id distinct.1)
-  where
-    at : (b : Bool) → same_id x id ≡ b → (if b then true else has id ids) ≡ false → (has id ids ≡ false → AreDistinct (ids ++ id ∷ [])) → AreDistinct (x ∷ (ids ++ id ∷ []))
-    at true e f more = cc
-    at false e f more = (has-push_other id x ids (λ same. true≢false (sym (ap (λ (i : Id). same_id i id) same ∙ same_own id) ∙ e)) ∙ distinct.0, more f)
-
--- more payloads are registered
-own_more : (xs more : List ℕ) (id : Id) (x : Option ℕ) → IsSome x → x ≡ item_at xs id → x ≡ item_at (xs ++ more) id
-own_more xs more id None some is = cc
-own_more xs more id (Some x) some is = grown xs more id x is
-  where
-    grown_at : (xs more : List ℕ) (n x : ℕ) → Some x ≡ slice_get xs n → Some x ≡ slice_get (xs ++ more) n
-    grown_at [] more n x is = cc
-    grown_at (y ∷ xs) more zero x is = is
-    grown_at (y ∷ xs) more (suc n) x is = grown_at xs more n x is
-
-    grown : (xs more : List ℕ) (id : Id) (x : ℕ) → Some x ≡ item_at xs id → Some x ≡ item_at (xs ++ more) id
-    grown xs more (number (pos n)) x is = grown_at xs more n x is
-    grown xs more (number (negsuc n)) x is = cc
-    grown xs more (text s) x is = cc
-
-all_own : (backs : List (Id × Option ℕ)) (xs more : List ℕ) → AllByRecursion (IsOwnPayload xs) backs → AllByRecursion (IsOwnPayload (xs ++ more)) backs
-all_own [] xs more all = tt
-all_own (back ∷ backs) xs more all = ((all.0.0, own_more xs more back.0 back.1 all.0.0 all.0.1), all_own backs xs more all.1)
-
-own_push : (backs : List (Id × Option ℕ)) (xs : List ℕ) (back : Id × Option ℕ) → AllByRecursion (IsOwnPayload xs) backs → IsOwnPayload xs back → AllByRecursion (IsOwnPayload xs) (backs ++ back ∷ [])
-own_push [] xs back all own = (own, tt)
-own_push (b ∷ backs) xs back all own = (all.0, own_push backs xs back all.1 own)
-
-module _ (own : List Event) (gives : GivesBackOnce own) (e : Event) where
-  still_own : AllByRecursion (IsOwnPayload (payloads (own ++ e ∷ []))) (given_back own)
-  still_own = subst (λ (l : List ℕ). AllByRecursion (IsOwnPayload l) (given_back own)) (sym (flat_push payload_of own e)) (all_own (given_back own) (payloads own) (payload_of e) gives.own_payload)
-
-  -- nothing is given back
-  gives_none : given_back_in e ≡ [] → returned_id e ≡ [] → GivesBackOnce (own ++ e ∷ [])
-  gives_none none never = record {
-    own_payload = subst (AllByRecursion (IsOwnPayload (payloads (own ++ e ∷ [])))) (sym (flat_push_none given_back_in own e none)) still_own;
-    once = subst AreDistinct (sym (flat_push_none returned_id own e never)) gives.once;
+  pub peer_agrees : {handed : List Message} (peer : Peer) → SideAfter (seen peer) handed own others → PeerAgrees peer handed account theirs
+  peer_agrees peer after = record {
+    out = λ id. after.asks id ∙ sym (pending_is id);
+    held = λ id. after.holds id ∙ met.there id;
+    count = after.count ∙ counted;
+    line = record {
+      bytes = after.in_link ∙ ap frames mail.left;
+      count = ap (λ (l : List Letter). length (frames l) + length peer.link.arrived) (sym mail.taken) ∙ after.here ∙ mail.here;
+    };
+    taken = after.took ∙ ap (each (λ (l : Letter). l.message)) mail.taken;
   }
 
-  -- a payload is given back
-  gives_one : (id : Id) (x : Option ℕ) → given_back_in e ≡ (id, x) ∷ [] → returned_id e ≡ id ∷ [] → IsOwnPayload (payloads own) (id, x) → has id (returned own) ≡ false → GivesBackOnce (own ++ e ∷ [])
-  gives_one id x one at is new =
-      let later : IsOwnPayload (payloads (own ++ e ∷ [])) (id, x) = (is.0, own_more (payloads own) (payload_of e) id x is.0 is.1 ∙ ap (λ (l : List ℕ). item_at l id) (sym (flat_push payload_of own e))) in
-      record {
-        own_payload = subst (AllByRecursion (IsOwnPayload (payloads (own ++ e ∷ [])))) (sym (flat_push given_back_in own e ∙ ap (λ l. given_back own ++ l) one)) (own_push (given_back own) (payloads (own ++ e ∷ [])) (id, x) still_own later);
-        once = subst AreDistinct (sym (flat_push returned_id own e ∙ ap (λ l. returned own ++ l) at)) (distinct_push (returned own) id gives.once new);
-      }
+  pub side_after : {handed : List Message} (peer : Peer) → PeerAgrees peer handed account theirs → SideAfter (seen peer) handed own others
+  side_after peer agrees = record {
+    took = agrees.taken ∙ ap (each (λ (l : Letter). l.message)) (sym mail.taken);
+    in_link = agrees.line.bytes ∙ ap frames (sym mail.left);
+    here = ap (λ (l : List Letter). length (frames l) + length peer.link.arrived) mail.taken ∙ agrees.line.count ∙ sym mail.here;
+    asks = λ id. agrees.out id ∙ pending_is id;
+    holds = λ id. agrees.held id ∙ sym (met.there id);
+    count = agrees.count ∙ sym counted;
+  }
 
-gives_take : (side : Side) (label : ℕ) (outcome : Outcome) (own others : List Event) → GivesBackOnce own → Follows own others (Take side label) outcome → GivesBackOnce (own ++ (Take side label, outcome) ∷ [])
-gives_take side label (Returned id x) own others gives follows = gives_one own gives (Take side label, Returned id x) id x refl refl (follows.0, follows.1) follows.2
-gives_take side label (Registered id) own others gives follows = gives_none own gives (Take side label, Registered id) refl refl
-gives_take side label Spent own others gives follows = gives_none own gives (Take side label, Spent) refl refl
-gives_take side label (Passed count) own others gives follows = gives_none own gives (Take side label, Passed count) refl refl
-gives_take side label (Arrived id) own others gives follows = gives_none own gives (Take side label, Arrived id) refl refl
-gives_take side label Waiting own others gives follows = gives_none own gives (Take side label, Waiting) refl refl
-gives_take side label (Answered l) own others gives follows = gives_none own gives (Take side label, Answered l) refl refl
-gives_take side label Cancelled own others gives follows = gives_none own gives (Take side label, Cancelled) refl refl
-gives_take side label (GaveUp l) own others gives follows = gives_none own gives (Take side label, GaveUp l) refl refl
-gives_take side label Absent own others gives follows = gives_none own gives (Take side label, Absent) refl refl
-
-gives_next : (step : Step) (outcome : Outcome) (own others : List Event) → GivesBackOnce own → Follows own others step outcome → GivesBackOnce (own ++ (step, outcome) ∷ [])
-gives_next (Register side method params payload) outcome own others gives follows = gives_none own gives (Register side method params payload, outcome) refl refl
-gives_next (Pass side bytes) outcome own others gives follows = gives_none own gives (Pass side bytes, outcome) refl refl
-gives_next (Take side label) outcome own others gives follows = gives_take side label outcome own others gives follows
-gives_next (Answer side id value) outcome own others gives follows = gives_none own gives (Answer side id value, outcome) refl refl
-gives_next (Cancel side id) outcome own others gives follows = gives_none own gives (Cancel side id, outcome) refl refl
-gives_next (GiveUp side id) outcome own others gives follows = gives_none own gives (GiveUp side id, outcome) refl refl
-
-record BothGiveBack (events : List Event × List Event) : Type 0 where
-  a : GivesBackOnce events.0
-  b : GivesBackOnce events.1
-  to_a : Comes events.0 events.1
-  to_b : Comes events.1 events.0
-
-both_next : (side : Side) (step : Step) (outcome : Outcome) (before : List Event × List Event) → BothGiveBack before → Follows (events_of side before) (events_of (other side) before) step outcome → BothGiveBack (and_then side (step, outcome) before)
-both_next A step outcome before both follows = record {
-  a = gives_next step outcome before.0 before.1 both.a follows;
-  b = both.b;
-  to_a = comes_next step outcome before.0 before.1 both.to_a follows;
-  to_b = comes_others before.1 before.0 (step, outcome) both.to_b;
-}
-both_next B step outcome before both follows = record {
-  a = both.a;
-  b = gives_next step outcome before.1 before.0 both.b follows;
-  to_a = comes_others before.0 before.1 (step, outcome) both.to_a;
-  to_b = comes_next step outcome before.1 before.0 both.to_b follows;
+pub world_agrees : (world : World) (handed : Side → List Message) (history : List Event) (p : Accounts) → Made history p → WorldAfter world handed history → WorldAgrees world handed p
+world_agrees world handed history p made after = record {
+  near_side = peer_agrees p.here made.tied.here made.tied.there made.tied.in_here world.a (after.sides A);
+  far_side = peer_agrees p.there made.tied.there made.tied.here made.tied.in_there world.b (after.sides B);
 }
 
-both_from : (steps : List Step) (outcomes : List Outcome) (before : List Event × List Event) → BothGiveBack before → Lawful before steps outcomes → BothGiveBack (after before steps outcomes)
-both_from [] [] before both lawful = both
-both_from [] (outcome ∷ outcomes) before both lawful = absurd lawful
-both_from (step ∷ steps) [] before both lawful = absurd lawful
-both_from (step ∷ steps) (outcome ∷ outcomes) before both lawful =
-    both_from steps outcomes (and_then (side_of step) (step, outcome) before) (both_next (side_of step) step outcome before both lawful.0) lawful.1
+pub world_after : (world : World) (handed : Side → List Message) (history : List Event) (p : Accounts) → Made history p → IsHistory history → WorldAgrees world handed p → WorldAfter world handed history
+world_after world handed history p made lawful agrees = record { lawful = lawful; sides = at }
+  where
+    at : (side : Side) → SideAfter (seen_at side world) (handed side) (events_of side history) (events_of (other side) history)
+    at A = side_after p.here made.tied.here made.tied.there made.tied.in_here world.a agrees.near_side
+    at B = side_after p.there made.tied.there made.tied.here made.tied.in_there world.b agrees.far_side
 
--- ---- all of it
+pub nothing_after : (world : World) → WorldAgrees world (λ side. []) nothing → WorldAfter world (λ side. []) []
+nothing_after world agrees = world_after world (λ side. []) [] nothing made_nothing tt agrees
 
-both_nothing : BothGiveBack ([], [])
-both_nothing = record {
-  a = record { own_payload = tt; once = tt };
-  b = record { own_payload = tt; once = tt };
-  to_a = record { numbered = tt; labelled = refl; registered = omega arith };
-  to_b = record { numbered = tt; labelled = refl; registered = omega arith };
-}
+-- ---- the next letter is read back
 
-hold_nothing : BothHold ([], []) nothing
-hold_nothing = record { to_a = record { all = refl; asked = refl; told = refl }; to_b = record { all = refl; asked = refl; told = refl } }
+abbrev Nest : List Letter → Type 0
+Nest ls = AllByRecursion (λ (letter : Letter). nesting letter.message ≤ max_depth) ls
 
-pub exchanged : (steps : List Step) (outcomes : List Outcome) (world : World) (p : Accounts) → Run nothing steps outcomes p → WorldAgrees world p → (side : Side) → Exchanges steps outcomes world side
-exchanged steps outcomes world p run agrees A =
-    let holds = holds_from steps outcomes ([], []) nothing p hold_nothing run in
-    let both = both_from steps outcomes ([], []) both_nothing (lawful_run steps outcomes p run) in
-    let tied = tied_run steps outcomes p run in
-    record {
-      takes = takes_in_order world.a p.here p.there.tokens _ _ agrees.near_side holds.to_a;
-      gives_back = both.a;
-      arrive = record { numbered = both.to_a.numbered; registered = both.to_a.registered };
-      pending = is_pending world.a p.here p.there.tokens _ _ p.there.post.waiting p.here.post.waiting agrees.near_side tied.here tied.there;
-    }
-exchanged steps outcomes world p run agrees B =
-    let holds = holds_from steps outcomes ([], []) nothing p hold_nothing run in
-    let both = both_from steps outcomes ([], []) both_nothing (lawful_run steps outcomes p run) in
-    let tied = tied_run steps outcomes p run in
-    record {
-      takes = takes_in_order world.b p.there p.here.tokens _ _ agrees.far_side holds.to_b;
-      gives_back = both.b;
-      arrive = record { numbered = both.to_b.numbered; registered = both.to_b.registered };
-      pending = is_pending world.b p.there p.here.tokens _ _ p.here.post.waiting p.there.post.waiting agrees.far_side tied.there tied.here;
-    }
+nest_map : (ls : List Letter) (ms : List Message) → each (λ (l : Letter). l.message) ls ≡ ms → AllByRecursion (λ (m : Message). nesting m ≤ max_depth) ms → Nest ls
+nest_map ls ms is all = at ls (subst (AllByRecursion (λ (m : Message). nesting m ≤ max_depth)) (sym is) all)
+  where
+    at : (ls : List Letter) → AllByRecursion (λ (m : Message). nesting m ≤ max_depth) (each (λ (l : Letter). l.message) ls) → Nest ls
+    at [] all = tt
+    at (l ∷ ls) all = (all.0, at ls all.1)
+
+nest_append : (xs ys : List Letter) → Nest xs → Nest ys → Nest (xs ++ ys)
+nest_append [] ys a b = b
+nest_append (x ∷ xs) ys a b = (a.0, nest_append xs ys a.1 b)
+
+nest_drop : (n : ℕ) (xs : List Letter) → Nest xs → Nest (drop n xs)
+nest_drop zero xs all = all
+nest_drop (suc n) [] all = tt
+nest_drop (suc n) (x ∷ xs) all = nest_drop n xs all.1
+
+nest_of : (side at : Side) (e : Event) → Nest e.wrote → Nest (letters_written (only_of side at e))
+nest_of A A e nest = nest_append e.wrote [] nest tt
+nest_of B B e nest = nest_append e.wrote [] nest tt
+nest_of A B e nest = tt
+nest_of B A e nest = tt
+
+nest_from : (side : Side) (before events : List Event) → AllFollow before events → AreReadable events → Nest (letters_written (events_of side events))
+nest_from side before [] happen readable = tt
+nest_from side before (e ∷ events) happen readable =
+    subst Nest (sym (flat_map-append (λ (x : Event). x.wrote) (only_of side (side_of e.step) e) (events_of side events)))
+    (nest_append (letters_written (only_of side (side_of e.step) e)) (letters_written (events_of side events)) (nest_of side (side_of e.step) e (nest_map e.wrote (written_in e.step e.outcome) happen.0.wrote_is readable.0)) (nest_from side (before ++ e ∷ []) events happen.1 readable.1))
+
+first_nests : (before passed : ℕ) (ls : List Letter) → Nest ls → IfSome (first_passed before passed ls) (λ letter. nesting letter.message ≤ max_depth)
+first_nests before passed [] nest = tt
+first_nests before passed (letter ∷ ls) nest = at (nat_le (before + length letter.frame) passed)
+  where
+    at : (b : Bool) → IfSome (if b then Some letter else None) (λ (l : Letter). nesting l.message ≤ max_depth)
+    at true = nest.0
+    at false = tt
+
+-- after a history whose messages nest at most 127 levels, each step may be taken
+pub takes_any : (history : List Event) (step : Step) → IsHistory history → AreReadable history → TakesReadable history step
+takes_any history (Take side label) lawful readable =
+    first_nests _ _ _ (nest_drop (taken_count (events_of side history)) (letters_written (events_of (other side) history)) (nest_from (other side) [] history lawful readable))
+takes_any history step lawful readable = tt
+
+mail_reads : (own others : List Event) (post : Post) → Mail (taken_count own) (passed_count own) (letters_written others) post → IfSome (next_letter own others) (λ letter. nesting letter.message ≤ max_depth) → IfNext ReadsBack post
+mail_reads own others post mail nests = at (next post) (λ letter is. next_first post letter is) (subst (λ (o : Option Letter). IfSome o (λ (l : Letter). nesting l.message ≤ max_depth)) (next_is own others mail) nests)
+  where
+    at : (o : Option Letter) → ((letter : Letter) → o ≡ Some letter → (rest : List Letter) × (post.waiting ≡ letter ∷ rest)) → IfSome o (λ (letter : Letter). nesting letter.message ≤ max_depth) → IfSome o (λ (letter : Letter). ReadsBack letter.message)
+    at None first nests = tt
+    at (Some letter) first nests = let f = first letter refl in record { nests = nests; same = first_plain mail letter f.0 f.1 }
+
+-- what the step takes is read back
+pub reads_a : (step : Step) (history : List Event) (p : Accounts) → Made history p → side_of step ≡ A → TakesReadable history step → ReadsNext p step
+reads_a (Take side label) history p made is readable =
+    mail_reads (events_of A history) (events_of B history) p.here.post made.tied.in_here (subst (λ (s : Side). IfSome (next_letter (events_of s history) (events_of (other s) history)) (λ letter. nesting letter.message ≤ max_depth)) is readable)
+reads_a step history p made is readable = tt
+
+pub reads_b : (step : Step) (history : List Event) (p : Accounts) → Made history p → side_of step ≡ B → TakesReadable history step → ReadsNext (record { here = p.there; there = p.here }) step
+reads_b (Take side label) history p made is readable =
+    mail_reads (events_of B history) (events_of A history) p.there.post made.tied.in_there (subst (λ (s : Side). IfSome (next_letter (events_of s history) (events_of (other s) history)) (λ letter. nesting letter.message ≤ max_depth)) is readable)
+reads_b step history p made is readable = tt
+
+-- ---- which steps need no memory
+
+not_held : (o : Option ℕ) (outcome : ℕ → Outcome) → ((label : ℕ) → NeedsNoMemory (outcome label) → ⊥) → NeedsNoMemory (where_held o outcome) → o ≡ None
+not_held None outcome never free = refl
+not_held (Some label) outcome never free = absurd (never label free)
+
+free_from : (own others : List Event) (p : Accounts) → Tied own others p → (step : Step) → NeedsNoMemory (outcome_of own others step) → IsFree p step
+free_from own others p tied (Register side method params payload) free = at (length (payloads own) == all_ids) refl free
+  where
+    count : length (payloads own) ≡ length p.here.tokens
+    count = ap (λ (l : List ℕ). length l) tied.here.all ∙ length-map p.here.tokens (λ (t : Token). t.payload)
+
+    at : (b : Bool) → (length (payloads own) == all_ids) ≡ b → NeedsNoMemory (if b then Spent else Registered (nth_id (length (payloads own)))) → length p.here.tokens ≡ all_ids
+    at true is free = sym count ∙ eqb-true _ _ is
+    at false is free = absurd free
+free_from own others p tied (Tell side method params) free = free
+free_from own others p tied (Pass side bytes) free = tt
+free_from own others p tied (Take side label) free = at (next p.here.post) (subst (λ (o : Option Letter). NeedsNoMemory (taking own others o)) (next_is own others tied.in_here) free)
+  where
+    never : (m : Message) → NeedsNoMemory (outcome_of_taking own others m) → ⊥
+    never (request id method params) free = free
+    never (response id answer) free = free
+    never (notification method params) free = free
+
+    at : (o : Option Letter) → NeedsNoMemory (taking own others o) → o ≡ None
+    at None free = refl
+    at (Some letter) free = absurd (never letter.message free)
+free_from own others p tied (Answer side id value) free = sym (tied.there.there id) ∙ not_held (held own id) (λ label. Answered label) (λ label never. never) free
+free_from own others p tied (Cancel side id) free = sym (tied.there.there id) ∙ not_held (held own id) (λ label. Cancelled) (λ label never. never) free
+free_from own others p tied (GiveUp side id) free = tt
+
+pub free_a : (step : Step) (history : List Event) (p : Accounts) → Made history p → side_of step ≡ A → NeedsNoMemory (outcome_of (events_of (side_of step) history) (events_of (other (side_of step)) history) step) → IsFree p step
+free_a step history p made is free = free_from _ _ p made.tied step (subst (λ (s : Side). NeedsNoMemory (outcome_of (events_of s history) (events_of (other s) history) step)) is free)
+
+pub free_b : (step : Step) (history : List Event) (p : Accounts) → Made history p → side_of step ≡ B → NeedsNoMemory (outcome_of (events_of (side_of step) history) (events_of (other (side_of step)) history) step) → IsFree (record { here = p.there; there = p.here }) step
+free_b step history p made is free = free_from _ _ (turned p) (turned_tied _ _ p made.tied) step (subst (λ (s : Side). NeedsNoMemory (outcome_of (events_of s history) (events_of (other s) history) step)) is free)
+
+-- ---- one step of a world
+
+pub go_a : (result : Result Outcome WorldFault) (near far : Peer) (handed : Side → List Message) (step : Step) (history : List Event) (p : Accounts) → IsHistory history → Made history p → side_of step ≡ A →
+    IfOk result (λ outcome. (new : Accounts) × StepDoes p step outcome new × Agrees near far (handed A) (handed B) new) →
+    IfOk result (λ outcome. (e : Event) × (e.step ≡ step) × (e.outcome ≡ outcome) × WorldAfter (record { a = near; b = far }) handed (history ++ e ∷ []))
+go_a (Err fault) near far handed step history p lawful made is went = tt
+go_a (Ok outcome) near far handed step history p lawful made is went =
+    let tells = told (events_of A history) (events_of B history) p made.tied step outcome went.0 went.1 in
+    let e : Event = event step outcome tells.0 in
+    let happens : Happens history e = subst (λ (s : Side). Follows (events_of s history) (events_of (other s) history) e) (sym is) tells.1.follows in
+    (e, refl, refl, world_after (record { a = near; b = far }) handed (history ++ e ∷ []) went.0 (made_a history p went.0 step outcome tells.0 is made tells.1) (happen_more [] history e lawful happens) went.2)
+
+pub go_b : (result : Result Outcome WorldFault) (near far : Peer) (handed : Side → List Message) (step : Step) (history : List Event) (p : Accounts) → IsHistory history → Made history p → side_of step ≡ B →
+    IfOk result (λ outcome. (new : Accounts) × StepDoes (record { here = p.there; there = p.here }) step outcome new × Agrees near far (handed B) (handed A) new) →
+    IfOk result (λ outcome. (e : Event) × (e.step ≡ step) × (e.outcome ≡ outcome) × WorldAfter (record { a = far; b = near }) handed (history ++ e ∷ []))
+go_b (Err fault) near far handed step history p lawful made is went = tt
+go_b (Ok outcome) near far handed step history p lawful made is went =
+    let tells = told (events_of B history) (events_of A history) (turned p) (turned_tied _ _ p made.tied) step outcome went.0 went.1 in
+    let e : Event = event step outcome tells.0 in
+    let happens : Happens history e = subst (λ (s : Side). Follows (events_of s history) (events_of (other s) history) e) (sym is) tells.1.follows in
+    (e, refl, refl, world_after (record { a = far; b = near }) handed (history ++ e ∷ []) (turned went.0) (made_b history p went.0 step outcome tells.0 is made tells.1) (happen_more [] history e lawful happens) (record { near_side = went.2.far_side; far_side = went.2.near_side }))
+
+-- a world that agrees, seen from B
+pub turned_agrees : (world : World) (handed : Side → List Message) (p : Accounts) → WorldAgrees world handed p → Agrees world.b world.a (handed B) (handed A) (record { here = p.there; there = p.here })
+turned_agrees world handed p agrees = record { near_side = agrees.far_side; far_side = agrees.near_side }
+
+pub placed_b : (p : Accounts) → InOnePlace p → InOnePlace (record { here = p.there; there = p.here })
+placed_b p placed = turned_placed p placed

@@ -1,218 +1,403 @@
--- Each outcome of a run follows from the events before it.
+-- A step moves tokens and letters as the events before it say: one way, from tokens to events, and the other.
 use Rattle.std.proofs.Common.{◌≡◌, ℕ, ◌<◌, List, [], ◌∷◌, ◌++◌, length, String, Global, refl, sym, ap, ◌∙◌, subst, arith, ⊎_elim, min}
-use Rattle.std.proofs.lemmas.Bool.{cases_Bool, MatchBool-at_true, MatchBool-at_false, ltb-true, ltb-false}
+use Rattle.std.proofs.lemmas.Bool.{cases_Bool, cond-true, cond-false, MatchBool-at_true, MatchBool-at_false}
 use Rattle.std.proofs.lemmas.List.{length-map}
-use Rattle.std.specs.Prelude.{Option, None, Some, Ok, nat_lt, MatchOption, IsSome, drop, option_map, string_bytes}
+use Rattle.std.specs.Prelude.{◌==◌, Option, None, Some, Result, Ok, true, false, if◌then◌else◌, MatchOption, drop, option_map, map as each, string_bytes}
+use Rattle.serde_json.specs.Data.{Data}
 use Rattle.serde_json.specs.View.{view}
 use Rattle.serde_json.specs.declared.value.Value.{Value}
 use Rattle.lsp_message.specs.Id.{Id}
-use Rattle.lsp_message.specs.Message.{Message, request, notification, response}
+use Rattle.lsp_message.specs.Message.{Message, ErrorObject, request, notification, response}
 use Rattle.lsp_queue.specs.Queue.{all_ids, cancelled}
-use Rattle.lsp_peers.specs.Exchange.{after}
-use Rattle.lsp_peers.specs.Ids.{nth_id, item_at}
+use Rattle.lsp_peers.specs.Ids.{nth_id, item_at, with_item}
 use Rattle.lsp_peers.specs.declared.step.Outcome.{Outcome}
-use Rattle.lsp_peers.specs.declared.step.Outcome.TheVariants.{Registered, Spent, Passed, Arrived, Returned, Waiting, Answered, Cancelled, GaveUp, Absent}
+use Rattle.lsp_peers.specs.declared.step.Outcome.TheVariants.{Registered, Spent, Told, Passed, Arrived, Returned, Notified, Waiting, Answered, Cancelled, GaveUp, Absent}
 use Rattle.lsp_peers.specs.declared.step.Side.{Side}
-use Rattle.lsp_peers.specs.declared.step.Side.TheVariants.{A, B}
 use Rattle.lsp_peers.specs.declared.step.Step.{Step}
-use Rattle.lsp_peers.specs.declared.step.Step.TheVariants.{Register, Pass, Take, Answer, Cancel, GiveUp}
-use Rattle.lsp_peers.specs.Token.{AtOther, ComingBack, Done, GivenUp, Token, label_of, Goes}
-use Rattle.lsp_peers.specs.Post.{Letter, posted, next, unpassed}
-use Rattle.lsp_peers.specs.Steps.{Accounts, accounts, nothing, Registers, Passes, TakesMessage, Takes, StepDoes, Run, side_of, seen_from}
-use Rattle.lsp_peers.specs.History.{Event, payloads, held, Follows, Lawful, events_of, other, and_then}
-use Rattle.lsp_peers.proofs.Kept.{Kept, settled_at, done_at}
-use Rattle.lsp_peers.proofs.PlaceLemmas.{next_first}
-use Rattle.lsp_peers.proofs.HistoryLemmas.{kept_own, kept_others, kept_registered, kept_settled, kept_returned, kept_replies, kept_reply_taken, kept_notified, kept_arrived, arrives}
-use Rattle.lsp_peers.proofs.IdLemmas.{get-nothing, item_at-map}
-use Rattle.lsp_peers.proofs.RunLemmas.{outcome_in}
+use Rattle.lsp_peers.specs.declared.step.Step.TheVariants.{Register, Tell, Pass, Take, Answer, Cancel, GiveUp}
+use Rattle.lsp_peers.specs.Token.{OnTheWay, AtOther, ComingBack, Done, GivenUp, Token, token, label_of, Goes}
+use Rattle.lsp_peers.specs.Post.{Letter, posted, passed_on, next, one_taken, unpassed}
+use Rattle.lsp_peers.specs.Steps.{Accounts, accounts, Registers, TakesMessage, Takes, StepDoes}
+use Rattle.lsp_peers.specs.InOnePlace.{InOnePlace, requests, replies, going, returning}
+use Rattle.lsp_peers.specs.History.{Event, written_in, payload_in, arrival_in, settled_in, returned_in, count_in, bytes_in, payloads, passed_count, letters_written, taken_count, held, where_held, outcome_of_taking, outcome_of, Follows}
+use Rattle.lsp_peers.proofs.AgreeLemmas.{match_true, match_false, match_some, match_none, takes_at}
+use Rattle.lsp_peers.proofs.Kept.{Kept, ids_in, taking}
+use Rattle.lsp_peers.proofs.PlaceLemmas.{next_first, held_token, going_token, returning_token, request_of_own, reply_of_own}
+use Rattle.lsp_peers.proofs.HistoryLemmas.{kept_own, kept_others, kept_registered, kept_settled, kept_returned, kept_unasked, kept_unasked_taken, kept_arrived}
+use Rattle.lsp_peers.proofs.IdLemmas.{item_at-map}
+use Rattle.lsp_peers.proofs.MailLemmas.{IsPlain, Mail, mail_own, mail_arrived, mail_took, mail_none, mail_wrote, next_is, bytes_are}
 
--- the events of the side from which a accounts is seen, and of the other side
+-- the events of the side from which the accounts are seen, and of the other side, tied to the accounts
 pub record Tied (own others : List Event) (p : Accounts) : Type 0 where
   pub here : Kept own others p.here.tokens p.there.post.waiting
   pub there : Kept others own p.there.tokens p.here.post.waiting
+  pub in_here : Mail (taken_count own) (passed_count own) (letters_written others) p.here.post
+  pub in_there : Mail (taken_count others) (passed_count others) (letters_written own) p.there.post
 
--- an outcome that follows, and events that are tied to the new accounts
-pub record Claim (own others : List Event) (step : Step) (outcome : Outcome) (new : Accounts) : Type 0 where
-  pub follows : Follows own others step outcome
-  pub tied : Tied (own ++ (step, outcome) ∷ []) others new
+abbrev pub event : Step → Outcome → List Letter → Event
+event step outcome wrote = record { step = step; outcome = outcome; wrote = wrote }
 
-module _ (own others : List Event) (old : Accounts) (tied : Tied own others old) (step : Step) where
-  claim_at : (outcome o : Outcome) (new n : Accounts) → outcome ≡ o → new ≡ n → Claim own others step o n → Claim own others step outcome new
-  claim_at outcome o new n is made claim = subst (λ (x : Outcome). Claim own others step x new) (sym is) (subst (λ (x : Accounts). Claim own others step o x) (sym made) claim)
+-- a step moves the accounts, its outcome follows from the events, and these are tied to the new accounts
+pub record Claim (own others : List Event) (p : Accounts) (step : Step) (outcome : Outcome) (wrote : List Letter) (new : Accounts) : Type 0 where
+  pub does : StepDoes p step outcome new
+  pub follows : Follows own others (event step outcome wrote)
+  pub tied : Tied (own ++ event step outcome wrote ∷ []) others new
 
-count_is : (own others : List Event) (tokens : List Token) (outbound : List Letter) → Kept own others tokens outbound → length (payloads own) ≡ length tokens
-count_is own others tokens outbound kept = ap (λ l. length l) kept.all ∙ length-map tokens (λ (t : Token). t.payload)
+-- the one letter that was written, or none
+pub one_letter : (wrote : List Letter) (m : Message) → each (λ (l : Letter). l.message) wrote ≡ m ∷ [] → (letter : Letter) × (wrote ≡ letter ∷ []) × (letter.message ≡ m)
+one_letter [] m is = cc
+one_letter (l ∷ []) m is = (l, refl, cc)
+one_letter (l ∷ k ∷ ls) m is = cc
 
-module _ (own others : List Event) (old : Accounts) (tied : Tied own others old) where
-  law_registers : (side : Side) (method : String Global) (params : Value) (payload : ℕ) (outcome : Outcome) (new : Accounts) → Registers (string_bytes method) (view params) payload old outcome new → Claim own others (Register side method params payload) outcome new
-  law_registers side method params payload outcome new moves =
-      let count = count_is own others old.here.tokens old.there.post.waiting tied.here in
-      let step : Step = Register side method params payload in
-      let id : Id = nth_id (length old.here.tokens) in
+no_letter : (wrote : List Letter) → each (λ (l : Letter). l.message) wrote ≡ [] → wrote ≡ []
+no_letter [] is = refl
+no_letter (l ∷ ls) is = cc
+
+module _ (own others : List Event) (p : Accounts) (tied : Tied own others p) where
+  claim_at : (step : Step) (outcome o : Outcome) (wrote w : List Letter) (new n : Accounts) → outcome ≡ o → wrote ≡ w → new ≡ n → Claim own others p step o w n → Claim own others p step outcome wrote new
+  claim_at step outcome o wrote w new n eo ew en claim =
+      subst (λ (x : Outcome). Claim own others p step x wrote new) (sym eo) (subst (λ (x : List Letter). Claim own others p step o x new) (sym ew) (subst (λ (x : Accounts). Claim own others p step o w x) (sym en) claim))
+
+  count_is : length (payloads own) ≡ length p.here.tokens
+  count_is = ap (λ (l : List ℕ). length l) tied.here.all ∙ length-map p.here.tokens (λ (t : Token). t.payload)
+
+  -- an event at which nothing happens
+  quiet : (step : Step) (outcome : Outcome) → StepDoes p step outcome p → outcome ≡ outcome_of own others step → written_in step outcome ≡ [] → payload_in step outcome ≡ [] → returned_in step outcome ≡ [] → arrival_in step outcome ≡ [] → settled_in step outcome ≡ [] → count_in step outcome ≡ 0 → bytes_in step outcome ≡ 0 → Claim own others p step outcome [] p
+  quiet step outcome does is unwritten unpaid unreturned unarrived unsettled untaken unpassed =
+      let e : Event = event step outcome [] in
+      record {
+        does = does;
+        follows = record { outcome_is = is; wrote_is = sym unwritten };
+        tied = record {
+          here = kept_own tied.here e unpaid unreturned;
+          there = kept_others tied.there e unarrived unsettled;
+          in_here = mail_own own others tied.in_here e untaken unpassed;
+          in_there = mail_none others own tied.in_there e refl;
+        };
+      }
+
+  module _ (side : Side) (method : String Global) (params : Value) (payload : ℕ) where
+    registered_as : (length p.here.tokens == all_ids) ≡ false → Registered (nth_id (length p.here.tokens)) ≡ outcome_of own others (Register side method params payload)
+    registered_as room = subst (λ (k : ℕ). Registered (nth_id (length p.here.tokens)) ≡ (if k == all_ids then Spent else Registered (nth_id k))) (sym count_is) (sym (cond-false (length p.here.tokens == all_ids) _ _ room))
+
+    claim_registered : (length p.here.tokens == all_ids) ≡ false → (letter : Letter) → letter.message ≡ request (nth_id (length p.here.tokens)) (string_bytes method) (view params) → Claim own others p (Register side method params payload) (Registered (nth_id (length p.here.tokens))) (letter ∷ []) (accounts (p.here.tokens ++ token payload OnTheWay ∷ []) p.here.post p.there.tokens (posted p.there.post letter))
+    claim_registered room letter is =
+        let e : Event = event (Register side method params payload) (Registered (nth_id (length p.here.tokens))) (letter ∷ []) in
+        record {
+          does = match_false (length p.here.tokens == all_ids) _ _ room (letter, is, refl, refl);
+          follows = record {
+            outcome_is = registered_as room;
+            wrote_is = ap (λ (m : Message). m ∷ []) is;
+          };
+          tied = record {
+            here = kept_registered tied.here e payload (string_bytes method) (view params) letter refl refl is;
+            there = kept_others tied.there e refl refl;
+            in_here = mail_own own others tied.in_here e refl refl;
+            in_there = mail_wrote others own tied.in_there e letter refl (subst IsPlain (sym is) refl);
+          };
+        }
+
+    claim_spent : (length p.here.tokens == all_ids) ≡ true → Claim own others p (Register side method params payload) Spent [] p
+    claim_spent full =
+        quiet (Register side method params payload) Spent
+        (match_true (length p.here.tokens == all_ids) _ _ full (refl, refl))
+        (subst (λ (k : ℕ). Spent ≡ (if k == all_ids then Spent else Registered (nth_id k))) (sym count_is) (sym (cond-true (length p.here.tokens == all_ids) _ _ full)))
+        refl refl refl refl refl refl refl
+
+  claim_told : (side : Side) (method : String Global) (params : Value) (letter : Letter) → letter.message ≡ notification (string_bytes method) (view params) → Claim own others p (Tell side method params) Told (letter ∷ []) (accounts p.here.tokens p.here.post p.there.tokens (posted p.there.post letter))
+  claim_told side method params letter is =
+      let e : Event = event (Tell side method params) Told (letter ∷ []) in
+      record {
+        does = (letter, is, refl, refl);
+        follows = record { outcome_is = refl; wrote_is = ap (λ (m : Message). m ∷ []) is };
+        tied = record {
+          here = kept_unasked (kept_own tied.here e refl refl) letter (ap ids_in is);
+          there = kept_others tied.there e refl refl;
+          in_here = mail_own own others tied.in_here e refl refl;
+          in_there = mail_wrote others own tied.in_there e letter refl (subst IsPlain (sym is) refl);
+        };
+      }
+
+  claim_passed : (side : Side) (bytes : ℕ) → Claim own others p (Pass side bytes) (Passed (min bytes (unpassed p.here.post))) [] (accounts p.here.tokens (passed_on p.here.post bytes) p.there.tokens p.there.post)
+  claim_passed side bytes =
+      let e : Event = event (Pass side bytes) (Passed (min bytes (unpassed p.here.post))) [] in
+      record {
+        does = (refl, refl);
+        follows = record { outcome_is = ap (λ (k : ℕ). Passed (min bytes k)) (sym (bytes_are own others tied.in_here)); wrote_is = refl };
+        tied = record {
+          here = kept_own tied.here e refl refl;
+          there = kept_others tied.there e refl refl;
+          in_here = mail_arrived own others tied.in_here e (min bytes (unpassed p.here.post)) refl refl;
+          in_there = mail_none others own tied.in_there e refl;
+        };
+      }
+
+  module _ (side : Side) (label : ℕ) where
+    claim_waits : next p.here.post ≡ None → Claim own others p (Take side label) Waiting [] p
+    claim_waits none =
+        quiet (Take side label) Waiting
+        (subst (λ (o : Option Letter). Takes label o p Waiting p) (sym none) (refl, refl))
+        (sym (ap (λ (o : Option Letter). taking own others o) (next_is own others tied.in_here ∙ none)))
+        refl refl refl refl refl refl refl
+
+    module _ (letter : Letter) (rest : List Letter) (some : next p.here.post ≡ Some letter) (first : p.here.post.waiting ≡ letter ∷ rest) where
+      left : rest ≡ drop 1 p.here.post.waiting
+      left = sym (ap (λ (ls : List Letter). drop 1 ls) first)
+
+      waiting : Kept others own p.there.tokens (letter ∷ rest)
+      waiting = subst (λ (ls : List Letter). Kept others own p.there.tokens ls) first tied.there
+
+      taken_as : (m : Message) → letter.message ≡ m → outcome_of_taking own others m ≡ outcome_of own others (Take side label)
+      taken_as m is = sym (ap (λ (o : Option Letter). taking own others o) (next_is own others tied.in_here ∙ some) ∙ ap (λ (x : Message). outcome_of_taking own others x) is)
+
+      claim_arrived : (key : Id) (method : List ℕ) (params : Data) (payload : ℕ) (tokens : List Token) → letter.message ≡ request key method params → Goes key OnTheWay (AtOther label) payload p.there.tokens tokens → Claim own others p (Take side label) (Arrived key) [] (accounts p.here.tokens (one_taken p.here.post) tokens p.there.post)
+      claim_arrived key method params payload tokens is goes =
+          let e : Event = event (Take side label) (Arrived key) [] in
+          record {
+            does = takes_at label (next p.here.post) letter (request key method params) p _ (Arrived key) some (sym is) (payload, tokens, goes, refl, refl);
+            follows = record { outcome_is = taken_as (request key method params) is; wrote_is = refl };
+            tied = record {
+              here = kept_own tied.here e refl refl;
+              there = subst (λ (ls : List Letter). Kept others (own ++ e ∷ []) tokens ls) left (kept_arrived waiting e key label payload method params tokens refl refl goes is);
+              in_here = mail_took own others tied.in_here e letter rest first refl refl;
+              in_there = mail_none others own tied.in_there e refl;
+            };
+          }
+
+      claim_returned : (key : Id) (answer : Result Data ErrorObject) (payload : ℕ) (tokens : List Token) → letter.message ≡ response key answer → Goes key ComingBack Done payload p.here.tokens tokens → Claim own others p (Take side label) (Returned key (Some payload)) [] (accounts tokens (one_taken p.here.post) p.there.tokens p.there.post)
+      claim_returned key answer payload tokens is goes =
+          let e : Event = event (Take side label) (Returned key (Some payload)) [] in
+          let paid : item_at (payloads own) key ≡ Some payload = ap (λ (l : List ℕ). item_at l key) tied.here.all ∙ item_at-map (λ (t : Token). t.payload) p.here.tokens key ∙ ap (option_map (λ (t : Token). t.payload)) goes.was in
+          record {
+            does = takes_at label (next p.here.post) letter (response key answer) p _ (Returned key (Some payload)) some (sym is) (payload, tokens, goes, refl, refl);
+            follows = record { outcome_is = ap (λ (o : Option ℕ). Returned key o) (sym paid) ∙ taken_as (response key answer) is; wrote_is = refl };
+            tied = record {
+              here = kept_returned tied.here e key payload tokens refl refl goes;
+              there = kept_others (subst (λ (ls : List Letter). Kept others own p.there.tokens ls) left (kept_unasked_taken waiting (ap ids_in is))) e refl refl;
+              in_here = mail_took own others tied.in_here e letter rest first refl refl;
+              in_there = mail_none others own tied.in_there e refl;
+            };
+          }
+
+      claim_notified : (method : List ℕ) (params : Data) → letter.message ≡ notification method params → Claim own others p (Take side label) Notified [] (accounts p.here.tokens (one_taken p.here.post) p.there.tokens p.there.post)
+      claim_notified method params is =
+          let e : Event = event (Take side label) Notified [] in
+          record {
+            does = takes_at label (next p.here.post) letter (notification method params) p _ Notified some (sym is) (refl, refl);
+            follows = record { outcome_is = taken_as (notification method params) is; wrote_is = refl };
+            tied = record {
+              here = kept_own tied.here e refl refl;
+              there = kept_others (subst (λ (ls : List Letter). Kept others own p.there.tokens ls) left (kept_unasked_taken waiting (ap ids_in is))) e refl refl;
+              in_here = mail_took own others tied.in_here e letter rest first refl refl;
+              in_there = mail_none others own tied.in_there e refl;
+            };
+          }
+
+  held_is : (id : Id) → held own id ≡ label_of (item_at p.there.tokens id)
+  held_is id = tied.there.there id
+
+  module _ (side : Side) (id : Id) (label payload : ℕ) (tokens : List Token) (found : label_of (item_at p.there.tokens id) ≡ Some label) where
+    held_as : (outcome : ℕ → Outcome) → outcome label ≡ where_held (held own id) outcome
+    held_as outcome = sym (ap (λ (o : Option ℕ). where_held o outcome) (held_is id ∙ found))
+
+    claim_answered : (value : Value) (letter : Letter) → letter.message ≡ response id (Ok (view value)) → Goes id (AtOther label) ComingBack payload p.there.tokens tokens → Claim own others p (Answer side id value) (Answered label) (letter ∷ []) (accounts p.here.tokens p.here.post tokens (posted p.there.post letter))
+    claim_answered value letter is goes =
+        let e : Event = event (Answer side id value) (Answered label) (letter ∷ []) in
+        record {
+          does = match_some (label_of (item_at p.there.tokens id)) _ _ label found (payload, tokens, letter, goes, is, refl, refl);
+          follows = record { outcome_is = held_as (λ l. Answered l); wrote_is = ap (λ (m : Message). m ∷ []) is };
+          tied = record {
+            here = kept_unasked (kept_own tied.here e refl refl) letter (ap ids_in is);
+            there = kept_settled tied.there e id label payload ComingBack tokens refl refl goes refl refl refl;
+            in_here = mail_own own others tied.in_here e refl refl;
+            in_there = mail_wrote others own tied.in_there e letter refl (subst IsPlain (sym is) refl);
+          };
+        }
+
+    claim_cancelled : (letter : Letter) → letter.message ≡ cancelled id → Goes id (AtOther label) ComingBack payload p.there.tokens tokens → Claim own others p (Cancel side id) Cancelled (letter ∷ []) (accounts p.here.tokens p.here.post tokens (posted p.there.post letter))
+    claim_cancelled letter is goes =
+        let e : Event = event (Cancel side id) Cancelled (letter ∷ []) in
+        record {
+          does = match_some (label_of (item_at p.there.tokens id)) _ _ label found (payload, tokens, letter, goes, is, refl, refl);
+          follows = record { outcome_is = held_as (λ l. Cancelled); wrote_is = ap (λ (m : Message). m ∷ []) is };
+          tied = record {
+            here = kept_unasked (kept_own tied.here e refl refl) letter (ap ids_in is);
+            there = kept_settled tied.there e id label payload ComingBack tokens refl refl goes refl refl refl;
+            in_here = mail_own own others tied.in_here e refl refl;
+            in_there = mail_wrote others own tied.in_there e letter refl (subst IsPlain (sym is) refl);
+          };
+        }
+
+    claim_gave_up : Goes id (AtOther label) GivenUp payload p.there.tokens tokens → Claim own others p (GiveUp side id) (GaveUp label) [] (accounts p.here.tokens p.here.post tokens p.there.post)
+    claim_gave_up goes =
+        let e : Event = event (GiveUp side id) (GaveUp label) [] in
+        record {
+          does = match_some (label_of (item_at p.there.tokens id)) _ _ label found (payload, tokens, goes, refl, refl);
+          follows = record { outcome_is = held_as (λ l. GaveUp l); wrote_is = refl };
+          tied = record {
+            here = kept_own tied.here e refl refl;
+            there = kept_settled tied.there e id label payload GivenUp tokens refl refl goes refl refl refl;
+            in_here = mail_own own others tied.in_here e refl refl;
+            in_there = mail_none others own tied.in_there e refl;
+          };
+        }
+
+  module _ (side : Side) (id : Id) (missing : label_of (item_at p.there.tokens id) ≡ None) where
+    absent_as : (outcome : ℕ → Outcome) → Absent ≡ where_held (held own id) outcome
+    absent_as outcome = sym (ap (λ (o : Option ℕ). where_held o outcome) (held_is id ∙ missing))
+
+    claim_no_answer : (value : Value) → Claim own others p (Answer side id value) Absent [] p
+    claim_no_answer value = quiet (Answer side id value) Absent (match_none (label_of (item_at p.there.tokens id)) _ _ missing (refl, refl)) (absent_as (λ l. Answered l)) refl refl refl refl refl refl refl
+
+    claim_no_cancel : Claim own others p (Cancel side id) Absent [] p
+    claim_no_cancel = quiet (Cancel side id) Absent (match_none (label_of (item_at p.there.tokens id)) _ _ missing (refl, refl)) (absent_as (λ l. Cancelled)) refl refl refl refl refl refl refl
+
+    claim_no_give_up : Claim own others p (GiveUp side id) Absent [] p
+    claim_no_give_up = quiet (GiveUp side id) Absent (match_none (label_of (item_at p.there.tokens id)) _ _ missing (refl, refl)) (absent_as (λ l. GaveUp l)) refl refl refl refl refl refl refl
+
+  -- ---- from tokens to events
+
+  abbrev Retold : Step → Outcome → Accounts → Type 0
+  Retold step outcome new = (wrote : List Letter) × Claim own others p step outcome wrote new
+
+  told_registers : (side : Side) (method : String Global) (params : Value) (payload : ℕ) (outcome : Outcome) (new : Accounts) → Registers (string_bytes method) (view params) payload p outcome new → Retold (Register side method params payload) outcome new
+  told_registers side method params payload outcome new moves =
       ⊎_elim
+      (λ full. let made = MatchBool-at_true _ _ full moves in ([], claim_at (Register side method params payload) outcome Spent [] [] new p made.0 refl made.1 (claim_spent side method params payload full)))
+      (λ room. let made = MatchBool-at_false _ _ room moves in (made.0 ∷ [], claim_at (Register side method params payload) outcome _ (made.0 ∷ []) (made.0 ∷ []) new _ made.2 refl made.3 (claim_registered side method params payload room made.0 made.1)))
+      (cases_Bool (length p.here.tokens == all_ids))
+
+  told_message : (side : Side) (label : ℕ) (letter : Letter) (rest : List Letter) (m : Message) (outcome : Outcome) (new : Accounts) → next p.here.post ≡ Some letter → p.here.post.waiting ≡ letter ∷ rest → letter.message ≡ m → TakesMessage label m p outcome new → Retold (Take side label) outcome new
+  told_message side label letter rest (request key method params) outcome new some first is moves =
+      ([], claim_at (Take side label) outcome _ [] [] new _ moves.3 refl moves.4 (claim_arrived side label letter rest some first key method params moves.0 moves.1 is moves.2))
+  told_message side label letter rest (response key answer) outcome new some first is moves =
+      ([], claim_at (Take side label) outcome _ [] [] new _ moves.3 refl moves.4 (claim_returned side label letter rest some first key answer moves.0 moves.1 is moves.2))
+  told_message side label letter rest (notification method params) outcome new some first is moves =
+      ([], claim_at (Take side label) outcome _ [] [] new _ moves.0 refl moves.1 (claim_notified side label letter rest some first method params is))
+
+  told_takes : (side : Side) (label : ℕ) (o : Option Letter) (outcome : Outcome) (new : Accounts) → next p.here.post ≡ o → Takes label o p outcome new → Retold (Take side label) outcome new
+  told_takes side label None outcome new is moves = ([], claim_at (Take side label) outcome Waiting [] [] new p moves.0 refl moves.1 (claim_waits side label is))
+  told_takes side label (Some letter) outcome new is moves =
+      let first = next_first p.here.post letter is in
+      told_message side label letter first.0 letter.message outcome new is first.1 refl moves
+
+  told_answers : (side : Side) (id : Id) (value : Value) (o : Option ℕ) (outcome : Outcome) (new : Accounts) → label_of (item_at p.there.tokens id) ≡ o →
+      MatchOption o ((outcome ≡ Absent) × (new ≡ p))
+      (λ label. (payload : ℕ) × (tokens : List Token) × (letter : Letter) × Goes id (AtOther label) ComingBack payload p.there.tokens tokens × (letter.message ≡ response id (Ok (view value))) × (outcome ≡ Answered label) × (new ≡ accounts p.here.tokens p.here.post tokens (posted p.there.post letter))) → Retold (Answer side id value) outcome new
+  told_answers side id value None outcome new is moves = ([], claim_at (Answer side id value) outcome Absent [] [] new p moves.0 refl moves.1 (claim_no_answer side id is value))
+  told_answers side id value (Some label) outcome new is moves =
+      (moves.2 ∷ [], claim_at (Answer side id value) outcome (Answered label) (moves.2 ∷ []) (moves.2 ∷ []) new _ moves.5 refl moves.6 (claim_answered side id label moves.0 moves.1 is value moves.2 moves.4 moves.3))
+
+  told_cancels : (side : Side) (id : Id) (o : Option ℕ) (outcome : Outcome) (new : Accounts) → label_of (item_at p.there.tokens id) ≡ o →
+      MatchOption o ((outcome ≡ Absent) × (new ≡ p))
+      (λ label. (payload : ℕ) × (tokens : List Token) × (letter : Letter) × Goes id (AtOther label) ComingBack payload p.there.tokens tokens × (letter.message ≡ cancelled id) × (outcome ≡ Cancelled) × (new ≡ accounts p.here.tokens p.here.post tokens (posted p.there.post letter))) → Retold (Cancel side id) outcome new
+  told_cancels side id None outcome new is moves = ([], claim_at (Cancel side id) outcome Absent [] [] new p moves.0 refl moves.1 (claim_no_cancel side id is))
+  told_cancels side id (Some label) outcome new is moves =
+      (moves.2 ∷ [], claim_at (Cancel side id) outcome Cancelled (moves.2 ∷ []) (moves.2 ∷ []) new _ moves.5 refl moves.6 (claim_cancelled side id label moves.0 moves.1 is moves.2 moves.4 moves.3))
+
+  told_gives_up : (side : Side) (id : Id) (o : Option ℕ) (outcome : Outcome) (new : Accounts) → label_of (item_at p.there.tokens id) ≡ o →
+      MatchOption o ((outcome ≡ Absent) × (new ≡ p))
+      (λ label. (payload : ℕ) × (tokens : List Token) × Goes id (AtOther label) GivenUp payload p.there.tokens tokens × (outcome ≡ GaveUp label) × (new ≡ accounts p.here.tokens p.here.post tokens p.there.post)) → Retold (GiveUp side id) outcome new
+  told_gives_up side id None outcome new is moves = ([], claim_at (GiveUp side id) outcome Absent [] [] new p moves.0 refl moves.1 (claim_no_give_up side id is))
+  told_gives_up side id (Some label) outcome new is moves =
+      ([], claim_at (GiveUp side id) outcome (GaveUp label) [] [] new _ moves.3 refl moves.4 (claim_gave_up side id label moves.0 moves.1 is moves.2))
+
+  pub told : (step : Step) (outcome : Outcome) (new : Accounts) → StepDoes p step outcome new → Retold step outcome new
+  told (Register side method params payload) outcome new moves = told_registers side method params payload outcome new moves
+  told (Tell side method params) outcome new moves = (moves.0 ∷ [], claim_at (Tell side method params) outcome Told (moves.0 ∷ []) (moves.0 ∷ []) new _ moves.2 refl moves.3 (claim_told side method params moves.0 moves.1))
+  told (Pass side bytes) outcome new moves = ([], claim_at (Pass side bytes) outcome _ [] [] new _ moves.0 refl moves.1 (claim_passed side bytes))
+  told (Take side label) outcome new moves = told_takes side label (next p.here.post) outcome new refl moves
+  told (Answer side id value) outcome new moves = told_answers side id value (label_of (item_at p.there.tokens id)) outcome new refl moves
+  told (Cancel side id) outcome new moves = told_cancels side id (label_of (item_at p.there.tokens id)) outcome new refl moves
+  told (GiveUp side id) outcome new moves = told_gives_up side id (label_of (item_at p.there.tokens id)) outcome new refl moves
+
+  -- ---- from events to tokens
+
+  abbrev Moved : Step → Outcome → List Letter → Type 0
+  Moved step outcome wrote = (new : Accounts) × Claim own others p step outcome wrote new
+
+  moved_none : (step : Step) (o : Outcome) (new : Accounts) → Claim own others p step o [] new → written_in step o ≡ [] → (outcome : Outcome) (wrote : List Letter) → Follows own others (event step outcome wrote) → Moved step outcome wrote
+  moved_none step o new claim unwritten outcome wrote follows =
+      let same : outcome ≡ o = follows.outcome_is ∙ sym claim.follows.outcome_is in
+      (new, claim_at step outcome o wrote [] new new same (no_letter wrote (follows.wrote_is ∙ ap (λ (x : Outcome). written_in step x) same ∙ unwritten)) refl claim)
+
+  moved_one : (step : Step) (o : Outcome) (m : Message) → o ≡ outcome_of own others step → written_in step o ≡ m ∷ [] → (outcome : Outcome) (wrote : List Letter) → Follows own others (event step outcome wrote) → (outcome ≡ o) × ((letter : Letter) × (wrote ≡ letter ∷ []) × (letter.message ≡ m))
+  moved_one step o m is written outcome wrote follows =
+      let same : outcome ≡ o = follows.outcome_is ∙ sym is in
+      (same, one_letter wrote m (follows.wrote_is ∙ ap (λ (x : Outcome). written_in step x) same ∙ written))
+
+  moved_registers : (side : Side) (method : String Global) (params : Value) (payload : ℕ) (outcome : Outcome) (wrote : List Letter) → Follows own others (event (Register side method params payload) outcome wrote) → Moved (Register side method params payload) outcome wrote
+  moved_registers side method params payload outcome wrote follows =
+      let step : Step = Register side method params payload in
+      ⊎_elim
+      (λ full. moved_none step Spent p (claim_spent side method params payload full) refl outcome wrote follows)
       (λ room.
-      let made = MatchBool-at_true _ _ room moves in
-      claim_at own others old tied step outcome (Registered id) new _ made.2 made.3 (record {
-        follows = (ap (λ (k : ℕ). nth_id k) (sym count), subst (λ (k : ℕ). k < all_ids) (sym count) (ltb-true _ _ room));
-        tied = record {
-          here = kept_registered tied.here (step, Registered id) payload (string_bytes method) (view params) made.0 refl refl made.1;
-          there = kept_others tied.there (step, Registered id) refl refl;
-        };
-      }))
-      (λ full.
-      let made = MatchBool-at_false _ _ full moves in
-      claim_at own others old tied step outcome Spent new old made.0 made.1 (record {
-        follows = omega (arith, count, ltb-false (length old.here.tokens) all_ids full);
-        tied = record { here = kept_own tied.here (step, Spent) refl refl; there = kept_others tied.there (step, Spent) refl refl };
-      }))
-      (cases_Bool (nat_lt (length old.here.tokens) all_ids))
+      let one = moved_one step (Registered (nth_id (length p.here.tokens))) (request (nth_id (length p.here.tokens)) (string_bytes method) (view params)) (registered_as side method params payload room) refl outcome wrote follows in
+      let letter : Letter = one.1.0 in
+      (accounts (p.here.tokens ++ token payload OnTheWay ∷ []) p.here.post p.there.tokens (posted p.there.post letter), claim_at step outcome _ wrote (letter ∷ []) _ _ one.0 one.1.1 refl (claim_registered side method params payload room letter one.1.2)))
+      (cases_Bool (length p.here.tokens == all_ids))
 
-  law_passes : (side : Side) (bytes : ℕ) (outcome : Outcome) (new : Accounts) → Passes bytes old outcome new → Claim own others (Pass side bytes) outcome new
-  law_passes side bytes outcome new moves =
-      claim_at own others old tied (Pass side bytes) outcome (Passed (min bytes (unpassed old.here.post))) new _ moves.0 moves.1 (record {
-        follows = omega arith;
-        tied = record { here = kept_own tied.here (Pass side bytes, Passed (min bytes (unpassed old.here.post))) refl refl; there = kept_others tied.there (Pass side bytes, Passed (min bytes (unpassed old.here.post))) refl refl };
-      })
+  module _ (placed : InOnePlace p) where
+    moved_message : (side : Side) (label : ℕ) (letter : Letter) (rest : List Letter) (m : Message) (outcome : Outcome) (wrote : List Letter) → next p.here.post ≡ Some letter → p.here.post.waiting ≡ letter ∷ rest → letter.message ≡ m → Follows own others (event (Take side label) outcome wrote) → Moved (Take side label) outcome wrote
+    moved_message side label letter rest (request key method params) outcome wrote some first is follows =
+        let waits : 0 < going (item_at p.there.tokens key) = omega (arith, sym (ap (λ (ls : List Letter). requests ls key) first) ∙ placed.there_once.out key, request_of_own letter.message key method params is) in
+        let sent = going_token (item_at p.there.tokens key) waits in
+        let tokens : List Token = with_item p.there.tokens key (token sent.0 (AtOther label)) in
+        let goes : Goes key OnTheWay (AtOther label) sent.0 p.there.tokens tokens = record { was = sent.1; now = refl } in
+        moved_none (Take side label) (Arrived key) _ (claim_arrived side label letter rest some first key method params sent.0 tokens is goes) refl outcome wrote follows
+    moved_message side label letter rest (response key answer) outcome wrote some first is follows =
+        let waits : 0 < returning (item_at p.here.tokens key) = omega (arith, sym (ap (λ (ls : List Letter). replies ls key) first) ∙ placed.here_once.back key, reply_of_own letter.message key answer is) in
+        let sent = returning_token (item_at p.here.tokens key) waits in
+        let tokens : List Token = with_item p.here.tokens key (token sent.0 Done) in
+        let goes : Goes key ComingBack Done sent.0 p.here.tokens tokens = record { was = sent.1; now = refl } in
+        moved_none (Take side label) (Returned key (Some sent.0)) _ (claim_returned side label letter rest some first key answer sent.0 tokens is goes) refl outcome wrote follows
+    moved_message side label letter rest (notification method params) outcome wrote some first is follows =
+        moved_none (Take side label) Notified _ (claim_notified side label letter rest some first method params is) refl outcome wrote follows
 
-  law_takes_message : (side : Side) (label : ℕ) (letter : Letter) (rest : List Letter) (message : Message) (outcome : Outcome) (new : Accounts) → old.here.post.waiting ≡ letter ∷ rest → letter.message ≡ message → TakesMessage label message old outcome new → Claim own others (Take side label) outcome new
-  law_takes_message side label letter rest (request key method params) outcome new first is moves =
-      let left : rest ≡ drop 1 old.here.post.waiting = sym (ap (λ (ls : List Letter). drop 1 ls) first) in
-      let waiting : Kept others own old.there.tokens (letter ∷ rest) = subst (λ (ls : List Letter). Kept others own old.there.tokens ls) first tied.there in
-      claim_at own others old tied (Take side label) outcome (Arrived key) new _ moves.3 moves.4 (record {
-        follows = arrives waiting key method params is;
-        tied = record {
-          here = kept_own tied.here (Take side label, Arrived key) refl refl;
-          there = subst (λ (ls : List Letter). Kept others (own ++ (Take side label, Arrived key) ∷ []) moves.1 ls) left (kept_arrived waiting (Take side label, Arrived key) key label moves.0 method params moves.1 refl refl moves.2 is);
-        };
-      })
-  law_takes_message side label letter rest (response key answer) outcome new first is moves =
-      let left : rest ≡ drop 1 old.here.post.waiting = sym (ap (λ (ls : List Letter). drop 1 ls) first) in
-      let waiting : Kept others own old.there.tokens (letter ∷ rest) = subst (λ (ls : List Letter). Kept others own old.there.tokens ls) first tied.there in
-      let goes : Goes key ComingBack Done moves.0 old.here.tokens moves.1 = moves.2 in
-      claim_at own others old tied (Take side label) outcome (Returned key (Some moves.0)) new _ moves.3 moves.4 (record {
-        follows = (
-          refl,
-          sym (ap (λ (l : List ℕ). item_at l key) tied.here.all ∙ item_at-map (λ (t : Token). t.payload) old.here.tokens key ∙ ap (option_map (λ (t : Token). t.payload)) goes.was),
-          tied.here.back key ∙ ap done_at goes.was,
-        );
-        tied = record {
-          here = kept_returned tied.here (Take side label, Returned key (Some moves.0)) key moves.0 moves.1 refl refl goes;
-          there = kept_others (subst (λ (ls : List Letter). Kept others own old.there.tokens ls) left (kept_reply_taken waiting key answer is)) (Take side label, Returned key (Some moves.0)) refl refl;
-        };
-      })
-  law_takes_message side label letter rest (notification method params) outcome new first is moves =
-      let left : rest ≡ drop 1 old.here.post.waiting = sym (ap (λ (ls : List Letter). drop 1 ls) first) in
-      let waiting : Kept others own old.there.tokens (letter ∷ rest) = subst (λ (ls : List Letter). Kept others own old.there.tokens ls) first tied.there in
-      claim_at own others old tied (Take side label) outcome Waiting new _ moves.0 moves.1 (record {
-        follows = tt;
-        tied = record {
-          here = kept_own tied.here (Take side label, Waiting) refl refl;
-          there = kept_others (subst (λ (ls : List Letter). Kept others own old.there.tokens ls) left (kept_notified waiting method params is)) (Take side label, Waiting) refl refl;
-        };
-      })
+    moved_takes : (side : Side) (label : ℕ) (o : Option Letter) (outcome : Outcome) (wrote : List Letter) → next p.here.post ≡ o → Follows own others (event (Take side label) outcome wrote) → Moved (Take side label) outcome wrote
+    moved_takes side label None outcome wrote is follows = moved_none (Take side label) Waiting p (claim_waits side label is) refl outcome wrote follows
+    moved_takes side label (Some letter) outcome wrote is follows =
+        let first = next_first p.here.post letter is in
+        moved_message side label letter first.0 letter.message outcome wrote is first.1 refl follows
 
-  law_takes : (side : Side) (label : ℕ) (o : Option Letter) (outcome : Outcome) (new : Accounts) → ((letter : Letter) → o ≡ Some letter → (rest : List Letter) × (old.here.post.waiting ≡ letter ∷ rest)) → Takes label o old outcome new → Claim own others (Take side label) outcome new
-  law_takes side label None outcome new first moves =
-      claim_at own others old tied (Take side label) outcome Waiting new old moves.0 moves.1 (record {
-        follows = tt;
-        tied = record { here = kept_own tied.here (Take side label, Waiting) refl refl; there = kept_others tied.there (Take side label, Waiting) refl refl };
-      })
-  law_takes side label (Some letter) outcome new first moves = law_takes_message side label letter (first letter refl).0 letter.message outcome new (first letter refl).1 refl moves
+    moved_answers : (side : Side) (id : Id) (value : Value) (o : Option ℕ) (outcome : Outcome) (wrote : List Letter) → label_of (item_at p.there.tokens id) ≡ o → Follows own others (event (Answer side id value) outcome wrote) → Moved (Answer side id value) outcome wrote
+    moved_answers side id value None outcome wrote is follows = moved_none (Answer side id value) Absent p (claim_no_answer side id is value) refl outcome wrote follows
+    moved_answers side id value (Some label) outcome wrote is follows =
+        let step : Step = Answer side id value in
+        let there = held_token (item_at p.there.tokens id) label is in
+        let tokens : List Token = with_item p.there.tokens id (token there.0 ComingBack) in
+        let goes : Goes id (AtOther label) ComingBack there.0 p.there.tokens tokens = record { was = there.1; now = refl } in
+        let one = moved_one step (Answered label) (response id (Ok (view value))) (held_as side id label there.0 tokens is (λ l. Answered l)) refl outcome wrote follows in
+        (_, claim_at step outcome _ wrote (one.1.0 ∷ []) _ _ one.0 one.1.1 refl (claim_answered side id label there.0 tokens is value one.1.0 one.1.2 goes))
 
-  law_answers : (side : Side) (id : Id) (value : Value) (o : Option ℕ) (outcome : Outcome) (new : Accounts) → held own id ≡ o →
-      MatchOption o ((outcome ≡ Absent) × (new ≡ old))
-      (λ label. (payload : ℕ) × (tokens : List Token) × (letter : Letter) × Goes id (AtOther label) ComingBack payload old.there.tokens tokens × (letter.message ≡ response id (Ok (view value))) × (outcome ≡ Answered label) × (new ≡ accounts old.here.tokens old.here.post tokens (posted old.there.post letter))) → Claim own others (Answer side id value) outcome new
-  law_answers side id value None outcome new found moves =
-      claim_at own others old tied (Answer side id value) outcome Absent new old moves.0 moves.1 (record {
-        follows = found;
-        tied = record { here = kept_own tied.here (Answer side id value, Absent) refl refl; there = kept_others tied.there (Answer side id value, Absent) refl refl };
-      })
-  law_answers side id value (Some label) outcome new found moves =
-      claim_at own others old tied (Answer side id value) outcome (Answered label) new _ moves.5 moves.6 (record {
-        follows = found;
-        tied = record {
-          here = kept_replies (kept_own tied.here (Answer side id value, Answered label) refl refl) moves.2 id (Ok (view value)) moves.4;
-          there = kept_settled tied.there (Answer side id value, Answered label) id label moves.0 ComingBack moves.1 refl refl moves.3 refl refl refl;
-        };
-      })
+    moved_cancels : (side : Side) (id : Id) (o : Option ℕ) (outcome : Outcome) (wrote : List Letter) → label_of (item_at p.there.tokens id) ≡ o → Follows own others (event (Cancel side id) outcome wrote) → Moved (Cancel side id) outcome wrote
+    moved_cancels side id None outcome wrote is follows = moved_none (Cancel side id) Absent p (claim_no_cancel side id is) refl outcome wrote follows
+    moved_cancels side id (Some label) outcome wrote is follows =
+        let step : Step = Cancel side id in
+        let there = held_token (item_at p.there.tokens id) label is in
+        let tokens : List Token = with_item p.there.tokens id (token there.0 ComingBack) in
+        let goes : Goes id (AtOther label) ComingBack there.0 p.there.tokens tokens = record { was = there.1; now = refl } in
+        let one = moved_one step Cancelled (cancelled id) (held_as side id label there.0 tokens is (λ l. Cancelled)) refl outcome wrote follows in
+        (_, claim_at step outcome _ wrote (one.1.0 ∷ []) _ _ one.0 one.1.1 refl (claim_cancelled side id label there.0 tokens is one.1.0 one.1.2 goes))
 
-  law_cancels : (side : Side) (id : Id) (o : Option ℕ) (outcome : Outcome) (new : Accounts) → held own id ≡ o →
-      MatchOption o ((outcome ≡ Absent) × (new ≡ old))
-      (λ label. (payload : ℕ) × (tokens : List Token) × (letter : Letter) × Goes id (AtOther label) ComingBack payload old.there.tokens tokens × (letter.message ≡ cancelled id) × (outcome ≡ Cancelled) × (new ≡ accounts old.here.tokens old.here.post tokens (posted old.there.post letter))) → Claim own others (Cancel side id) outcome new
-  law_cancels side id None outcome new found moves =
-      claim_at own others old tied (Cancel side id) outcome Absent new old moves.0 moves.1 (record {
-        follows = found;
-        tied = record { here = kept_own tied.here (Cancel side id, Absent) refl refl; there = kept_others tied.there (Cancel side id, Absent) refl refl };
-      })
-  law_cancels side id (Some label) outcome new found moves =
-      claim_at own others old tied (Cancel side id) outcome Cancelled new _ moves.5 moves.6 (record {
-        follows = subst IsSome (sym found) refl;
-        tied = record {
-          here = kept_replies (kept_own tied.here (Cancel side id, Cancelled) refl refl) moves.2 id (outcome_in (cancelled id)) moves.4;
-          there = kept_settled tied.there (Cancel side id, Cancelled) id label moves.0 ComingBack moves.1 refl refl moves.3 refl refl refl;
-        };
-      })
+    moved_gives_up : (side : Side) (id : Id) (o : Option ℕ) (outcome : Outcome) (wrote : List Letter) → label_of (item_at p.there.tokens id) ≡ o → Follows own others (event (GiveUp side id) outcome wrote) → Moved (GiveUp side id) outcome wrote
+    moved_gives_up side id None outcome wrote is follows = moved_none (GiveUp side id) Absent p (claim_no_give_up side id is) refl outcome wrote follows
+    moved_gives_up side id (Some label) outcome wrote is follows =
+        let there = held_token (item_at p.there.tokens id) label is in
+        let tokens : List Token = with_item p.there.tokens id (token there.0 GivenUp) in
+        let goes : Goes id (AtOther label) GivenUp there.0 p.there.tokens tokens = record { was = there.1; now = refl } in
+        moved_none (GiveUp side id) (GaveUp label) _ (claim_gave_up side id label there.0 tokens is goes) refl outcome wrote follows
 
-  law_gives_up : (side : Side) (id : Id) (o : Option ℕ) (outcome : Outcome) (new : Accounts) → held own id ≡ o →
-      MatchOption o ((outcome ≡ Absent) × (new ≡ old))
-      (λ label. (payload : ℕ) × (tokens : List Token) × Goes id (AtOther label) GivenUp payload old.there.tokens tokens × (outcome ≡ GaveUp label) × (new ≡ accounts old.here.tokens old.here.post tokens old.there.post)) → Claim own others (GiveUp side id) outcome new
-  law_gives_up side id None outcome new found moves =
-      claim_at own others old tied (GiveUp side id) outcome Absent new old moves.0 moves.1 (record {
-        follows = found;
-        tied = record { here = kept_own tied.here (GiveUp side id, Absent) refl refl; there = kept_others tied.there (GiveUp side id, Absent) refl refl };
-      })
-  law_gives_up side id (Some label) outcome new found moves =
-      claim_at own others old tied (GiveUp side id) outcome (GaveUp label) new _ moves.3 moves.4 (record {
-        follows = found;
-        tied = record {
-          here = kept_own tied.here (GiveUp side id, GaveUp label) refl refl;
-          there = kept_settled tied.there (GiveUp side id, GaveUp label) id label moves.0 GivenUp moves.1 refl refl moves.2 refl refl refl;
-        };
-      })
+    moved_tells : (side : Side) (method : String Global) (params : Value) (outcome : Outcome) (wrote : List Letter) → Follows own others (event (Tell side method params) outcome wrote) → Moved (Tell side method params) outcome wrote
+    moved_tells side method params outcome wrote follows =
+        let one = moved_one (Tell side method params) Told (notification (string_bytes method) (view params)) refl refl outcome wrote follows in
+        (_, claim_at (Tell side method params) outcome _ wrote (one.1.0 ∷ []) _ _ one.0 one.1.1 refl (claim_told side method params one.1.0 one.1.2))
 
-law_moves : (step : Step) (own others : List Event) (old : Accounts) → Tied own others old → (outcome : Outcome) (new : Accounts) → StepDoes old step outcome new → Claim own others step outcome new
-law_moves (Register side method params payload) own others old tied outcome new moves = law_registers own others old tied side method params payload outcome new moves
-law_moves (Pass side bytes) own others old tied outcome new moves = law_passes own others old tied side bytes outcome new moves
-law_moves (Take side label) own others old tied outcome new moves = law_takes own others old tied side label (next old.here.post) outcome new (λ letter is. next_first old.here.post letter is) moves
-law_moves (Answer side id value) own others old tied outcome new moves = law_answers own others old tied side id value (label_of (item_at old.there.tokens id)) outcome new (tied.there.there id) moves
-law_moves (Cancel side id) own others old tied outcome new moves = law_cancels own others old tied side id (label_of (item_at old.there.tokens id)) outcome new (tied.there.there id) moves
-law_moves (GiveUp side id) own others old tied outcome new moves = law_gives_up own others old tied side id (label_of (item_at old.there.tokens id)) outcome new (tied.there.there id) moves
-
-turned_tied : (own others : List Event) (p : Accounts) → Tied own others p → Tied others own (record { here = p.there; there = p.here })
-turned_tied own others p tied = record { here = tied.there; there = tied.here }
-
--- what a step of a side claims, in accounts seen from A
-law_seen : (side : Side) (step : Step) (before : List Event × List Event) (old new : Accounts) (outcome : Outcome) → Tied before.0 before.1 old → StepDoes (seen_from side old) step outcome (seen_from side new) → Follows (events_of side before) (events_of (other side) before) step outcome × Tied (and_then side (step, outcome) before).0 (and_then side (step, outcome) before).1 new
-law_seen A step before old new outcome tied moves = let claim = law_moves step before.0 before.1 old tied outcome new moves in (claim.follows, claim.tied)
-law_seen B step before old new outcome tied moves =
-    let claim = law_moves step before.1 before.0 (record { here = old.there; there = old.here }) (turned_tied before.0 before.1 old tied) outcome (record { here = new.there; there = new.here }) moves in
-    (claim.follows, turned_tied (before.1 ++ (step, outcome) ∷ []) before.0 (record { here = new.there; there = new.here }) claim.tied)
-
-lawful_from : (steps : List Step) (outcomes : List Outcome) (before : List Event × List Event) (old new : Accounts) → Tied before.0 before.1 old → Run old steps outcomes new → Lawful before steps outcomes
-lawful_from [] [] before old new tied run = tt
-lawful_from [] (outcome ∷ outcomes) before old new tied run = absurd run
-lawful_from (step ∷ steps) [] before old new tied run = absurd run
-lawful_from (step ∷ steps) (outcome ∷ outcomes) before old new tied run =
-    let law = law_seen (side_of step) step before old run.0 outcome tied run.1 in
-    (law.0, lawful_from steps outcomes (and_then (side_of step) (step, outcome) before) run.0 new law.1 run.2)
-
-kept_nothing : Kept [] [] [] []
-kept_nothing = record { all = refl; order = refl; there = λ id. get-nothing id ∙ sym (ap label_of (get-nothing id)); gone = λ id. sym (ap settled_at (get-nothing id)); back = λ id. sym (ap done_at (get-nothing id)) }
-
--- the outcomes of a run from nothing
-pub lawful_run : (steps : List Step) (outcomes : List Outcome) (new : Accounts) → Run nothing steps outcomes new → Lawful ([], []) steps outcomes
-lawful_run steps outcomes new run = lawful_from steps outcomes ([], []) nothing new (record {
-  here = kept_nothing;
-  there = kept_nothing;
-}) run
-
-tied_from : (steps : List Step) (outcomes : List Outcome) (before : List Event × List Event) (old new : Accounts) → Tied before.0 before.1 old → Run old steps outcomes new → Tied (after before steps outcomes).0 (after before steps outcomes).1 new
-tied_from [] [] before old new tied run = subst (Tied before.0 before.1) (sym run) tied
-tied_from [] (outcome ∷ outcomes) before old new tied run = absurd run
-tied_from (step ∷ steps) [] before old new tied run = absurd run
-tied_from (step ∷ steps) (outcome ∷ outcomes) before old new tied run =
-    tied_from steps outcomes (and_then (side_of step) (step, outcome) before) run.0 new (law_seen (side_of step) step before old run.0 outcome tied run.1).1 run.2
-
--- the events of a run from nothing, tied to what it comes to
-pub tied_run : (steps : List Step) (outcomes : List Outcome) (new : Accounts) → Run nothing steps outcomes new → Tied (after ([], []) steps outcomes).0 (after ([], []) steps outcomes).1 new
-tied_run steps outcomes new run = tied_from steps outcomes ([], []) nothing new (record { here = kept_nothing; there = kept_nothing }) run
+    pub moved : (step : Step) (outcome : Outcome) (wrote : List Letter) → Follows own others (event step outcome wrote) → Moved step outcome wrote
+    moved (Register side method params payload) outcome wrote follows = moved_registers side method params payload outcome wrote follows
+    moved (Tell side method params) outcome wrote follows = moved_tells side method params outcome wrote follows
+    moved (Pass side bytes) outcome wrote follows = moved_none (Pass side bytes) _ _ (claim_passed side bytes) refl outcome wrote follows
+    moved (Take side label) outcome wrote follows = moved_takes side label (next p.here.post) outcome wrote refl follows
+    moved (Answer side id value) outcome wrote follows = moved_answers side id value (label_of (item_at p.there.tokens id)) outcome wrote refl follows
+    moved (Cancel side id) outcome wrote follows = moved_cancels side id (label_of (item_at p.there.tokens id)) outcome wrote refl follows
+    moved (GiveUp side id) outcome wrote follows = moved_gives_up side id (label_of (item_at p.there.tokens id)) outcome wrote refl follows

@@ -1,7 +1,7 @@
 -- What a link carries after each of its calls, over its bytes and its two marks.
 use Rattle.std.proofs.Common.{◌≡◌, ℕ, ◌+◌, ◌-◌, ◌^◌, ◌<◌, ◌≤◌, List, [], ◌++◌, length, take, drop, min, refl, sym, ap, ◌∙◌, subst, arith, append-nil, length-append, length-drop, ⊎_elim}
 use Rattle.std.proofs.lemmas.List.{length-take}
-use Rattle.std.specs.Prelude.{Option, None, Some, Ok, Err}
+use Rattle.std.specs.Prelude.{Option, None, Some, Ok, Err, false, is_some}
 use Rattle.lsp_message.specs.Frame.{reading_of}
 use Rattle.lsp_message.specs.Reading.{Answers}
 use Rattle.lsp_message.specs.Front.{front_of}
@@ -15,13 +15,25 @@ use Rattle.lsp_message.specs.declared.frame.ReadFault.TheVariants.{Input, LineNo
 use Rattle.lsp_message.specs.declared.frame.extent.Front.TheVariants.{Whole, Fault, More}
 use Rattle.lsp_peers.specs.WorldFault.{fault_of}
 use Rattle.lsp_peers.specs.declared.fault.WorldFault.TheVariants.{Memory as NoMemory}
-use Rattle.lsp_peers.specs.Post.{Letter, Post, Line, ReadsBack, line_of, Carries, posted, passed_on, unpassed, next, one_taken, message_of, after_take, IfNext}
+use Rattle.lsp_peers.specs.Post.{Letter, Post, Line, frames, ReadsBack, line_of, Carries, posted, passed_on, unpassed, next, one_taken, message_of, after_take, IfNext}
 use Rattle.lsp_peers.proofs.LineLemmas.{line_written, line_passed, line_taken}
 use Rattle.lsp_peers.proofs.PostLemmas.{take_cases, unpassed_is, carries_written, carries_passed}
+
+-- the same bytes, and so the same post
+pub carries_at : (new old : Line) (post : Post) → new.arrived ≡ old.arrived → new.on_way ≡ old.on_way → Carries old post → Carries new post
+carries_at new old post here away carries = record {
+  bytes = (λ i. here i ++ away i) ∙ carries.bytes;
+  count = ap (λ (l : List ℕ). length (frames post.taken) + length l) here ∙ carries.count;
+}
 
 -- a letter of what was written
 pub letter_written : (m : Message) (old new : List ℕ) → WritesReadably m (Some old) (Some new) → (letter : Letter) × (letter.message ≡ m) × (new ≡ old ++ letter.frame)
 letter_written m old new wrote = (record { message = m; frame = wrote.0; framed = wrote.1; readable = wrote.3 }, refl, wrote.2)
+
+-- no message, and so no letter
+pub none_next : (o : Option Letter) → None ≡ message_of o → false ≡ is_some o
+none_next None is = refl
+none_next (Some letter) is = cc
 
 -- what is read of the frame of a letter
 frame_read : (letter : Letter) (text : List ℕ) → text ≡ letter.frame → ReadsBack letter.message → (reading_of text).outcome ≡ Ok (Some letter.message)
@@ -93,6 +105,10 @@ module _ (bytes : List ℕ) (start end : ℕ) (ordered : start ≤ end) (within 
           λ fits. rw shows.next_is (subst (λ (n : ℕ). Carries (line_of bytes (start + n) end) (one_taken post)) (sym size) (subst (λ (line : Line). Carries line (one_taken post)) (sym (line_taken bytes start end (length letter.frame) (omega arith))) shows.after)),
         ))
         (take_cases _ post small carries)
+
+    -- where no letter is next, it isn't
+    pub never_whole : (count : ℕ) → next post ≡ None → front_of (line_of bytes start end).arrived ≡ Whole count → ⊥
+    never_whole count none is = let shown = whole_shows count is in let e : Some shown.0 ≡ None = sym shown.1 ∙ none in cc
 
     -- what is read of it is the next letter's message
     pub read_is : (count : ℕ) → front_of (line_of bytes start end).arrived ≡ Whole count → IfNext ReadsBack post → (letter : Letter) × (next post ≡ Some letter) × ((reading_of (take count (line_of bytes start end).arrived)).outcome ≡ Ok (Some letter.message))

@@ -46,7 +46,7 @@ returning_token None some = absurd (omega arith)
 returning_token (Some t) some = (t.payload, ap (λ p. Some (token t.payload p)) (returning_at t.place some))
 
 -- the next letter is the first that waits
-next_first_of : (before passed : ℕ) (waiting : List Letter) (letter : Letter) → first_passed before passed waiting ≡ Some letter → (rest : List Letter) × (waiting ≡ letter ∷ rest)
+pub next_first_of : (before passed : ℕ) (waiting : List Letter) (letter : Letter) → first_passed before passed waiting ≡ Some letter → (rest : List Letter) × (waiting ≡ letter ∷ rest)
 next_first_of before passed [] letter is = cc
 next_first_of before passed (l ∷ letters) letter is =
     (letters, go (nat_le (before + length l.frame) passed) is)

@@ -1,8 +1,8 @@
 -- Each step keeps that each token is in one place, and a run goes on by one step.
-use Rattle.std.proofs.Common.{◌≡◌, ℕ, ◌≤◌, List, [], ◌∷◌, ◌++◌, length, refl, sym, ap, ◌∙◌, subst, arith, ⊎_elim, append-nil}
+use Rattle.std.proofs.Common.{◌≡◌, ℕ, List, [], ◌∷◌, ◌++◌, length, refl, sym, ap, ◌∙◌, subst, arith, ⊎_elim, append-nil}
 use Rattle.std.proofs.lemmas.Bool.{cases_Bool, MatchBool-at_true, MatchBool-at_false}
-use Rattle.std.specs.Prelude.{Option, None, Some, Result, Ok, nat_lt, MatchOption, drop, string_bytes}
-use Rattle.serde_json.specs.Data.{Data, depth}
+use Rattle.std.specs.Prelude.{Option, None, Some, Result, Ok, ◌==◌, MatchOption, drop, string_bytes}
+use Rattle.serde_json.specs.Data.{Data}
 use Rattle.serde_json.specs.View.{view}
 use Rattle.lsp_message.specs.Id.{Id}
 use Rattle.lsp_message.specs.Message.{Message, ErrorObject, request, notification, response}
@@ -11,16 +11,13 @@ use Rattle.lsp_peers.specs.Ids.{nth_id, item_at}
 use Rattle.lsp_peers.specs.declared.step.Outcome.{Outcome}
 use Rattle.lsp_peers.specs.declared.step.Outcome.TheVariants.{Answered, Cancelled, GaveUp, Absent}
 use Rattle.lsp_peers.specs.declared.step.Step.{Step}
-use Rattle.lsp_peers.specs.declared.step.Step.TheVariants.{Register, Pass, Take, Answer, Cancel, GiveUp}
-use Rattle.lsp_peers.specs.declared.step.Side.{Side}
-use Rattle.lsp_peers.specs.declared.step.Side.TheVariants.{A, B}
+use Rattle.lsp_peers.specs.declared.step.Step.TheVariants.{Register, Tell, Pass, Take, Answer, Cancel, GiveUp}
 use Rattle.lsp_peers.specs.Token.{OnTheWay, AtOther, ComingBack, Done, GivenUp, Token, token, label_of, Goes}
-use Rattle.lsp_peers.specs.Post.{Letter, ReadsBack, posted, next}
-use Rattle.lsp_peers.specs.Steps.{Accounts, accounts, nothing, Registers, Passes, TakesMessage, Takes, StepDoes, WorldDoes, Run, side_of, seen_from}
-use Rattle.lsp_peers.specs.InOnePlace.{request_of, reply_of, requests, replies, going, returning, MatchLetters, AllReadBack, InOnePlace, IsShallow, AllShallow}
+use Rattle.lsp_peers.specs.Post.{Letter, posted, next}
+use Rattle.lsp_peers.specs.Steps.{Accounts, accounts, nothing, Registers, Tells, Passes, TakesMessage, Takes, StepDoes, WorldDoes, Run}
+use Rattle.lsp_peers.specs.InOnePlace.{request_of, reply_of, requests, replies, going, returning, MatchLetters, InOnePlace}
 use Rattle.lsp_peers.proofs.TokenLemmas.{push_sets, push_keeps, goes_sets, goes_keeps}
 use Rattle.lsp_peers.proofs.IdLemmas.{get-end, get-nothing}
-use Rattle.lsp_peers.proofs.ShallowLemmas.{request_reads, answer_reads, cancelled_reads}
 use Rattle.lsp_peers.proofs.PlaceLemmas.{requests-push, replies-push, request_of_own, request_of_other, reply_of_own, reply_of_other, no_reply, no_request, next_first}
 
 module _ {tokens : List Token} {outbound inbound : List Letter} (once : MatchLetters tokens outbound inbound) (letter : Letter) where
@@ -43,6 +40,18 @@ module _ {tokens : List Token} {outbound inbound : List Letter} (once : MatchLet
   once_reply_goes key answer is = record {
     out = λ n. omega (arith, requests-push outbound letter n, no_request letter.message key answer is n, once.out n);
     back = once.back;
+  }
+
+  once_told_out : (method : List ℕ) (params : Data) → letter.message ≡ notification method params → MatchLetters tokens (outbound ++ letter ∷ []) inbound
+  once_told_out method params is = record {
+    out = λ n. omega (arith, requests-push outbound letter n, ap (λ (m : Message). request_of m n) is, once.out n);
+    back = once.back;
+  }
+
+  once_told_in : (method : List ℕ) (params : Data) → letter.message ≡ notification method params → MatchLetters tokens outbound (inbound ++ letter ∷ [])
+  once_told_in method params is = record {
+    out = once.out;
+    back = λ n. omega (arith, replies-push inbound letter n, ap (λ (m : Message). reply_of m n) is, once.back n);
   }
 
   once_replied : (key : Id) (label payload : ℕ) (answer : Result Data ErrorObject) (new : List Token) → Goes key (AtOther label) ComingBack payload tokens new → letter.message ≡ response key answer → MatchLetters new outbound (inbound ++ letter ∷ [])
@@ -103,13 +112,6 @@ module _ (tokens : List Token) (letter : Letter) (rest others : List Letter) whe
     back = once.back;
   }
 
-read_back_push : (letters : List Letter) (letter : Letter) → AllReadBack letters → ReadsBack letter.message → AllReadBack (letters ++ letter ∷ [])
-read_back_push [] letter all reads = (reads, tt)
-read_back_push (l ∷ letters) letter all reads = (all.0, read_back_push letters letter all.1 reads)
-
-reads_as : (letter : Letter) (message : Message) → letter.message ≡ message → ReadsBack message → ReadsBack letter.message
-reads_as letter message is reads = subst ReadsBack (sym is) reads
-
 -- the answer in a reply
 abbrev pub outcome_in : Message → Result Data ErrorObject
 outcome_in (request id method params) = Ok params
@@ -117,24 +119,30 @@ outcome_in (notification method params) = Ok params
 outcome_in (response id answer) = answer
 
 module _ (old : Accounts) (placed : InOnePlace old) where
-  placed_registers : (method : List ℕ) (params : Data) (payload : ℕ) (outcome : Outcome) (new : Accounts) → depth params ≤ 126 → Registers method params payload old outcome new → InOnePlace new
-  placed_registers method params payload outcome new shallow moves =
+  placed_registers : (method : List ℕ) (params : Data) (payload : ℕ) (outcome : Outcome) (new : Accounts) → Registers method params payload old outcome new → InOnePlace new
+  placed_registers method params payload outcome new moves =
       let id : Id = nth_id (length old.here.tokens) in
       ⊎_elim
+      (λ full. let made = MatchBool-at_true _ _ full moves in subst InOnePlace (sym made.1) placed)
       (λ room.
-      let made = MatchBool-at_true _ _ room moves in
+      let made = MatchBool-at_false _ _ room moves in
       let letter : Letter = made.0 in
       subst InOnePlace (sym made.3) (record {
         here_once = once_registered placed.here_once letter method params payload made.1;
         there_once = once_request_comes placed.there_once letter id method params made.1;
-        here_reads = placed.here_reads;
-        there_reads = read_back_push old.there.post.waiting letter placed.there_reads (reads_as letter (request id method params) made.1 (request_reads id method params shallow));
       }))
-      (λ full. let made = MatchBool-at_false _ _ full moves in subst InOnePlace (sym made.1) placed)
-      (cases_Bool (nat_lt (length old.here.tokens) all_ids))
+      (cases_Bool (length old.here.tokens == all_ids))
+
+  placed_tells : (method : List ℕ) (params : Data) (outcome : Outcome) (new : Accounts) → Tells method params old outcome new → InOnePlace new
+  placed_tells method params outcome new moves =
+      let letter : Letter = moves.0 in
+      subst InOnePlace (sym moves.3) (record {
+        here_once = once_told_out placed.here_once letter method params moves.1;
+        there_once = once_told_in placed.there_once letter method params moves.1;
+      })
 
   placed_passes : (bytes : ℕ) (outcome : Outcome) (new : Accounts) → Passes bytes old outcome new → InOnePlace new
-  placed_passes bytes outcome new moves = subst InOnePlace (sym moves.1) (record { here_once = placed.here_once; there_once = placed.there_once; here_reads = placed.here_reads; there_reads = placed.there_reads })
+  placed_passes bytes outcome new moves = subst InOnePlace (sym moves.1) (record { here_once = placed.here_once; there_once = placed.there_once })
 
   placed_takes_message : (label : ℕ) (letter : Letter) (rest : List Letter) (message : Message) (outcome : Outcome) (new : Accounts) → old.here.post.waiting ≡ letter ∷ rest → letter.message ≡ message → TakesMessage label message old outcome new → InOnePlace new
   placed_takes_message label letter rest (request key method params) outcome new first is moves =
@@ -142,24 +150,18 @@ module _ (old : Accounts) (placed : InOnePlace old) where
       subst InOnePlace (sym moves.4) (record {
         here_once = subst (λ (ls : List Letter). MatchLetters old.here.tokens old.there.post.waiting ls) left (once_request_taken old.here.tokens letter rest old.there.post.waiting (subst (λ (ls : List Letter). MatchLetters old.here.tokens old.there.post.waiting ls) first placed.here_once) key method params is);
         there_once = subst (λ (ls : List Letter). MatchLetters moves.1 ls old.there.post.waiting) left (once_arrived old.there.tokens letter rest old.there.post.waiting (subst (λ (ls : List Letter). MatchLetters old.there.tokens ls old.there.post.waiting) first placed.there_once) key label moves.0 method params moves.1 moves.2 is);
-        here_reads = subst AllReadBack left (subst AllReadBack first placed.here_reads).1;
-        there_reads = placed.there_reads;
       })
   placed_takes_message label letter rest (response key answer) outcome new first is moves =
       let left : rest ≡ drop 1 old.here.post.waiting = sym (ap (λ (ls : List Letter). drop 1 ls) first) in
       subst InOnePlace (sym moves.4) (record {
         here_once = subst (λ (ls : List Letter). MatchLetters moves.1 old.there.post.waiting ls) left (once_returned old.here.tokens letter rest old.there.post.waiting (subst (λ (ls : List Letter). MatchLetters old.here.tokens old.there.post.waiting ls) first placed.here_once) key moves.0 answer moves.1 moves.2 is);
         there_once = subst (λ (ls : List Letter). MatchLetters old.there.tokens ls old.there.post.waiting) left (once_reply_taken old.there.tokens letter rest old.there.post.waiting (subst (λ (ls : List Letter). MatchLetters old.there.tokens ls old.there.post.waiting) first placed.there_once) key answer is);
-        here_reads = subst AllReadBack left (subst AllReadBack first placed.here_reads).1;
-        there_reads = placed.there_reads;
       })
   placed_takes_message label letter rest (notification method params) outcome new first is moves =
       let left : rest ≡ drop 1 old.here.post.waiting = sym (ap (λ (ls : List Letter). drop 1 ls) first) in
       subst InOnePlace (sym moves.1) (record {
         here_once = subst (λ (ls : List Letter). MatchLetters old.here.tokens old.there.post.waiting ls) left (once_notified_in old.here.tokens letter rest old.there.post.waiting (subst (λ (ls : List Letter). MatchLetters old.here.tokens old.there.post.waiting ls) first placed.here_once) method params is);
         there_once = subst (λ (ls : List Letter). MatchLetters old.there.tokens ls old.there.post.waiting) left (once_notified_out old.there.tokens letter rest old.there.post.waiting (subst (λ (ls : List Letter). MatchLetters old.there.tokens ls old.there.post.waiting) first placed.there_once) method params is);
-        here_reads = subst AllReadBack left (subst AllReadBack first placed.here_reads).1;
-        there_reads = placed.there_reads;
       })
 
   placed_takes : (label : ℕ) (o : Option Letter) (outcome : Outcome) (new : Accounts) → ((letter : Letter) → o ≡ Some letter → (rest : List Letter) × (old.here.post.waiting ≡ letter ∷ rest)) → Takes label o old outcome new → InOnePlace new
@@ -168,16 +170,14 @@ module _ (old : Accounts) (placed : InOnePlace old) where
       let f = first letter refl in
       placed_takes_message label letter f.0 letter.message outcome new f.1 refl moves
 
-  placed_replies_at : (o : Option ℕ) (id : Id) (answer : Result Data ErrorObject) (answered : ℕ → Outcome) (outcome : Outcome) (new : Accounts) → ReadsBack (response id answer) →
+  placed_replies_at : (o : Option ℕ) (id : Id) (answer : Result Data ErrorObject) (answered : ℕ → Outcome) (outcome : Outcome) (new : Accounts) →
       MatchOption o ((outcome ≡ Absent) × (new ≡ old))
       (λ label. (payload : ℕ) × (tokens : List Token) × (letter : Letter) × Goes id (AtOther label) ComingBack payload old.there.tokens tokens × (letter.message ≡ response id answer) × (outcome ≡ answered label) × (new ≡ accounts old.here.tokens old.here.post tokens (posted old.there.post letter))) → InOnePlace new
-  placed_replies_at None id answer answered outcome new reads moves = subst InOnePlace (sym moves.1) placed
-  placed_replies_at (Some label) id answer answered outcome new reads moves =
+  placed_replies_at None id answer answered outcome new moves = subst InOnePlace (sym moves.1) placed
+  placed_replies_at (Some label) id answer answered outcome new moves =
       subst InOnePlace (sym moves.6) (record {
         here_once = once_reply_goes placed.here_once moves.2 id answer moves.4;
         there_once = once_replied placed.there_once moves.2 id label moves.0 answer moves.1 moves.3 moves.4;
-        here_reads = placed.here_reads;
-        there_reads = read_back_push old.there.post.waiting moves.2 placed.there_reads (reads_as moves.2 (response id answer) moves.4 reads);
       })
 
   placed_gives_up_at : (o : Option ℕ) (id : Id) (outcome : Outcome) (new : Accounts) →
@@ -188,39 +188,21 @@ module _ (old : Accounts) (placed : InOnePlace old) where
       subst InOnePlace (sym moves.4) (record {
         here_once = placed.here_once;
         there_once = once_given_up old.there.tokens old.here.post.waiting old.there.post.waiting placed.there_once id label moves.0 moves.1 moves.2;
-        here_reads = placed.here_reads;
-        there_reads = placed.there_reads;
       })
 
-placed_moves : (step : Step) (old : Accounts) → InOnePlace old → (outcome : Outcome) (new : Accounts) → IsShallow step → StepDoes old step outcome new → InOnePlace new
-placed_moves (Register side method params payload) old placed outcome new shallow moves = placed_registers old placed (string_bytes method) (view params) payload outcome new shallow moves
-placed_moves (Pass side bytes) old placed outcome new shallow moves = placed_passes old placed bytes outcome new moves
-placed_moves (Take side label) old placed outcome new shallow moves = placed_takes old placed label (next old.here.post) outcome new (λ letter is. next_first old.here.post letter is) moves
-placed_moves (Answer side id value) old placed outcome new shallow moves = placed_replies_at old placed (label_of (item_at old.there.tokens id)) id (Ok (view value)) (λ label. Answered label) outcome new (answer_reads id (view value) shallow) moves
-placed_moves (Cancel side id) old placed outcome new shallow moves = placed_replies_at old placed (label_of (item_at old.there.tokens id)) id (outcome_in (cancelled id)) (λ label. Cancelled) outcome new (cancelled_reads id) moves
-placed_moves (GiveUp side id) old placed outcome new shallow moves = placed_gives_up_at old placed (label_of (item_at old.there.tokens id)) id outcome new moves
-
-turn_sound : (p : Accounts) → InOnePlace p → InOnePlace (record { here = p.there; there = p.here })
-turn_sound p placed = record { here_once = placed.there_once; there_once = placed.here_once; here_reads = placed.there_reads; there_reads = placed.here_reads }
-
-seen_sound : (side : Side) (p : Accounts) → InOnePlace p → InOnePlace (seen_from side p)
-seen_sound A p placed = placed
-seen_sound B p placed = turn_sound p placed
-
-unseen_sound : (side : Side) (p : Accounts) → InOnePlace (seen_from side p) → InOnePlace p
-unseen_sound A p placed = placed
-unseen_sound B p placed = turn_sound (record { here = p.there; there = p.here }) placed
-
--- a step keeps that each token is in one place
-pub placed_move : (step : Step) (old new : Accounts) (outcome : Outcome) → IsShallow step → InOnePlace old → WorldDoes old step outcome new → InOnePlace new
-placed_move step old new outcome reads placed move = unseen_sound (side_of step) new (placed_moves step (seen_from (side_of step) old) (seen_sound (side_of step) old placed) outcome (seen_from (side_of step) new) reads move)
+pub placed_moves : (step : Step) (old : Accounts) → InOnePlace old → (outcome : Outcome) (new : Accounts) → StepDoes old step outcome new → InOnePlace new
+placed_moves (Register side method params payload) old placed outcome new moves = placed_registers old placed (string_bytes method) (view params) payload outcome new moves
+placed_moves (Tell side method params) old placed outcome new moves = placed_tells old placed (string_bytes method) (view params) outcome new moves
+placed_moves (Pass side bytes) old placed outcome new moves = placed_passes old placed bytes outcome new moves
+placed_moves (Take side label) old placed outcome new moves = placed_takes old placed label (next old.here.post) outcome new (λ letter is. next_first old.here.post letter is) moves
+placed_moves (Answer side id value) old placed outcome new moves = placed_replies_at old placed (label_of (item_at old.there.tokens id)) id (Ok (view value)) (λ label. Answered label) outcome new moves
+placed_moves (Cancel side id) old placed outcome new moves = placed_replies_at old placed (label_of (item_at old.there.tokens id)) id (outcome_in (cancelled id)) (λ label. Cancelled) outcome new moves
+placed_moves (GiveUp side id) old placed outcome new moves = placed_gives_up_at old placed (label_of (item_at old.there.tokens id)) id outcome new moves
 
 pub placed_nothing : InOnePlace nothing
 placed_nothing = record {
   here_once = record { out = λ id. sym (ap going (get-nothing id)); back = λ id. sym (ap returning (get-nothing id)) };
   there_once = record { out = λ id. sym (ap going (get-nothing id)); back = λ id. sym (ap returning (get-nothing id)) };
-  here_reads = tt;
-  there_reads = tt;
 }
 
 -- a run goes on by one step
@@ -229,11 +211,6 @@ run_more old middle new [] [] step outcome run move = (new, subst (λ (p : Accou
 run_more old middle new [] (o ∷ outcomes) step outcome run move = absurd run
 run_more old middle new (s ∷ steps) [] step outcome run move = absurd run
 run_more old middle new (s ∷ steps) (o ∷ outcomes) step outcome run move = (run.0, run.1, run_more run.0 middle new steps outcomes step outcome run.2 move)
-
--- a step that stands in the list
-pub readable_at : (before after : List Step) (step : Step) → AllShallow (before ++ step ∷ after) → IsShallow step
-readable_at [] after step all = all.0
-readable_at (s ∷ before) after step all = readable_at before after step all.1
 
 -- nothing is left
 pub all_taken : {X : Type 0} (xs ys zs : List X) → xs ++ ys ≡ zs → length ys ≡ 0 → xs ≡ zs

@@ -1,20 +1,21 @@
 -- When a world agrees with tokens and posts.
 use Rattle.std.specs.FinMap as map
-use Rattle.std.specs.Prelude.{◌≡◌, List, length, map as each}
+use Rattle.std.specs.Prelude.{◌≡◌, List, ◌++◌, length, map as each}
 use Rattle.lsp_message.specs.Id.{Id}
+use Rattle.lsp_message.specs.Message.{Message}
 use Rattle.lsp_message.specs.View.{message_view}
 use Rattle.lsp_queue.specs.Queue.{pending_of, count_of}
 use Rattle.lsp_peers.specs.declared.peer.Peer.{Peer}
-use Rattle.lsp_peers.specs.declared.world.World.{World}
 use Rattle.lsp_peers.specs.declared.step.Side.{Side}
 use Rattle.lsp_peers.specs.declared.step.Side.TheVariants.{A, B}
+use Rattle.lsp_peers.specs.declared.world.World.{World}
 use Rattle.lsp_peers.specs.Ids.{item_at}
 use Rattle.lsp_peers.specs.Token.{Token, owed, label_of}
 use Rattle.lsp_peers.specs.Post.{Carries}
 use Rattle.lsp_peers.specs.Steps.{Account, Accounts}
 
--- one side, with its own tokens, the post to it, and the tokens of the other side
-pub record PeerAgrees (peer : Peer) (account : Account) (others : List Token) : Type 0 where
+-- one side, with the messages that it handed out, its own tokens, the post to it, and the tokens of the other side
+pub record PeerAgrees (peer : Peer) (handed : List Message) (account : Account) (others : List Token) : Type 0 where
   -- the queue of its own requests holds exactly its tokens that aren't done, each payload under its id
   pub out : (id : Id) → map.get (pending_of peer.queue.outgoing) id ≡ owed (item_at account.tokens id)
   -- the queue of the other side's requests holds exactly the tokens that are here, with their labels
@@ -22,17 +23,13 @@ pub record PeerAgrees (peer : Peer) (account : Account) (others : List Token) : 
   -- the next id is how many tokens there are
   pub count : count_of peer.queue.outgoing ≡ length account.tokens
   pub line : Carries peer.link account.post
-  pub taken : each message_view peer.taken.items ≡ each (λ letter. letter.message) account.post.taken
+  pub taken : handed ++ each message_view peer.taken.items ≡ each (λ letter. letter.message) account.post.taken
 
--- two sides, with the accounts that the near one sees
-pub record Agrees (near far : Peer) (p : Accounts) : Type 0 where
-  pub near_side : PeerAgrees near p.here p.there.tokens
-  pub far_side : PeerAgrees far p.there p.here.tokens
+-- two sides, with the messages that each handed out, and the accounts that the near one sees
+pub record Agrees (near far : Peer) (mine theirs : List Message) (p : Accounts) : Type 0 where
+  pub near_side : PeerAgrees near mine p.here p.there.tokens
+  pub far_side : PeerAgrees far theirs p.there p.here.tokens
 
 -- a world agrees with accounts that are seen from A
-abbrev pub WorldAgrees : World → Accounts → Type 0
-WorldAgrees world p = Agrees world.a world.b p
-
-abbrev pub peer_at : Side → World → Peer
-peer_at A world = world.a
-peer_at B world = world.b
+abbrev pub WorldAgrees : World → (Side → List Message) → Accounts → Type 0
+WorldAgrees world handed p = Agrees world.a world.b (handed A) (handed B) p

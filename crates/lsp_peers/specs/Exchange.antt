@@ -1,116 +1,84 @@
--- What two peers exchange, in terms of the steps and their outcomes alone.
+-- What a user sees of two peers, what it is after the events of a run, and what a run promises.
 use Rattle.std.specs.FinMap as map
-use Rattle.std.specs.List.{flat_map, AllByRecursion}
-use Rattle.std.specs.Prelude.{◌≡◌, ◌≤◌, ℕ, suc, List, [], ◌∷◌, ◌++◌, length, Option, None, Ok, false, if◌then◌else◌, IsSome, map as each, string_bytes}
-use Rattle.serde_json.specs.View.{view}
+use Rattle.std.specs.Prelude.{◌≡◌, ◌+◌, ℕ, List, [], ◌∷◌, ◌++◌, length, map as each}
 use Rattle.lsp_message.specs.Id.{Id}
-use Rattle.lsp_message.specs.Message.{Message, request, notification, response}
+use Rattle.lsp_message.specs.Message as plain
 use Rattle.lsp_message.specs.View.{message_view}
-use Rattle.lsp_message.specs.Written.{AreFramesOf}
-use Rattle.lsp_queue.specs.Queue.{pending_of, cancelled}
+use Rattle.lsp_message.specs.declared.msg.Message.{Message}
+use Rattle.lsp_queue.specs.Queue.{pending_of, count_of}
 use Rattle.lsp_queue.specs.declared.req_queue.ReqQueue.{ReqQueue}
 use Rattle.lsp_peers.specs.declared.peer.Peer.{Peer}
-use Rattle.lsp_peers.specs.declared.step.Side.{Side}
 use Rattle.lsp_peers.specs.declared.step.Outcome.{Outcome}
-use Rattle.lsp_peers.specs.declared.step.Outcome.TheVariants.{Registered, Arrived, Returned, Answered, Cancelled}
+use Rattle.lsp_peers.specs.declared.step.Side.{Side}
+use Rattle.lsp_peers.specs.declared.step.Side.TheVariants.{A, B}
 use Rattle.lsp_peers.specs.declared.step.Step.{Step}
-use Rattle.lsp_peers.specs.declared.step.Step.TheVariants.{Register, Take, Answer, Cancel}
 use Rattle.lsp_peers.specs.declared.world.World.{World}
-use Rattle.lsp_peers.specs.Agreement.{peer_at}
-use Rattle.lsp_peers.specs.History.{Event, payloads, returned, held, events_of, other, and_then}
-use Rattle.lsp_peers.specs.Ids.{nth_id, item_at, has}
-use Rattle.lsp_peers.specs.Steps.{side_of}
+use Rattle.lsp_peers.specs.History.{Event, held, pending, payloads, passed_count, letters_taken, letters_left, events_of, IsHistory}
+use Rattle.lsp_peers.specs.Letter.{messages, frames}
+use Rattle.lsp_peers.specs.Shallow.{TakesReadable}
+use Rattle.lsp_peers.specs.Sides.{other}
 
--- the message that a step writes to the other side, if it writes one
-abbrev pub written_in : Event → List Message
-written_in (Register side method params payload, Registered id) = request id (string_bytes method) (view params) ∷ []
-written_in (Answer side id value, Answered label) = response id (Ok (view value)) ∷ []
-written_in (Cancel side id, Cancelled) = cancelled id ∷ []
-written_in (step, outcome) = []
+-- one side: its queues, the bytes that have arrived there, those on the way to it, and the messages that it took and still has
+pub record Seen : Type 0 where
+  pub queue : ReqQueue ℕ ℕ
+  pub arrived : List ℕ
+  pub on_way : List ℕ
+  pub taken : List Message
 
--- all messages that a side wrote, in order
-abbrev pub written_by : List Event → List Message
-written_by events = flat_map written_in events
+abbrev pub peer_at : Side → World → Peer
+peer_at A world = world.a
+peer_at B world = world.b
 
--- what a reply gave back, and under which id
-abbrev pub given_back_in : Event → List (Id × Option ℕ)
-given_back_in (Take side label, Returned id payload) = (id, payload) ∷ []
-given_back_in (step, outcome) = []
+abbrev pub seen_at : Side → World → Seen
+seen_at side world =
+    let peer = peer_at side world in
+    record { queue = peer.queue; arrived = peer.link.arrived; on_way = peer.link.on_way; taken = peer.taken.items }
 
-abbrev pub given_back : List Event → List (Id × Option ℕ)
-given_back events = flat_map given_back_in events
+-- a side after its own events and those of the other side, where it handed these messages out
+pub record SideAfter (side : Seen) (handed : List plain.Message) (own others : List Event) : Type 0 where
+  -- it took the first messages that the other side wrote, in order
+  pub took : handed ++ each message_view side.taken ≡ messages (letters_taken own others)
+  -- the frames of the others are in the link, and nothing else
+  pub in_link : side.arrived ++ side.on_way ≡ frames (letters_left own others)
+  -- as many bytes have arrived in all as were passed
+  pub here : length (frames (letters_taken own others)) + length side.arrived ≡ passed_count own
+  -- a payload is pending until the reply is taken
+  pub asks : (id : Id) → map.get (pending_of side.queue.outgoing) id ≡ pending own id
+  -- a request is held until it is settled
+  pub holds : (id : Id) → map.get side.queue.incoming id ≡ held own id
+  -- as many ids were given out as requests were registered
+  pub count : count_of side.queue.outgoing ≡ length (payloads own)
 
--- the id of a request that was taken
-abbrev pub arrived_in : Event → List Id
-arrived_in (Take side label, Arrived id) = id ∷ []
-arrived_in (step, outcome) = []
+-- A world after these events of both sides, where each side handed out the first of the messages that it took. Each event follows
+-- those before it.
+pub record WorldAfter (world : World) (handed : Side → List plain.Message) (history : List Event) : Type 0 where
+  pub lawful : IsHistory history
+  pub sides : (side : Side) → SideAfter (seen_at side world) (handed side) (events_of side history) (events_of (other side) history)
 
-abbrev pub arrived : List Event → List Id
-arrived events = flat_map arrived_in events
+-- What a run comes to. Its steps and outcomes begin as a history. This is all of them, and the world is what it is after it, with
+-- nothing handed out; or else the next step takes a message that nests more than 127 levels.
+pub record LeadTo (steps : List Step) (outcomes : List Outcome) (world : World) : Type 0 where
+  pub history : List Event
+  pub rest : List Step
+  pub later : List Outcome
+  pub steps_are : each (λ event. event.step) history ++ rest ≡ steps
+  pub outcomes_are : each (λ event. event.outcome) history ++ later ≡ outcomes
+  pub paired : length later ≡ length rest
+  pub lawful : IsHistory history
+  pub whole : rest ≡ [] → WorldAfter world (λ side. []) history
+  pub cut : (step : Step) (more : List Step) → rest ≡ step ∷ more → ¬ TakesReadable history step
 
--- the id of a message that is a request
-abbrev pub request_id : Message → List Id
-request_id (request id method params) = id ∷ []
-request_id (response id answer) = []
-request_id (notification method params) = []
+-- some history begins these steps, and the step behind it takes a message that nests more than 127 levels
+pub record MeetsDeep (steps : List Step) : Type 0 where
+  pub history : List Event
+  pub step : Step
+  pub rest : List Step
+  pub steps_are : each (λ event. event.step) history ++ step ∷ rest ≡ steps
+  pub lawful : IsHistory history
+  pub deep : ¬ TakesReadable history step
 
--- the id of a message that is a reply
-abbrev pub reply_id : Message → List Id
-reply_id (request id method params) = []
-reply_id (response id answer) = id ∷ []
-reply_id (notification method params) = []
-
--- from this number on, in order
-abbrev pub AreNumbered : ℕ → List Id → Type 0
-AreNumbered n [] = Unit {0}
-AreNumbered n (id ∷ ids) = (id ≡ nth_id n) × AreNumbered (suc n) ids
-
--- no id stands twice
-abbrev pub AreDistinct : List Id → Type 0
-AreDistinct [] = Unit {0}
-AreDistinct (id ∷ ids) = (has id ids ≡ false) × AreDistinct ids
-
--- A side took exactly what was written to it, in order, as far as its frames arrived: the frames of the rest are still in its link.
--- Its outcomes name the requests and the replies among the messages that it took.
-pub record TakesInOrder (peer : Peer) (own : List Event) (written : List Message) : Type 0 where
-  pub left : List Message
-  pub in_order : each message_view peer.taken.items ++ left ≡ written
-  pub in_link : AreFramesOf left (peer.link.arrived ++ peer.link.on_way)
-  pub requests : flat_map request_id (each message_view peer.taken.items) ≡ arrived own
-  pub replies : flat_map reply_id (each message_view peer.taken.items) ≡ returned own
-
--- the requests that arrived have the ids 0, 1, 2, .., and there are no more of them than the other side registered
-pub record ArriveInOrder (own others : List Event) : Type 0 where
-  pub numbered : AreNumbered 0 (arrived own)
-  pub registered : length (arrived own) ≤ length (payloads others)
-
--- A payload is pending from the registration of its request until the reply is taken. A request is held from its arrival until it
--- is answered, cancelled or given up.
-pub record IsPending (queue : ReqQueue ℕ ℕ) (own : List Event) : Type 0 where
-  pub asked : (id : Id) → map.get (pending_of queue.outgoing) id ≡ (if has id (returned own) then None else item_at (payloads own) id)
-  pub holds : (id : Id) → map.get queue.incoming id ≡ held own id
-
--- the payload that was registered under the id
-abbrev pub IsOwnPayload : List ℕ → Id × Option ℕ → Type 0
-IsOwnPayload registered back = IsSome back.1 × (back.1 ≡ item_at registered back.0)
-
--- each reply that a side took gave back the payload of its own request, once
-pub record GivesBackOnce (own : List Event) : Type 0 where
-  pub own_payload : AllByRecursion (IsOwnPayload (payloads own)) (given_back own)
-  pub once : AreDistinct (returned own)
-
--- the events of A and of B after these steps and outcomes
-abbrev pub after : List Event × List Event → List Step → List Outcome → List Event × List Event
-after before [] outcomes = before
-after before (step ∷ steps) [] = before
-after before (step ∷ steps) (outcome ∷ outcomes) = after (and_then (side_of step) (step, outcome) before) steps outcomes
-
-abbrev pub events : Side → List Step → List Outcome → List Event
-events side steps outcomes = events_of side (after ([], []) steps outcomes)
-
--- Each side takes exactly the messages that the other wrote, in order, and each reply gives back the payload of its own request, once.
-pub record Exchanges (steps : List Step) (outcomes : List Outcome) (world : World) (side : Side) : Type 0 where
-  pub takes : TakesInOrder (peer_at side world) (events side steps outcomes) (written_by (events (other side) steps outcomes))
-  pub gives_back : GivesBackOnce (events side steps outcomes)
-  pub arrive : ArriveInOrder (events side steps outcomes) (events (other side) steps outcomes)
-  pub pending : IsPending (peer_at side world).queue (events side steps outcomes)
+-- what was handed out, with these messages of a side behind it
+abbrev pub handed_on : Side → List plain.Message → (Side → List plain.Message) → Side → List plain.Message
+handed_on A given handed A = handed A ++ given
+handed_on B given handed B = handed B ++ given
+handed_on side given handed named = handed named

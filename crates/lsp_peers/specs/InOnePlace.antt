@@ -1,29 +1,22 @@
--- Each token is in one place: the letters that wait are exactly the requests whose tokens are on the way and the replies whose
--- tokens are coming back.
-use Rattle.std.specs.List.{AllByRecursion}
-use Rattle.std.specs.Prelude.{◌≡◌, ◌≤◌, ℕ, ◌+◌, List, [], ◌∷◌, Option, None, Some, if◌then◌else◌}
-use Rattle.serde_json.specs.Data.{depth}
-use Rattle.serde_json.specs.View.{view}
+-- Each token is in one place: the requests and replies among the letters that wait are exactly the requests whose tokens are on the
+-- way and the replies whose tokens are coming back. A notification has no token.
+use Rattle.std.specs.Prelude.{◌≡◌, ℕ, ◌+◌, List, [], ◌∷◌, Option, None, Some, if◌then◌else◌}
 use Rattle.lsp_message.specs.Id.{Id}
-use Rattle.lsp_message.specs.Message.{Message, request, notification, response}
-use Rattle.lsp_peers.specs.declared.step.Step.{Step}
-use Rattle.lsp_peers.specs.declared.step.Step.TheVariants.{Register, Pass, Take, Answer, Cancel, GiveUp}
+use Rattle.lsp_message.specs.Message.{Message, request, response}
 use Rattle.lsp_peers.specs.Ids.{same_id, item_at}
-use Rattle.lsp_peers.specs.Token.{Place, OnTheWay, AtOther, ComingBack, Done, GivenUp, Token}
-use Rattle.lsp_peers.specs.Post.{Letter, ReadsBack}
+use Rattle.lsp_peers.specs.Letter.{Letter}
+use Rattle.lsp_peers.specs.Token.{Place, OnTheWay, ComingBack, Token}
 use Rattle.lsp_peers.specs.Steps.{Accounts}
 
 -- 1 where the message is the request of this id, else 0
 abbrev pub request_of : Message → Id → ℕ
 request_of (request i method params) id = if same_id i id then 1 else 0
-request_of (notification method params) id = 0
-request_of (response i answer) id = 0
+request_of message id = 0
 
 -- 1 where it is the reply to it, else 0
 abbrev pub reply_of : Message → Id → ℕ
-reply_of (request i method params) id = 0
-reply_of (notification method params) id = 0
 reply_of (response i answer) id = if same_id i id then 1 else 0
+reply_of message id = 0
 
 -- how many of the letters are the request of this id
 abbrev pub requests : List Letter → Id → ℕ
@@ -38,18 +31,12 @@ replies (letter ∷ letters) id = reply_of letter.message id + replies letters i
 -- 1 for this place, else 0
 abbrev pub on_the_way : Place → ℕ
 on_the_way OnTheWay = 1
-on_the_way (AtOther label) = 0
-on_the_way ComingBack = 0
-on_the_way Done = 0
-on_the_way GivenUp = 0
+on_the_way place = 0
 
 -- 1 for this place, else 0
 abbrev pub coming_back : Place → ℕ
 coming_back ComingBack = 1
-coming_back OnTheWay = 0
-coming_back (AtOther label) = 0
-coming_back Done = 0
-coming_back GivenUp = 0
+coming_back place = 0
 
 -- 1 where there is a token and it is on the way, else 0
 abbrev pub going : Option Token → ℕ
@@ -62,30 +49,12 @@ returning None = 0
 returning (Some t) = coming_back t.place
 
 -- The tokens of a side match the letters that wait for the other side and those that wait for this one: a request for each
--- token on the way, a reply for each that is coming back, once, and no other.
+-- token on the way, a reply for each that is coming back, once, and no other request or reply.
 pub record MatchLetters (tokens : List Token) (outbound inbound : List Letter) : Type 0 where
   pub out : (id : Id) → requests outbound id ≡ going (item_at tokens id)
   pub back : (id : Id) → replies inbound id ≡ returning (item_at tokens id)
 
--- each message that waits is read back as it was written
-abbrev pub AllReadBack : List Letter → Type 0
-AllReadBack letters = AllByRecursion (λ letter. ReadsBack letter.message) letters
-
--- Both sides' tokens match the letters that wait, and each message that waits is read back as it was written.
+-- both sides' tokens match the letters that wait
 pub record InOnePlace (p : Accounts) : Type 0 where
   pub here_once : MatchLetters p.here.tokens p.there.post.waiting p.here.post.waiting
   pub there_once : MatchLetters p.there.tokens p.here.post.waiting p.there.post.waiting
-  pub here_reads : AllReadBack p.here.post.waiting
-  pub there_reads : AllReadBack p.there.post.waiting
-
--- The params or the result that the step writes nest at most 126 levels. So its message nests at most 127, and is read back.
-abbrev pub IsShallow : Step → Type 0
-IsShallow (Register side method params payload) = depth (view params) ≤ 126
-IsShallow (Pass side bytes) = Unit {0}
-IsShallow (Take side label) = Unit {0}
-IsShallow (Answer side id value) = depth (view value) ≤ 126
-IsShallow (Cancel side id) = Unit {0}
-IsShallow (GiveUp side id) = Unit {0}
-
-abbrev pub AllShallow : List Step → Type 0
-AllShallow steps = AllByRecursion IsShallow steps

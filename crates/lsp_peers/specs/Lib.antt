@@ -1,10 +1,14 @@
 pub mod Agreement
 pub mod Exchange
 pub mod History
+pub mod HistoryLaw
 pub mod Ids
 pub mod InOnePlace
+pub mod Letter
 pub mod Post
 pub mod Settling
+pub mod Shallow
+pub mod Sides
 pub mod Steps
 pub mod Token
 pub mod WorldFault

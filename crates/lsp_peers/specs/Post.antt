@@ -1,26 +1,10 @@
 -- The post of one direction: all letters that were written, in order, and how far they have come.
-use Rattle.std.specs.List.{flat_map}
-use Rattle.std.specs.Prelude.{◌≡◌, ◌≤◌, ℕ, ◌+◌, ◌-◌, List, [], ◌∷◌, ◌++◌, length, take, drop, Option, None, Some, if◌then◌else◌, nat_le, min, IfSome, is_some}
-use Rattle.serde_json.specs.Read.{max_depth}
-use Rattle.lsp_message.specs.Frame.{no_limit}
-use Rattle.lsp_message.specs.Letters.{Begins}
+use Rattle.std.specs.Prelude.{◌≡◌, ◌≤◌, ℕ, ◌+◌, ◌-◌, List, [], ◌∷◌, ◌++◌, length, take, drop, Option, None, Some, if◌then◌else◌, min, IfSome, is_some}
 use Rattle.lsp_message.specs.Message.{Message}
+use Rattle.serde_json.specs.Read.{max_depth}
 use Rattle.lsp_message.specs.Ranges.{nesting}
 use Rattle.lsp_message.specs.Tree.{without_null_details}
-use Rattle.lsp_message.specs.Written.{IsFrameOf}
-
--- A message with a frame of it (LSP 3.17, "Base Protocol"). Where the message nests at most 127 levels, it is read from the
--- front of the frame, whatever follows that.
-pub record Letter : Type 0 where
-  pub message : Message
-  pub frame : List ℕ
-  pub framed : IsFrameOf message frame
-  pub readable : nesting message ≤ max_depth → (rest : List ℕ) → Begins no_limit (frame ++ rest) (without_null_details message) rest
-
--- The message is read back as it was written: it nests at most 127 levels, and has no error whose data is null.
-pub record ReadsBack (m : Message) : Type 0 where
-  pub nests : nesting m ≤ max_depth
-  pub same : without_null_details m ≡ m
+pub use Rattle.lsp_peers.specs.Letter.{Letter, frames, first_passed}
 
 -- The letters that were taken, then those that wait, in the order in which they were written; and how many bytes of their
 -- frames have arrived in all.
@@ -28,10 +12,6 @@ pub record Post : Type 0 where
   pub taken : List Letter
   pub waiting : List Letter
   pub passed : ℕ
-
--- the frames of the letters, in order
-abbrev pub frames : List Letter → List ℕ
-frames letters = flat_map (λ letter. letter.frame) letters
 
 abbrev pub empty_post : Post
 empty_post = record { taken = []; waiting = []; passed = 0 }
@@ -47,11 +27,6 @@ unpassed post = length (frames post.taken) + length (frames post.waiting) - post
 -- up to this many bytes more arrive
 abbrev pub passed_on : Post → ℕ → Post
 passed_on post bytes = record { taken = post.taken; waiting = post.waiting; passed = post.passed + min bytes (unpassed post) }
-
--- the first of these letters, where all of its frame has arrived: so many bytes lie before it, and so many have arrived
-abbrev pub first_passed : ℕ → ℕ → List Letter → Option Letter
-first_passed before passed [] = None
-first_passed before passed (letter ∷ letters) = if nat_le (before + length letter.frame) passed then Some letter else None
 
 -- the first letter that waits, where all of its frame has arrived
 abbrev pub next : Post → Option Letter
@@ -80,6 +55,11 @@ pub record Carries (line : Line) (post : Post) : Type 0 where
 abbrev pub message_of : Option Letter → Option Message
 message_of None = None
 message_of (Some letter) = Some letter.message
+
+-- The message is read back as it was written: it nests at most 127 levels, and has no error whose data is null.
+pub record ReadsBack (m : Message) : Type 0 where
+  pub nests : nesting m ≤ max_depth
+  pub same : without_null_details m ≡ m
 
 -- where there is a next letter, this holds of its message
 abbrev pub IfNext : (Message → Type 0) → Post → Type 0

@@ -1,5 +1,5 @@
 -- What a step does to tokens and posts, and its outcome.
-use Rattle.std.specs.Prelude.{◌≡◌, ℕ, List, [], ◌∷◌, ◌++◌, length, Option, None, Some, Ok, nat_lt, MatchBool, MatchOption, min, string_bytes}
+use Rattle.std.specs.Prelude.{◌≡◌, ◌==◌, ℕ, List, [], ◌∷◌, ◌++◌, length, Option, None, Some, Ok, MatchBool, MatchOption, min, string_bytes}
 use Rattle.serde_json.specs.Data.{Data}
 use Rattle.serde_json.specs.View.{view}
 use Rattle.lsp_message.specs.Id.{Id}
@@ -8,10 +8,11 @@ use Rattle.lsp_queue.specs.Queue.{all_ids, cancelled}
 use Rattle.lsp_peers.specs.declared.step.Side.{Side}
 use Rattle.lsp_peers.specs.declared.step.Side.TheVariants.{A, B}
 use Rattle.lsp_peers.specs.declared.step.Step.{Step}
-use Rattle.lsp_peers.specs.declared.step.Step.TheVariants.{Register, Pass, Take, Answer, Cancel, GiveUp}
+use Rattle.lsp_peers.specs.declared.step.Step.TheVariants.{Register, Tell, Pass, Take, Answer, Cancel, GiveUp}
 use Rattle.lsp_peers.specs.declared.step.Outcome.{Outcome}
-use Rattle.lsp_peers.specs.declared.step.Outcome.TheVariants.{Registered, Spent, Passed, Arrived, Returned, Waiting, Answered, Cancelled, GaveUp, Absent}
+use Rattle.lsp_peers.specs.declared.step.Outcome.TheVariants.{Registered, Spent, Told, Passed, Arrived, Returned, Notified, Waiting, Answered, Cancelled, GaveUp, Absent}
 use Rattle.lsp_peers.specs.Ids.{nth_id, item_at}
+pub use Rattle.lsp_peers.specs.Sides.{side_of}
 use Rattle.lsp_peers.specs.Token.{OnTheWay, AtOther, ComingBack, Done, GivenUp, Token, token, label_of, Goes}
 use Rattle.lsp_peers.specs.Post.{Letter, Post, posted, passed_on, unpassed, next, one_taken, empty_post}
 
@@ -37,10 +38,16 @@ nothing = accounts [] empty_post [] empty_post
 abbrev pub Registers : List ℕ → Data → ℕ → Accounts → Outcome → Accounts → Type 0
 Registers method params payload old outcome new =
     let id = nth_id (length old.here.tokens) in
-    MatchBool (nat_lt (length old.here.tokens) all_ids)
+    MatchBool (length old.here.tokens == all_ids)
+    ((outcome ≡ Spent) × (new ≡ old))
     ((letter : Letter) × (letter.message ≡ request id method params) × (outcome ≡ Registered id)
     × (new ≡ accounts (old.here.tokens ++ token payload OnTheWay ∷ []) old.here.post old.there.tokens (posted old.there.post letter)))
-    ((outcome ≡ Spent) × (new ≡ old))
+
+-- the side writes a notification to the other side
+abbrev pub Tells : List ℕ → Data → Accounts → Outcome → Accounts → Type 0
+Tells method params old outcome new =
+    (letter : Letter) × (letter.message ≡ notification method params) × (outcome ≡ Told)
+    × (new ≡ accounts old.here.tokens old.here.post old.there.tokens (posted old.there.post letter))
 
 -- up to so many bytes arrive at the side
 abbrev pub Passes : ℕ → Accounts → Outcome → Accounts → Type 0
@@ -49,7 +56,7 @@ Passes bytes old outcome new =
     × (new ≡ accounts old.here.tokens (passed_on old.here.post bytes) old.there.tokens old.there.post)
 
 -- The side takes this message. The token of a request is from then on with this side, under the label; that of a reply is
--- done, and its payload is given back. No step writes a notification.
+-- done, and its payload is given back. A notification has no token.
 abbrev pub TakesMessage : ℕ → Message → Accounts → Outcome → Accounts → Type 0
 TakesMessage label (request id method params) old outcome new =
     (payload : ℕ) × (tokens : List Token) × Goes id OnTheWay (AtOther label) payload old.there.tokens tokens
@@ -60,7 +67,7 @@ TakesMessage label (response id answer) old outcome new =
     × (outcome ≡ Returned id (Some payload))
     × (new ≡ accounts tokens (one_taken old.here.post) old.there.tokens old.there.post)
 TakesMessage label (notification method params) old outcome new =
-    (outcome ≡ Waiting) × (new ≡ accounts old.here.tokens (one_taken old.here.post) old.there.tokens old.there.post)
+    (outcome ≡ Notified) × (new ≡ accounts old.here.tokens (one_taken old.here.post) old.there.tokens old.there.post)
 
 -- the side takes the next letter, if there is one
 abbrev pub Takes : ℕ → Option Letter → Accounts → Outcome → Accounts → Type 0
@@ -91,20 +98,12 @@ GivesUp id old outcome new =
 -- what a step does, seen from the side that it names
 abbrev pub StepDoes : Accounts → Step → Outcome → Accounts → Type 0
 StepDoes old (Register side method params payload) outcome new = Registers (string_bytes method) (view params) payload old outcome new
+StepDoes old (Tell side method params) outcome new = Tells (string_bytes method) (view params) old outcome new
 StepDoes old (Pass side bytes) outcome new = Passes bytes old outcome new
 StepDoes old (Take side label) outcome new = Takes label (next old.here.post) old outcome new
 StepDoes old (Answer side id value) outcome new = Replies id (response id (Ok (view value))) (λ label. Answered label) old outcome new
 StepDoes old (Cancel side id) outcome new = Replies id (cancelled id) (λ label. Cancelled) old outcome new
 StepDoes old (GiveUp side id) outcome new = GivesUp id old outcome new
-
--- the side that a step names
-abbrev pub side_of : Step → Side
-side_of (Register side method params payload) = side
-side_of (Pass side bytes) = side
-side_of (Take side label) = side
-side_of (Answer side id value) = side
-side_of (Cancel side id) = side
-side_of (GiveUp side id) = side
 
 -- accounts seen from A, as this side sees them, and back
 abbrev pub seen_from : Side → Accounts → Accounts

@@ -21,10 +21,7 @@ token payload place = record { payload = payload; place = place }
 
 abbrev pub payload_at : Place → ℕ → Option ℕ
 payload_at Done payload = None
-payload_at OnTheWay payload = Some payload
-payload_at (AtOther label) payload = Some payload
-payload_at ComingBack payload = Some payload
-payload_at GivenUp payload = Some payload
+payload_at place payload = Some payload
 
 -- the payload that is pending at the owner, until the token is done
 abbrev pub owed : Option Token → Option ℕ
@@ -33,10 +30,7 @@ owed (Some t) = payload_at t.place t.payload
 
 abbrev pub label_in : Place → Option ℕ
 label_in (AtOther label) = Some label
-label_in OnTheWay = None
-label_in ComingBack = None
-label_in Done = None
-label_in GivenUp = None
+label_in place = None
 
 -- the label under which the other side holds the token
 abbrev pub label_of : Option Token → Option ℕ

@@ -1,7 +1,7 @@
 -- Faults of a link or a world: their numbers and texts, and which one a fault of reading is.
 use Rattle.std.specs.Prelude.{ℕ, List, Option, Some, codes}
 use Rattle.lsp_message.specs.declared.frame.ReadFault.{ReadFault}
-use Rattle.lsp_message.specs.declared.frame.ReadFault.TheVariants.{Input, LineNotText, LineEnd, NoSeparator, BadLength, NoLength, ShortBody, BodyNotText, NoJson, NoMessage, Memory, TooLong, Batch}
+use Rattle.lsp_message.specs.declared.frame.ReadFault.TheVariants.{Input, Memory}
 use Rattle.lsp_peers.specs.declared.fault.WorldFault.{WorldFault}
 use Rattle.lsp_peers.specs.declared.fault.WorldFault.TheVariants.{Memory as NoMemory, NotReadBack}
 
@@ -18,14 +18,4 @@ world_fault_text NotReadBack = Some (codes "body not read back")
 abbrev pub fault_of : ReadFault → WorldFault
 fault_of (Input kind) = NoMemory
 fault_of Memory = NoMemory
-fault_of LineNotText = NotReadBack
-fault_of LineEnd = NotReadBack
-fault_of NoSeparator = NotReadBack
-fault_of BadLength = NotReadBack
-fault_of NoLength = NotReadBack
-fault_of ShortBody = NotReadBack
-fault_of BodyNotText = NotReadBack
-fault_of NoJson = NotReadBack
-fault_of NoMessage = NotReadBack
-fault_of TooLong = NotReadBack
-fault_of Batch = NotReadBack
+fault_of fault = NotReadBack

@@ -10,7 +10,7 @@ use std::fmt;
 pub enum WorldFault {
     /// 1: an allocation failed.
     Memory,
-    /// 2: a message was not read back from its frame, because its params or its result nest more than 126 levels.
+    /// 2: a message is not read back from its frame, because it nests more than 127 levels.
     NotReadBack,
 }
 

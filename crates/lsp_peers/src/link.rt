@@ -1,5 +1,5 @@
 //! The bytes of one direction between two peers.
-ghost use Rattle.std.specs.Prelude.{◌≡◌, ◌≤◌, ℕ, length, Err, OnOk, OnErr, IfOk, option_map, min};
+ghost use Rattle.std.specs.Prelude.{◌≡◌, ◌≤◌, ℕ, length, Ok, Err, None, OnOk, OnErr, IfOk, option_map, is_some, min, drop, vec_len};
 ghost use Rattle.lsp_message.specs.Front.{front_of};
 ghost use Rattle.lsp_message.specs.View.{message_view};
 ghost use Rattle.lsp_peers.specs.WorldFault.{fault_of};
@@ -13,7 +13,7 @@ use std::marker::Model;
 /// The bytes of one direction between two peers: those that have arrived, and behind them those on the way.
 ///
 /// They are frames (LSP 3.17, "Base Protocol"), one behind another. Their bytes arrive in any pieces.
-#[derive(Drop)]
+#[derive(Debug, Drop)]
 pub struct Link {
     alloc: Global,
     bytes: Vec<u8>,
@@ -22,14 +22,15 @@ pub struct Link {
 }
 
 impl Model for Link {
-    ghost use Rattle.std.specs.Prelude.{◌≤◌, vec_len};
+    ghost use Rattle.std.specs.Prelude.{◌≤◌, ◌-◌, vec_len};
     ghost use Rattle.lsp_peers.specs.Post.{Line, line_of};
 
     ghost Value = { Line };
 
     ghost view = { λ l. line_of l.bytes.items l.start l.end };
 
-    ghost invariant = { λ l. (l.start ≤ l.end) × (l.end ≤ vec_len l.bytes) };
+    // The bytes that were taken and are still there are no more than the others.
+    ghost invariant = { λ l. (l.start ≤ l.end) × (l.end ≤ vec_len l.bytes) × (l.start ≤ vec_len l.bytes - l.start) };
 }
 
 impl Link {
@@ -91,13 +92,15 @@ impl Link {
     /// Takes the first message if its whole frame has arrived, and gives `None` otherwise.
     ///
     /// `WorldFault::Memory` means that an allocation failed, and `WorldFault::NotReadBack` that the message nests more than 127
-    /// levels, so it is not read from its frame. After a fault the link is as it was.
+    /// levels, so it is not read from its frame. After a fault the link is as it was, with the frame in front: `skip` goes past it.
     pub fn take(&mut self) -> Result<Option<Message>, WorldFault>
         ensures ok { (post : Post) → Carries self.old post → IfNext ReadsBack post → IfOk result (λ taken.
             (option_map message_view taken ≡ message_of (next post)) × Carries self.new (after_take post)) }
         ensures err { OnErr result (self.new ≡ self.old) }
         ensures memory { (post : Post) → Carries self.old post → IfNext ReadsBack post →
             OnErr result (result ≡ Err WorldFault.Memory) }
+        ensures waits { front_of self.old.arrived ≡ Front.More → result ≡ Ok None }
+        ensures idle { (post : Post) → Carries self.old post → next post ≡ None → result ≡ Ok None }
     {
         let arrived = &self.bytes[self.start..self.end];
         match front(arrived) {
@@ -107,7 +110,7 @@ impl Link {
                 let mut frame = &arrived[..count];
                 match Message::read(self.alloc, &mut frame) {
                     Ok(Some(message)) => {
-                        self.start += count;
+                        self.remove(count);
                         Ok(Some(message))
                     }
                     Ok(None) => Err(WorldFault::NotReadBack),
@@ -116,6 +119,48 @@ impl Link {
             }
         }
     }
+
+    /// Skips the first message if its whole frame has arrived, without reading it, and says whether it did. So a link goes on
+    /// behind a message that `take` can't read.
+    pub fn skip(&mut self) -> bool
+        ensures { (post : Post) → Carries self.old post → (result ≡ is_some (next post)) × Carries self.new (after_take post) }
+    {
+        let arrived = &self.bytes[self.start..self.end];
+        match front(arrived) {
+            Front::Whole(count) => {
+                self.remove(count);
+                true
+            }
+            Front::More => false,
+            Front::Fault(_) => false,
+        }
+    }
+
+    /// Removes the first of the bytes that have arrived. Once more were taken than are left, it
+    /// moves the rest to the front. So a link holds at most twice the bytes that wait in it, however long it runs.
+    fn remove(&mut self, count: usize)
+        requires { count ≤ length self.old.arrived }
+        ensures arrived { self.new.arrived ≡ drop count self.old.arrived }
+        ensures on_way { self.new.on_way ≡ self.old.on_way }
+    {
+        self.start += count;
+        let left = self.bytes.len() - self.start;
+        if self.start > left {
+            remove_front(&mut self.bytes, self.start);
+            self.end -= self.start;
+            self.start = 0;
+        }
+    }
+}
+
+/// Removes the first bytes, this many, and keeps the room.
+fn remove_front(bytes: &mut Vec<u8>, count: usize)
+    requires { count ≤ vec_len bytes.old }
+    ensures { bytes.new.items ≡ drop count bytes.old.items }
+{
+    let len = bytes.len();
+    bytes.as_mut_slice().copy_within(count..len, 0);
+    bytes.truncate(len - count);
 }
 
 /// Bytes in memory don't fail, so a fault of the reader counts as a failed allocation.

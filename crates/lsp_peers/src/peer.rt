@@ -1,25 +1,28 @@
 //! One side: its queues, the link to it, and the messages that it took.
-ghost use Rattle.std.specs.Prelude.{◌≡◌, [], Err, Ok, OnErr, IfOk, string_bytes};
+ghost use Rattle.std.specs.Prelude.{◌≡◌, [], List, Err, Ok, None, OnErr, IfOk, IsOk, string_bytes};
+ghost use Rattle.std.specs.FinMap as map;
 ghost use Rattle.serde_json.specs.View.{view};
+ghost use Rattle.lsp_message.specs.Message as plain;
 ghost use Rattle.lsp_message.specs.Message.{response};
 ghost use Rattle.lsp_message.specs.View.{message_view};
-ghost use Rattle.lsp_queue.specs.Queue.{cancelled};
+ghost use Rattle.lsp_queue.specs.Queue.{cancelled, count_of, all_ids};
 ghost use Rattle.lsp_peers.specs.Agreement.{PeerAgrees, Agrees};
-ghost use Rattle.lsp_peers.specs.Steps.{Accounts, Registers, Passes, Takes, Replies, GivesUp, StepDoes};
-ghost use Rattle.lsp_peers.specs.Post.{next, empty_post};
-ghost use Rattle.lsp_peers.specs.Settling.{Settles};
+ghost use Rattle.lsp_peers.specs.Steps.{Accounts, Registers, Tells, Passes, Takes, Replies, GivesUp, StepDoes};
+ghost use Rattle.lsp_peers.specs.Post.{ReadsBack, IfNext, next, empty_post};
+ghost use Rattle.lsp_peers.specs.Settling.{Settles, ReadsNext, IsFree};
 ghost use Rattle.lsp_peers.specs.InOnePlace.{InOnePlace};
 
 use crate::fault::WorldFault;
 use crate::link::Link;
 use crate::step::{Outcome, Step};
-use lsp_message::{Message, RequestId, Response};
+use lsp_message::{Message, Notification, RequestId, Response};
 use lsp_queue::{RegisterFault, ReqQueue};
 use serde_json::Value;
 use std::alloc::Global;
+use std::mem;
 
 /// One side: its queues, the link to it, and the messages that it took, in order.
-#[derive(Drop)]
+#[derive(Debug, Drop)]
 pub(crate) struct Peer {
     pub(crate) queue: ReqQueue<u64, u64>,
     pub(crate) link: Link,
@@ -28,7 +31,7 @@ pub(crate) struct Peer {
 
 impl Peer {
     pub(crate) fn new(alloc: Global) -> Peer
-        ensures { PeerAgrees result (record { tokens = []; post = empty_post }) [] }
+        ensures { PeerAgrees result [] (record { tokens = []; post = empty_post }) [] }
     {
         Peer {
             queue: ReqQueue::default(alloc),
@@ -39,9 +42,10 @@ impl Peer {
 
     /// A step of this side.
     pub(crate) fn step(&mut self, far: &mut Peer, step: Step) -> Result<Outcome, WorldFault>
-        ensures ok { (old : Accounts) → Agrees self.old far.old old → InOnePlace old → IfOk result (λ outcome.
-            (new : Accounts) × StepDoes old step outcome new × Agrees self.new far.new new) }
-        ensures err { (old : Accounts) → Agrees self.old far.old old → InOnePlace old → OnErr result (result ≡ Err WorldFault.Memory) }
+        ensures ok { (mine theirs : List plain.Message) (old : Accounts) → Agrees self.old far.old mine theirs old → InOnePlace old → ReadsNext old step → IfOk result (λ outcome.
+            (new : Accounts) × StepDoes old step outcome new × Agrees self.new far.new mine theirs new) }
+        ensures err { (mine theirs : List plain.Message) (old : Accounts) → Agrees self.old far.old mine theirs old → InOnePlace old → ReadsNext old step → OnErr result (result ≡ Err WorldFault.Memory) }
+        ensures free { (mine theirs : List plain.Message) (old : Accounts) → Agrees self.old far.old mine theirs old → IsFree old step → IsOk result }
     {
         match step {
             Step::Register {
@@ -50,6 +54,11 @@ impl Peer {
                 params,
                 payload,
             } => self.register(far, method, params, payload),
+            Step::Tell {
+                side: _,
+                method,
+                params,
+            } => self.tell(far, method, params),
             Step::Pass { to: _, bytes } => Ok(self.pass(far, bytes)),
             Step::Take { side: _, label } => self.take(far, label),
             Step::Answer {
@@ -69,9 +78,10 @@ impl Peer {
         params: Value,
         payload: u64,
     ) -> Result<Outcome, WorldFault>
-        ensures ok { (old : Accounts) → Agrees self.old far.old old → IfOk result (λ outcome.
-            (new : Accounts) × Registers (string_bytes method) (view params) payload old outcome new × Agrees self.new far.new new) }
+        ensures ok { (mine theirs : List plain.Message) (old : Accounts) → Agrees self.old far.old mine theirs old → IfOk result (λ outcome.
+            (new : Accounts) × Registers (string_bytes method) (view params) payload old outcome new × Agrees self.new far.new mine theirs new) }
         ensures err { OnErr result (result ≡ Err WorldFault.Memory) }
+        ensures spent { count_of self.old.queue.outgoing ≡ all_ids → result ≡ Ok Outcome.Spent }
     {
         match self.queue.outgoing.register_value(method, params, payload) {
             Ok(request) => {
@@ -85,17 +95,28 @@ impl Peer {
         }
     }
 
+    fn tell(&self, far: &mut Peer, method: String, params: Value) -> Result<Outcome, WorldFault>
+        ensures ok { (mine theirs : List plain.Message) (old : Accounts) → Agrees self.now far.old mine theirs old → IfOk result (λ outcome.
+            (new : Accounts) × Tells (string_bytes method) (view params) old outcome new × Agrees self.now far.new mine theirs new) }
+        ensures err { OnErr result (result ≡ Err WorldFault.Memory) }
+    {
+        let notification = Notification { method, params };
+        far.link.write(&Message::Notification(notification))?;
+        Ok(Outcome::Told)
+    }
+
     fn pass(&mut self, far: &Peer, bytes: usize) -> Outcome
-        ensures { (old : Accounts) → Agrees self.old far.now old →
-            (new : Accounts) × Passes bytes old result new × Agrees self.new far.now new }
+        ensures { (mine theirs : List plain.Message) (old : Accounts) → Agrees self.old far.now mine theirs old →
+            (new : Accounts) × Passes bytes old result new × Agrees self.new far.now mine theirs new }
     {
         Outcome::Passed(self.link.pass(bytes))
     }
 
     fn answer(&mut self, far: &mut Peer, id: RequestId, value: Value) -> Result<Outcome, WorldFault>
-        ensures ok { (old : Accounts) → Agrees self.old far.old old → IfOk result (λ outcome.
-            (new : Accounts) × Replies id (response id (Ok (view value))) (λ label. Outcome.Answered label) old outcome new × Agrees self.new far.new new) }
+        ensures ok { (mine theirs : List plain.Message) (old : Accounts) → Agrees self.old far.old mine theirs old → IfOk result (λ outcome.
+            (new : Accounts) × Replies id (response id (Ok (view value))) (λ label. Outcome.Answered label) old outcome new × Agrees self.new far.new mine theirs new) }
         ensures err { OnErr result (result ≡ Err WorldFault.Memory) }
+        ensures absent { map.get self.old.queue.incoming id ≡ None → result ≡ Ok Outcome.Absent }
     {
         match self.queue.incoming.complete(&id) {
             Some(label) => {
@@ -111,9 +132,10 @@ impl Peer {
     }
 
     fn cancel(&mut self, far: &mut Peer, id: RequestId) -> Result<Outcome, WorldFault>
-        ensures ok { (old : Accounts) → Agrees self.old far.old old → IfOk result (λ outcome.
-            (new : Accounts) × Replies id (cancelled id) (λ label. Outcome.Cancelled) old outcome new × Agrees self.new far.new new) }
+        ensures ok { (mine theirs : List plain.Message) (old : Accounts) → Agrees self.old far.old mine theirs old → IfOk result (λ outcome.
+            (new : Accounts) × Replies id (cancelled id) (λ label. Outcome.Cancelled) old outcome new × Agrees self.new far.new mine theirs new) }
         ensures err { OnErr result (result ≡ Err WorldFault.Memory) }
+        ensures absent { map.get self.old.queue.incoming id ≡ None → result ≡ Ok Outcome.Absent }
     {
         match self.queue.incoming.cancel(id) {
             Ok(Some(reply)) => {
@@ -126,8 +148,8 @@ impl Peer {
     }
 
     fn give_up(&mut self, far: &Peer, id: RequestId) -> Outcome
-        ensures { (old : Accounts) → Agrees self.old far.now old →
-            (new : Accounts) × GivesUp id old result new × Agrees self.new far.now new }
+        ensures { (mine theirs : List plain.Message) (old : Accounts) → Agrees self.old far.now mine theirs old →
+            (new : Accounts) × GivesUp id old result new × Agrees self.new far.now mine theirs new }
     {
         match self.queue.incoming.complete(&id) {
             Some(label) => Outcome::GaveUp(label),
@@ -136,9 +158,10 @@ impl Peer {
     }
 
     fn take(&mut self, far: &Peer, label: u64) -> Result<Outcome, WorldFault>
-        ensures ok { (old : Accounts) → Agrees self.old far.now old → InOnePlace old → IfOk result (λ outcome.
-            (new : Accounts) × Takes label (next old.here.post) old outcome new × Agrees self.new far.now new) }
-        ensures err { (old : Accounts) → Agrees self.old far.now old → InOnePlace old → OnErr result (result ≡ Err WorldFault.Memory) }
+        ensures ok { (mine theirs : List plain.Message) (old : Accounts) → Agrees self.old far.now mine theirs old → InOnePlace old → IfNext ReadsBack old.here.post → IfOk result (λ outcome.
+            (new : Accounts) × Takes label (next old.here.post) old outcome new × Agrees self.new far.now mine theirs new) }
+        ensures err { (mine theirs : List plain.Message) (old : Accounts) → Agrees self.old far.now mine theirs old → InOnePlace old → IfNext ReadsBack old.here.post → OnErr result (result ≡ Err WorldFault.Memory) }
+        ensures waits { (mine theirs : List plain.Message) (old : Accounts) → Agrees self.old far.now mine theirs old → next old.here.post ≡ None → result ≡ Ok Outcome.Waiting }
     {
         let Some(message) = self.link.take()? else {
             return Ok(Outcome::Waiting);
@@ -151,9 +174,19 @@ impl Peer {
             Err(_) => Err(WorldFault::Memory),
         }
     }
+
+    /// Hands out the messages that were taken, in order, and keeps none.
+    pub(crate) fn hand_out(&mut self, alloc: Global) -> Vec<Message>
+        ensures given { result.items ≡ self.old.taken.items }
+        ensures none { self.new.taken.items ≡ [] }
+        ensures queue { self.new.queue ≡ self.old.queue }
+        ensures link { self.new.link ≡ self.old.link }
+    {
+        mem::replace(&mut self.taken, Vec::new(alloc))
+    }
 }
 
-/// What a taken message does: a request becomes pending with the label, a reply completes its id.
+/// What a taken message does: a request becomes pending with the label, a reply completes its id, a notification does nothing.
 fn settle(
     queue: &mut ReqQueue<u64, u64>,
     message: &Message,
@@ -174,6 +207,6 @@ fn settle(
             let payload = queue.outgoing.complete(response.id.clone()?);
             Ok(Outcome::Returned(id, payload))
         }
-        Message::Notification(_) => Ok(Outcome::Waiting),
+        Message::Notification(_) => Ok(Outcome::Notified),
     }
 }

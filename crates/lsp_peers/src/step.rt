@@ -26,6 +26,15 @@ pub enum Step {
         /// What the side keeps under its id until it takes the reply.
         payload: u64,
     },
+    /// The side sends a notification: it writes it to the other side (JSON-RPC 2.0, section 4.1).
+    Tell {
+        /// Who sends it.
+        side: Side,
+        /// The method of the notification.
+        method: String,
+        /// Its params. Null ones aren't written.
+        params: Value,
+    },
     /// This many bytes arrive at a side, or all that are on the way to it if these are fewer.
     Pass {
         /// Where they arrive.
@@ -34,7 +43,7 @@ pub enum Step {
         bytes: usize,
     },
     /// The side takes its first message, if the whole frame has arrived. It then holds a request; a reply gives back the payload
-    /// of its request.
+    /// of its request; a notification changes no queue.
     Take {
         /// Who takes it.
         side: Side,
@@ -68,7 +77,7 @@ pub enum Step {
 
 impl Step {
     ghost use Rattle.std.specs.Prelude.{◌≡◌};
-    ghost use Rattle.lsp_peers.specs.Steps.{side_of};
+    ghost use Rattle.lsp_peers.specs.Sides.{side_of};
 
     /// The side that takes the step, or that the bytes arrive at.
     pub fn side(&self) -> Side
@@ -76,6 +85,7 @@ impl Step {
     {
         match self {
             Step::Register { side, .. } => *side,
+            Step::Tell { side, .. } => *side,
             Step::Pass { to, .. } => *to,
             Step::Take { side, .. } => *side,
             Step::Answer { side, .. } => *side,
@@ -92,12 +102,16 @@ pub enum Outcome {
     Registered(RequestId),
     /// All of the side's 2147483648 ids were given out, and nothing happened.
     Spent,
+    /// The notification was written.
+    Told,
     /// This many bytes arrived.
     Passed(usize),
     /// The request with this id was taken.
     Arrived(RequestId),
     /// The reply with this id was taken. It gives back this payload; `None` if the id was not pending.
     Returned(RequestId, Option<u64>),
+    /// A notification was taken.
+    Notified,
     /// No frame has arrived whole, and nothing was taken.
     Waiting,
     /// The request was answered. It was held under this label.

@@ -1,10 +1,12 @@
 //! Two peers with their queues, joined by two links.
-ghost use Rattle.std.specs.Prelude.{◌≡◌, [], Err, IfOk, OnErr};
-ghost use Rattle.lsp_peers.specs.Agreement.{WorldAgrees, peer_at};
-ghost use Rattle.lsp_peers.specs.Exchange.{Exchanges};
-ghost use Rattle.lsp_peers.specs.History.{Lawful};
-ghost use Rattle.lsp_peers.specs.Steps.{Accounts, WorldDoes, Run, nothing};
-ghost use Rattle.lsp_peers.specs.InOnePlace.{InOnePlace, AllShallow};
+ghost use Rattle.std.specs.Prelude.{◌≡◌, ◌∷◌, ◌++◌, [], List, Err, IfOk, IsOk, OnErr, map as each};
+ghost use Rattle.lsp_message.specs.Message as plain;
+ghost use Rattle.lsp_message.specs.View.{message_view};
+ghost use Rattle.lsp_peers.specs.Exchange.{WorldAfter, LeadTo, MeetsDeep, handed_on, peer_at, seen_at};
+ghost use Rattle.lsp_peers.specs.History.{Event, events_of, outcome_of};
+ghost use Rattle.lsp_peers.specs.HistoryLaw.{NeedsNoMemory};
+ghost use Rattle.lsp_peers.specs.Shallow.{TakesReadable};
+ghost use Rattle.lsp_peers.specs.Sides.{side_of, other};
 
 use crate::fault::WorldFault;
 use crate::peer::Peer;
@@ -14,15 +16,16 @@ use lsp_queue::ReqQueue;
 use std::alloc::Global;
 
 /// Two peers, A and B, each with its queues, and a link to each (JSON-RPC 2.0, sections 4 and 5).
-#[derive(Drop)]
+#[derive(Debug, Drop)]
 pub struct World {
     a: Peer,
     b: Peer,
 }
 
 impl World {
-    fn new(alloc: Global) -> World
-        ensures { WorldAgrees result nothing }
+    /// Makes two peers with empty queues and empty links. It does not allocate.
+    pub fn new(alloc: Global) -> World
+        ensures { WorldAfter result (λ side. []) [] }
     {
         World {
             a: Peer::new(alloc),
@@ -33,31 +36,27 @@ impl World {
     /// Takes the steps one after another, from empty queues and empty links. Gives the world that they lead to, and the outcome
     /// of each step.
     ///
-    /// If the params and results of the steps nest at most 126 levels:
+    /// As long as no side takes a message that nests more than 127 levels:
     ///
-    /// - Each side takes exactly the messages that the other side wrote, in order.
+    /// - What each side took is a beginning of what the other side wrote, in order. The rest is still in the link.
     /// - Each reply gives back the payload of its own request, once.
-    /// - The only fault is `WorldFault::Memory`, a failed allocation.
     ///
-    /// This holds however the steps of the two sides interleave, and whatever pieces the bytes arrive in. A message that nests
-    /// deeper ends the run with `WorldFault::NotReadBack` when it is taken. After a fault there is no world.
+    /// This holds however the steps of the two sides interleave, and whatever pieces the bytes arrive in. Such messages come only
+    /// of steps whose params or results nest more than 126 levels.
+    ///
+    /// After a fault there is no world. `WorldFault::Memory` means that an allocation failed, and `WorldFault::NotReadBack` that a
+    /// side was to take a message that nests more than 127 levels.
     pub fn run(alloc: Global, steps: Vec<Step>) -> Result<(World, Vec<Outcome>), WorldFault>
-        // These steps do this, with these outcomes, to one token for each request and to the letters of two posts, each token in one
-        // place; and the world agrees with the tokens and posts.
-        ensures ok { AllShallow steps.items → IfOk result (λ r.
-            (p : Accounts) × Run nothing steps.items r.1.items p × WorldAgrees r.0 p × InOnePlace p) }
-        // Each outcome follows from the steps and outcomes before it.
-        ensures lawful { AllShallow steps.items → IfOk result (λ r. Lawful ([], []) steps.items r.1.items) }
-        // Each side takes exactly the messages that the other wrote, in order, and each reply gives back the payload of its
-        // own request, once.
-        ensures exchanged { AllShallow steps.items → IfOk result (λ r. (side : Side) → Exchanges steps.items r.1.items r.0 side) }
-        // A failed allocation is the only fault.
-        ensures err { AllShallow steps.items → OnErr result (result ≡ Err WorldFault.Memory) }
+        // The steps and outcomes are a history of the two sides: each outcome follows from the events before it, and the world is
+        // what it is after them. This ends at a Take of a message that nests too deeply.
+        ensures exchanged { IfOk result (λ r. LeadTo steps.items r.1.items r.0) }
+        // The other fault comes only at such a Take.
+        ensures deep { result ≡ Err WorldFault.NotReadBack → MeetsDeep steps.items }
     {
         let mut world = World::new(alloc);
         let mut outcomes = Vec::new(alloc);
         for step in steps {
-            let outcome = world.step(step)?;
+            let outcome = world.go(step)?;
             if outcomes.push(outcome).is_err() {
                 return Err(WorldFault::Memory);
             }
@@ -65,10 +64,34 @@ impl World {
         Ok((world, outcomes))
     }
 
-    fn step(&mut self, step: Step) -> Result<Outcome, WorldFault>
-        ensures ok { (old : Accounts) → WorldAgrees self.old old → InOnePlace old → IfOk result (λ outcome.
-            (new : Accounts) × WorldDoes old step outcome new × WorldAgrees self.new new) }
-        ensures err { (old : Accounts) → WorldAgrees self.old old → InOnePlace old → OnErr result (result ≡ Err WorldFault.Memory) }
+    /// Takes one step. Gives the world that it leads to, and its outcome. After a fault there is no world.
+    ///
+    /// `WorldFault::Memory` means that an allocation failed. A step that comes to `Spent`, `Passed`, `Waiting`, `GaveUp` or `Absent`
+    /// needs none. `WorldFault::NotReadBack` means that the side was to take a message that nests more than 127 levels.
+    ///
+    /// A world keeps each message that a side took. `hand_out` lets them go.
+    pub fn step(self, step: Step) -> Result<(World, Outcome), WorldFault>
+        // The outcome follows from the events that led to this world, and the new world is what it is after one more event.
+        ensures exchanged { (handed : Side → List plain.Message) (old : List Event) → WorldAfter self handed old → TakesReadable old step → IfOk result (λ r.
+            (event : Event) × (event.step ≡ step) × (event.outcome ≡ r.1) × WorldAfter r.0 handed (old ++ event ∷ [])) }
+        // The other fault comes only if the message that is taken nests too deeply.
+        ensures err { (handed : Side → List plain.Message) (old : List Event) → WorldAfter self handed old → TakesReadable old step →
+            OnErr result (result ≡ Err WorldFault.Memory) }
+        ensures free { (handed : Side → List plain.Message) (old : List Event) → WorldAfter self handed old →
+            NeedsNoMemory (outcome_of (events_of (side_of step) old) (events_of (other (side_of step)) old) step) → IsOk result }
+    {
+        let mut world = self;
+        let outcome = world.go(step)?;
+        Ok((world, outcome))
+    }
+
+    fn go(&mut self, step: Step) -> Result<Outcome, WorldFault>
+        ensures exchanged { (handed : Side → List plain.Message) (old : List Event) → WorldAfter self.old handed old → TakesReadable old step → IfOk result (λ outcome.
+            (event : Event) × (event.step ≡ step) × (event.outcome ≡ outcome) × WorldAfter self.new handed (old ++ event ∷ [])) }
+        ensures err { (handed : Side → List plain.Message) (old : List Event) → WorldAfter self.old handed old → TakesReadable old step →
+            OnErr result (result ≡ Err WorldFault.Memory) }
+        ensures free { (handed : Side → List plain.Message) (old : List Event) → WorldAfter self.old handed old →
+            NeedsNoMemory (outcome_of (events_of (side_of step) old) (events_of (other (side_of step)) old) step) → IsOk result }
     {
         let side = step.side();
         match side {
@@ -77,30 +100,42 @@ impl World {
         }
     }
 
+    /// Hands out the messages that a side took and still has, in order. The world keeps them no longer, and is else as it was.
+    pub fn hand_out(&mut self, alloc: Global, side: Side) -> Vec<Message>
+        ensures given { result.items ≡ (seen_at side self.old).taken }
+        ensures after { (handed : Side → List plain.Message) (old : List Event) → WorldAfter self.old handed old →
+            WorldAfter self.new (handed_on side (each message_view result.items) handed) old }
+    {
+        match side {
+            Side::A => self.a.hand_out(alloc),
+            Side::B => self.b.hand_out(alloc),
+        }
+    }
+
     /// The queues of a side: what is pending there.
     pub fn queue(&self, side: Side) -> &ReqQueue<u64, u64>
-        ensures { result.now ≡ (peer_at side self.now).queue }
+        ensures { result.now ≡ (seen_at side self.now).queue }
     {
         &self.peer(side).queue
     }
 
     /// The bytes on the way to a side.
     pub fn on_way(&self, to: Side) -> &[u8]
-        ensures { result.now ≡ (peer_at to self.now).link.on_way }
+        ensures { result.now ≡ (seen_at to self.now).on_way }
     {
         self.peer(to).link.on_way()
     }
 
     /// The bytes that have arrived at a side and were not taken.
     pub fn arrived(&self, side: Side) -> &[u8]
-        ensures { result.now ≡ (peer_at side self.now).link.arrived }
+        ensures { result.now ≡ (seen_at side self.now).arrived }
     {
         self.peer(side).link.arrived()
     }
 
-    /// The messages that a side took, in order.
+    /// The messages that a side took and still has, in order.
     pub fn taken(&self, side: Side) -> &[Message]
-        ensures { result.now ≡ (peer_at side self.now).taken.items }
+        ensures { result.now ≡ (seen_at side self.now).taken }
     {
         self.peer(side).taken.as_slice()
     }

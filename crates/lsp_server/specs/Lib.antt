@@ -33,10 +33,14 @@ pub use Rattle.lsp_message.specs.Written
 pub use Rattle.lsp_peers.specs.Agreement
 pub use Rattle.lsp_peers.specs.Exchange
 pub use Rattle.lsp_peers.specs.History
+pub use Rattle.lsp_peers.specs.HistoryLaw
 pub use Rattle.lsp_peers.specs.Ids
 pub use Rattle.lsp_peers.specs.InOnePlace
+pub use Rattle.lsp_peers.specs.Letter
 pub use Rattle.lsp_peers.specs.Post
 pub use Rattle.lsp_peers.specs.Settling
+pub use Rattle.lsp_peers.specs.Shallow
+pub use Rattle.lsp_peers.specs.Sides
 pub use Rattle.lsp_peers.specs.Steps
 pub use Rattle.lsp_peers.specs.Token
 pub use Rattle.lsp_peers.specs.WorldFault

@@ -5,8 +5,15 @@ use Rattle.example_two_peers.proofs.exchange.run_through.Goals.{then-is_idle, el
 
 pub returns : goal.returns
 returns c = record {
-  all = λ shallow idle side. elim c.if-is_idle.branch [
-    | then-is_idle w ↦ both_taken c.args.steps.items c.in_ok-world.outcomes.items c.in_ok-world.world (c.in_ok-world.ensures.exchanged shallow) (c.is_idle.ensures w.if-is_idle.true) (w.is_idle-all.ensures (sym w.all-is ∙ idle)) side
-    | else-is_idle w ↦ cc
-  ];
+  all = λ shallow idle.
+      let told = c.a_shallow_run_is_a_history.ensures _ _ _ c.in_ok-world.ensures.exchanged shallow in (
+        told.0,
+        told.1,
+        told.2,
+        told.3.lawful,
+        λ side. elim c.if-is_idle.branch [
+          | then-is_idle w ↦ both_taken c.in_ok-world.world told.0 told.3 (c.is_idle.ensures w.if-is_idle.true) (w.is_idle-all.ensures (sym w.all-is ∙ idle)) side
+          | else-is_idle w ↦ cc
+        ],
+      );
 }

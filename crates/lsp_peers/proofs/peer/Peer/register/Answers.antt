@@ -6,7 +6,7 @@ use Rattle.lsp_peers.proofs.AgreeLemmas.{register_keeps, request_is}
 use Rattle.lsp_peers.proofs.peer.Peer.register.Goals as goal
 
 pub returns-in_ok-write-in-Ok-clause-ok : goal.returns-in_ok-write-in-Ok-clause-ok
-returns-in_ok-write-in-Ok-clause-ok c = λ old agrees.
+returns-in_ok-write-in-Ok-clause-ok c = λ mine theirs old agrees.
     let queue = c.in-Ok.ensures in
     let wrote = c.in_ok-write-in-Ok.ensures.ok old.there.post agrees.far_side.line in
     let is = request_is _ _ _ _ _ _ queue.id (ap string_bytes queue.method) (ap view queue.params) in

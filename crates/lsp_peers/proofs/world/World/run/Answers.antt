@@ -1,15 +1,23 @@
 use Rattle.std.proofs.Common.{◌≡◌, List, [], ◌∷◌, ◌++◌, ◌∙◌, sym, ap, subst, append_assoc}
 use Rattle.std.proofs.ResultArms.{chosen}
+use Rattle.std.proofs.lemmas.Result.{err_from_is_err_and}
 use Rattle.std.specs.Prelude.{not}
 use Rattle.std.specs.Vec.Iter.{into_iter_items}
-use Rattle.lsp_peers.specs.Steps.{Run, nothing}
-use Rattle.lsp_peers.specs.InOnePlace.{AllShallow}
-use Rattle.lsp_peers.specs.declared.step.Step.{Step}
+use Rattle.lsp_peers.specs.Exchange.{LeadTo}
+use Rattle.lsp_peers.specs.declared.fault.WorldFault.TheVariants.{NotReadBack}
 use Rattle.lsp_peers.specs.declared.step.Outcome.{Outcome}
-use Rattle.lsp_peers.proofs.ExchangeLemmas.{exchanged}
-use Rattle.lsp_peers.proofs.LawLemmas.{lawful_run}
-use Rattle.lsp_peers.proofs.RunLemmas.{placed_move, run_more, readable_at, all_taken}
+use Rattle.lsp_peers.specs.declared.step.Step.{Step}
+use Rattle.lsp_peers.proofs.LeadLemmas.{lead_nothing, lead_more, lead_fault}
+use Rattle.lsp_peers.proofs.RunLemmas.{all_taken}
 use Rattle.lsp_peers.proofs.world.World.run.Goals as goal
+
+pub loop-step-init : goal.loop-step-init
+loop-step-init c = (
+  tt,
+  tt,
+  c.into_iter-step-iterator.ensures.into_iter_gives.0,
+  subst (λ (l : List Outcome). LeadTo [] l c.new-world.result) (sym c.new-outcomes.ensures.items) (lead_nothing _ c.new-world.ensures),
+)
 
 pub loop-step-preserved : goal.loop-step-preserved
 loop-step-preserved c =
@@ -21,27 +29,22 @@ loop-step-preserved c =
       tt,
       tt,
       append_assoc c.loop-step.yielded (c.in-Some.step ∷ []) rest ∙ whole,
-      λ readable.
-          let sofar = before.3 readable in
-          let made = c.in_ok-outcome.ensures.ok sofar.0 sofar.2 sofar.3 in
-          let reads = readable_at c.loop-step.yielded rest c.in-Some.step (subst AllShallow (sym whole) readable) in (
-            made.0,
-            subst (λ (os : List Outcome). Run nothing (c.loop-step.yielded ++ c.in-Some.step ∷ []) os made.0) (sym pushed) (run_more nothing sofar.0 made.0 c.loop-step.yielded c.loop-step.outcomes.items c.in-Some.step c.in_ok-outcome.outcome sofar.1 made.1),
-            made.2,
-            placed_move c.in-Some.step sofar.0 made.0 c.in_ok-outcome.outcome reads sofar.3 made.1,
-          ),
+      lead_more _ _ _ _ _ _ _ before.3 pushed (λ handed old after readable. c.in_ok-outcome.ensures.exchanged handed old after readable),
     )
 
-pub returns-clause-lawful : goal.returns-clause-lawful
-returns-clause-lawful c = λ readable.
-    let made = c.loop-step.invariant.3 readable in
-    let none = c.in-None.ensures.steps.0 in
-    let all : c.loop-step.yielded ≡ c.args.steps.items = all_taken c.loop-step.yielded (into_iter_items c.loop-step.step-iterator) c.args.steps.items c.loop-step.invariant.2 (sym c.loop-step.step-iterator.rest.ok.0 ∙ none) in
-    lawful_run c.args.steps.items c.loop-step.outcomes.items made.0 (subst (λ (s : List Step). Run nothing s c.loop-step.outcomes.items made.0) all made.1)
+pub returns-in_err-outcome-clause-deep : goal.returns-in_err-outcome-clause-deep
+returns-in_err-outcome-clause-deep c = λ deep.
+    let before = c.loop-step.invariant in
+    let rest : List Step = into_iter_items c.next.new.self in
+    let turn : into_iter_items c.loop-step.step-iterator ≡ c.in-Some.step ∷ rest = c.in-Some.ensures.steps.0 in
+    let whole : c.loop-step.yielded ++ c.in-Some.step ∷ rest ≡ c.args.steps.items = ap (λ (l : List Step). c.loop-step.yielded ++ l) (sym turn) ∙ before.2 in
+    let told = err_from_is_err_and c.from_residual.result c.from_residual.ensures.1 in
+    let same : told.0 ≡ NotReadBack = cc in
+    let fault : c.in_err-outcome.field-0.0 ≡ NotReadBack = sym told.2 ∙ same in
+    lead_fault _ _ _ _ _ _ before.3 whole (λ history after readable. let memory = c.in_err-outcome.ensures.err (λ side. []) history after readable in cc)
 
 pub returns-clause-exchanged : goal.returns-clause-exchanged
-returns-clause-exchanged c = λ readable.
-    let made = c.loop-step.invariant.3 readable in
+returns-clause-exchanged c =
     let none = c.in-None.ensures.steps.0 in
     let all : c.loop-step.yielded ≡ c.args.steps.items = all_taken c.loop-step.yielded (into_iter_items c.loop-step.step-iterator) c.args.steps.items c.loop-step.invariant.2 (sym c.loop-step.step-iterator.rest.ok.0 ∙ none) in
-    exchanged c.args.steps.items c.loop-step.outcomes.items c.loop-step.world made.0 (subst (λ (s : List Step). Run nothing s c.loop-step.outcomes.items made.0) all made.1) made.2
+    subst (λ (l : List Step). LeadTo l c.loop-step.outcomes.items c.loop-step.world) all c.loop-step.invariant.3

@@ -1,8 +1,6 @@
 use Rattle.std.proofs.Common.{◌≡◌, ◌++◌}
 use Rattle.std.specs.Vec.Iter.{into_iter_items}
-use Rattle.lsp_peers.specs.Agreement.{WorldAgrees}
-use Rattle.lsp_peers.specs.Steps.{Accounts, Run, nothing}
-use Rattle.lsp_peers.specs.InOnePlace.{InOnePlace, AllShallow}
+use Rattle.lsp_peers.specs.Exchange.{LeadTo}
 use Rattle.lsp_peers.proofs.world.World.run.Given as goal
 
 abbrev pub invariant-loop-step : goal.invariant-loop-step
@@ -10,4 +8,4 @@ invariant-loop-step l =
     (goal.iterator-loop-step).can_next l.step-iterator
     × (goal.iterator-loop-step).is_finite l.step-iterator
     × (l.yielded ++ into_iter_items l.step-iterator ≡ l.fn.steps.items)
-    × (AllShallow l.fn.steps.items → (p : Accounts) × Run nothing l.yielded l.outcomes.items p × WorldAgrees l.world p × InOnePlace p)
+    × LeadTo l.yielded l.outcomes.items l.world

@@ -1,0 +1,7 @@
+use Rattle.lsp_peers.proofs.peer.Peer.step.Goals as goal
+
+pub returns-in-Take-clause-ok : goal.returns-in-Take-clause-ok
+returns-in-Take-clause-ok c = rw c.in-Take.is c.take.ensures.ok
+
+pub returns-in-Cancel-clause-ok : goal.returns-in-Cancel-clause-ok
+returns-in-Cancel-clause-ok c = rw c.in-Cancel.is (λ mine theirs old agrees placed reads. c.cancel.ensures.ok mine theirs old agrees)

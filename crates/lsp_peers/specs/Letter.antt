@@ -1,0 +1,31 @@
+-- A letter: a message with a frame of it.
+use Rattle.std.specs.List.{flat_map}
+use Rattle.std.specs.Prelude.{◌≤◌, ℕ, ◌+◌, List, [], ◌∷◌, ◌++◌, length, Option, None, Some, nat_le, if◌then◌else◌, map as each}
+use Rattle.serde_json.specs.Read.{max_depth}
+use Rattle.lsp_message.specs.Frame.{no_limit}
+use Rattle.lsp_message.specs.Letters.{Begins}
+use Rattle.lsp_message.specs.Message.{Message}
+use Rattle.lsp_message.specs.Ranges.{nesting}
+use Rattle.lsp_message.specs.Tree.{without_null_details}
+use Rattle.lsp_message.specs.Written.{IsFrameOf}
+
+-- A message with a frame of it (LSP 3.17, "Base Protocol"). If the message nests at most 127 levels, it is read from the front of
+-- the frame, whatever follows that. That is known where the letter is written, and used where it is taken.
+pub record Letter : Type 0 where
+  pub message : Message
+  pub frame : List ℕ
+  pub framed : IsFrameOf message frame
+  pub readable : nesting message ≤ max_depth → (rest : List ℕ) → Begins no_limit (frame ++ rest) (without_null_details message) rest
+
+-- the messages of the letters, in order
+abbrev pub messages : List Letter → List Message
+messages letters = each (λ letter. letter.message) letters
+
+-- the frames of the letters, in order
+abbrev pub frames : List Letter → List ℕ
+frames letters = flat_map (λ letter. letter.frame) letters
+
+-- the first of these letters, where all of its frame has arrived: so many bytes lie before it, and so many have arrived
+abbrev pub first_passed : ℕ → ℕ → List Letter → Option Letter
+first_passed before passed [] = None
+first_passed before passed (letter ∷ letters) = if nat_le (before + length letter.frame) passed then Some letter else None

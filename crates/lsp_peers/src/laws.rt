@@ -1,0 +1,86 @@
+//! Laws of the histories of two peers. Each is the contract of a function, so the proofs of callers can use it.
+ghost use Rattle.std.specs.Prelude.{◌≡◌, ◌<◌, ◌++◌, ◌∷◌, [], ℕ, List, Option, IsSome, false, length, map as each};
+ghost use Rattle.lsp_message.specs.Id.{Id};
+ghost use Rattle.lsp_message.specs.Message as plain;
+ghost use Rattle.lsp_message.specs.View.{message_view};
+ghost use Rattle.lsp_peers.specs.Agreement.{WorldAgrees};
+ghost use Rattle.lsp_peers.specs.Exchange.{WorldAfter, LeadTo, MeetsDeep, seen_at};
+ghost use Rattle.lsp_peers.specs.History.{Event, IsHistory, events_of, payloads, labels, returned};
+ghost use Rattle.lsp_peers.specs.HistoryLaw.{FactsOf, TakenAs};
+ghost use Rattle.lsp_peers.specs.Ids.{nth_id, item_at, has};
+ghost use Rattle.lsp_peers.specs.InOnePlace.{InOnePlace};
+ghost use Rattle.lsp_peers.specs.Shallow.{TakesReadable, AreReadable, IsShallow, AllShallow};
+ghost use Rattle.lsp_peers.specs.Sides.{other};
+ghost use Rattle.lsp_peers.specs.Steps.{Accounts, Run, nothing};
+ghost use Rattle.lsp_peers.specs.declared.step.Outcome.{Outcome};
+ghost use Rattle.lsp_peers.specs.declared.step.Outcome.TheVariants.{Arrived, Returned};
+ghost use Rattle.lsp_peers.specs.declared.step.Side.{Side};
+ghost use Rattle.lsp_peers.specs.declared.step.Step.{Step};
+ghost use Rattle.lsp_peers.specs.declared.step.Step.TheVariants.{Take};
+ghost use Rattle.lsp_peers.specs.declared.world.World.{World};
+
+/// The events before an event of a history are a history.
+pub fn a_beginning_is_a_history()
+    ensures { (before after : List Event) → IsHistory (before ++ after) → IsHistory before }
+{}
+
+/// A run of steps whose params and results nest at most 126 levels is a history as a whole.
+pub fn a_shallow_run_is_a_history()
+    ensures { (steps : List Step) (outcomes : List Outcome) (world : World) → LeadTo steps outcomes world → AllShallow steps →
+        (history : List Event) × (each (λ event. event.step) history ≡ steps) × (each (λ event. event.outcome) history ≡ outcomes) × WorldAfter world (λ side. []) history }
+{}
+
+/// Among such steps none takes a message that nests more than 127 levels. So the only fault is a failed allocation.
+pub fn a_shallow_run_meets_nothing_deep()
+    ensures { (steps : List Step) → AllShallow steps → MeetsDeep steps → ⊥ }
+{}
+
+/// What shallow steps write nests at most 127 levels.
+pub fn shallow_steps_are_readable()
+    ensures { (history : List Event) → AllShallow (each (λ event. event.step) history) → AreReadable history }
+{}
+
+/// One more shallow step keeps that.
+pub fn a_shallow_step_keeps_a_history_readable()
+    ensures { (history : List Event) (event : Event) → AreReadable history → IsShallow event.step → AreReadable (history ++ event ∷ []) }
+{}
+
+/// After such a history, each step may be taken: no message nests too deeply.
+pub fn a_readable_history_takes_any_step()
+    ensures { (history : List Event) (step : Step) → IsHistory history → AreReadable history → TakesReadable history step }
+{}
+
+/// What the outcomes of a history say, over its steps and outcomes alone: requests are registered and arrive as 0, 1, 2, .., each
+/// reply gives back the payload of its own request, once, and a request is found exactly if it is held.
+pub fn a_history_has_its_facts()
+    ensures { (history : List Event) → IsHistory history → FactsOf (each (λ event. event.step) history) (each (λ event. event.outcome) history) }
+{}
+
+/// A reply that a side takes gives back the payload that it registered under the id. No reply to that id was taken before.
+pub fn a_reply_gives_back_its_payload_once()
+    ensures { (before : List Event) (event : Event) → IsHistory (before ++ event ∷ []) →
+        (side : Side) (label : ℕ) (id : Id) (payload : Option ℕ) → event.step ≡ Take side label → event.outcome ≡ Returned id payload →
+        IsSome payload × (payload ≡ item_at (payloads (events_of side before)) id) × (has id (returned (events_of side before)) ≡ false) }
+{}
+
+/// The requests that arrive at a side have the ids 0, 1, 2, .., and the other side registered each of them before.
+pub fn requests_arrive_in_order()
+    ensures { (before : List Event) (event : Event) → IsHistory (before ++ event ∷ []) →
+        (side : Side) (label : ℕ) (id : Id) → event.step ≡ Take side label → event.outcome ≡ Arrived id →
+        (id ≡ nth_id (length (labels (events_of side before)))) × (length (labels (events_of side before)) < length (payloads (events_of (other side) before))) }
+{}
+
+/// The message that a Take names is the last of those that the side took: the request of that id, the reply to it, a notification.
+pub fn a_take_gives_the_last_message()
+    ensures { (world new : World) (handed : Side → List plain.Message) (before : List Event) (event : Event) →
+        WorldAfter world handed before → WorldAfter new handed (before ++ event ∷ []) → (side : Side) (label : ℕ) → event.step ≡ Take side label →
+        TakenAs event.outcome (each message_view (seen_at side world).taken) (each message_view (seen_at side new).taken) }
+{}
+
+/// A history over tokens: its steps do this to one token for each request, and to the letters of two posts, each token in one place;
+/// and a world after the history agrees with these tokens and posts.
+pub fn a_history_moves_tokens()
+    ensures { (history : List Event) → IsHistory history → (p : Accounts)
+        × Run nothing (each (λ event. event.step) history) (each (λ event. event.outcome) history) p × InOnePlace p
+        × ((world : World) (handed : Side → List plain.Message) → WorldAfter world handed history → WorldAgrees world handed p) }
+{}
