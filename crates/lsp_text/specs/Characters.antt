@@ -1,10 +1,16 @@
 -- The units of an encoding, counted by characters (LSP 3.17, "PositionEncodingKind"). A character is a Unicode scalar value.
-use Rattle.std.specs.Prelude.{ℕ, ◌+◌, ◌-◌, cond, ◌||◌, nat_lt, List, [], ◌∷◌, length}
+use Rattle.std.specs.Prelude.{ℕ, ◌+◌, ◌-◌, cond, ◌||◌, nat_lt, List, [], ◌∷◌, length, codes}
 use Rattle.std.specs.Char.{encode_utf8}
 use Rattle.std.specs.Char.Escape.{encode_utf16}
 use Rattle.lsp_text.specs.declared.position.PositionEncoding.{PositionEncoding}
 use Rattle.lsp_text.specs.declared.position.PositionEncoding.TheVariants.{Utf8, Utf16, Utf32}
 use Rattle.lsp_text.specs.Columns.{is_line_end}
+
+-- the name of an encoding in the protocol
+abbrev pub encoding_name : PositionEncoding → List ℕ
+encoding_name Utf8 = codes "utf-8"
+encoding_name Utf16 = codes "utf-16"
+encoding_name Utf32 = codes "utf-32"
 
 -- how many units a character takes: the code units that write it
 abbrev pub character_units : PositionEncoding → ℕ → ℕ
