@@ -8,4 +8,4 @@ mod params;
 
 pub use documents::TextDocuments;
 pub use fault::DocumentFault;
-pub use params::position_encoding;
+pub use params::{position_encoding, position_in, range_in};

@@ -36,7 +36,9 @@ fn version_in(document: &Value) -> Option<i32>
     }
 }
 
-fn position_in(position: &Value) -> Option<Position>
+/// A position (LSP 3.17, `Position`), if the value is one. A number that 32 bits don't hold counts as the greatest one that they
+/// do.
+pub fn position_in(position: &Value) -> Option<Position>
     ensures { result ≡ position_of (view position.now) }
 {
     let line = count_in(position, "line")?;
@@ -44,7 +46,8 @@ fn position_in(position: &Value) -> Option<Position>
     Some(Position { line, character })
 }
 
-fn range_in(range: &Value) -> Option<Range>
+/// A range (LSP 3.17, `Range`), if the value is one.
+pub fn range_in(range: &Value) -> Option<Range>
     ensures { result ≡ range_of (view range.now) }
 {
     let start = position_in(range.get("start")?)?;
