@@ -1,6 +1,6 @@
 //! Documents as rows of notifications tell of them. A line of standard input is a message with a method and params. `initialize`
 //! begins anew, in the encoding that its params agree on, and its name is written. For any other message a line comes out:
-//! `ok`, or what is wrong, and then each document that was open once: its URI, its version, its language, its text, and how many
+//! `ok`, or what is wrong (a call that finds no memory is made once more), and then each document that was open once: its URI, its version, its language, its text, and how many
 //! lines it has and the position of each place where a character begins. One that is closed shows `-`.
 #![tactic(auto)]
 
@@ -30,7 +30,11 @@ fn main(rt: HostRuntime) -> Result<()> {
             continue;
         }
         let mut row = String::new(alloc);
-        match heard(&mut documents, method, params) {
+        let mut answer = heard(&mut documents, method, params);
+        if answer == Err(DocumentFault::Memory) {
+            answer = heard(&mut documents, method, params);
+        }
+        match answer {
             Ok(uri) => {
                 row.push_str("ok")?;
                 see(alloc, &mut seen, uri)?;
