@@ -12,7 +12,7 @@
   (let ((words (split-string (or (getenv "LSP_SERVER") "crates/example_language/out/example_language"))))
     (cons (expand-file-name (car words)) (cdr words))))
 (defvar edits (string-to-number (or (getenv "EDITS") "300")))
-(defvar pieces '("a" "word " "= 1" "ß" "é" "é" "漢字" "𝒙" "😀" "👨‍👩‍👧" "🇪🇺" "\n" "\n" "\u2028" "\t"))
+(defvar pieces '("a" "word " "= 1" "ß" "Ä" "é" "é" "漢字" "𝒙" "😀" "👨‍👩‍👧" "🇪🇺" "\n" "\n" "\u2028" "\t"))
 
 (defun any (list) (nth (random (length list)) list))
 
@@ -36,17 +36,16 @@
                        (while (and (> left 0) (search-forward old nil t))
                          (setq left (1- left))
                          (replace-match new t t)))))
-   (cons 'transposed (lambda () (ignore-errors (transpose-words 1))))
-   (cons 'uppercase (lambda () (upcase-region (point) (some-end))))
-   (cons 'undone (lambda () (ignore-errors (undo-more 1))))))
+   (cons 'transposed (lambda () (transpose-words 1)))
+   ;; Not `upcase-region': where it makes two letters of one, eglot 1.9 tells the server another range than the one that changed.
+   (cons 'lowercase (lambda () (downcase-region (point) (some-end))))
+   (cons 'undone (lambda () (setq pending-undo-list buffer-undo-list) (undo-more 1)))))
 
 (defun edit-once ()
   (let ((way (any ways)))
     (undo-boundary)
     (go-anywhere)
-    (if (eq (car way) 'undone)
-        (progn (setq pending-undo-list buffer-undo-list) (funcall (cdr way)))
-      (funcall (cdr way)))
+    (ignore-errors (funcall (cdr way)))
     (car way)))
 
 (define-derived-mode sums-mode prog-mode "Sums")
