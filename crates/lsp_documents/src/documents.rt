@@ -60,7 +60,7 @@ impl TextDocuments {
         self.documents.iter()
     }
 
-    /// Opens a document.
+    /// Opens a document. Where the URI has one, the fault is `AlreadyOpen`. After a fault nothing is changed.
     pub fn open(
         &mut self,
         uri: &str,
@@ -92,7 +92,8 @@ impl TextDocuments {
         Ok(())
     }
 
-    /// Makes the changes of one notification in a document.
+    /// Makes the changes of one notification in a document, each in the text that the one before it left. Without a document of the
+    /// URI the fault is `NotOpen`, and `OldVersion` where the version is below the document's. After a fault nothing is changed.
     pub fn change(
         &mut self,
         uri: &str,
@@ -126,7 +127,8 @@ impl TextDocuments {
         Ok(())
     }
 
-    /// Opens the document that the params of `textDocument/didOpen` tell of. Returns its URI.
+    /// Opens the document that the params of `textDocument/didOpen` tell of (LSP 3.17, `DidOpenTextDocumentParams`), as `open` does.
+    /// Returns its URI. Where they are of another shape the fault is `Params`, and nothing is changed.
     pub fn did_open<'v>(&mut self, params: &'v Value) -> Result<&'v str, DocumentFault>
         ensures ok { IfOk result (λ uri. IsSomeAnd (did_open_in (view params.now)) (λ n. (uri.now ≡ n.uri) × Took (documents_of self.old) n (documents_of self.new))) }
         ensures err { IfErr result (λ fault. Refuses (documents_of self.old) (did_open_in (view params.now)) fault) }
@@ -139,7 +141,8 @@ impl TextDocuments {
         Ok(item.uri)
     }
 
-    /// Makes the changes that the params of `textDocument/didChange` tell of. Returns the document's URI.
+    /// Makes the changes that the params of `textDocument/didChange` tell of (LSP 3.17, `DidChangeTextDocumentParams`), as `change`
+    /// does. Returns the document's URI. Where they are of another shape the fault is `Params`, and nothing is changed.
     pub fn did_change<'v>(&mut self, params: &'v Value) -> Result<&'v str, DocumentFault>
         ensures ok { IfOk result (λ uri. IsSomeAnd (did_change_in (view params.now)) (λ n. (uri.now ≡ n.uri) × Took (documents_of self.old) n (documents_of self.new))) }
         ensures err { IfErr result (λ fault. Refuses (documents_of self.old) (did_change_in (view params.now)) fault) }
@@ -155,8 +158,9 @@ impl TextDocuments {
         Ok(uri)
     }
 
-    /// Hears that the document was saved that the params of `textDocument/didSave` tell of. No document is changed, and a text
-    /// in the params is not read. Returns the document's URI.
+    /// Hears that the document was saved that the params of `textDocument/didSave` tell of (LSP 3.17,
+    /// `DidSaveTextDocumentParams`), as `save` does. A text in the params is not read. Returns the document's URI. Where they are
+    /// of another shape the fault is `Params`.
     pub fn did_save<'v>(&self, params: &'v Value) -> Result<&'v str, DocumentFault>
         ensures ok { IfOk result (λ uri. IsSomeAnd (did_save_in (view params.now)) (λ n. (uri.now ≡ n.uri) × (fault_of ((documents_of self.now).held n.uri) n.event ≡ None))) }
         ensures err { IfErr result (λ fault. Refuses (documents_of self.now) (did_save_in (view params.now)) fault) }
@@ -168,7 +172,8 @@ impl TextDocuments {
         Ok(uri)
     }
 
-    /// Closes the document that the params of `textDocument/didClose` tell of. Returns its URI.
+    /// Closes the document that the params of `textDocument/didClose` tell of (LSP 3.17, `DidCloseTextDocumentParams`), as `close`
+    /// does. Returns its URI. Where they are of another shape the fault is `Params`.
     pub fn did_close<'v>(&mut self, params: &'v Value) -> Result<&'v str, DocumentFault>
         ensures ok { IfOk result (λ uri. IsSomeAnd (did_close_in (view params.now)) (λ n. (uri.now ≡ n.uri) × Took (documents_of self.old) n (documents_of self.new))) }
         ensures err { IfErr result (λ fault. Refuses (documents_of self.old) (did_close_in (view params.now)) fault) }
@@ -181,7 +186,7 @@ impl TextDocuments {
         Ok(uri)
     }
 
-    /// Hears that a document was saved. No document is changed.
+    /// Hears that a document was saved. No document is changed. Without one of the URI the fault is `NotOpen`.
     pub fn save(&self, uri: &str) -> Result<(), DocumentFault>
         ensures ok { OnOk result (fault_of ((documents_of self.now).held uri.now) saved ≡ None) }
         ensures err { IfErr result (λ fault. fault_of ((documents_of self.now).held uri.now) saved ≡ Some fault) }
@@ -193,7 +198,7 @@ impl TextDocuments {
         }
     }
 
-    /// Closes a document.
+    /// Closes a document. Without one of the URI the fault is `NotOpen`.
     pub fn close(&mut self, uri: &str) -> Result<(), DocumentFault>
         ensures ok { OnOk result (Took (documents_of self.old) (closes uri.now) (documents_of self.new)) }
         ensures err { IfErr result (λ fault. Refuses (documents_of self.old) (Some (closes uri.now)) fault) }
