@@ -7,10 +7,9 @@
 //! The server keeps each text as the client edits it, a range at a time, and pushes what is wrong with it. A name that the
 //! pointer is over shows its value. The greatest value that is allowed is asked of the client (`workspace/configuration`,
 //! section `sums`, `{"largest": 100}`). A request `sums/solved` is answered once nothing is wrong with a text, so it can be
-//! cancelled until then.
+//! cancelled until then. `sums/text` is answered with a text as the server holds it.
 #![tactic(auto)]
 
-mod place;
 mod server;
 mod sums;
 

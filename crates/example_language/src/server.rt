@@ -1,7 +1,8 @@
 // The server: the texts that are open, what the client is told, and what it asks.
-use crate::place::{Place, Range, replaced};
-use crate::sums::{Named, Problem, sheet_of, value_of, words_of};
+use crate::sums::{Named, Span, sheet_of, value_of, words_of};
+use lsp_documents::{DocumentFault, TextDocuments, position_encoding, position_in};
 use lsp_server::{Act, Notification, Request, RequestId, ResponseError, Server};
+use lsp_text::{Position, PositionEncoding, Text};
 use serde_json::{Value, json};
 use std::alloc::{AllocError, Global};
 use std::mem;
@@ -14,15 +15,8 @@ pub struct Sums {
     largest: i64,
     /// Whether the client can be asked for its configuration.
     configures: bool,
-    open: Vec<Document>,
+    documents: TextDocuments,
     waiting: Vec<Waiting>,
-}
-
-/// A text that is open at the client.
-#[derive(Drop)]
-struct Document {
-    uri: String,
-    text: String,
 }
 
 /// A request that is answered when nothing is wrong with a text.
@@ -61,10 +55,11 @@ impl Server for Sums {
     fn initialize(&mut self, params: Value) -> Result<Result<Value, ResponseError>, AllocError> {
         let path = "/capabilities/workspace/configuration";
         self.configures = params.pointer(path).and_then(|can| can.as_bool()) == Some(true);
-        Ok(Ok(json!(in self.alloc; {
-            "capabilities": { "textDocumentSync": { "openClose": true, "change": 2 }, "hoverProvider": true },
-            "serverInfo": { "name": "sums" }
-        })?))
+        self.documents = TextDocuments::new(self.alloc, position_encoding(&params));
+        let capabilities = capabilities(self.alloc, self.documents.encoding())?;
+        Ok(Ok(
+            json!(in self.alloc; { "capabilities": capabilities, "serverInfo": { "name": "sums" } })?,
+        ))
     }
 
     fn initialized(&mut self) -> Result<Acts, AllocError> {
@@ -77,6 +72,10 @@ impl Server for Sums {
             "textDocument/hover" => {
                 let shown = self.hover(&request.params)?;
                 acts.push(Act::Reply(request.id, Ok(shown)))?;
+            }
+            "sums/text" => {
+                let text = self.text(&request.params)?;
+                acts.push(Act::Reply(request.id, Ok(text)))?;
             }
             "sums/solved" => {
                 let Some(uri) = uri_in(&request.params) else {
@@ -96,12 +95,18 @@ impl Server for Sums {
 
     fn notification(&mut self, notification: Notification) -> Result<Acts, AllocError> {
         let params = &notification.params;
-        match notification.method.as_str() {
-            "textDocument/didOpen" => self.open(params),
-            "textDocument/didChange" => self.change(params),
-            "textDocument/didClose" => self.close(params),
-            "workspace/didChangeConfiguration" => self.ask_configuration(),
-            _ => Ok(Vec::new(self.alloc)),
+        let heard = match notification.method.as_str() {
+            "textDocument/didOpen" => self.documents.did_open(params),
+            "textDocument/didChange" => self.documents.did_change(params),
+            "textDocument/didSave" => self.documents.did_save(params),
+            "textDocument/didClose" => self.documents.did_close(params),
+            "workspace/didChangeConfiguration" => return self.ask_configuration(),
+            _ => return Ok(Vec::new(self.alloc)),
+        };
+        match heard {
+            Ok(uri) => self.check(uri),
+            Err(DocumentFault::Memory) => Err(AllocError),
+            Err(fault) => self.complain(fault),
         }
     }
 
@@ -119,8 +124,8 @@ impl Server for Sums {
             .pointer("/0/largest")
             .and_then(|value| value.as_i64());
         self.largest = largest.unwrap_or(i64::MAX);
-        for document in self.open.iter() {
-            let (told, _) = check(self.alloc, document, self.largest)?;
+        for (uri, document) in self.documents.iter() {
+            let (told, _) = self.marks(uri.as_str(), document.text())?;
             acts.push(told)?;
         }
         Ok(acts)
@@ -138,7 +143,7 @@ impl Sums {
             alloc,
             largest: i64::MAX,
             configures: false,
-            open: Vec::new(alloc),
+            documents: TextDocuments::new(alloc, PositionEncoding::Utf16),
             waiting: Vec::new(alloc),
         }
     }
@@ -154,54 +159,15 @@ impl Sums {
         Ok(acts)
     }
 
-    /// Keeps a text that was opened.
-    fn open(&mut self, params: &Value) -> Result<Acts, AllocError> {
-        let text = params
-            .pointer("/textDocument/text")
-            .and_then(|text| text.as_str());
-        let (Some(uri), Some(text)) = (uri_in(params), text) else {
-            return Ok(Vec::new(self.alloc));
-        };
-        let document = Document {
-            uri: String::from_str(self.alloc, uri)?,
-            text: String::from_str(self.alloc, text)?,
-        };
-        let (told, right) = check(self.alloc, &document, self.largest)?;
-        self.open.push(document)?;
-        self.tell(told, uri, right)
-    }
-
-    /// Changes a text that is open (LSP 3.17, "DidChangeTextDocument Notification").
-    fn change(&mut self, params: &Value) -> Result<Acts, AllocError> {
-        let changes = params
-            .get("contentChanges")
-            .and_then(|changes| changes.as_array());
-        let (Some(uri), Some(changes)) = (uri_in(params), changes) else {
-            return Ok(Vec::new(self.alloc));
-        };
-        for document in self.open.iter_mut() {
-            if document.uri.as_str() == uri {
-                document.edit(self.alloc, changes.as_slice())?;
-                let (told, right) = check(self.alloc, document, self.largest)?;
-                return self.tell(told, uri, right);
-            }
-        }
-        Ok(Vec::new(self.alloc))
-    }
-
-    /// Forgets a text that was closed, and has the client forget what was wrong with it.
-    fn close(&mut self, params: &Value) -> Result<Acts, AllocError> {
+    /// What the client is told of a text that is open, or was: what is wrong with it, and the replies that waited for it to be
+    /// right.
+    fn check(&mut self, uri: &str) -> Result<Acts, AllocError> {
         let mut acts = Vec::new(self.alloc);
-        if let Some(uri) = uri_in(params) {
-            self.open.retain(|document| document.uri.as_str() != uri);
+        let Some(document) = self.documents.get(uri) else {
             acts.push(diagnostics(self.alloc, uri, Vec::new(self.alloc))?)?;
-        }
-        Ok(acts)
-    }
-
-    /// What is said when a text was checked: the diagnostics, and the replies that waited for the text to be right.
-    fn tell(&mut self, told: Act<Asked>, uri: &str, right: bool) -> Result<Acts, AllocError> {
-        let mut acts = Vec::new(self.alloc);
+            return Ok(acts);
+        };
+        let (told, right) = self.marks(uri, document.text())?;
         acts.push(told)?;
         if !right {
             return Ok(acts);
@@ -216,60 +182,110 @@ impl Sums {
         Ok(acts)
     }
 
-    /// The name at a place of a text and its value, or null (LSP 3.17, "Hover Request").
-    fn hover(&self, params: &Value) -> Result<Value, AllocError> {
-        let place = params.get("position").and_then(place_in);
-        let (Some(uri), Some(place)) = (uri_in(params), place) else {
+    /// Has the client show that a notification was wrong (LSP 3.17, "LogMessage Notification").
+    fn complain(&self, fault: DocumentFault) -> Result<Acts, AllocError> {
+        let mut acts = Vec::new(self.alloc);
+        let message = format!(in self.alloc; "{fault}")?;
+        acts.push(Act::Tell(Notification {
+            method: String::from_str(self.alloc, "window/logMessage")?,
+            params: json!(in self.alloc; { "type": 1, "message": message })?,
+        }))?;
+        Ok(acts)
+    }
+
+    /// The notification that shows what is wrong with a text, and whether nothing is.
+    fn marks(&self, uri: &str, text: &Text) -> Result<(Act<Asked>, bool), AllocError> {
+        let lines = words_of(self.alloc, text)?;
+        let sheet = sheet_of(self.alloc, lines.as_slice(), self.largest)?;
+        let right = sheet.problems.is_empty();
+        let mut marks = Vec::new(self.alloc);
+        for problem in sheet.problems {
+            let range = self.range_value(text, problem.span)?;
+            let message = problem.message;
+            marks.push(
+                json!(in self.alloc; { "range": range, "severity": 1, "source": "sums", "message": message })?,
+            )?;
+        }
+        Ok((diagnostics(self.alloc, uri, marks)?, right))
+    }
+
+    /// A text as the server holds it, or null.
+    fn text(&self, params: &Value) -> Result<Value, AllocError> {
+        let Some(document) = uri_in(params).and_then(|uri| self.documents.get(uri)) else {
             return Ok(Value::Null);
         };
-        for document in self.open.iter() {
-            if document.uri.as_str() == uri {
-                return hover_in(self.alloc, document.text.as_str(), place);
+        let text = String::from_str(self.alloc, document.text().as_str())?;
+        Ok(Value::String(text))
+    }
+
+    /// The name at a place of a text and its value, or null (LSP 3.17, "Hover Request").
+    fn hover(&self, params: &Value) -> Result<Value, AllocError> {
+        let position = params
+            .get("position")
+            .and_then(|position| position_in(position));
+        let (Some(uri), Some(position)) = (uri_in(params), position) else {
+            return Ok(Value::Null);
+        };
+        match self.documents.get(uri) {
+            Some(document) => self.hover_in(document.text(), position),
+            None => Ok(Value::Null),
+        }
+    }
+
+    /// What is shown at a place of a text.
+    fn hover_in(&self, text: &Text, position: Position) -> Result<Value, AllocError> {
+        let offset = text.offset_at(position, self.documents.encoding());
+        let lines = words_of(self.alloc, text)?;
+        let sheet = sheet_of(self.alloc, lines.as_slice(), i64::MAX)?;
+        for line in lines.iter() {
+            for word in line.iter() {
+                if word.span.start <= offset && offset < word.span.end {
+                    let range = self.range_value(text, word.span)?;
+                    return shown(
+                        self.alloc,
+                        sheet.names.as_slice(),
+                        word.text.as_str(),
+                        range,
+                    );
+                }
             }
         }
         Ok(Value::Null)
     }
-}
 
-impl Document {
-    /// Makes the changes, one after another.
-    fn edit(&mut self, alloc: Global, changes: &[Value]) -> Result<(), AllocError> {
-        for change in changes {
-            let Some(new) = change.get("text").and_then(|text| text.as_str()) else {
-                continue;
-            };
-            self.text = match change.get("range").and_then(range_in) {
-                Some(range) => replaced(alloc, self.text.as_str(), range, new)?,
-                None => String::from_str(alloc, new)?,
-            };
-        }
-        Ok(())
+    /// A part of a text, as the client counts it.
+    fn range_value(&self, text: &Text, span: Span) -> Result<Value, AllocError> {
+        let encoding = self.documents.encoding();
+        let start = text.position_at(span.start, encoding);
+        let end = text.position_at(span.end, encoding);
+        Ok(json!(in self.alloc; {
+            "start": { "line": start.line, "character": start.character },
+            "end": { "line": end.line, "character": end.character }
+        })?)
     }
 }
 
-/// What the client is told of a text, and whether nothing is wrong with it.
-fn check(
-    alloc: Global,
-    document: &Document,
-    largest: i64,
-) -> Result<(Act<Asked>, bool), AllocError> {
-    let lines = words_of(alloc, document.text.as_str())?;
-    let sheet = sheet_of(alloc, lines.as_slice(), largest)?;
-    let right = sheet.problems.is_empty();
-    let told = diagnostics(alloc, document.uri.as_str(), sheet.problems)?;
-    Ok((told, right))
+/// What the server can do. UTF-16 is what a client takes for granted.
+fn capabilities(alloc: Global, encoding: PositionEncoding) -> Result<Value, AllocError> {
+    let mut can = json!(in alloc; {
+        "textDocumentSync": { "openClose": true, "change": 2 },
+        "hoverProvider": true
+    })?;
+    if encoding == PositionEncoding::Utf16 {
+        return Ok(can);
+    }
+    if let Some(members) = can.as_object_mut() {
+        let name = String::from_str(alloc, encoding.name())?;
+        members.insert(
+            String::from_str(alloc, "positionEncoding")?,
+            Value::from(name),
+        )?;
+    }
+    Ok(can)
 }
 
 /// The notification that shows what is wrong with a text (LSP 3.17, "PublishDiagnostics Notification").
-fn diagnostics(alloc: Global, uri: &str, problems: Vec<Problem>) -> Result<Act<Asked>, AllocError> {
-    let mut marks = Vec::new(alloc);
-    for problem in problems {
-        let range = range_value(alloc, problem.range)?;
-        let message = problem.message;
-        marks.push(
-            json!(in alloc; { "range": range, "severity": 1, "source": "sums", "message": message })?,
-        )?;
-    }
+fn diagnostics(alloc: Global, uri: &str, marks: Vec<Value>) -> Result<Act<Asked>, AllocError> {
     let marks = Value::Array(marks);
     Ok(Act::Tell(Notification {
         method: String::from_str(alloc, "textDocument/publishDiagnostics")?,
@@ -277,31 +293,11 @@ fn diagnostics(alloc: Global, uri: &str, problems: Vec<Problem>) -> Result<Act<A
     }))
 }
 
-/// What is shown at a place of a text.
-fn hover_in(alloc: Global, text: &str, place: Place) -> Result<Value, AllocError> {
-    let lines = words_of(alloc, text)?;
-    let sheet = sheet_of(alloc, lines.as_slice(), i64::MAX)?;
-    for line in lines.iter() {
-        for word in line.iter() {
-            if word.range.contains(place) {
-                return shown(
-                    alloc,
-                    sheet.names.as_slice(),
-                    word.text.as_str(),
-                    word.range,
-                );
-            }
-        }
-    }
-    Ok(Value::Null)
-}
-
-fn shown(alloc: Global, names: &[Named], name: &str, range: Range) -> Result<Value, AllocError> {
+fn shown(alloc: Global, names: &[Named], name: &str, range: Value) -> Result<Value, AllocError> {
     let Some(value) = value_of(names, name) else {
         return Ok(Value::Null);
     };
     let contents = format!(in alloc; "{name} = {value}")?;
-    let range = range_value(alloc, range)?;
     Ok(json!(in alloc; { "contents": contents, "range": range })?)
 }
 
@@ -321,26 +317,4 @@ fn refuse(
 
 fn uri_in(params: &Value) -> Option<&str> {
     params.pointer("/textDocument/uri")?.as_str()
-}
-
-fn place_in(position: &Value) -> Option<Place> {
-    Some(Place {
-        line: position.get("line")?.as_u64()?,
-        character: position.get("character")?.as_u64()?,
-    })
-}
-
-fn range_in(range: &Value) -> Option<Range> {
-    Some(Range {
-        start: place_in(range.get("start")?)?,
-        end: place_in(range.get("end")?)?,
-    })
-}
-
-fn range_value(alloc: Global, range: Range) -> Result<Value, AllocError> {
-    let Range { start, end } = range;
-    Ok(json!(in alloc; {
-        "start": { "line": start.line, "character": start.character },
-        "end": { "line": end.line, "character": end.character }
-    })?)
 }

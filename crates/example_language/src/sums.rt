@@ -1,6 +1,15 @@
 // The language: what its words are, what its names stand for, and what is wrong with a text.
-use crate::place::{Range, Walk, behind};
+use lsp_text::{Position, PositionEncoding, Text};
 use std::alloc::{AllocError, Global};
+
+/// A part of a text, in bytes.
+#[derive(Clone, Copy)]
+pub struct Span {
+    /// Where it begins.
+    pub start: usize,
+    /// The place behind it.
+    pub end: usize,
+}
 
 /// A name, a number or a sign, and where it stands.
 #[derive(Drop)]
@@ -8,7 +17,7 @@ pub struct Word {
     /// As it is written.
     pub text: String,
     /// Where it stands.
-    pub range: Range,
+    pub span: Span,
 }
 
 /// A name and its value.
@@ -22,7 +31,7 @@ pub struct Named {
 #[derive(Drop)]
 pub struct Problem {
     /// The word that shows it.
-    pub range: Range,
+    pub span: Span,
     /// What to say of it.
     pub message: String,
 }
@@ -37,35 +46,46 @@ pub struct Sheet {
 }
 
 /// The words of a text, line by line. Lines without words are left out.
-pub fn words_of(alloc: Global, text: &str) -> Result<Vec<Vec<Word>>, AllocError> {
-    let mut lines: Vec<Vec<Word>> = Vec::new(alloc);
-    let mut walk = Walk::new();
-    let mut last_line = None;
-    let mut comment = None;
+pub fn words_of(alloc: Global, text: &Text) -> Result<Vec<Vec<Word>>, AllocError> {
+    let mut lines = Vec::new(alloc);
+    let count = u32::try_from(text.line_count()).unwrap_or(u32::MAX);
+    for line in 0..count {
+        let span = span_of(text, line);
+        let written = text.as_str().get(span.start..span.end).unwrap_or("");
+        let words = words_in(alloc, written, span.start)?;
+        if !words.is_empty() {
+            lines.push(words)?;
+        }
+    }
+    Ok(lines)
+}
+
+/// A line without its end.
+fn span_of(text: &Text, line: u32) -> Span {
+    let offset = |character| text.offset_at(Position { line, character }, PositionEncoding::Utf8);
+    Span {
+        start: offset(0),
+        end: offset(u32::MAX),
+    }
+}
+
+/// The words of a line that begins at a place.
+fn words_in(alloc: Global, line: &str, start: usize) -> Result<Vec<Word>, AllocError> {
+    let mut words = Vec::new(alloc);
     let mut in_name = false;
-    for letter in text.chars() {
-        let start = walk.step(letter);
+    for (at, letter) in line.char_indices() {
         if letter == '#' {
-            comment = Some(start.line);
+            break;
         }
-        if letter.is_whitespace() || comment == Some(start.line) {
-            in_name = false;
-            continue;
-        }
-        if last_line != Some(start.line) {
-            lines.push(Vec::new(alloc))?;
-            last_line = Some(start.line);
-        }
-        let range = Range {
-            start,
-            end: behind(start, letter),
-        };
-        if let Some(line) = lines.last_mut() {
-            add_letter(alloc, line, letter, range, in_name && of_name(letter))?;
+        if !letter.is_whitespace() {
+            let start = start.saturating_add(at);
+            let end = start.saturating_add(letter.len_utf8());
+            let joins = in_name && of_name(letter);
+            add_letter(alloc, &mut words, letter, Span { start, end }, joins)?;
         }
         in_name = of_name(letter);
     }
-    Ok(lines)
+    Ok(words)
 }
 
 /// Whether names and numbers may have the character.
@@ -78,18 +98,18 @@ fn add_letter(
     alloc: Global,
     line: &mut Vec<Word>,
     letter: char,
-    range: Range,
+    span: Span,
     joins: bool,
 ) -> Result<(), AllocError> {
     if joins {
         if let Some(word) = line.last_mut() {
-            word.range.end = range.end;
+            word.span.end = span.end;
             return word.text.push(letter);
         }
     }
     let mut text = String::new(alloc);
     text.push(letter)?;
-    line.push(Word { text, range })?;
+    line.push(Word { text, span })?;
     Ok(())
 }
 
@@ -205,7 +225,7 @@ fn added(sum: i64, factor: i64, value: i64) -> Option<i64> {
 fn blame(alloc: Global, word: &Word, what: &str) -> Result<Problem, AllocError> {
     let text = word.text.as_str();
     Ok(Problem {
-        range: word.range,
+        span: word.span,
         message: format!(in alloc; "`{text}`: {what}")?,
     })
 }

@@ -1,0 +1,4 @@
+pub mod Params
+pub mod Session
+pub mod Fault
+pub mod Held

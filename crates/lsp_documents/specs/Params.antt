@@ -1,0 +1,89 @@
+-- What the params of a notification say (LSP 3.17, "DidOpenTextDocumentParams" and the ones after it), and the encoding that a
+-- client offers ("GeneralClientCapabilities").
+use Rattle.std.specs.Prelude.{ℕ, ℤ, min, if◌then◌else◌, List, [], ◌∷◌, Option, Some, None, option_map, option_and_then, unwrap_or, codes, is_some}
+use Rattle.std.specs.Str.{bytes_eq}
+use Rattle.serde_json.specs.Data.{Data, null, Items, no_items, item}
+use Rattle.serde_json.specs.Find.{get, as_str, as_number, as_u64, as_array}
+use Rattle.lsp_message.specs.Meaning.{as_i32}
+use Rattle.lsp_text.specs.Documents.{Document, Change}
+use Rattle.lsp_text.specs.declared.position.Position.{Position}
+use Rattle.lsp_text.specs.declared.position.Range.{Range}
+use Rattle.lsp_text.specs.declared.position.PositionEncoding.{PositionEncoding}
+use Rattle.lsp_text.specs.declared.position.PositionEncoding.TheVariants.{Utf8, Utf16, Utf32}
+use Rattle.lsp_documents.specs.Session.{Notice, opens, edits, saves, closes}
+
+-- ---- members
+
+abbrev pub text_in : List ℕ → Data → Option (List ℕ)
+text_in name d = option_and_then as_str (get name d)
+
+-- how many lines or units: a number that 32 bits don't hold counts as the greatest one that they do
+abbrev pub count_in : List ℕ → Data → Option ℕ
+count_in name d = option_map (λ n. min n 0xFFFF_FFFF) (option_and_then as_u64 (option_and_then as_number (get name d)))
+
+abbrev pub version_in : Data → Option ℤ
+version_in d = option_and_then as_i32 (option_and_then as_number (get (codes "version") d))
+
+-- ---- changes
+
+abbrev pub position_in : Data → Option Position
+position_in d = option_and_then (λ line. option_map (λ character. record { line = line; character = character }) (count_in (codes "character") d)) (count_in (codes "line") d)
+
+abbrev pub range_in : Data → Option Range
+range_in d = option_and_then (λ start. option_map (λ end. record { start = start; end = end }) (option_and_then position_in (get (codes "end") d))) (option_and_then position_in (get (codes "start") d))
+
+-- the range of a change. None may be given, and `null` is none
+abbrev pub given_range : Option Data → Option (Option Range)
+given_range None = Some None
+given_range (Some null) = Some None
+given_range (Some d) = option_map Some (range_in d)
+
+abbrev pub change_in : Data → Option Change
+change_in d = option_and_then (λ text. option_map (λ range. record { range = range; text = text }) (given_range (get (codes "range") d))) (text_in (codes "text") d)
+
+abbrev pub changes_in : Items → Option (List Change)
+changes_in no_items = Some []
+changes_in (item d ds) = option_and_then (λ c. option_map (λ cs. c ∷ cs) (changes_in ds)) (change_in d)
+
+-- ---- params
+
+abbrev pub document_in : Data → Option Data
+document_in params = get (codes "textDocument") params
+
+abbrev pub uri_in : Data → Option (List ℕ)
+uri_in params = option_and_then (text_in (codes "uri")) (document_in params)
+
+-- the document that `textDocument/didOpen` tells of
+abbrev pub item_in : Data → Option Document
+item_in d = option_and_then (λ language_id. option_and_then (λ version. option_map (λ text. record { language_id = language_id; version = version; text = text }) (text_in (codes "text") d)) (version_in d)) (text_in (codes "languageId") d)
+
+abbrev pub did_open_in : Data → Option Notice
+did_open_in params = option_and_then (λ uri. option_map (λ d. opens uri d.language_id d.version d.text) (option_and_then item_in (document_in params))) (uri_in params)
+
+abbrev pub did_change_in : Data → Option Notice
+did_change_in params = option_and_then (λ uri. option_and_then (λ version. option_map (edits uri version)
+    (option_and_then changes_in (option_and_then as_array (get (codes "contentChanges") params)))) (option_and_then version_in (document_in params))) (uri_in params)
+
+abbrev pub did_save_in : Data → Option Notice
+did_save_in params = option_map saves (uri_in params)
+
+abbrev pub did_close_in : Data → Option Notice
+did_close_in params = option_map closes (uri_in params)
+
+-- ---- the encoding
+
+abbrev pub encoding_named : List ℕ → Option PositionEncoding
+encoding_named name =
+    if bytes_eq name (codes "utf-8") then Some Utf8 else (if bytes_eq name (codes "utf-16") then Some Utf16 else (if bytes_eq name (codes "utf-32") then Some Utf32 else None))
+
+-- the first of the encodings that is one of the three
+abbrev pub first_named : Items → Option PositionEncoding
+first_named no_items = None
+first_named (item d ds) = if is_some (option_and_then encoding_named (as_str d)) then option_and_then encoding_named (as_str d) else first_named ds
+
+abbrev pub offered_in : Data → Option Items
+offered_in params = option_and_then as_array (option_and_then (get (codes "positionEncodings")) (option_and_then (get (codes "general")) (get (codes "capabilities") params)))
+
+-- the encoding that is agreed on: UTF-16 where the client offers none of the three
+abbrev pub agreed_in : Data → PositionEncoding
+agreed_in params = unwrap_or (option_and_then first_named (offered_in params)) Utf16

@@ -1,0 +1,193 @@
+// What the params of notifications say.
+ghost use Rattle.std.specs.Prelude.{◌≡◌, ℕ, List, Option, option_map, option_and_then, codes, IfOk, string_bytes};
+ghost use Rattle.serde_json.specs.Find.{get, as_array};
+ghost use Rattle.serde_json.specs.View.{view, items_view};
+ghost use Rattle.lsp_text.specs.Documents.{Change, Document};
+ghost use Rattle.lsp_documents.specs.Params.{text_in as text_of, count_in as count_of, version_in as version_from, position_in as position_of, range_in as range_of, given_range as range_given, change_in as change_of, changes_in as changes_of, document_in as document_of, uri_in as uri_of, did_open_in, encoding_named as named, first_named as first_of, offered_in as offers, agreed_in};
+ghost use Rattle.lsp_documents.specs.Session.{opens};
+
+use lsp_text::{ContentChange, Position, PositionEncoding, Range};
+use serde_json::Value;
+use std::alloc::{AllocError, Global};
+
+fn text_in<'v>(value: &'v Value, name: &str) -> Option<&'v str>
+    ensures { option_map (λ s. s.now) result ≡ text_of name.now (view value.now) }
+{
+    value.get(name)?.as_str()
+}
+
+fn count_in(value: &Value, name: &str) -> Option<u32>
+    ensures { result ≡ count_of name.now (view value.now) }
+{
+    let number = value.get(name)?.as_u64()?;
+    if number < 0xFFFF_FFFF {
+        Some(number as u32)
+    } else {
+        Some(u32::MAX)
+    }
+}
+
+fn version_in(document: &Value) -> Option<i32>
+    ensures { result ≡ version_from (view document.now) }
+{
+    match document.get("version")? {
+        Value::Number(number) => i32::try_from(number.as_i128()?).ok(),
+        _ => None,
+    }
+}
+
+/// A position (LSP 3.17, `Position`), if the value is one. A number that 32 bits don't hold counts as the greatest one that they
+/// do.
+pub fn position_in(position: &Value) -> Option<Position>
+    ensures { result ≡ position_of (view position.now) }
+{
+    let line = count_in(position, "line")?;
+    let character = count_in(position, "character")?;
+    Some(Position { line, character })
+}
+
+/// A range (LSP 3.17, `Range`), if the value is one.
+pub fn range_in(range: &Value) -> Option<Range>
+    ensures { result ≡ range_of (view range.now) }
+{
+    let start = position_in(range.get("start")?)?;
+    let end = position_in(range.get("end")?)?;
+    Some(Range { start, end })
+}
+
+/// The range of a change, where one is given.
+fn given_range(change: &Value) -> Option<Option<Range>>
+    ensures { result ≡ range_given (get (codes "range") (view change.now)) }
+{
+    match change.get("range") {
+        None | Some(Value::Null) => Some(None),
+        Some(range) => Some(Some(range_in(range)?)),
+    }
+}
+
+/// A change, if the value is one.
+fn change_in(alloc: Global, change: &Value) -> Result<Option<ContentChange>, AllocError>
+    ensures { IfOk result (λ c. c ≡ change_of (view change.now)) }
+{
+    let Some(text) = text_in(change, "text") else {
+        return Ok(None);
+    };
+    let Some(range) = given_range(change) else {
+        return Ok(None);
+    };
+    let text = String::from_str(alloc, text)?;
+    Ok(Some(ContentChange { range, text }))
+}
+
+/// The changes of a list, if each value is one.
+fn changes_in(alloc: Global, values: &[Value]) -> Result<Option<Vec<ContentChange>>, AllocError>
+    ensures { IfOk result (λ o. option_map (λ v. v.items) o ≡ changes_of (items_view values.now)) }
+{
+    let mut changes = Vec::new(alloc);
+    for value in values {
+        let Some(change) = change_in(alloc, value)? else {
+            return Ok(None);
+        };
+        changes.push(change)?;
+    }
+    Ok(Some(changes))
+}
+
+/// The changes that a notification tells of.
+pub fn content_changes(
+    alloc: Global,
+    params: &Value,
+) -> Result<Option<Vec<ContentChange>>, AllocError>
+    ensures { IfOk result (λ o. option_map (λ v. v.items) o ≡ option_and_then changes_of (option_and_then as_array (get (codes "contentChanges") (view params.now)))) }
+{
+    match params.get("contentChanges").and_then(Value::as_array) {
+        Some(values) => changes_in(alloc, values.as_slice()),
+        None => Ok(None),
+    }
+}
+
+/// The URI of the document that params tell of.
+pub fn uri_in(params: &Value) -> Option<&str>
+    ensures { option_map (λ s. s.now) result ≡ uri_of (view params.now) }
+{
+    text_in(params.get("textDocument")?, "uri")
+}
+
+/// The version of the document that params tell of.
+pub fn version_of(params: &Value) -> Option<i32>
+    ensures { result ≡ option_and_then version_from (document_of (view params.now)) }
+{
+    version_in(params.get("textDocument")?)
+}
+
+/// The document that a client opens.
+#[derive(Drop)]
+pub struct Item<'v> {
+    /// Its URI.
+    pub uri: &'v str,
+    /// Its language.
+    pub language_id: &'v str,
+    /// Its version.
+    pub version: i32,
+    /// Its text.
+    pub text: &'v str,
+}
+
+/// The document that a client opens, as the params of `textDocument/didOpen` tell of it.
+pub fn item_in(params: &Value) -> Option<Item<'_>>
+    ensures { option_map (λ i. opens i.uri.now i.language_id.now i.version i.text.now) result ≡ did_open_in (view params.now) }
+{
+    let document = params.get("textDocument")?;
+    Some(Item {
+        uri: text_in(document, "uri")?,
+        language_id: text_in(document, "languageId")?,
+        version: version_in(document)?,
+        text: text_in(document, "text")?,
+    })
+}
+
+/// The encoding of a name (LSP 3.17, `PositionEncodingKind`).
+fn encoding_named(name: &str) -> Option<PositionEncoding>
+    ensures { result ≡ named name.now }
+{
+    match name {
+        "utf-8" => Some(PositionEncoding::Utf8),
+        "utf-16" => Some(PositionEncoding::Utf16),
+        "utf-32" => Some(PositionEncoding::Utf32),
+        _ => None,
+    }
+}
+
+/// The first encoding that is named.
+fn first_named(names: &[Value]) -> Option<PositionEncoding>
+    ensures { result ≡ first_of (items_view names.now) }
+{
+    for name in names {
+        if let Some(name) = name.as_str() {
+            let found = encoding_named(name);
+            if found.is_some() {
+                return found;
+            }
+        }
+    }
+    None
+}
+
+/// The encoding that the params of `initialize` agree on (LSP 3.17, `general.positionEncodings` of the client's capabilities):
+/// the first of the client's that is UTF-8, UTF-16 or UTF-32, and UTF-16 where there is none. Say it to the client as
+/// `positionEncoding` of the server's capabilities, where it is not UTF-16.
+pub fn position_encoding(params: &Value) -> PositionEncoding
+    ensures { result ≡ agreed_in (view params.now) }
+{
+    let offered = offered_in(params);
+    let named = offered.and_then(|names| first_named(names.as_slice()));
+    named.unwrap_or(PositionEncoding::Utf16)
+}
+
+fn offered_in(params: &Value) -> Option<&Vec<Value>>
+    ensures { option_map (λ v. items_view v.now.items) result ≡ offers (view params.now) }
+{
+    let capabilities = params.get("capabilities")?;
+    let general = capabilities.get("general")?;
+    general.get("positionEncodings")?.as_array()
+}

@@ -1,0 +1,3 @@
+pub mod StartLemmas
+pub mod ColumnLemmas
+pub mod CharacterLemmas

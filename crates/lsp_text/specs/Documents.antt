@@ -1,0 +1,14 @@
+-- A document that a client has opened, and a change of it (LSP 3.17, "TextDocumentItem" and "TextDocumentContentChangeEvent").
+use Rattle.std.specs.Prelude.{ℕ, ℤ, List, Option}
+use Rattle.lsp_text.specs.declared.position.Range.{Range}
+
+-- other text in the place of a range; with no range, of the whole text
+pub record Change : Type 0 where
+  pub range : Option Range
+  pub text : List ℕ
+
+-- the language and the text are the bytes of their UTF-8
+pub record Document : Type 0 where
+  pub language_id : List ℕ
+  pub version : ℤ
+  pub text : List ℕ

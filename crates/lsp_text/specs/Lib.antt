@@ -1,0 +1,5 @@
+pub mod Lines
+pub mod Columns
+pub mod Characters
+pub mod Documents
+pub mod Edits

@@ -1,0 +1,108 @@
+// A document that a client has opened.
+ghost use Rattle.std.specs.Prelude.{◌≡◌, OnOk, OnErr, IfOk};
+ghost use Rattle.std.specs.String.{string_bytes};
+ghost use Rattle.lsp_text.specs.Documents.{Change, Document};
+ghost use Rattle.lsp_text.specs.Edits.{edited_by};
+
+use crate::position::{PositionEncoding, Range};
+use crate::text::Text;
+use std::alloc::{AllocError, Global};
+use std::marker::Model;
+
+/// One change of a document: other text in the place of a range, or of the whole text (LSP 3.17,
+/// `TextDocumentContentChangeEvent`).
+#[derive(Drop)]
+pub struct ContentChange {
+    /// What is replaced. With none it is the whole text.
+    pub range: Option<Range>,
+    /// What stands there then.
+    pub text: String,
+}
+
+impl Model for ContentChange {
+    ghost Value = { Change };
+
+    ghost view = { λ c. record { range = c.range; text = string_bytes c.text } };
+}
+
+/// A document that a client has opened (LSP 3.17, `TextDocumentItem`). Contracts see its language, its version and its text.
+#[derive(Drop)]
+pub struct TextDocument {
+    language_id: String,
+    version: i32,
+    text: Text,
+}
+
+impl Model for TextDocument {
+    ghost Value = { Document };
+
+    ghost view = { λ d. record { language_id = string_bytes d.language_id; version = d.version; text = d.text } };
+}
+
+impl TextDocument {
+    /// A document as a client opens it.
+    pub fn new(
+        alloc: Global,
+        language_id: &str,
+        version: i32,
+        text: &str,
+    ) -> Result<TextDocument, AllocError>
+        ensures { IfOk result (λ d. d ≡ record { language_id = language_id.now; version = version; text = text.now }) }
+    {
+        let text = Text::new(alloc, text)?;
+        let language_id = String::from_str(alloc, language_id)?;
+        Ok(TextDocument {
+            language_id,
+            version,
+            text,
+        })
+    }
+
+    /// The language, as the client names it.
+    pub fn language_id(&self) -> &str
+        ensures { result.now ≡ self.now.language_id }
+    {
+        self.language_id.as_str()
+    }
+
+    /// The version, as the client counts it.
+    pub fn version(&self) -> i32
+        ensures { result ≡ self.now.version }
+    {
+        self.version
+    }
+
+    /// The text.
+    pub fn text(&self) -> &Text
+        ensures { result.now ≡ self.now.text }
+    {
+        &self.text
+    }
+
+    /// Makes the changes of one notification, each in the text that the one before it left. Where memory runs out, the document
+    /// stays as it was.
+    pub fn change(
+        &mut self,
+        alloc: Global,
+        version: i32,
+        encoding: PositionEncoding,
+        changes: &[ContentChange],
+    ) -> Result<(), AllocError>
+        ensures ok { OnOk result (self.new ≡ record { language_id = self.old.language_id; version = version; text = edited_by encoding self.old.text changes.now }) }
+        ensures err { OnErr result (self.new ≡ self.old) }
+    {
+        if changes.len() == 1 {
+            let change = &changes[0];
+            self.text
+                .apply(alloc, change.range, encoding, change.text.as_str())?;
+        } else {
+            let mut text = Text::new(alloc, self.text.as_str())?;
+            for change in changes {
+                text.apply(alloc, change.range, encoding, change.text.as_str())?;
+            }
+            self.text = text;
+        }
+        self.version = version;
+        Ok(())
+    }
+}

@@ -1,0 +1,14 @@
+//! The text of open documents, and edits of it by lines and characters (LSP 3.17, "Text Document Synchronization"). It knows no
+//! JSON; `lsp_documents` reads the params of a client's notifications.
+#![tactic(auto)]
+
+mod columns;
+mod document;
+pub mod laws;
+mod lines;
+mod position;
+mod text;
+
+pub use document::{ContentChange, TextDocument};
+pub use position::{Position, PositionEncoding, Range};
+pub use text::Text;

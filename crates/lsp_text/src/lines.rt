@@ -1,0 +1,165 @@
+// Where the lines of a text begin.
+ghost use Rattle.std.specs.Prelude.{◌≡◌, ℕ, ◌+◌, ◌-◌, ◌<◌, ◌≤◌, ◌^◌, ◌++◌, OnOk, OnErr, IfOk, length, map, take, drop, slice_index, slice_index_or};
+ghost use Rattle.std.specs.List.{replace_range, splice};
+ghost use Rattle.lsp_text.specs.Lines.{ends_line as is_ended, starts_in, line_starts};
+ghost use Rattle.lsp_text.specs.Columns.{line_of};
+
+use std::alloc::{AllocError, Global};
+
+/// Whether a byte is the last one of what ends a line, where another one follows.
+fn ends_line(byte: u8, next: u8) -> bool
+    ensures { result ≡ is_ended byte next }
+{
+    byte == b'\n' || byte == b'\r' && next != b'\n'
+}
+
+/// The byte at a place, or another one past the end.
+pub fn byte_or(bytes: &[u8], i: usize, default: u8) -> u8
+    ensures { result ≡ slice_index_or bytes.now i default }
+{
+    if i < bytes.len() { bytes[i] } else { default }
+}
+
+/// Adds where lines begin behind the ends of lines in bytes that stand at a place of a text, before a byte.
+pub fn push_starts(
+    starts: &mut Vec<usize>,
+    at: usize,
+    bytes: &[u8],
+    next: u8,
+) -> Result<(), AllocError>
+    requires { at + length bytes.now < 2 ^ 64 }
+    ensures { OnOk result (starts.new.items ≡ starts.old.items ++ starts_in at bytes.now next) }
+{
+    for i in 0..bytes.len() {
+        let byte = bytes[i];
+        if ends_line(byte, byte_or(bytes, i + 1, next)) {
+            starts.push(at + i + 1)?;
+        }
+    }
+    Ok(())
+}
+
+/// Moves the starts of lines, of all but the first ones, from behind one place to behind another.
+fn move_starts(starts: &mut [usize], first: usize, from: usize, to: usize)
+    requires within { first ≤ length starts.old }
+    requires fits { (k : ℕ) → first ≤ k → k < length starts.old → (from ≤ slice_index starts.old k) × (slice_index starts.old k - from + to < 2 ^ 64) }
+    ensures { starts.new ≡ take first starts.old ++ map (λ s. s - from + to) (drop first starts.old) }
+{
+    for i in first..starts.len() {
+        starts[i] = starts[i] - from + to;
+    }
+}
+
+/// Moves the starts of lines of an index, of all but the first ones.
+fn move_behind(starts: &mut Vec<usize>, first: usize, from: usize, to: usize)
+    requires within { first ≤ length starts.old.items }
+    requires fits { (k : ℕ) → first ≤ k → k < length starts.old.items → (from ≤ slice_index starts.old.items k) × (slice_index starts.old.items k - from + to < 2 ^ 64) }
+    ensures { starts.new.items ≡ take first starts.old.items ++ map (λ s. s - from + to) (drop first starts.old.items) }
+{
+    move_starts(starts.as_mut_slice(), first, from, to);
+}
+
+/// Puts other starts of lines in the place of some.
+fn put_starts(
+    starts: &mut Vec<usize>,
+    from: usize,
+    to: usize,
+    new: Vec<usize>,
+) -> Result<(), AllocError>
+    requires in_order { from ≤ to }
+    requires within { to ≤ length starts.old.items }
+    ensures ok { OnOk result (starts.new.items ≡ splice starts.old.items from to new.items) }
+    ensures err { OnErr result (starts.new.items ≡ starts.old.items) }
+{
+    starts.splice(from..to, new)?;
+    Ok(())
+}
+
+/// How many of the starts are at most a place: they are in order.
+pub fn starts_to(starts: &[usize], place: usize) -> usize
+    requires { (i j : ℕ) → i ≤ j → j < length starts.now → slice_index starts.now i ≤ slice_index starts.now j }
+    ensures within { result ≤ length starts.now }
+    ensures below { (k : ℕ) → k < result → slice_index starts.now k ≤ place }
+    ensures above { (k : ℕ) → result ≤ k → k < length starts.now → place < slice_index starts.now k }
+{
+    let mut low = 0;
+    let mut high = starts.len();
+    while low < high {
+        let middle = low + (high - low) / 2;
+        if starts[middle] <= place {
+            low = middle + 1;
+        } else {
+            high = middle;
+        }
+    }
+    low
+}
+
+/// Where a line begins.
+pub fn start_of(text: &[u8], starts: &[usize], line: usize) -> usize
+    requires index { starts.now ≡ line_starts text.now }
+    requires within { line < length starts.now }
+    ensures value { result ≡ slice_index (line_starts text.now) line }
+    ensures within { result ≤ length text.now }
+{
+    starts[line]
+}
+
+/// The line that a place of a text is in: the last one that begins there or before.
+pub fn line_at(text: &[u8], starts: &[usize], place: usize) -> usize
+    requires index { starts.now ≡ line_starts text.now }
+    ensures value { result ≡ line_of text.now place }
+    ensures within { result < length starts.now }
+    ensures begins { (k : ℕ) → k < result + 1 → slice_index starts.now k ≤ place }
+    ensures last { (k : ℕ) → result + 1 ≤ k → k < length starts.now → place < slice_index starts.now k }
+{
+    let count = starts_to(starts, place);
+    count - 1
+}
+
+/// Where the lines of a text begin.
+pub fn starts_of(alloc: Global, text: &[u8]) -> Result<Vec<usize>, AllocError>
+    requires { length text.now < 2 ^ 64 }
+    ensures { IfOk result (λ v. v.items ≡ line_starts text.now) }
+{
+    let mut starts = Vec::new(alloc);
+    starts.push(0)?;
+    push_starts(&mut starts, 0, text, 0)?;
+    Ok(starts)
+}
+
+/// Makes the starts of the lines of a text those of the text in which other bytes take the place of some. Where memory runs
+/// out, they stay as they were.
+pub fn replace_starts(
+    alloc: Global,
+    text: &[u8],
+    starts: &mut Vec<usize>,
+    from: usize,
+    to: usize,
+    new: &[u8],
+) -> Result<(), AllocError>
+    requires index { starts.old.items ≡ line_starts text.now }
+    requires in_order { from ≤ to }
+    requires within { to ≤ length text.now }
+    requires fits { length text.now + length new.now < 2 ^ 64 }
+    ensures ok { OnOk result (starts.new.items ≡ line_starts (replace_range text.now from to new.now)) }
+    ensures err { OnErr result (starts.new.items ≡ starts.old.items) }
+{
+    // Whether a carriage return before the edit ends a line depends on what follows it.
+    let before = from.saturating_sub(1);
+    let next = byte_or(text, to, 0);
+    let kept = starts_to(starts.as_slice(), before);
+    let tail = starts_to(starts.as_slice(), to);
+    let mut between = Vec::new(alloc);
+    push_starts(
+        &mut between,
+        before,
+        &text[before..from],
+        byte_or(new, 0, next),
+    )?;
+    push_starts(&mut between, from, new, next)?;
+    let moved = kept + between.len();
+    put_starts(starts, kept, tail, between)?;
+    move_behind(starts, moved, to, from + new.len());
+    Ok(())
+}

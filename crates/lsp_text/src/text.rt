@@ -1,0 +1,153 @@
+// A text with the places where its lines begin.
+ghost use Rattle.std.specs.Prelude.{◌≡◌, ℕ, List, length, IfOk, OnOk, OnErr, ◌≤◌, ◌<◌, ◌^◌, min};
+ghost use Rattle.std.specs.String.{string_bytes};
+ghost use Rattle.std.specs.String.Boundary.{IsSplitPoint};
+ghost use Rattle.std.specs.List.{replace_range};
+ghost use Rattle.lsp_text.specs.Lines.{line_starts};
+ghost use Rattle.lsp_text.specs.Columns.{offset_of, line_of, column_of, IsPlace};
+ghost use Rattle.lsp_text.specs.Edits.{edited};
+
+use crate::position::{Position, PositionEncoding, Range};
+use crate::{columns, lines};
+use std::alloc::{AllocError, Global};
+use std::marker::Model;
+
+/// A text with the places where its lines begin. Contracts see it as the bytes of its UTF-8.
+#[derive(Drop)]
+pub struct Text {
+    text: String,
+    starts: Vec<usize>,
+}
+
+impl Model for Text {
+    ghost Value = { List ℕ };
+
+    ghost view = { λ t. string_bytes t.text };
+
+    ghost invariant = { λ t. t.starts.items ≡ line_starts (string_bytes t.text) };
+}
+
+impl Text {
+    /// A text that is a copy of another one.
+    pub fn new(alloc: Global, text: &str) -> Result<Text, AllocError>
+        ensures { IfOk result (λ t. t ≡ text.now) }
+    {
+        let starts = lines::starts_of(alloc, text.as_bytes())?;
+        let text = String::from_str(alloc, text)?;
+        Ok(Text { text, starts })
+    }
+
+    /// The whole text.
+    pub fn as_str(&self) -> &str
+        ensures { result.now ≡ self.now }
+    {
+        self.text.as_str()
+    }
+
+    /// How many lines the text has: one more than ends of lines.
+    pub fn line_count(&self) -> usize
+        ensures { result ≡ length (line_starts self.now) }
+    {
+        self.starts.len()
+    }
+
+    /// Where a position is in the text, in bytes of UTF-8. A line past the last is the text's end, a character past the
+    /// line's end is the line's end, and one within a character is that character's start.
+    pub fn offset_at(&self, position: Position, encoding: PositionEncoding) -> usize
+        ensures value { result ≡ offset_of encoding self.now position.line position.character }
+        ensures boundary { IsSplitPoint self.now result }
+    {
+        let line = position.line as usize;
+        if line < self.starts.len() {
+            let text = self.text.as_bytes();
+            let start = lines::start_of(text, self.starts.as_slice(), line);
+            columns::offset_in(encoding, position.character, text, start)
+        } else {
+            self.text.len()
+        }
+    }
+
+    /// The position of an offset, in bytes of UTF-8. An offset past the text's end is its end, one within the end of a line is
+    /// that line's end, and one within a character counts that character. A number that does not fit is the greatest one.
+    pub fn position_at(&self, offset: usize, encoding: PositionEncoding) -> Position
+        ensures line { result.line ≡ min (line_of self.now (min offset (length self.now))) 0xFFFF_FFFF }
+        ensures character { result.character ≡ min (column_of encoding self.now (min offset (length self.now))) 0xFFFF_FFFF }
+        ensures inverse { IsPlace self.now offset → length self.now < 2 ^ 30 → offset_of encoding self.now result.line result.character ≡ offset }
+    {
+        let text = self.text.as_bytes();
+        let place = offset.min(text.len());
+        let line = lines::line_at(text, self.starts.as_slice(), place);
+        let start = lines::start_of(text, self.starts.as_slice(), line);
+        Position {
+            line: fitted(line),
+            character: columns::width_of(encoding, &text[start..place]),
+        }
+    }
+
+    /// Puts other text in the place of the bytes between two offsets, where no character is cut.
+    pub fn replace(
+        &mut self,
+        alloc: Global,
+        from: usize,
+        to: usize,
+        new: &str,
+    ) -> Result<(), AllocError>
+        requires in_order { from ≤ to }
+        requires start { IsSplitPoint self.old from }
+        requires end { IsSplitPoint self.old to }
+        ensures ok { OnOk result (self.new ≡ replace_range self.old from to new.now) }
+        ensures err { OnErr result (self.new ≡ self.old) }
+    {
+        self.text.reserve(new.len())?;
+        lines::replace_starts(
+            alloc,
+            self.text.as_bytes(),
+            &mut self.starts,
+            from,
+            to,
+            new.as_bytes(),
+        )?;
+        self.text.replace_range(from..to, new)?;
+        Ok(())
+    }
+
+    /// Puts other text in the place of a range, or of the whole text. A range whose end stands before its start is taken the
+    /// other way round.
+    pub fn apply(
+        &mut self,
+        alloc: Global,
+        range: Option<Range>,
+        encoding: PositionEncoding,
+        text: &str,
+    ) -> Result<(), AllocError>
+        ensures ok { OnOk result (self.new ≡ edited encoding self.old range text.now) }
+        ensures err { OnErr result (self.new ≡ self.old) }
+    {
+        match range {
+            Some(range) => {
+                let start = self.offset_at(range.start, encoding);
+                let end = self.offset_at(range.end, encoding);
+                if start <= end {
+                    self.replace(alloc, start, end, text)
+                } else {
+                    self.replace(alloc, end, start, text)
+                }
+            }
+            None => {
+                *self = Text::new(alloc, text)?;
+                Ok(())
+            }
+        }
+    }
+}
+
+/// A number, or the greatest one that fits.
+fn fitted(number: usize) -> u32
+    ensures { result ≡ min number 0xFFFF_FFFF }
+{
+    if number < 0xFFFF_FFFF {
+        number as u32
+    } else {
+        u32::MAX
+    }
+}
