@@ -18,8 +18,7 @@ sys.dont_write_bytecode = True
 
 from client import EXIT, INITIALIZED, SERVE, SHUTDOWN, frame
 from peers import Program, build_all
-from pump import Failure, Program as Run, machine, run_to_file
-from session import SESSION
+from pump import BENCH, Failure, Program as Run, machine, run_to_file
 from speed_streams import INITIALIZE, change, diagnostics, note, request, small
 
 FIRST_ID = 100_000
@@ -61,7 +60,7 @@ def parse_arguments():
     parser = argparse.ArgumentParser(description=__doc__, formatter_class=argparse.RawDescriptionHelpFormatter)
     parser.add_argument("--crate", type=Path, help="the folder of the Rust crate's sources")
     parser.add_argument("--program", type=Path, default=SERVE, help="our program")
-    parser.add_argument("--session", type=Path, default=SESSION, help="our servers on one thread, left out where they aren't built")
+    parser.add_argument("--session", type=Path, default=BENCH, help="our servers on one thread, left out where they aren't built")
     parser.add_argument("--rounds", type=int, default=3, help="how many times each program runs")
     parser.add_argument("--quick", action="store_true", help="a tenth of the longer streams")
     return parser.parse_args()
@@ -74,8 +73,8 @@ def main():
         return 2
     programs = [Program("ours", arguments.program, ""), *build_all(arguments.crate)]
     if os.access(arguments.session, os.X_OK):
-        programs.append(Program("session", arguments.session, "", modes=("serve",), words=()))
-        programs.append(Program("session_with", arguments.session, "", modes=("serve",), words=("speaking",)))
+        programs.append(Program("session", arguments.session, "", modes=("serve",), words=("session",)))
+        programs.append(Program("session_with", arguments.session, "", modes=("serve",), words=("session", "speaking")))
     print(f"{time.strftime('%Y-%m-%d %H:%M')}; {machine()}; greatest of {arguments.rounds} runs; MB")
     print("| way | messages | " + " | ".join(program.name for program in programs) + " |")
     print("|---" * (len(programs) + 2) + "|", flush=True)

@@ -25,7 +25,6 @@ sys.dont_write_bytecode = True
 from client import EXIT, INITIALIZE_REPLY, INITIALIZED, PATIENCE, SERVE, SHUTDOWN, SHUTDOWN_REPLY, frame
 from peers import Program, build_all
 from pump import machine
-from session import SESSION
 from speed_streams import INITIALIZE, make_streams
 
 HOST = "127.0.0.1"
@@ -268,7 +267,7 @@ def parse_arguments():
     parser = argparse.ArgumentParser(description=__doc__, formatter_class=argparse.RawDescriptionHelpFormatter)
     parser.add_argument("--crate", type=Path, help="the folder of the Rust crate's sources")
     parser.add_argument("--program", type=Path, default=SERVE, help="our program")
-    parser.add_argument("--session", type=Path, default=SESSION, help="our servers on one thread, left out where they aren't built")
+    parser.add_argument("--session", type=Path, default=BENCH, help="our servers on one thread, left out where they aren't built")
     parser.add_argument("--before", type=Path, help="another build of our program, beside the other peers")
     parser.add_argument("--rounds", type=int, default=5, help="how many times each program runs")
     parser.add_argument("--quick", action="store_true", help="a tenth of the requests")
@@ -284,8 +283,8 @@ def all_programs(arguments):
     if arguments.before:
         programs.append(Program("before", arguments.before, ""))
     if os.access(arguments.session, os.X_OK):
-        programs.append(Program("session", arguments.session, "", modes=("serve",), words=()))
-        programs.append(Program("session_with", arguments.session, "", modes=("serve",), words=("speaking",)))
+        programs.append(Program("session", arguments.session, "", modes=("serve",), words=("session",)))
+        programs.append(Program("session_with", arguments.session, "", modes=("serve",), words=("session", "speaking")))
     return programs
 
 

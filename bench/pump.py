@@ -20,7 +20,7 @@ from streams import write_streams
 
 HERE = Path(__file__).resolve().parent
 PUMP = HERE.parent / "crates" / "lsp_demo" / "out" / "lsp_demo"
-BASELINE = HERE.parent / "crates" / "bench_json" / "out" / "bench_json"
+BENCH = HERE.parent / "crates" / "bench" / "out" / "bench"
 COMPARED_MESSAGES = 20_000
 MEGABYTE = 1_000_000
 
@@ -180,14 +180,14 @@ def parse_arguments():
     parser.add_argument("--quick", action="store_true", help="a twentieth of the bytes, and every message compared")
     parser.add_argument("--repetitions", type=int, default=3, help="how many times each program is timed")
     parser.add_argument("--pump", type=Path, default=PUMP, help="the program that is run with the argument `pump`")
-    parser.add_argument("--baseline", type=Path, default=BASELINE, help="the program for `serde_json` alone")
+    parser.add_argument("--baseline", type=Path, default=BENCH, help="the program that is run with the argument `json`")
     parser.add_argument("--without-pump", action="store_true", help="measure `cat` and the baseline alone")
     return parser.parse_args()
 
 
 def main():
     arguments = parse_arguments()
-    programs = [Program("cat", ["cat"]), Program("serde_json alone", [arguments.baseline], checks_layout=False)]
+    programs = [Program("cat", ["cat"]), Program("serde_json alone", [arguments.baseline, "json"], checks_layout=False)]
     if not arguments.without_pump:
         programs.append(Program("lsp_demo pump", [arguments.pump, "pump"]))
     for program in programs[1:]:

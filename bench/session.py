@@ -14,10 +14,9 @@ from pathlib import Path
 sys.dont_write_bytecode = True
 
 from compare import BadFrame, frames
-from pump import MEGABYTE, PUMP, Failure, Program, best_timings, machine, run_to_file
+from pump import BENCH, MEGABYTE, PUMP, Failure, Program, best_timings, machine, run_to_file
 from streams import SOURCE_LINES, compact
 
-SESSION = PUMP.parents[2] / "bench_session" / "out" / "bench_session"
 BEFORE = [b'{"jsonrpc":"2.0","id":"start","method":"initialize"}', b'{"jsonrpc":"2.0","method":"initialized"}']
 AFTER = [b'{"jsonrpc":"2.0","id":"end","method":"shutdown"}', b'{"jsonrpc":"2.0","method":"exit"}']
 
@@ -79,7 +78,7 @@ def parse_arguments():
     parser.add_argument("--quick", action="store_true", help="a twentieth of the requests")
     parser.add_argument("--repetitions", type=int, default=3, help="how many times each program is timed")
     parser.add_argument("--pump", type=Path, default=PUMP, help="the program that is run with the argument `pump`")
-    parser.add_argument("--session", type=Path, default=SESSION, help="the program that answers with the params")
+    parser.add_argument("--session", type=Path, default=BENCH, help="the program that is run with the argument `session`")
     return parser.parse_args()
 
 
@@ -87,8 +86,8 @@ def main():
     arguments = parse_arguments()
     programs = [
         Program("lsp_demo pump", [arguments.pump, "pump"]),
-        Program("session, echo", [arguments.session]),
-        Program("session, null", [arguments.session, "null"]),
+        Program("session, echo", [arguments.session, "session"]),
+        Program("session, null", [arguments.session, "session", "null"]),
     ]
     for program in programs:
         if not os.access(program.command[0], os.X_OK):

@@ -14,12 +14,11 @@ from pathlib import Path
 sys.dont_write_bytecode = True
 
 from client import Difference, Server
-from pump import PUMP, Failure, Program, machine, run_timed as run_stream
+from pump import BENCH, Failure, Program, machine, run_timed as run_stream
 from round_trips import Load, Peer, run_timed as run_trips
 from session import long_request, write_stream
 
-PROGRAM = PUMP.parents[2] / "bench_threads" / "out" / "bench_threads"
-WAYS = ["pass", "pump", "session", "run_threads"]
+WAYS = {"pass": ["threads", "pass"], "pump": ["threads", "pump"], "session": ["session"], "run_threads": ["threads", "run_threads"]}
 ONE_THREAD = {"pump": "pass", "run_threads": "session"}
 FIRST_ID = 100_000
 
@@ -50,7 +49,7 @@ def stream_timings(program, stream, repetitions):
     best = {}
     for _ in range(repetitions):
         for way in WAYS:
-            best[way] = least(best.get(way), run_stream(Program(way, [program, way]), stream.path))
+            best[way] = least(best.get(way), run_stream(Program(way, [program, *WAYS[way]]), stream.path))
     return best
 
 
@@ -59,7 +58,7 @@ def trip_timings(program, load, repetitions):
     for _ in range(repetitions):
         for way in WAYS:
             has_handshake = way in ("session", "run_threads")
-            peer = Peer(way, partial(Server, [program, way]), has_handshake)
+            peer = Peer(way, partial(Server, [program, *WAYS[way]]), has_handshake)
             best[way] = least(best.get(way), run_trips(peer, load, 1))
     return best
 
@@ -82,7 +81,7 @@ def parse_arguments():
     parser = argparse.ArgumentParser(description=__doc__, formatter_class=argparse.RawDescriptionHelpFormatter)
     parser.add_argument("--quick", action="store_true", help="a twentieth of the requests")
     parser.add_argument("--repetitions", type=int, default=5, help="how many times each way is timed")
-    parser.add_argument("--program", type=Path, default=PROGRAM, help="the program with the four ways")
+    parser.add_argument("--program", type=Path, default=BENCH, help="the program with the four ways")
     parser.add_argument("--streams", action="store_true", help="without the requests one at a time")
     return parser.parse_args()
 

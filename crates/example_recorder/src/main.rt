@@ -11,8 +11,6 @@
 mod line;
 mod record;
 mod replay;
-#[cfg(test)]
-mod tests;
 
 use anyhow::{Result, bail};
 use lsp_server::Connection;

@@ -300,6 +300,3 @@ fn id_of(next: u32) -> RequestId
 {
     RequestId::from(next as i32)
 }
-
-#[cfg(test)]
-mod tests;

@@ -104,6 +104,78 @@ fn a_queue_shows_what_is_pending(rt: HostRuntime) -> Result<(), Fail> {
     Ok(())
 }
 
+fn numbered(alloc: Global, number: i32) -> Result<RequestId, AllocError> {
+    Ok(RequestId::from(format!(in alloc; "{number}")?))
+}
+
+// Whether the odd numbers below 1000 and their texts are pending with their numbers as data, and the even ones are not.
+fn are_odd_ones(alloc: Global, queue: &ReqQueue<i32, i32>) -> Result<bool, AllocError> {
+    let mut holds = true;
+    for number in 0..1000 {
+        let data = if number % 2 == 1 { Some(number) } else { None };
+        let (id, text) = (RequestId::from(number), numbered(alloc, number)?);
+        holds = holds && queue.incoming.data(&id).copied() == data;
+        holds = holds && queue.incoming.data(&text).copied() == data;
+        holds = holds && queue.outgoing.data(&id).copied() == data;
+        holds = holds && queue.incoming.is_completed(&id) == data.is_none();
+    }
+    Ok(holds)
+}
+
+#[test]
+fn a_thousand_ids_and_their_texts_are_kept_apart(rt: HostRuntime) -> Result<(), Fail> {
+    let alloc = rt.alloc();
+    let mut queue: ReqQueue<i32, i32> = ReqQueue::default(alloc);
+    let ReqQueue { incoming, outgoing } = &mut queue;
+    for number in (0..1000).rev() {
+        incoming.register(RequestId::from(number), number)?;
+        incoming.register(numbered(alloc, number)?, number)?;
+    }
+    for number in 0..1000 {
+        outgoing.register_value(String::new(alloc), Value::Null, number)?;
+    }
+    for number in 0..1000 {
+        if number % 2 == 0 {
+            assert_eq!(rt; incoming.complete(&RequestId::from(number)), Some(number));
+            assert_eq!(rt; incoming.complete(&numbered(alloc, number)?), Some(number));
+            assert_eq!(rt; outgoing.complete(RequestId::from(number)), Some(number));
+        }
+    }
+    assert!(rt; are_odd_ones(alloc, &queue)?);
+    Ok(())
+}
+
+// Whether the text has the parts, each after the one before it.
+fn has_in_order(text: &str, parts: &[&str]) -> bool {
+    let mut from = 0usize;
+    for part in parts {
+        match text.find(part) {
+            Some(at) if at >= from => from = at,
+            _ => return false,
+        }
+    }
+    true
+}
+
+#[test]
+fn pending_ids_are_shown_in_their_order(rt: HostRuntime) -> Result<(), Fail> {
+    let alloc = rt.alloc();
+    let mut queue: ReqQueue<char, char> = ReqQueue::default(alloc);
+    queue.incoming.register(numbered(alloc, 9)?, 'd')?;
+    queue.incoming.register(numbered(alloc, 10)?, 'c')?;
+    queue.incoming.register(RequestId::from(10), 'b')?;
+    queue.incoming.register(RequestId::from(9), 'a')?;
+    for data in ['e', 'f', 'g'] {
+        queue
+            .outgoing
+            .register_value(String::new(alloc), Value::Null, data)?;
+    }
+    let shown = format!(in alloc; "{queue:?}")?;
+    let wanted = ["'a'", "'b'", "'c'", "'d'", "'e'", "'f'", "'g'"];
+    assert!(rt; has_in_order(shown.as_str(), &wanted), "{shown}");
+    Ok(())
+}
+
 #[test]
 fn the_two_sides_share_no_table(rt: HostRuntime) -> Result<(), Fail> {
     let alloc = rt.alloc();

@@ -1,13 +1,15 @@
-// The server as one that speaks, though it says nothing of its own.
-use lsp_server::{Act, Notification, Request, ResponseError, Server};
+//! The same session of a server that speaks, though it says nothing of its own.
+use anyhow::{Result, bail};
+use lsp_server::{Act, Notification, Request, ResponseError, Server, Working, session_with};
 use serde_json::{Map, Value, put};
 use std::alloc::{AllocError, Global};
+use std::io::{BufRead, Write};
 
 /// Answers with the params, or with null.
 #[derive(Drop)]
-pub struct Speaking {
-    pub alloc: Global,
-    pub is_null: bool,
+struct Speaking {
+    alloc: Global,
+    is_null: bool,
 }
 
 type Acts = Vec<Act<()>>;
@@ -70,5 +72,19 @@ impl Server for Speaking {
 
     fn unsent(&mut self, _payload: ()) -> Result<(), AllocError> {
         Ok(())
+    }
+}
+
+/// The whole session.
+pub fn serve<R: BufRead, W: Write>(
+    alloc: Global,
+    reader: &mut R,
+    writer: &mut W,
+    is_null: bool,
+) -> Result<()> {
+    let mut server = Working::new(alloc, Speaking { alloc, is_null });
+    match session_with(alloc, reader, writer, &mut server) {
+        Ok(_) => Ok(()),
+        Err(fault) => bail!("{fault}"),
     }
 }

@@ -1,16 +1,12 @@
-// Reads each message of standard input and writes it again with `serde_json` alone, as a measure of the least cost.
-// It trusts its input: a line with the length, an empty line and the body, over and over.
-#![tactic(auto)]
-
+//! Each message of the input once more, by `serde_json` alone, as a measure of the least cost. It trusts its input: a line with the
+//! length, an empty line and the body, over and over.
 use anyhow::Result;
 use serde_json::Value;
 use std::alloc::Global;
 use std::fmt::Write as _;
-use std::io::{self, BufRead, BufReader, Read, Write};
+use std::io::{BufRead, Write};
 
-const BUFFER_LENGTH: usize = 65536;
-
-// The number in a header, and 0 at the end of the input.
+/// The number in a header, and 0 at the end of the input.
 fn read_header<R: BufRead>(reader: &mut R, line: &mut Vec<u8>) -> Result<usize> {
     line.clear();
     reader.read_until(b'\n', line)?;
@@ -25,7 +21,12 @@ fn read_header<R: BufRead>(reader: &mut R, line: &mut Vec<u8>) -> Result<usize> 
     Ok(length)
 }
 
-fn echo_all<R: BufRead, W: Write>(alloc: Global, reader: &mut R, writer: &mut W) -> Result<()> {
+/// Reads each body as a `Value`, and writes that value's text.
+pub fn write_again<R: BufRead, W: Write>(
+    alloc: Global,
+    reader: &mut R,
+    writer: &mut W,
+) -> Result<()> {
     let mut line = Vec::new(alloc);
     let mut body = Vec::new(alloc);
     let mut frame = String::new(alloc);
@@ -46,10 +47,4 @@ fn echo_all<R: BufRead, W: Write>(alloc: Global, reader: &mut R, writer: &mut W)
         writer.flush()?;
     }
     Ok(())
-}
-
-fn main(rt: HostRuntime) -> Result<()> {
-    let alloc = rt.alloc();
-    let mut reader = BufReader::with_capacity(alloc, BUFFER_LENGTH, rt.reader())?;
-    echo_all(alloc, &mut reader, &mut io::writer(&rt))
 }

@@ -1,0 +1,192 @@
+#!/usr/bin/env python3
+"""A client, `example_recorder` and a server, over TCP on 127.0.0.1: what is recorded, and what a replay says.
+
+Each recording, each reply and each exit status is compared. It ends in status 1 at the first difference.
+"""
+import os
+import socket
+import subprocess
+import sys
+import tempfile
+import time
+from pathlib import Path
+
+sys.dont_write_bytecode = True
+
+from client import EXIT, INITIALIZE_REPLY, PATIENCE, SERVE, SHUTDOWN, SHUTDOWN_REPLY, Difference, expect, frame
+
+RECORDER = SERVE.parents[2] / "example_recorder" / "out" / "example_recorder"
+HOST = "127.0.0.1"
+INITIALIZE = b'{"jsonrpc":"2.0","id":1,"method":"initialize"}'
+INITIALIZED = b'{"jsonrpc":"2.0","method":"initialized"}'
+ECHO = '{"jsonrpc":"2.0","id":5,"method":"demo/echo","params":["größe\\n"]}'.encode()
+ECHOED = '{"jsonrpc":"2.0","id":5,"result":["größe\\n"]}'.encode()
+# A client that waits for each reply: what it sends, and what comes back.
+SESSION = [(INITIALIZE, INITIALIZE_REPLY), (INITIALIZED, None), (ECHO, ECHOED), (SHUTDOWN, SHUTDOWN_REPLY), (EXIT, None)]
+LAST_WORDS = b'{"jsonrpc":"2.0","method":"bye"}'
+
+
+def lines_of(session):
+    """The recording of a client that waits for each reply."""
+    lines = []
+    for sent, came in session:
+        lines.append(b"-> " + sent)
+        if came:
+            lines.append(b"<- " + came)
+    return b"".join(line + b"\n" for line in lines)
+
+
+def free_port():
+    with socket.socket() as listener:
+        listener.bind((HOST, 0))
+        return listener.getsockname()[1]
+
+
+class Started:
+    """A program, with the port at which it listens."""
+
+    def __init__(self, words, port=None):
+        self.port = port
+        self.process = subprocess.Popen(words, stdin=subprocess.DEVNULL, stdout=subprocess.PIPE, stderr=subprocess.PIPE)
+
+    def __enter__(self):
+        return self
+
+    def __exit__(self, *_):
+        if self.process.poll() is None:
+            self.process.kill()
+        self.process.communicate()
+
+    def connect(self):
+        deadline = time.monotonic() + PATIENCE
+        while True:
+            try:
+                return socket.create_connection((HOST, self.port), timeout=PATIENCE)
+            except ConnectionRefusedError:
+                if self.process.poll() is not None or time.monotonic() > deadline:
+                    raise Difference("nobody listens") from None
+                time.sleep(0.001)
+
+    def end(self):
+        """Its status, what it printed, and what it said on standard error."""
+        try:
+            printed, errors = self.process.communicate(timeout=PATIENCE)
+        except subprocess.TimeoutExpired:
+            raise Difference(f"a program still ran after {PATIENCE} seconds") from None
+        return self.process.returncode, printed, errors
+
+
+def listens(port):
+    """Whether a program listens at the port. It is not connected to, since a server takes one client."""
+    rows = [line.split() for line in Path("/proc/net/tcp").read_text().splitlines()[1:]]
+    return any(int(row[1].partition(":")[2], 16) == port and row[3] == "0A" for row in rows)
+
+
+def server():
+    """The server of `lsp_demo`, as soon as it listens."""
+    port = free_port()
+    started = Started([SERVE, "tcp", f"{HOST}:{port}"], port)
+    deadline = time.monotonic() + PATIENCE
+    while not listens(port) and started.process.poll() is None and time.monotonic() < deadline:
+        time.sleep(0.001)
+    return started
+
+
+def recorder(server_port, log):
+    port = free_port()
+    return Started([RECORDER, "record", f"{HOST}:{port}", f"{HOST}:{server_port}", log], port)
+
+
+def replay(log, demo):
+    return Started([RECORDER, "replay", log, f"{HOST}:{demo.port}"])
+
+
+def receive(client, wanted):
+    """The next bytes, as many as are wanted."""
+    came = b""
+    while len(came) < len(wanted) and (piece := client.recv(len(wanted) - len(came))):
+        came += piece
+    expect("what came", came, wanted)
+
+
+def read_all(client):
+    came = b""
+    while piece := client.recv(1 << 16):
+        came += piece
+    return came
+
+
+def check_session(log):
+    print("a session is recorded")
+    with server() as demo, recorder(demo.port, log) as recording, recording.connect() as client:
+        for sent, wanted in SESSION:
+            client.sendall(frame(sent))
+            if wanted:
+                receive(client, frame(wanted))
+        client.close()
+        expect("the end of the recorder", recording.end(), (0, b"", b""))
+        expect("the end of the server", demo.end(), (0, b"", b""))
+    expect("the recording", log.read_bytes(), lines_of(SESSION))
+
+
+def check_early_close(log):
+    print("a client that closes first gets every reply")
+    sent = [INITIALIZE, INITIALIZED, SHUTDOWN, EXIT]
+    came = [INITIALIZE_REPLY, SHUTDOWN_REPLY]
+    with server() as demo, recorder(demo.port, log) as recording, recording.connect() as client:
+        client.sendall(b"".join(map(frame, sent)))
+        client.shutdown(socket.SHUT_WR)
+        expect("the replies", read_all(client), b"".join(map(frame, came)))
+        expect("the end of the recorder", recording.end(), (0, b"", b""))
+        expect("the end of the server", demo.end(), (0, b"", b""))
+    lines = log.read_bytes().splitlines()
+    for mark, bodies in [(b"-> ", sent), (b"<- ", came)]:
+        expect("the lines of one way", [it for it in lines if it.startswith(mark)], [mark + it for it in bodies])
+    expect("the number of lines", len(lines), len(sent) + len(came))
+
+
+def check_last_words(log):
+    print("what a server says before it goes reaches the client")
+    with socket.create_server((HOST, 0)) as listener, recorder(listener.getsockname()[1], log) as recording:
+        with recording.connect() as client:
+            listener.settimeout(PATIENCE)
+            with listener.accept()[0] as theirs:
+                theirs.sendall(frame(LAST_WORDS))
+            client.shutdown(socket.SHUT_WR)
+            expect("what came", read_all(client), frame(LAST_WORDS))
+            expect("the end of the recorder", recording.end(), (0, b"", b""))
+    expect("the recording", log.read_bytes(), b"<- " + LAST_WORDS + b"\n")
+
+
+def check_replay(log):
+    print("a recording is compared, and another answer is told")
+    log.write_bytes(lines_of(SESSION))
+    with server() as demo, replay(log, demo) as replayed:
+        expect("the replay", replayed.end(), (0, b"3 answers, each as recorded\n", b""))
+        expect("the end of the server", demo.end(), (0, b"", b""))
+    other = b'{"jsonrpc":"2.0","id":1,"result":{"capabilities":{"hoverProvider":true}}}'
+    log.write_bytes(lines_of([(INITIALIZE, other)]))
+    with server() as demo, replay(log, demo) as replayed:
+        told = b"recorded: %s\nfound: %s\n" % (other, INITIALIZE_REPLY)
+        expect("the replay", replayed.end(), (1, told, b"Error: not as recorded\n"))
+        expect("the status of the server", demo.end()[0], 1)
+
+
+def main():
+    for program in [SERVE, RECORDER]:
+        if not os.access(program, os.X_OK):
+            print(f"recorder_client.py: no program {program}: `rt run` in its crate's folder builds it", file=sys.stderr)
+            return 2
+    try:
+        with tempfile.TemporaryDirectory() as folder:
+            for check in [check_session, check_early_close, check_last_words, check_replay]:
+                check(Path(folder) / "session.log")
+    except Difference as difference:
+        print(f"recorder_client.py: FAILED: {difference}", file=sys.stderr)
+        return 1
+    print("no difference")
+    return 0
+
+
+if __name__ == "__main__":
+    sys.exit(main())

@@ -1,0 +1,108 @@
+//! What reading, writing and sessions cost: a measure for each word.
+//!
+//!     bench json                                  each message once more, by `serde_json` alone: the least cost
+//!     bench session [speaking] [null]             a session on one thread: each request gets its params back, or null
+//!     bench threads pass | pump | run_threads     messages passed on by one thread and by two; the session on three threads
+//!     bench queues [N ..]                         a call on the request queues, with N requests pending
+//!     bench all                                   each of these on the same input, under its name
+//!
+//! All but `queues` read frames from standard input, and write frames to standard output. `speaking` is a server that speaks
+//! (`session_with`), which gives the same replies.
+#![tactic(auto)]
+
+mod json;
+mod queues;
+mod session;
+mod speaking;
+mod threads;
+
+use anyhow::{Result, bail};
+use lsp_server::keep_freed_memory;
+use std::alloc::Global;
+use std::io::{BufRead, BufReader, Cursor, Read};
+use std::sync::Wait;
+use std::thread::Threads;
+use std::time::Clock;
+use std::{env, io};
+
+/// How many bytes of standard input are asked for at once.
+const READ_AHEAD: usize = 65536;
+
+const USAGE: &str =
+    "usage: bench json | session [speaking] [null] | threads pass|pump|run_threads | queues [N ..] | all";
+
+/// The measures that go over frames.
+const OVER_FRAMES: [&str; 7] = [
+    "json",
+    "session",
+    "session null",
+    "session speaking",
+    "threads pass",
+    "threads pump",
+    "threads run_threads",
+];
+
+fn main(rt: HostRuntime) -> Result<()> {
+    let alloc = rt.alloc();
+    keep_freed_memory(alloc);
+    let words: Vec<String> = env::args(&rt)?.skip(1).collect(alloc)?;
+    let mut reader = BufReader::with_capacity(alloc, READ_AHEAD, rt.reader())?;
+    match words.as_slice() {
+        [word, counts @ ..] if word.as_str() == "queues" => queues::measure(&rt, alloc, counts),
+        [word] if word.as_str() == "all" => {
+            let mut text = Vec::new(alloc);
+            reader.read_to_end(&mut text)?;
+            run_all(&rt, alloc, text.as_slice())
+        }
+        words => run(&rt, alloc, joined(alloc, words)?.as_str(), reader),
+    }
+}
+
+/// The words, with a space between two of them.
+fn joined(alloc: Global, words: &[String]) -> Result<String> {
+    let mut text = String::new(alloc);
+    for word in words {
+        if !text.is_empty() {
+            text.push(' ')?;
+        }
+        text.push_str(word.as_str())?;
+    }
+    Ok(text)
+}
+
+/// Each measure over these bytes, and after them the one of the queues.
+fn run_all<T>(rt: &T, alloc: Global, text: &[u8]) -> Result<()>
+where
+    T: Threads + Wait + Print + Clock + Copy + Drop + Send + 'static,
+{
+    for measure in OVER_FRAMES {
+        println!(rt; "{measure}")?;
+        let mut bytes = Vec::new(alloc);
+        bytes.extend_from_slice(text)?;
+        run(rt, alloc, measure, Cursor::new(bytes))?;
+        println!(rt; "")?;
+    }
+    println!(rt; "queues")?;
+    queues::measure(rt, alloc, &[])
+}
+
+/// The measure of this name.
+fn run<T, R>(rt: &T, alloc: Global, measure: &str, reader: R) -> Result<()>
+where
+    T: Threads + Wait + Print + Copy + Drop + Send + 'static,
+    R: BufRead + Drop + Send + 'static,
+{
+    let mut reader = reader;
+    let writer = &mut io::writer(rt);
+    match measure {
+        "json" => json::write_again(alloc, &mut reader, writer),
+        "session" => session::serve(alloc, &mut reader, writer, false),
+        "session null" => session::serve(alloc, &mut reader, writer, true),
+        "session speaking" => speaking::serve(alloc, &mut reader, writer, false),
+        "session speaking null" => speaking::serve(alloc, &mut reader, writer, true),
+        "threads pass" => threads::pass_on(alloc, &mut reader, writer),
+        "threads pump" => threads::pump_on(rt, alloc, reader, writer),
+        "threads run_threads" => threads::serve(rt, alloc, reader),
+        _ => bail!("{USAGE}"),
+    }
+}

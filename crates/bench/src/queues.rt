@@ -1,0 +1,70 @@
+//! How the time of a call on the request queues grows with what is pending.
+use anyhow::{Context, Result};
+use lsp_server::{Outgoing, ReqQueue, RequestId};
+use serde_json::Value;
+use std::alloc::Global;
+use std::time::{Clock, Instant};
+
+/// How many requests are registered and completed where no number is given, and no time is printed.
+const FEW: u32 = 1000;
+
+/// Registers and completes so many requests for each word, and prints the nanoseconds that a call took. Without words it says how
+/// many of a thousand were given back.
+pub fn measure<R: Clock + Print>(rt: &R, alloc: Global, words: &[String]) -> Result<()> {
+    if words.is_empty() {
+        let mut queue: ReqQueue<u64, u64> = ReqQueue::default(alloc);
+        register_all(alloc, &mut queue.outgoing, FEW)?;
+        let found = complete_all(&mut queue.outgoing, FEW);
+        println!(rt; "{FEW} registered, {found} given back")?;
+        return Ok(());
+    }
+    for word in words {
+        let count = word.parse::<u32>().context("how many requests")?;
+        time_calls(rt, alloc, count)?;
+    }
+    Ok(())
+}
+
+fn time_calls<R: Clock + Print>(rt: &R, alloc: Global, count: u32) -> Result<()> {
+    let mut queue: ReqQueue<u64, u64> = ReqQueue::default(alloc);
+    let start = Instant::now(rt)?;
+    register_all(alloc, &mut queue.outgoing, count)?;
+    let registered = start.elapsed(rt)?.as_nanos();
+    let start = Instant::now(rt)?;
+    let found = complete_all(&mut queue.outgoing, count);
+    let completed = start.elapsed(rt)?.as_nanos();
+    let each = per_call(registered, count);
+    let last = per_call(completed, count);
+    println!(rt; "{count} pending: register {each} ns, complete {last} ns, {found} given back")?;
+    Ok(())
+}
+
+/// Registers so many requests. The data of each is its number.
+fn register_all(alloc: Global, queue: &mut Outgoing<u64>, count: u32) -> Result<()> {
+    for number in 0..count {
+        let registered = queue.register_value(String::new(alloc), Value::Null, u64::from(number));
+        if registered.is_err() {
+            return Err(anyhow::Error::msg("a registration was refused"));
+        }
+    }
+    Ok(())
+}
+
+/// Completes so many requests in an order that jumps about, and counts those that gave their own number back.
+fn complete_all(queue: &mut Outgoing<u64>, count: u32) -> u32 {
+    let mut found = 0u32;
+    let mut number = 0u64;
+    for _ in 0..count {
+        number = number.wrapping_add(7919) % u64::from(count.max(1));
+        let id = RequestId::from(i32::try_from(number).unwrap_or(0));
+        if queue.complete(id) == Some(number) {
+            found = found.saturating_add(1);
+        }
+    }
+    found
+}
+
+/// The nanoseconds of a call, where so many took this long.
+fn per_call(nanoseconds: u128, count: u32) -> u128 {
+    nanoseconds / u128::from(count.max(1))
+}

@@ -1,0 +1,63 @@
+//! What threads cost: the same work on one thread, and on two or three.
+use crate::session::Echo;
+use anyhow::{Result, bail};
+use lsp_server::{FrameOutbox, ReadEnd, pump, read_loop, run_threads};
+use serde_json::{Map, Value};
+use std::alloc::Global;
+use std::io;
+use std::io::{BufRead, Write};
+use std::sync::Wait;
+use std::thread::Threads;
+
+/// Passes messages on with one thread.
+pub fn pass_on<R: BufRead, W: Write>(alloc: Global, reader: &mut R, writer: &mut W) -> Result<()> {
+    match read_loop(alloc, reader, &mut FrameOutbox::new(alloc, writer)) {
+        ReadEnd::Exit | ReadEnd::End => Ok(()),
+        ReadEnd::Fault(fault) => bail!("{fault}"),
+        ReadEnd::Closed | ReadEnd::Memory => bail!("a message was not written"),
+    }
+}
+
+/// Passes messages on with two threads.
+pub fn pump_on<T, R, W>(rt: &T, alloc: Global, reader: R, writer: &mut W) -> Result<()>
+where
+    T: Threads + Wait + Copy + Drop + Send + 'static,
+    R: BufRead + Drop + Send + 'static,
+    W: Write,
+{
+    match pump(rt, alloc, reader, writer) {
+        Ok(()) => Ok(()),
+        Err(fault) => bail!("{fault}"),
+    }
+}
+
+/// Standard output, in a thread.
+#[derive(Drop)]
+struct Output<R>(R);
+
+impl<R: Print> Write for Output<R> {
+    fn write(&mut self, buf: &[u8]) -> io::Result<usize> {
+        io::writer(&self.0).write(buf)
+    }
+
+    fn flush(&mut self) -> io::Result<()> {
+        io::writer(&self.0).flush()
+    }
+}
+
+/// A whole session on three threads, whose requests get their params back.
+pub fn serve<T, R>(rt: &T, alloc: Global, reader: R) -> Result<()>
+where
+    T: Threads + Wait + Print + Copy + Drop + Send + 'static,
+    R: BufRead + Drop + Send + 'static,
+{
+    let capabilities = Value::Object(Map::new(alloc));
+    let mut echo = Echo { is_null: false };
+    match run_threads(rt, alloc, reader, Output(*rt), capabilities, &mut echo) {
+        Ok(done) => match done.answer {
+            Ok(_) => Ok(()),
+            Err(fault) => bail!("{fault}"),
+        },
+        Err(fault) => bail!("{fault}"),
+    }
+}
