@@ -12,17 +12,17 @@ use Rattle.lsp_queue.specs.Queue.{Pending}
 use Rattle.lsp_session.specs.Finish.{is_initialized}
 use Rattle.lsp_session.specs.ProtocolError.{ProtocolFault, Shows, expected_initialize, expected_initialized, unexpected_in_shutdown}
 use Rattle.lsp_session.specs.Replies.{null_reply}
-use Rattle.lsp_session.specs.Session.{SessionAnswer, Stop, decided, no_more, timed_out, refused, exhausted, IsLast, is_initialize, AfterShutdown, AfterServed}
+use Rattle.lsp_session.specs.Service.{Behavior}
+use Rattle.lsp_session.specs.Session.{SessionAnswer, Stop, decided, no_more, timed_out, refused, exhausted, IsLast, is_initialize, AfterShutdown, SessionOut}
 use Rattle.lsp_session.specs.SessionBytes.{all_of}
 use Rattle.lsp_session.specs.Start.{is_early, IsEarlyReply}
 use Rattle.lsp_service.specs.Desk.{Act, Desk, OpensSaying}
 use Rattle.lsp_service.specs.Law.{one_if, is_request_under, is_reply_under, how_many, held_under, EndsAtRequest, OnceOrEnded, IsWhole, IsOpened, RepliesFirst, NullLast, requests_in, IsUninvited, TakesPart, GivesPayloads, KeepsLaws}
-use Rattle.lsp_session.specs.Speech.{GivesAll, BreaksOff, GivesTo, IsLeft, Speaks, IsSilent, Opened, AfterInitialize, SpeechOut}
-use Rattle.lsp_service.specs.Working.{seen, desk_of}
+use Rattle.lsp_service.proofs.Phases.{AfterServed, GivesAll, BreaksOff, GivesTo, IsLeft, Speaks, IsSilent, Opened, AfterInitialize, SpeechOut, handles_more, speech_of}
+use Rattle.lsp_service.specs.Working.{seen, desk_of, at_desk}
 use Rattle.lsp_service.specs.declared.desk.Working.{Working}
 use Rattle.lsp_service.proofs.Owing.{how_many-append, due, due_acts, gives, due_all}
 use Rattle.lsp_service.proofs.Returning.{part_whole, part_broken}
-use Rattle.lsp_session.proofs.SpeechRuns.{handles_more}
 
 -- how many replies under the id the null is
 abbrev null_count : Id → Option Message → ℕ
@@ -138,8 +138,8 @@ module _ {S P : Type 0}
   abbrev pub opens_at : Working S P → List Message → Working S P → Type 0
   opens_at old said new = OpensSaying takes_back begins (seen old) said (seen new)
 
-  abbrev pub starves_at : Working S P → Working S P → Type 0
-  starves_at old new = Unit {0}
+  abbrev pub working : Behavior (Working S P)
+  working = at_desk requested notified replied takes_back begins initializes
 
   -- nothing was asked
   abbrev Unasked : Working S P → Type 0
@@ -377,11 +377,11 @@ module _ {S P : Type 0}
     opened = elim f.opened [ inl none ↦ inl none | inr o ↦ inr (opened_after m letters o) ];
   }
 
-  abbrev pub Out : Working S P → Working S P → List Message → Stop → List Message → Option Message → SessionAnswer → Type 0
-  Out = SpeechOut gives_at initializes_at opens_at starves_at
+  abbrev Out : Working S P → Working S P → List Message → Stop → List Message → Option Message → SessionAnswer → Type 0
+  Out = SpeechOut working
 
   abbrev Silent : Stop → Working S P → Working S P → List Message → Option Message → Type 0
-  Silent = IsSilent gives_at initializes_at opens_at starves_at
+  Silent = IsSilent working
 
   silent_both : (stop : Stop) (w w' : Working S P) (output : List Message) (null : Option Message) → Silent stop w w' output null → (output ≡ []) × (null ≡ None)
   silent_both decided w w' output null silent = (silent.1, silent.2)
@@ -435,7 +435,7 @@ module _ {S P : Type 0}
       rw (all_count id (said ++ later) null, all_count id later null) (omega (arith, both))
 
   begun_opened : (w w' : Working S P) (letters : List Message) (stop : Stop) (output : List Message) (null : Option Message) (answer : SessionAnswer)
-      → Clear w → Unasked w → Opened gives_at initializes_at opens_at starves_at w w' letters stop output null answer → Begun w' letters output null stop answer
+      → Clear w → Unasked w → Opened working w w' letters stop output null answer → Begun w' letters output null stop answer
   begun_opened w w' letters stop output null answer clear unasked opened = elim opened [
     | inl whole ↦ record {
       account = λ id. (
@@ -478,14 +478,14 @@ module _ {S P : Type 0}
   no_request id (response i outcome) e = refl
 
   replied_after : (w w' : Working S P) (letters : List Message) (stop : Stop) (output : List Message) (null : Option Message) (answer : SessionAnswer)
-      → Clear w → Unasked w → AfterInitialize gives_at initializes_at opens_at starves_at w w' letters stop output null answer → Replied w' letters output null stop answer
+      → Clear w → Unasked w → AfterInitialize working w w' letters stop output null answer → Replied w' letters output null stop answer
   replied_after w w' [] stop output null answer clear unasked after =
       let known = known_none w w' stop output null answer after.1 in
       record { account = known.account; last = known.last; opened = inl ((silent_both stop w w' output null after.1).0, tt) }
   replied_after w w' (m ∷ rest) stop output null answer clear unasked after = at (is_initialized m) refl after
     where
       at : (b : Bool) → is_initialized m ≡ b
-          → MatchBool b (Opened gives_at initializes_at opens_at starves_at w w' rest stop output null answer)
+          → MatchBool b (Opened working w w' rest stop output null answer)
           (IsLast rest stop × IsErrAnd answer (Shows expected_initialized) × Silent stop w w' output null)
           → Replied w' (m ∷ rest) output null stop answer
       at true e opened =
@@ -542,7 +542,7 @@ module _ {S P : Type 0}
     where
       at_outcome : ((mid : Working S P) (later : List Message) → Clear mid → Unasked mid → Out mid w' rest stop later null answer → Known w' rest later null stop answer)
           → (outcome : Result Data ErrorObject) (mid : Working S P) (later : List Message) → is_initialize (request i method params) ≡ true → Clear mid → Unasked mid
-          → MatchResult outcome (λ result. AfterInitialize gives_at initializes_at opens_at starves_at mid w' rest stop later null answer)
+          → MatchResult outcome (λ result. AfterInitialize working mid w' rest stop later null answer)
           (λ error. Out mid w' rest stop later null answer)
           → Known w' (request i method params ∷ rest) (response i outcome ∷ later) null stop answer
       at_outcome known (Ok result) mid later e clear unasked after =
@@ -555,7 +555,7 @@ module _ {S P : Type 0}
           → MatchBool b
           ((outcome : Result Data ErrorObject) × (mid : Working S P) × (later : List Message)
           × initializes_at w params outcome mid × (output ≡ response i outcome ∷ later)
-          × MatchResult outcome (λ result. AfterInitialize gives_at initializes_at opens_at starves_at mid w' rest stop later null answer)
+          × MatchResult outcome (λ result. AfterInitialize working mid w' rest stop later null answer)
           (λ error. Out mid w' rest stop later null answer))
           ((reply : Message) × (later : List Message) × IsEarlyReply i reply × (output ≡ reply ∷ later) × Out w w' rest stop later null answer)
           → Known w' (request i method params ∷ rest) output null stop answer
@@ -601,9 +601,9 @@ module _ {S P : Type 0}
   -- a session of a server keeps the laws
   pub keeps_laws : (w w' : Working S P) → desk_of w.client ≡ record { held = map.empty; asked = (map.empty, 0); said = [] }
       → (letters : List Message) (stop : Stop) (output : List Message) (null : Option Message) (answer : SessionAnswer)
-      → Out w w' letters stop output null answer → KeepsLaws requested notified replied takes_back begins (desk_of w'.client).held letters stop output null answer
+      → SessionOut working w w' letters stop output null answer → KeepsLaws requested notified replied takes_back begins (desk_of w'.client).held letters stop output null answer
   keeps_laws w w' fresh letters stop output null answer out =
-      let known = known_out w w' letters stop output null answer (clear_fresh w fresh) (ap (λ (d : Desk P). d.asked) fresh) out in
+      let known = known_out w w' letters stop output null answer (clear_fresh w fresh) (ap (λ (d : Desk P). d.asked) fresh) (speech_of working w w' letters stop output null answer out) in
       record {
         no_other = λ id. (known.account id).most;
         once = λ whole id one. (

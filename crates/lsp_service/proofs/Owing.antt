@@ -11,7 +11,7 @@ use Rattle.lsp_message.specs.Message.{Message, ErrorObject, request, notificatio
 use Rattle.lsp_queue.specs.Queue.{Pending, pending_of, count_of}
 use Rattle.lsp_service.specs.Desk.{Act, tells, asks, replies, cancels, settles, canceled, cancelled_by, cancel_method, cancel_params, Desk, is_spent, sends_request, does, does_all, holds, given, cleared, says, Acts, Works, WorksGiving}
 use Rattle.lsp_service.specs.Law.{one_if, is_request_under, is_reply_under, how_many, held_under}
-use Rattle.lsp_session.specs.Speech.{GivesAll}
+use Rattle.lsp_service.proofs.Phases.{GivesAll}
 use Rattle.lsp_service.specs.Working.{seen, desk_of}
 use Rattle.lsp_service.specs.declared.desk.Working.{Working}
 

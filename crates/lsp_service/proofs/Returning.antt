@@ -11,16 +11,16 @@ use Rattle.lsp_message.specs.Id.{Id, id_cmp, number}
 use Rattle.lsp_message.specs.IdLaws.{id_total, id_decides}
 use Rattle.lsp_message.specs.Message.{Message, ErrorObject, request, notification, response}
 use Rattle.lsp_queue.specs.Queue.{Asked, pending_of, count_of}
-use Rattle.lsp_session.specs.Session.{SessionAnswer, Stop, decided, no_more, timed_out, refused, exhausted, AfterServed}
+use Rattle.lsp_session.specs.Session.{SessionAnswer, Stop, decided, no_more, timed_out, refused, exhausted}
 use Rattle.lsp_session.specs.declared.lifecycle.SendFault.{SendFault}
 use Rattle.lsp_service.specs.Desk.{Act, tells, asks, replies, cancels, settles, canceled, cancelled_by, cancel_method, cancel_params, Desk, is_spent, sends_request, does, does_all, ids_after, unsent, holds, given, says, TakesBack, Acts, Works, OpensSaying}
 use Rattle.lsp_service.specs.Law.{is_reply_under, Sent, Turn, requests_in, request_of, ids_after_all, sent_by, all_sent, kept_under, acts_of, was_given, GivesOwnPayloads, Handed, TakesTurns, IsUnserved, IsWhole, TakesPart}
-use Rattle.lsp_session.specs.Speech.{GivesAll, GivesTo, Speaks}
+use Rattle.lsp_service.proofs.Phases.{AfterServed, GivesAll, GivesTo, Speaks}
 use Rattle.lsp_service.specs.Working.{seen, desk_of}
 use Rattle.lsp_service.specs.declared.desk.Working.{Working}
 use Rattle.lsp_service.proofs.Desking.{ids_counted}
 use Rattle.lsp_service.proofs.Owing.{gives}
-use Rattle.lsp_session.proofs.SpeechRuns.{handles_more}
+use Rattle.lsp_service.proofs.Phases.{handles_more}
 
 pub requests-append : (xs ys : List Message) → requests_in (xs ++ ys) ≡ requests_in xs ++ requests_in ys
 requests-append [] ys = refl

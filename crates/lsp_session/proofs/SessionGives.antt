@@ -14,14 +14,14 @@ use Rattle.lsp_message.specs.declared.frame.ReadFault.TheVariants.{Input, Memory
 use Rattle.lsp_message.specs.declared.frame.WriteFault.{WriteFault}
 use Rattle.lsp_message.specs.declared.frame.WriteFault.TheVariants.{Output, Memory as NoMemory}
 use Rattle.lsp_session.proofs.SessionFacts.{is_no_exit, Facts}
-use Rattle.lsp_session.proofs.SpeechStarts.{FoldsTo-split}
 use Rattle.lsp_session.proofs.SessionStreams.{Brought, brought_open, no_timeout, whole_first, GetsPart, NotRefused, gets_written, gets_keeps}
 use Rattle.lsp_session.proofs.Streaming.{streams_of}
+use Rattle.lsp_session.proofs.Waiting.{FoldsTo-split}
 use Rattle.lsp_session.specs.Event.{Event, closed}
 use Rattle.lsp_session.specs.FrameBoxes.{FrameOutboxSends}
 use Rattle.lsp_session.specs.ProtocolError.{out_of_memory}
 use Rattle.lsp_session.specs.Session.{SessionAnswer, SessionPart, Stop, decided, no_more, timed_out, refused, exhausted}
-use Rattle.lsp_session.specs.SessionBytes.{BeginsWith, all_of, BreaksOffLast, GetsFirst, IsUnsent, FailedAfter, Comes, Fails, WriteFails, RunsOut, Gives}
+use Rattle.lsp_session.specs.SessionBytes.{BeginsWith, all_of, BreaksOffLast, GetsFirst, IsUnsent, LeftAfter, FailedAfter, Completes, ReadFails, WriteFails, RunsOutOfMemory, Gives}
 use Rattle.lsp_session.specs.SessionFault.{ran_out, came_to_no_more, plain_answer, read_fault, read_answer, session_answer}
 use Rattle.lsp_session.specs.SessionRun.{message_in, is_open, Brings, Runs}
 use Rattle.lsp_session.specs.StreamBoxes.{stream_of, StreamInboxGives}
@@ -52,30 +52,19 @@ module _ (limit : ℕ) where
       (letters : List Message) (output : List Message) (null : Option Message) where
     -- an allocation failed
     runs_out : (left : Option (List ℕ)) (stop : Stop) (answer : SessionAnswer) → P letters stop output null answer
-        → (at : List ℕ) × BeginsWith limit text letters at × StopsWithin left (reading_within limit at) → GetsFirst (all_of output null) a b → RunsOut limit P text left a b
+        → (at : List ℕ) × BeginsWith limit text letters at × StopsWithin left (reading_within limit at) → GetsFirst (all_of output null) a b → RunsOutOfMemory limit P text left a b
     runs_out left stop answer part read written =
-        record { letters = letters; at = read.0; read = read.1; rest = read.2; stop = stop; output = output; null = null; answer = answer; part = part; written = written }
+        (answer, record { letters = letters; at = read.0; read = read.1; stop = stop; rest = read.2; output = output; null = null; part = part; written = written })
 
     -- a write failed
     write_fails : (left : Option (List ℕ)) (stop : Stop) (answer : SessionAnswer) → P letters stop output null answer
         → (at : List ℕ) × BeginsWith limit text letters at × StopsWithin left (reading_within limit at) → IsUnsent stop null → BreaksOffLast (all_of output null) a b → WriteFails limit P text left a b
-    write_fails left stop answer part read unsent written = record {
-      letters = letters;
-      at = read.0;
-      read = read.1;
-      rest = read.2;
-      stop = stop;
-      output = output;
-      null = null;
-      unsent = unsent;
-      answer = answer;
-      part = part;
-      written = written;
-    }
+    write_fails left stop answer part read unsent written =
+        (answer, record { letters = letters; at = read.0; read = read.1; stop = stop; rest = read.2; output = output; null = null; part = part; written = (unsent, written) })
 
     module _ (written : GetsFrames (all_of output null) a b) (new : Stream) (answer : SessionAnswer) where
       -- a session that came to its end
-      plain_gives : (answer : SessionAnswer) → ran_out answer ≡ false → Comes limit P text new.remaining a b answer → Gives limit P text new.remaining a b (plain_answer answer)
+      plain_gives : (answer : SessionAnswer) → ran_out answer ≡ false → Completes limit P text new.remaining a b answer → Gives limit P text new.remaining a b (plain_answer answer)
       plain_gives (Ok end) enough comes = comes
       plain_gives (Err fault) enough comes = rw enough comes
 
@@ -105,22 +94,25 @@ module _ (limit : ℕ) where
       module _ (part : P letters no_more output null answer) (facts : Facts no_more letters answer) where
         -- as many were taken as can be counted
         many_gives : Brought limit text letters new → Gives limit P text new.remaining a b (read_answer answer new.end)
-        many_gives brought = rw (brought.end, facts.2, facts.1) (record {
-          letters = letters;
-          at = brought.at;
-          read = brought.read;
-          rest = rw brought.left (frame_unread body_means limit brought.at);
-          output = output;
-          null = null;
-          answer = answer;
-          part = part;
-          written = written;
-        })
+        many_gives brought = rw (brought.end, facts.2, facts.1) (
+          answer,
+          record {
+            letters = letters;
+            at = brought.at;
+            read = brought.read;
+            stop = no_more;
+            rest = (refl, rw brought.left (frame_unread body_means limit brought.at));
+            output = output;
+            null = null;
+            part = part;
+            written = written;
+          },
+        )
 
         module _ (at : List ℕ) (read : BeginsWith limit text letters at) where
-          fails : (fault : ReadFault) → FailedAfter limit fault at new.remaining → Fails limit P text new.remaining a b fault
+          fails : (fault : ReadFault) → FailedAfter limit fault at new.remaining → ReadFails limit P text new.remaining a b fault
           fails fault rest =
-              record { letters = letters; at = at; read = read; rest = rest; output = output; null = null; answer = answer; part = part; written = written }
+              (answer, record { letters = letters; at = at; read = read; stop = no_more; rest = (refl, rest); output = output; null = null; part = part; written = written })
 
           fault_gives : (fault : ReadFault) → Answers (λ (m : Message). m) (Err fault) new.remaining (reading_within limit at) → Gives limit P text new.remaining a b (Err (read_fault fault))
           fault_gives (Input kind) answers = fails (Input kind) answers

@@ -8,7 +8,7 @@ use Rattle.lsp_message.specs.Methods.{request_id}
 use Rattle.lsp_message.specs.Written.{GetsFrames}
 use Rattle.lsp_session.specs.Session.{Stop}
 use Rattle.lsp_session.specs.SessionBytes.{BeginsWith, LeftAfter, FailedAfter}
-use Rattle.lsp_session.specs.declared.loops.serving.SessionEnd.{SessionEnd}
+use Rattle.lsp_session.specs.declared.loops.handler.SessionEnd.{SessionEnd}
 use Rattle.lsp_session.specs.declared.loops.stream_session.SessionFault.{SessionFault}
 use Rattle.lsp_session.specs.declared.loops.stream_session.SessionFault.TheVariants.{Protocol, Read, Write, Memory}
 

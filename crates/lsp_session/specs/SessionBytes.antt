@@ -10,7 +10,7 @@ use Rattle.lsp_message.specs.declared.frame.ReadFault.{ReadFault}
 use Rattle.lsp_message.specs.declared.frame.ReadFault.TheVariants.{Input, Memory as NoMemoryToRead}
 use Rattle.lsp_session.specs.ProtocolError.{fault_text}
 use Rattle.lsp_session.specs.Session.{SessionAnswer, SessionPart, Stop, decided, no_more, refused}
-use Rattle.lsp_session.specs.declared.loops.serving.SessionEnd.{SessionEnd}
+use Rattle.lsp_session.specs.declared.loops.handler.SessionEnd.{SessionEnd}
 use Rattle.lsp_session.specs.declared.loops.stream_session.SessionFault.{SessionFault}
 use Rattle.lsp_session.specs.declared.loops.stream_session.SessionFault.TheVariants.{Protocol, Read, Write, Memory}
 
@@ -53,65 +53,52 @@ FailedAfter limit (Input kind) at left = StopsWithin left (reading_within limit 
 FailedAfter limit NoMemoryToRead at left = ⊥
 FailedAfter limit fault at left = (rest : List ℕ) × (reading_within limit at ≡ record { outcome = Err fault; rest = rest }) × (left ≡ Some rest)
 
+-- A session over the first messages of a text. It stopped with `Rest` of the text, and `Written` of its output.
+pub record SessionOver (limit : ℕ) (P : SessionPart) (text : List ℕ) (Rest : Stop → List ℕ → Type 0) (Written : Stop → List Message → Option Message → Type 0)
+    (answer : SessionAnswer) : Type 0 where
+  pub letters : List Message
+  pub at : List ℕ
+  pub read : BeginsWith limit text letters at
+  pub stop : Stop
+  pub rest : Rest stop at
+  pub output : List Message
+  pub null : Option Message
+  pub part : P letters stop output null answer
+  pub written : Written stop output null
+
+-- frames of the whole output were written
+abbrev pub WritesAll : Option (List ℕ) → Option (List ℕ) → Stop → List Message → Option Message → Type 0
+WritesAll old new stop output null = GetsFrames (all_of output null) old new
+
+-- frames of the first messages of the output were written, each whole
+abbrev pub WritesFirst : Option (List ℕ) → Option (List ℕ) → Stop → List Message → Option Message → Type 0
+WritesFirst old new stop output null = GetsFirst (all_of output null) old new
+
 module _ (limit : ℕ) (P : SessionPart) (text : List ℕ) (left old new : Option (List ℕ)) where
   -- The session came to its end: its letters are the first messages of the text, and all its output was written.
-  pub record Comes (answer : SessionAnswer) : Type 0 where
-    pub letters : List Message
-    pub at : List ℕ
-    pub read : BeginsWith limit text letters at
-    pub stop : Stop
-    pub rest : LeftAfter limit stop at left
-    pub output : List Message
-    pub null : Option Message
-    pub part : P letters stop output null answer
-    pub written : GetsFrames (all_of output null) old new
+  abbrev pub Completes : SessionAnswer → Type 0
+  Completes = SessionOver limit P text (λ stop at. LeftAfter limit stop at left) (WritesAll old new)
 
   -- No further letter could be read. All output for those before was written.
-  pub record Fails (fault : ReadFault) : Type 0 where
-    pub letters : List Message
-    pub at : List ℕ
-    pub read : BeginsWith limit text letters at
-    pub rest : FailedAfter limit fault at left
-    pub output : List Message
-    pub null : Option Message
-    pub answer : SessionAnswer
-    pub part : P letters no_more output null answer
-    pub written : GetsFrames (all_of output null) old new
+  abbrev pub ReadFails : ReadFault → Type 0
+  ReadFails fault = (answer : SessionAnswer) × SessionOver limit P text (λ stop at. (stop ≡ no_more) × FailedAfter limit fault at left) (WritesAll old new) answer
 
   -- A write failed. What was written of the output is all but its last message, and a beginning of that one. No byte after
   -- the message that was read last was taken.
-  pub record WriteFails : Type 0 where
-    pub letters : List Message
-    pub at : List ℕ
-    pub read : BeginsWith limit text letters at
-    pub rest : StopsWithin left (reading_within limit at)
-    pub stop : Stop
-    pub output : List Message
-    pub null : Option Message
-    pub unsent : IsUnsent stop null
-    pub answer : SessionAnswer
-    pub part : P letters stop output null answer
-    pub written : BreaksOffLast (all_of output null) old new
+  abbrev pub WriteFails : Type 0
+  WriteFails = (answer : SessionAnswer) × SessionOver limit P text (λ stop at. StopsWithin left (reading_within limit at))
+      (λ stop output null. IsUnsent stop null × BreaksOffLast (all_of output null) old new) answer
 
   -- An allocation failed. The first messages of the output were written, each whole.
-  pub record RunsOut : Type 0 where
-    pub letters : List Message
-    pub at : List ℕ
-    pub read : BeginsWith limit text letters at
-    pub rest : StopsWithin left (reading_within limit at)
-    pub stop : Stop
-    pub output : List Message
-    pub null : Option Message
-    pub answer : SessionAnswer
-    pub part : P letters stop output null answer
-    pub written : GetsFirst (all_of output null) old new
+  abbrev pub RunsOutOfMemory : Type 0
+  RunsOutOfMemory = (answer : SessionAnswer) × SessionOver limit P text (λ stop at. StopsWithin left (reading_within limit at)) (WritesFirst old new) answer
 
   abbrev pub Gives : Result SessionEnd SessionFault → Type 0
-  Gives (Ok end) = Comes (Ok end)
-  Gives (Err (Protocol fault)) = Comes (Err fault)
-  Gives (Err (Read fault)) = Fails fault
+  Gives (Ok end) = Completes (Ok end)
+  Gives (Err (Protocol fault)) = Completes (Err fault)
+  Gives (Err (Read fault)) = ReadFails fault
   Gives (Err (Write fault)) = IsOutput fault × WriteFails
-  Gives (Err Memory) = RunsOut
+  Gives (Err Memory) = RunsOutOfMemory
 
 -- what a fault prints
 abbrev pub session_fault_text : SessionFault → Option (List ℕ)

@@ -6,6 +6,7 @@ use Rattle.std.proofs.lemmas.List.Elements.{filter_map-append}
 use Rattle.std.specs.Bool.{MatchBool}
 use Rattle.std.specs.List.{FoldsTo, list_all, filter_map}
 use Rattle.std.specs.Prelude.{Result, Ok, Err, if◌then◌else◌}
+use Rattle.std.specs.declared.io.ErrorKind.TheVariants.{Other}
 use mathlib.Core.List.{IsPrefix}
 use Rattle.lsp_message.specs.Letters.{Begins, PassesAll, is_exit}
 use Rattle.lsp_message.specs.Message as plain
@@ -18,7 +19,7 @@ use Rattle.lsp_message.specs.declared.frame.WriteFault.TheVariants.{Output, Memo
 use Rattle.lsp_message.specs.declared.msg.Message.{Message}
 use Rattle.lsp_session.proofs.SessionFacts.{is_no_exit, Facts}
 use Rattle.lsp_session.proofs.SessionGives.{ran_out_answer, ran_out_gives}
-use Rattle.lsp_session.proofs.SpeechStarts.{FoldsTo-split, and-true}
+use Rattle.lsp_session.proofs.Waiting.{FoldsTo-split, and-true}
 use Rattle.lsp_session.proofs.SessionStreams.{NotRefused, whole_first}
 use Rattle.lsp_session.specs.Boxes.{Takes}
 use Rattle.lsp_session.specs.Event.{Event, message, timeout, closed}
@@ -36,7 +37,7 @@ use Rattle.lsp_relay.proofs.Parcels.{ended_begins, ended_more, has_end_closed, h
 use Rattle.lsp_threads.proofs.Passing.{posted, sends_relay}
 use Rattle.lsp_threads.specs.RelayBoxes.{RelaySends, RelayGives, Receiving}
 use Rattle.lsp_relay.specs.Relay.{ended, has_end, Sending}
-use Rattle.lsp_threads.specs.Threads.{EndsSo, FailsAt, Comes, Fails, RunsOut, ThreadsGive, session_end}
+use Rattle.lsp_threads.specs.Threads.{EndsSo, FailsAt, Completes, ReadFails, RunsOutOfMemory, ThreadsGive, session_end}
 use Rattle.lsp_threads.specs.Workers.{HandsOn, WritesAll, WritesTaken, write_fault}
 use Rattle.lsp_relay.specs.declared.ends.Parcel.{Parcel}
 use Rattle.lsp_relay.specs.declared.ends.Parcel.TheVariants as parcel
@@ -182,55 +183,52 @@ module _ (limit : ℕ) where
         → WritesAll (all_of output null) (Unwritten fault) a b → ThreadsGive limit P text a b (session_answer answer end (Some fault))
     broken_gives stop at read part (Output kind) end (whole, last, unwritten, cut, broken) = (
       tt,
-      record {
-        letters = letters;
-        at = at;
-        read = read;
-        stop = stop;
-        output = output;
-        null = null;
-        answer = answer;
-        part = part;
-        written = record { whole = whole; next = last; unwritten = unwritten; cut = cut; got = broken };
-      },
+      (
+        answer,
+        record {
+          letters = letters;
+          at = at;
+          read = read;
+          stop = stop;
+          rest = tt;
+          output = output;
+          null = null;
+          part = part;
+          written = record { whole = whole; next = last; unwritten = unwritten; cut = cut; got = broken };
+        },
+      ),
     )
-    broken_gives stop at read part NoMemory end (whole, last, unwritten, cut, broken) = record {
-      letters = letters;
-      at = at;
-      read = read;
-      stop = stop;
-      output = output;
-      null = null;
-      answer = answer;
-      part = part;
-      written = (whole, last ∷ unwritten, cut, broken);
-    }
+    broken_gives stop at read part NoMemory end (whole, last, unwritten, cut, broken) =
+        (answer, record { letters = letters; at = at; read = read; stop = stop; rest = tt; output = output; null = null; part = part; written = (whole, last ∷ unwritten, cut, broken) })
 
     module _ (written : GetsFrames (all_of output null) a b) where
-      runs_out : (stop : Stop) (at : List ℕ) → BeginsWith limit text letters at → P letters stop output null answer → RunsOut limit P text a b
-      runs_out stop at read part = record {
-        letters = letters;
-        at = at;
-        read = read;
-        stop = stop;
-        output = output;
-        null = null;
-        answer = answer;
-        part = part;
-        written = whole_first (all_of output null) a b written;
-      }
+      runs_out : (stop : Stop) (at : List ℕ) → BeginsWith limit text letters at → P letters stop output null answer → RunsOutOfMemory limit P text a b
+      runs_out stop at read part = (
+        answer,
+        record {
+          letters = letters;
+          at = at;
+          read = read;
+          stop = stop;
+          rest = tt;
+          output = output;
+          null = null;
+          part = part;
+          written = whole_first (all_of output null) a b written;
+        },
+      )
 
-      plain_gives : (given : SessionAnswer) → ran_out given ≡ false → Comes limit P text a b given → ThreadsGive limit P text a b (plain_answer given)
+      plain_gives : (given : SessionAnswer) → ran_out given ≡ false → Completes limit P text a b given → ThreadsGive limit P text a b (plain_answer given)
       plain_gives (Ok end) enough comes = comes
       plain_gives (Err fault) enough comes = rw enough comes
 
-      comes_to : (stop : Stop) (at : List ℕ) → BeginsWith limit text letters at → EndsSo limit stop at → P letters stop output null answer → Comes limit P text a b answer
+      comes_to : (stop : Stop) (at : List ℕ) → BeginsWith limit text letters at → EndsSo limit stop at → P letters stop output null answer → Completes limit P text a b answer
       comes_to stop at read ends part =
-          record { letters = letters; at = at; read = read; stop = stop; ends = ends; output = output; null = null; part = part; written = written }
+          record { letters = letters; at = at; read = read; stop = stop; rest = ends; output = output; null = null; part = part; written = written }
 
-      fails_at : (fault : ReadFault) (at : List ℕ) → BeginsWith limit text letters at → FailsAt limit fault at → P letters no_more output null answer → Fails limit P text a b fault
+      fails_at : (fault : ReadFault) (at : List ℕ) → BeginsWith limit text letters at → FailsAt limit fault at → P letters no_more output null answer → ReadFails limit P text a b fault
       fails_at fault at read ends part =
-          record { letters = letters; at = at; read = read; ends = ends; output = output; null = null; answer = answer; part = part; written = written }
+          (answer, record { letters = letters; at = at; read = read; stop = no_more; rest = (refl, ends); output = output; null = null; part = part; written = written })
 
       -- a letter decided
       decided_gives : (at : List ℕ) → BeginsWith limit text letters at → P letters decided output null answer → Facts decided letters answer
@@ -246,7 +244,7 @@ module _ (limit : ℕ) where
       -- as many were taken as can be counted
       many_gives : (at : List ℕ) → BeginsWith limit text letters at → P letters no_more output null answer → Facts no_more letters answer → (exited : Bool) → exited ≡ false → (read : ReadEnd)
           → ThreadsGive limit P text a b (read_answer answer (session_end false exited read))
-      many_gives at begun part facts exited is read = rw (is, facts.1) (fails_at (Input _) at begun tt part)
+      many_gives at begun part facts exited is read = rw (is, facts.1) (fails_at (Input Other) at begun tt part)
 
       -- no more came: the reader's end counts
       end_gives : (read : ReadEnd) → ReadsTo limit text read letters → P letters no_more output null answer → Facts no_more letters answer

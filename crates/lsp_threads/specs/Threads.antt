@@ -2,14 +2,14 @@
 use Rattle.std.specs.Prelude.{◌≡◌, Bool, true, false, ℕ, List, ◌∷◌, ◌++◌, Option, Some, None, Result, Ok, Err}
 use Rattle.lsp_message.specs.Frame.{reading_within}
 use Rattle.lsp_message.specs.Message.{Message}
-use Rattle.lsp_message.specs.Written.{GetsFrames, GetsFramesAndPart, IsOutput}
+use Rattle.lsp_message.specs.Written.{GetsFramesAndPart, IsOutput}
 use Rattle.lsp_message.specs.declared.frame.ReadFault.{ReadFault}
 use Rattle.lsp_message.specs.declared.frame.ReadFault.TheVariants.{Input, Memory as NoMemoryToRead}
 use Rattle.lsp_session.specs.Session.{SessionAnswer, SessionPart, Stop, decided, no_more}
-use Rattle.lsp_session.specs.SessionBytes.{BeginsWith, all_of, GetsFirst}
+use Rattle.lsp_session.specs.SessionBytes.{all_of, SessionOver, WritesAll, WritesFirst}
 use Rattle.lsp_session.specs.declared.loops.ReadEnd.{ReadEnd}
 use Rattle.lsp_session.specs.declared.loops.ReadEnd.TheVariants.{Exit}
-use Rattle.lsp_session.specs.declared.loops.serving.SessionEnd.{SessionEnd}
+use Rattle.lsp_session.specs.declared.loops.handler.SessionEnd.{SessionEnd}
 use Rattle.lsp_session.specs.declared.loops.stream_session.SessionFault.{SessionFault}
 use Rattle.lsp_session.specs.declared.loops.stream_session.SessionFault.TheVariants.{Protocol, Read, Write, Memory}
 
@@ -33,61 +33,33 @@ FailsAt limit (Input kind) at = Unit {0}
 FailsAt limit NoMemoryToRead at = ⊥
 FailsAt limit fault at = (rest : List ℕ) × (reading_within limit at ≡ record { outcome = Err fault; rest = rest })
 
+-- nothing is said of what is left
+abbrev pub Anywhere : Stop → List ℕ → Type 0
+Anywhere stop at = Unit {0}
+
 module _ (limit : ℕ) (P : SessionPart) (text : List ℕ) (old new : Option (List ℕ)) where
   -- The session came to its end: its letters are the first messages of the text, and all its output was written.
-  pub record Comes (answer : SessionAnswer) : Type 0 where
-    pub letters : List Message
-    pub at : List ℕ
-    pub read : BeginsWith limit text letters at
-    pub stop : Stop
-    pub ends : EndsSo limit stop at
-    pub output : List Message
-    pub null : Option Message
-    pub part : P letters stop output null answer
-    pub written : GetsFrames (all_of output null) old new
+  abbrev pub Completes : SessionAnswer → Type 0
+  Completes = SessionOver limit P text (EndsSo limit) (WritesAll old new)
 
   -- No further letter could be read, and the session asked for one. All output for those before was written.
-  pub record Fails (fault : ReadFault) : Type 0 where
-    pub letters : List Message
-    pub at : List ℕ
-    pub read : BeginsWith limit text letters at
-    pub ends : FailsAt limit fault at
-    pub output : List Message
-    pub null : Option Message
-    pub answer : SessionAnswer
-    pub part : P letters no_more output null answer
-    pub written : GetsFrames (all_of output null) old new
+  abbrev pub ReadFails : ReadFault → Type 0
+  ReadFails fault = (answer : SessionAnswer) × SessionOver limit P text (λ stop at. (stop ≡ no_more) × FailsAt limit fault at) (WritesAll old new) answer
 
   -- A write failed. The output is that of a session over the first messages of the text, and the writer got a beginning of it.
-  pub record WriteFails : Type 0 where
-    pub letters : List Message
-    pub at : List ℕ
-    pub read : BeginsWith limit text letters at
-    pub stop : Stop
-    pub output : List Message
-    pub null : Option Message
-    pub answer : SessionAnswer
-    pub part : P letters stop output null answer
-    pub written : BreaksOffWithin (all_of output null) old new
+  abbrev pub WriteFails : Type 0
+  WriteFails = (answer : SessionAnswer) × SessionOver limit P text Anywhere (λ stop output null. BreaksOffWithin (all_of output null) old new) answer
 
   -- An allocation failed. The writer got frames of the first messages of such an output.
-  pub record RunsOut : Type 0 where
-    pub letters : List Message
-    pub at : List ℕ
-    pub read : BeginsWith limit text letters at
-    pub stop : Stop
-    pub output : List Message
-    pub null : Option Message
-    pub answer : SessionAnswer
-    pub part : P letters stop output null answer
-    pub written : GetsFirst (all_of output null) old new
+  abbrev pub RunsOutOfMemory : Type 0
+  RunsOutOfMemory = (answer : SessionAnswer) × SessionOver limit P text Anywhere (WritesFirst old new) answer
 
   abbrev pub ThreadsGive : Result SessionEnd SessionFault → Type 0
-  ThreadsGive (Ok end) = Comes (Ok end)
-  ThreadsGive (Err (Protocol fault)) = Comes (Err fault)
-  ThreadsGive (Err (Read fault)) = Fails fault
+  ThreadsGive (Ok end) = Completes (Ok end)
+  ThreadsGive (Err (Protocol fault)) = Completes (Err fault)
+  ThreadsGive (Err (Read fault)) = ReadFails fault
   ThreadsGive (Err (Write fault)) = IsOutput fault × WriteFails
-  ThreadsGive (Err Memory) = RunsOut
+  ThreadsGive (Err Memory) = RunsOutOfMemory
 
 -- What ended the messages of a session whose inbox was closed so, and gave an `exit` so: a reader's end counts where the
 -- session came to it. For private clauses.

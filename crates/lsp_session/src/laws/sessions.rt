@@ -3,9 +3,10 @@ ghost use Rattle.serde_json.specs.Data.{Data};
 ghost use Rattle.std.specs.Prelude.{ℕ, List, Option, Result, IfSome};
 ghost use Rattle.lsp_message.specs.Frame.{no_limit};
 ghost use Rattle.lsp_session.specs.Answered.{AnswersRequests};
+ghost use Rattle.lsp_session.specs.HandlerSession.{of_handler};
 ghost use Rattle.lsp_session.specs.Session.{SessionOut};
 ghost use Rattle.lsp_session.specs.SessionBytes.{Gives};
-ghost use Rattle.lsp_session.specs.declared.loops.serving.SessionEnd.{SessionEnd as EndOfSession};
+ghost use Rattle.lsp_session.specs.declared.loops.handler.SessionEnd.{SessionEnd as EndOfSession};
 ghost use Rattle.lsp_session.specs.declared.loops.stream_session.SessionFault.{SessionFault as FaultOfSession};
 
 use crate::loops::{Handler, SessionEnd, SessionFault, session};
@@ -17,7 +18,7 @@ use std::io::{BufRead, Write};
 /// reply, under its id, in order: a fact of each session that was run.
 pub fn session_answers_requests<H: Handler>()
     ensures { (limit : ℕ) (capabilities : Data) (before after : H) (text : List ℕ) (left old new : Option (List ℕ)) (answer : Result EndOfSession FaultOfSession)
-        → Gives limit (SessionOut H.answers H.notes capabilities before after) text left old new answer
+        → Gives limit (SessionOut (of_handler H.answers H.notes capabilities) before after) text left old new answer
         → AnswersRequests limit text left old new answer }
 {}
 
