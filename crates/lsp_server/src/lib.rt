@@ -21,7 +21,7 @@ pub use lsp_message::{
 pub use lsp_peers::{Link, Outcome, Side, Step, World, WorldFault};
 pub use lsp_queue::{Incoming, Outgoing, RegisterFault, ReqQueue};
 pub use lsp_service::{
-    Act, Opener, Said, Server, Speaker, Working, serve_with, session_with, session_with_within,
+    Act, Output, Server, Service, Working, serve_with, session_with, session_with_within,
 };
 pub use lsp_session::{
     CallGate, Event, FrameOutbox, Gate, Handler, Inbox, ListGate, ListInbox, ListOutbox, OpenGate,

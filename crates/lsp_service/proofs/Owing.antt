@@ -11,7 +11,6 @@ use Rattle.lsp_message.specs.Message.{Message, ErrorObject, request, notificatio
 use Rattle.lsp_queue.specs.Queue.{Pending, pending_of, count_of}
 use Rattle.lsp_service.specs.Desk.{Act, tells, asks, replies, cancels, settles, canceled, cancelled_by, cancel_method, cancel_params, Desk, is_spent, sends_request, does, does_all, holds, given, cleared, says, Acts, Works, WorksGiving}
 use Rattle.lsp_service.specs.Law.{one_if, is_request_under, is_reply_under, how_many, held_under}
-use Rattle.lsp_session.specs.Speech.{GivesAll}
 use Rattle.lsp_service.specs.Working.{seen, desk_of}
 use Rattle.lsp_service.specs.declared.desk.Working.{Working}
 
@@ -76,10 +75,10 @@ module _ {P : Type 0} (id : Id) where
   due_acts d [] = refl
   due_acts d (act ∷ acts) = due_acts (does d act) acts ∙ due_act d act
 
--- what was due after some letters: no more than there were requests, and none is lost
-pub record Due (id : Id) (letters output : List Message) (held held' : Pending (Unit {0})) : Type 0 where
-  pub most : how_many (is_reply_under id) output + held_under id held' ≤ held_under id held + how_many (is_request_under id) letters
-  pub least : 1 ≤ held_under id held + how_many (is_request_under id) letters → 1 ≤ how_many (is_reply_under id) output + held_under id held'
+-- What was due after a message: no more than there were requests, and none is lost.
+pub record Due (id : Id) (m : Message) (said : List Message) (held held' : Pending (Unit {0})) : Type 0 where
+  pub most : how_many (is_reply_under id) said + held_under id held' ≤ one_if (is_request_under id m) + held_under id held
+  pub least : 1 ≤ one_if (is_request_under id m) + held_under id held → 1 ≤ how_many (is_reply_under id) said + held_under id held'
 
 -- a server at its desk, as a speaker
 abbrev pub gives : {S P : Type 0} (requested : S → Id → List ℕ → Data → List (Act P) → S → Type 0)
@@ -109,34 +108,17 @@ module _ {S P : Type 0}
       at None same = ap (λ (x : S × Desk P). due id x.1) same
       at (Some payload) did = ap (due id) did.4 ∙ due_acts id (given d i) did.0
 
-  pub due_all : (w w' : Working S P) (letters output : List Message) → (desk_of w.client).said ≡ [] → GivesAll (gives requested notified replied takes_back) w letters output w'
-      → Due id letters output (desk_of w.client).held (desk_of w'.client).held
-  due_all w w' [] output clear all =
-      rw (all.1, all.0) (record { most = omega arith; least = λ some. omega (arith, some) })
-  due_all w w' (m ∷ letters) output clear all =
-      let step = all.3 in
-      let desk : desk_of all.0.client ≡ cleared step.0.1 = ap (λ (x : S × Desk P). x.1) step.3 in
-      let more = due_all all.0 w' letters all.2 (ap (λ (d : Desk P). d.said) desk) all.4 in
-      let one : due id step.0.1 ≡ cond (is_request_under id m) 1 (held_under id (desk_of w.client).held) =
-      (let raw = due_work w.server (desk_of w.client) m step.0 step.1 in
-      let none : how_many (is_reply_under id) (desk_of w.client).said ≡ 0 = ap (how_many (is_reply_under id)) clear in
-      omega (arith, raw, none)) in
-      let kept : held_under id (desk_of all.0.client).held ≡ held_under id step.0.1.held = ap (λ (d : Desk P). held_under id d.held) desk in
-      let sent : how_many (is_reply_under id) output ≡ how_many (is_reply_under id) step.0.1.said + how_many (is_reply_under id) all.2 =
-      ap (how_many (is_reply_under id)) all.5 ∙ how_many-append (is_reply_under id) all.1 all.2 ∙ ap (λ (x : List Message). how_many (is_reply_under id) x + how_many (is_reply_under id) all.2) step.2 in
-      let both = due_more (is_request_under id m) (held_under id (desk_of w.client).held) (held_under id (desk_of all.0.client).held) (held_under id (desk_of w'.client).held)
-      (how_many (is_reply_under id) step.0.1.said) (how_many (is_reply_under id) all.2) (how_many (is_request_under id) letters)
-      (how_many (is_reply_under id) output)
-      (ap (λ n. how_many (is_reply_under id) step.0.1.said + n) kept ∙ one) sent more.most more.least in
+  pub due_one : (w w' : Working S P) (m : Message) (said : List Message) → (desk_of w.client).said ≡ [] → gives requested notified replied takes_back w m said w'
+      → Due id m said (desk_of w.client).held (desk_of w'.client).held
+  due_one w w' m said silent step =
+      let desk : desk_of w'.client ≡ cleared step.0.1 = ap (λ (x : S × Desk P). x.1) step.3 in
+      let raw = due_work w.server (desk_of w.client) m step.0 step.1 in
+      let none : how_many (is_reply_under id) (desk_of w.client).said ≡ 0 = ap (how_many (is_reply_under id)) silent in
+      let kept : held_under id (desk_of w'.client).held ≡ held_under id step.0.1.held = ap (λ (d : Desk P). held_under id d.held) desk in
+      let sent : how_many (is_reply_under id) said ≡ how_many (is_reply_under id) step.0.1.said = ap (how_many (is_reply_under id)) step.2 in
+      let both = counted (is_request_under id m) (how_many (is_reply_under id) said) (held_under id (desk_of w'.client).held) (held_under id (desk_of w.client).held) (omega (arith, raw, none, kept, sent)) in
       record { most = both.0; least = both.1 }
     where
-      due_more : (b : Bool) (h h1 h' r1 r c total : ℕ) → r1 + h1 ≡ cond b 1 h → total ≡ r1 + r → r + h' ≤ h1 + c → (1 ≤ h1 + c → 1 ≤ r + h')
-          → (total + h' ≤ h + (one_if b + c)) × (1 ≤ h + (one_if b + c) → 1 ≤ total + h')
-      due_more true h zero h' r1 r c total one sent most least = (omega (arith, one, sent, most), λ some. omega (arith, one, sent))
-      due_more true h (suc h1) h' r1 r c total one sent most least =
-          let rest : 1 ≤ r + h' = least (omega arith) in (omega (arith, one, sent, most), λ some. omega (arith, sent, rest))
-      due_more false h h1 h' r1 r c total one sent most least = (omega (arith, one, sent, most), λ some. at some r1 refl)
-        where
-          at : 1 ≤ h + (one_if false + c) → (n : ℕ) → r1 ≡ n → 1 ≤ total + h'
-          at some zero e = let rest : 1 ≤ r + h' = least (omega (arith, one, some, e)) in omega (arith, sent, rest)
-          at some (suc n) e = omega (arith, sent, e)
+      counted : (b : Bool) (r h' h : ℕ) → r + h' ≡ cond b 1 h → (r + h' ≤ one_if b + h) × (1 ≤ one_if b + h → 1 ≤ r + h')
+      counted true r h' h e = (omega (arith, e), λ some. omega (arith, e))
+      counted false r h' h e = (omega (arith, e), λ some. omega (arith, e, some))

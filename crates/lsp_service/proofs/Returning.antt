@@ -5,22 +5,20 @@ use Rattle.std.specs.FinMap as map
 use Rattle.std.specs.FinMap.{get-insert, get-remove, get-empty}
 use Rattle.std.specs.Ordering.{eq_by_cmp}
 use Rattle.std.specs.Prelude.{Result, Err, MatchOption, pos, if◌then◌else◌}
+use Rattle.std.specs.List.{list_all}
 use Rattle.std.specs.Prelude.{map as map_list}
 use Rattle.serde_json.specs.Data.{Data}
 use Rattle.lsp_message.specs.Id.{Id, id_cmp, number}
 use Rattle.lsp_message.specs.IdLaws.{id_total, id_decides}
 use Rattle.lsp_message.specs.Message.{Message, ErrorObject, request, notification, response}
 use Rattle.lsp_queue.specs.Queue.{Asked, pending_of, count_of}
-use Rattle.lsp_session.specs.Session.{SessionAnswer, Stop, decided, no_more, timed_out, refused, exhausted, AfterServed}
-use Rattle.lsp_session.specs.declared.lifecycle.SendFault.{SendFault}
+use Rattle.lsp_session.specs.Session.{Exchange, letters_of, sends_of, Stop, is_served}
 use Rattle.lsp_service.specs.Desk.{Act, tells, asks, replies, cancels, settles, canceled, cancelled_by, cancel_method, cancel_params, Desk, is_spent, sends_request, does, does_all, ids_after, unsent, holds, given, says, TakesBack, Acts, Works, OpensSaying}
 use Rattle.lsp_service.specs.Law.{is_reply_under, Sent, Turn, requests_in, request_of, ids_after_all, sent_by, all_sent, kept_under, acts_of, was_given, GivesOwnPayloads, Handed, TakesTurns, IsUnserved, IsWhole, TakesPart}
-use Rattle.lsp_session.specs.Speech.{GivesAll, GivesTo, Speaks}
 use Rattle.lsp_service.specs.Working.{seen, desk_of}
 use Rattle.lsp_service.specs.declared.desk.Working.{Working}
 use Rattle.lsp_service.proofs.Desking.{ids_counted}
 use Rattle.lsp_service.proofs.Owing.{gives}
-use Rattle.lsp_session.proofs.SpeechRuns.{handles_more}
 
 pub requests-append : (xs ys : List Message) → requests_in (xs ++ ys) ≡ requests_in xs ++ requests_in ys
 requests-append [] ys = refl
@@ -368,41 +366,46 @@ module _ {S P : Type 0}
             agrees = rw did.4 (agrees_acts sent _ (given d i) did.0 now);
           }
 
-  -- letters are as many turns
-  record Turned (w w' : Working S P) (letters output : List Message) (sent : List (Sent P)) (before : List (Turn P)) : Type 0 where
-    turns : List (Turn P)
-    letters_are : map_list (λ (turn : Turn P). turn.letter) turns ≡ letters
-    took : TakesTurns requested notified replied takes_back begins (count_of (desk_of w.client).asked) w.server turns w'.server
-    said : requests_in output ≡ map_list request_of (all_sent (count_of (desk_of w.client).asked) (acts_of turns))
-    fits : Fits (count_of (desk_of w.client).asked) sent before turns
+  -- the server is given these messages, and this is sent for each
+  abbrev pub GivesAll : Working S P → List Exchange → Working S P → Type 0
+  GivesAll w [] w' = w' ≡ w
+  GivesAll w (x ∷ xs) w' = (mid : Working S P) × gives_at w x.letter x.said mid × GivesAll mid xs w'
 
-  turn_all : (w w' : Working S P) (letters output : List Message) (sent : List (Sent P)) (before : List (Turn P)) → (desk_of w.client).said ≡ []
-      → Agrees sent before (desk_of w.client).asked → GivesAll gives_at w letters output w' → Turned w w' letters output sent before
-  turn_all w w' [] output sent before silent agrees all = record {
+  -- exchanges are as many turns
+  pub record Turned (w w' : Working S P) (xs : List Exchange) (sent : List (Sent P)) (before : List (Turn P)) : Type 0 where
+    pub turns : List (Turn P)
+    pub letters_are : map_list (λ (turn : Turn P). turn.letter) turns ≡ letters_of xs
+    pub took : TakesTurns requested notified replied takes_back begins (count_of (desk_of w.client).asked) w.server turns w'.server
+    pub said : requests_in (sends_of xs) ≡ map_list request_of (all_sent (count_of (desk_of w.client).asked) (acts_of turns))
+    pub fits : Fits (count_of (desk_of w.client).asked) sent before turns
+
+  turn_all : (w w' : Working S P) (xs : List Exchange) (sent : List (Sent P)) (before : List (Turn P)) → (desk_of w.client).said ≡ []
+      → Agrees sent before (desk_of w.client).asked → GivesAll w xs w' → Turned w w' xs sent before
+  turn_all w w' [] sent before silent agrees all = record {
     turns = [];
     letters_are = refl;
-    took = ap (λ (x : Working S P). x.server) all.0;
-    said = ap requests_in all.1;
+    took = ap (λ (x : Working S P). x.server) all;
+    said = refl;
     fits = tt;
   }
-  turn_all w w' (m ∷ letters) output sent before silent agrees all =
+  turn_all w w' (x ∷ xs) sent before silent agrees all =
       let mid = all.0 in
-      let step = all.3 in
+      let step = all.1 in
       let n = count_of (desk_of w.client).asked in
-      let one = one_turn w.server (desk_of w.client) m step.0 sent before agrees step.1 in
-      let turn : Turn P = record { letter = m; payload = one.payload; acts = one.acts } in
+      let one = one_turn w.server (desk_of w.client) x.letter step.0 sent before agrees step.1 in
+      let turn : Turn P = record { letter = x.letter; payload = one.payload; acts = one.acts } in
       let asked : (desk_of mid.client).asked ≡ step.0.1.asked = ap (λ (x : S × Desk P). x.1.asked) step.3 in
       let server : mid.server ≡ step.0.0 = ap (λ (x : S × Desk P). x.0) step.3 in
       let count : count_of (desk_of mid.client).asked ≡ ids_after_all n one.acts = ap count_of asked ∙ one.count in
-      let rest = turn_all mid w' letters all.2 (sent ++ all_sent n one.acts) (before ++ turn ∷ []) (ap (λ (x : S × Desk P). x.1.said) step.3)
-      (subst (Agrees (sent ++ all_sent n one.acts) (before ++ turn ∷ [])) (sym asked) one.agrees) all.4 in
-      let now : requests_in all.1 ≡ map_list request_of (all_sent n one.acts) =
+      let rest = turn_all mid w' xs (sent ++ all_sent n one.acts) (before ++ turn ∷ []) (ap (λ (x : S × Desk P). x.1.said) step.3)
+      (subst (Agrees (sent ++ all_sent n one.acts) (before ++ turn ∷ [])) (sym asked) one.agrees) all.2 in
+      let now : requests_in x.said ≡ map_list request_of (all_sent n one.acts) =
       ap requests_in step.2 ∙ one.said ∙ ap (λ l. requests_in l ++ map_list request_of (all_sent n one.acts)) silent in
-      let later : requests_in all.2 ≡ map_list request_of (all_sent (ids_after_all n one.acts) (acts_of rest.turns)) =
+      let later : requests_in (sends_of xs) ≡ map_list request_of (all_sent (ids_after_all n one.acts) (acts_of rest.turns)) =
       rest.said ∙ ap (λ k. map_list request_of (all_sent k (acts_of rest.turns))) count in
       record {
         turns = turn ∷ rest.turns;
-        letters_are = ap (λ l. m ∷ l) rest.letters_are;
+        letters_are = ap (λ l. x.letter ∷ l) rest.letters_are;
         took = (
           one.did,
           mid.server,
@@ -410,7 +413,7 @@ module _ {S P : Type 0}
           subst (TakesBack takes_back one.did (unsent n one.acts)) (sym server) one.back,
           subst (λ k. TakesTurns requested notified replied takes_back begins k mid.server rest.turns w'.server) count rest.took,
         );
-        said = ap requests_in all.5 ∙ requests-append all.1 all.2 ∙ (λ i. now i ++ later i)
+        said = requests-append x.said (sends_of xs) ∙ (λ i. now i ++ later i)
             ∙ sym (ap (λ l. map_list request_of l) (sent-append n one.acts (acts_of rest.turns))
             ∙ map-append request_of (all_sent n one.acts) (all_sent (ids_after_all n one.acts) (acts_of rest.turns)));
         fits = (one.fits, subst (λ k. Fits k (sent ++ all_sent n one.acts) (before ++ turn ∷ []) rest.turns) count rest.fits);
@@ -450,84 +453,37 @@ module _ {S P : Type 0}
         silent = ap (λ (x : S × Desk P). x.1.said) opened.3;
       }
 
-  -- of what is given, also a part
-  given_to : (stop : Stop) (w w' : Working S P) (letters output : List Message) → GivesTo gives_at stop w letters output w'
-      → (extra : List Message) × (IsWhole stop → extra ≡ []) × GivesAll gives_at w letters (output ++ extra) w'
-  given_to decided w w' letters output all = ([], (λ whole. refl), rw (append-nil output) all)
-  given_to no_more w w' letters output all = ([], (λ whole. refl), rw (append-nil output) all)
-  given_to timed_out w w' letters output all = ([], (λ whole. refl), rw (append-nil output) all)
-  given_to exhausted w w' letters output all = ([], (λ whole. refl), rw (append-nil output) all)
-  given_to (refused fault) w w' letters output broken =
-      let whole = handles_more gives_at w broken.mid w' broken.earlier broken.before (broken.part ++ broken.unsaid ∷ broken.more) broken.last broken.given broken.gave in
-      (broken.more, (λ whole. absurd whole), rw (broken.cut, broken.sent, append_assoc broken.before (broken.part ++ broken.unsaid ∷ []) broken.more, append_assoc broken.part (broken.unsaid ∷ []) broken.more) whole)
-
-  unserved : (rest : List Message) (stop : Stop) (null : Option Message) (answer : SessionAnswer) → AfterServed rest stop null answer → IsUnserved rest
-  unserved [] stop null answer after = tt
-  unserved (request i method params ∷ rest) stop null answer after = rw after.0 refl
-  unserved (notification method params ∷ rest) stop null answer after = rw after.0 refl
-  unserved (response i outcome ∷ rest) stop null answer after = absurd (cc (after.0))
-
   abbrev Part : List Message → Stop → List Message → Type 0
   Part = TakesPart requested notified replied takes_back begins
 
-  -- the server's part where all that it said to `initialized` was sent
-  pub part_whole : (w mid w' : Working S P) (letters said later : List Message) (stop : Stop) (null : Option Message) (answer : SessionAnswer)
+  -- The server's part: what it said to `initialized`, the messages that it was given, and what came after these.
+  pub part_whole : (w mid after : Working S P) (said : List Message) (xs rest : List Exchange) (stop : Stop) (requests more : List Message)
       → (desk_of w.client).said ≡ [] → (desk_of w.client).asked ≡ (map.empty, 0) → OpensSaying takes_back begins (seen w) said (seen mid)
-      → Speaks gives_at mid w' letters stop later null answer → Part letters stop (requests_in (said ++ later))
-  part_whole w mid w' letters said later stop null answer silent unasked opened speaks =
+      → GivesAll mid xs after → list_all is_served (letters_of xs) ≡ true → IsUnserved (letters_of rest)
+      → requests_in said ++ requests_in (sends_of xs) ≡ requests ++ more → (IsWhole stop → more ≡ []) → Part (letters_of xs ++ letters_of rest) stop requests
+  part_whole w mid after said xs rest stop requests more silent unasked opened given served unserved sent whole =
       let b = began_at w mid said silent unasked opened in
-      let whole = given_to stop mid speaks.after speaks.middle later speaks.given in
-      let t = turn_all mid speaks.after speaks.middle (later ++ whole.0) (all_sent 0 b.begun) [] b.silent b.agrees whole.2 in
-      let first = map_list request_of (all_sent 0 b.begun) in
-      let rest : map_list request_of (all_sent (ids_after_all 0 b.begun) (acts_of t.turns)) ≡ requests_in later ++ requests_in whole.0 =
-      sym (t.said ∙ ap (λ k. map_list request_of (all_sent k (acts_of t.turns))) b.count) ∙ requests-append later whole.0 in
+      let t = turn_all mid after xs (all_sent 0 b.begun) [] b.silent b.agrees given in
+      let later : map_list request_of (all_sent (ids_after_all 0 b.begun) (acts_of t.turns)) ≡ requests_in (sends_of xs) =
+      sym (t.said ∙ ap (λ k. map_list request_of (all_sent k (acts_of t.turns))) b.count) in
       record {
         begun = b.begun;
         turns = t.turns;
-        rest = speaks.rest;
-        cut = speaks.cut ∙ ap (λ l. l ++ speaks.rest) (sym t.letters_are);
-        served = rw t.letters_are speaks.served;
-        ended = unserved speaks.rest stop null answer speaks.end;
+        rest = letters_of rest;
+        cut = ap (λ l. l ++ letters_of rest) (sym t.letters_are);
+        served = rw t.letters_are served;
+        ended = unserved;
         start = w.server;
         did = b.did;
         first = mid.server;
-        last = speaks.after.server;
+        last = after.server;
         began = b.began;
         took_back = b.back;
-        took_turns = subst (λ k. TakesTurns requested notified replied takes_back begins k mid.server t.turns speaks.after.server) b.count t.took;
-        unsaid = requests_in whole.0;
+        took_turns = subst (λ k. TakesTurns requested notified replied takes_back begins k mid.server t.turns after.server) b.count t.took;
+        unsaid = more;
         sent = ap (λ l. map_list request_of l) (sent-append 0 b.begun (acts_of t.turns))
             ∙ map-append request_of (all_sent 0 b.begun) (all_sent (ids_after_all 0 b.begun) (acts_of t.turns))
-            ∙ (λ i. sym b.requests i ++ rest i)
-            ∙ sym (append_assoc (requests_in said) (requests_in later) (requests_in whole.0))
-            ∙ ap (λ l. l ++ requests_in whole.0) (sym (requests-append said later));
-        all = λ is_whole. ap requests_in (whole.1 is_whole);
+            ∙ (λ i. sym b.requests i ++ later i) ∙ sent;
+        all = whole;
         payloads = own_payloads b.begun t.turns (subst (λ k. Fits k (all_sent 0 b.begun) [] t.turns) b.count t.fits);
-      }
-
-  -- and where the outbox refused one of these
-  pub part_broken : (w w' : Working S P) (part more : List Message) (unsaid : Message) (fault : SendFault)
-      → (desk_of w.client).said ≡ [] → (desk_of w.client).asked ≡ (map.empty, 0) → OpensSaying takes_back begins (seen w) (part ++ unsaid ∷ more) (seen w')
-      → Part [] (refused fault) (requests_in (part ++ unsaid ∷ []))
-  part_broken w w' part more unsaid fault silent unasked opened =
-      let b = began_at w w' (part ++ unsaid ∷ more) silent unasked opened in
-      record {
-        begun = b.begun;
-        turns = [];
-        rest = [];
-        cut = refl;
-        served = refl;
-        ended = tt;
-        start = w.server;
-        did = b.did;
-        first = w'.server;
-        last = w'.server;
-        began = b.began;
-        took_back = b.back;
-        took_turns = refl;
-        unsaid = requests_in more;
-        sent = ap (λ l. map_list request_of (all_sent 0 l)) (append-nil b.begun) ∙ sym b.requests
-            ∙ ap requests_in (sym (append_assoc part (unsaid ∷ []) more)) ∙ requests-append (part ++ unsaid ∷ []) more;
-        all = λ is_whole. absurd is_whole;
-        payloads = own_payloads b.begun [] tt;
       }

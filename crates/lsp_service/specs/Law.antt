@@ -1,5 +1,5 @@
 -- What a session of a server does in its user's words (JSON-RPC 2.0, section 5; LSP 3.17, "Server lifecycle"), over its
--- letters, the client's messages that it used, in order, and all that it sent, in order.
+-- exchanges: the client's messages that it used, in order, and what it sent for each.
 use Rattle.serde_json.specs.Data.{Data}
 use Rattle.std.specs.FinMap as map
 use Rattle.std.specs.Ordering.{eq_by_cmp}
@@ -8,12 +8,10 @@ use Rattle.std.specs.List.{list_all}
 use Rattle.lsp_message.specs.Id.{Id, id_cmp, number}
 use Rattle.lsp_message.specs.Message.{Message, ErrorObject, request, notification, response}
 use Rattle.lsp_queue.specs.Queue.{Pending}
-use Rattle.lsp_session.specs.Answered.{RepliesToEach, requests_of}
 use Rattle.lsp_session.specs.Finish.{is_initialized}
-use Rattle.lsp_session.specs.ProtocolError.{Shows, ShowsUnallowed, expected_initialized}
-use Rattle.lsp_session.specs.Replies.{null_reply}
-use Rattle.lsp_session.specs.Session.{SessionAnswer, Stop, decided, no_more, timed_out, refused, exhausted, IsLast, is_initialize, is_served, is_shutdown}
-use Rattle.lsp_session.specs.SessionBytes.{all_of}
+use Rattle.lsp_session.specs.ProtocolError.{ShowsUnallowed}
+use Rattle.lsp_session.specs.Session.{Exchange, letters_of, sends_of, SessionAnswer, Stop, decided, no_more, timed_out, refused, exhausted, is_initialize, is_served}
+use Rattle.lsp_session.specs.SessionLaws.{KeepsOrder}
 use Rattle.lsp_service.specs.Desk.{Act, tells, asks, replies, cancels, is_spent, ids_after, unsent, TakesBack}
 
 abbrev pub one_if : Bool → ℕ
@@ -30,11 +28,6 @@ is_reply_under id (request i method params) = false
 is_reply_under id (notification method params) = false
 is_reply_under id (response i outcome) = eq_by_cmp id_cmp id i
 
-abbrev pub is_reply : Message → Bool
-is_reply (request i method params) = false
-is_reply (notification method params) = false
-is_reply (response i outcome) = true
-
 -- how many of the messages have the property
 abbrev pub how_many : (Message → Bool) → List Message → ℕ
 how_many p [] = 0
@@ -44,18 +37,25 @@ how_many p (m ∷ ms) = one_if (p m) + how_many p ms
 abbrev pub held_under : Id → Pending (Unit {0}) → ℕ
 held_under id held = one_if (is_some (map.get held id))
 
--- The last letter is a request under this id. The lifecycle does not allow it, and it decided: the fault shows it.
-abbrev pub EndsAtRequest : Id → List Message → Stop → SessionAnswer → Type 0
-EndsAtRequest id letters stop answer =
-    ((before : List Message) × (last : Message) × (letters ≡ before ++ last ∷ []) × (is_request_under id last ≡ true))
+-- At no beginning of the session were more replies sent under this id than requests had come under it. Where the outbox refused a
+-- reply, that one counts as sent.
+abbrev pub NeverMore : Id → List Exchange → Type 0
+NeverMore id exchanges =
+    (before : List Exchange) (after : List Exchange) → exchanges ≡ before ++ after
+    → how_many (is_reply_under id) (sends_of before) ≤ how_many (is_request_under id) (letters_of before)
+
+-- The last message is a request under this id. The lifecycle does not allow it, and it decided: the fault shows it.
+abbrev pub EndsAtRequest : Id → List Exchange → Stop → SessionAnswer → Type 0
+EndsAtRequest id exchanges stop answer =
+    ((before : List Exchange) × (last : Exchange) × (exchanges ≡ before ++ last ∷ []) × (is_request_under id last.letter ≡ true))
     × (stop ≡ decided) × IsErrAnd answer ShowsUnallowed
 
 -- A request under this id, which the client used once, has exactly one reply. Or it has none: it is still held, or the session
 -- ended at it, since the lifecycle does not allow it.
-abbrev pub OnceOrEnded : Id → List Message → Stop → List Message → Pending (Unit {0}) → SessionAnswer → Type 0
-OnceOrEnded id letters stop sent held answer =
-    (how_many (is_reply_under id) sent ≡ 1)
-    ⊎ ((how_many (is_reply_under id) sent ≡ 0) × ((held_under id held ≡ 1) ⊎ EndsAtRequest id letters stop answer))
+abbrev pub OnceOrEnded : Id → List Exchange → Stop → Pending (Unit {0}) → SessionAnswer → Type 0
+OnceOrEnded id exchanges stop held answer =
+    (how_many (is_reply_under id) (sends_of exchanges) ≡ 1)
+    ⊎ ((how_many (is_reply_under id) (sends_of exchanges) ≡ 0) × ((held_under id held ≡ 1) ⊎ EndsAtRequest id exchanges stop answer))
 
 -- the outbox refused no message, and memory did not run out
 abbrev pub IsWhole : Stop → Type 0
@@ -64,53 +64,6 @@ IsWhole no_more = Unit {0}
 IsWhole timed_out = Unit {0}
 IsWhole (refused fault) = ⊥
 IsWhole exhausted = ⊥
-
--- The last of these letters is `initialize`, and the last of these messages its result.
-pub record EndsWithResult (letters sent : List Message) : Type 0 where
-  pub before : List Message
-  pub id : Id
-  pub method : List ℕ
-  pub params : Data
-  pub asks : is_initialize (request id method params) ≡ true
-  pub came : letters ≡ before ++ request id method params ∷ []
-  pub replies : List Message
-  pub result : Data
-  pub said : sent ≡ replies ++ response id (Ok result) ∷ []
-
--- `initialized` comes first
-abbrev pub IsInvited : List Message → Type 0
-IsInvited [] = ⊥
-IsInvited (m ∷ rest) = is_initialized m ≡ true
-
--- No letter is left, or the one that decided: it came in the place of `initialized`, and the fault shows it.
-abbrev pub IsUnopened : List Message → Stop → SessionAnswer → Type 0
-IsUnopened [] stop answer = Unit {0}
-IsUnopened (m ∷ rest) stop answer = IsLast rest stop × IsErrAnd answer (Shows expected_initialized)
-
--- First comes one reply to each request up to and with `initialize`, in order, the result of `initialize` last. Anything else follows
--- these replies only where `initialized` is the next letter. Where it is not, no letter is left but the one in its place.
-pub record RepliesFirst (letters : List Message) (stop : Stop) (sent : List Message) (answer : SessionAnswer) : Type 0 where
-  pub early : List Message
-  pub rest : List Message
-  pub came : letters ≡ early ++ rest
-  pub first : List Message
-  pub later : List Message
-  pub cut : sent ≡ first ++ later
-  pub replied : RepliesToEach (requests_of early) first
-  pub opened : (EndsWithResult early first × IsInvited rest) ⊎ ((later ≡ []) × IsUnopened rest stop answer)
-
--- The client sent `initialize`, and then `initialized`. These messages, which were sent, hold the result of `initialize`.
-abbrev pub OpenedBy : List Message → List Message → Type 0
-OpenedBy letters sent =
-    (early : List Message) × (rest : List Message) × (first : List Message) × (later : List Message)
-    × (letters ≡ early ++ rest) × (sent ≡ first ++ later) × EndsWithResult early first × IsInvited rest
-
--- The null that was sent last is the reply to `shutdown`, after which at most one letter came.
-abbrev pub NullLast : List Message → Option Message → Type 0
-NullLast letters null =
-    (n : Message) → null ≡ Some n
-    → (before : List Message) × (ask : Message) × (rest : List Message) × (id : Id)
-    × (letters ≡ before ++ ask ∷ rest) × (is_shutdown ask ≡ true) × (is_request_under id ask ≡ true) × (n ≡ null_reply id) × (length rest ≤ 1)
 
 -- ---- the server's own requests, and what it keeps for their replies
 
@@ -271,11 +224,11 @@ module _ {S P : Type 0}
       × (is_initialize first ≡ true) × (is_initialized second ≡ true) × TakesPart later stop (requests_in output))
 
   -- the laws of a session, in whose end these requests are held
-  pub record KeepsLaws (held : Pending (Unit {0})) (letters : List Message) (stop : Stop) (output : List Message) (null : Option Message) (answer : SessionAnswer) : Type 0 where
-    -- in the whole session the replies under an id are no more than the client's requests under it
-    pub no_other : (id : Id) → how_many (is_reply_under id) (all_of output null) ≤ how_many (is_request_under id) letters
-    pub once : IsWhole stop → (id : Id) → how_many (is_request_under id) letters ≡ 1 → OnceOrEnded id letters stop (all_of output null) held answer
-    pub first : RepliesFirst letters stop (all_of output null) answer
-    pub last : NullLast letters null
+  pub record KeepsLaws (held : Pending (Unit {0})) (exchanges : List Exchange) (stop : Stop) (null : Option Message) (answer : SessionAnswer) : Type 0 where
+    -- under no id are there ever more replies than requests that came before: no reply goes to anything else, and none comes twice
+    pub never_more : (id : Id) → NeverMore id exchanges
+    pub once : IsWhole stop → (id : Id) → how_many (is_request_under id) (letters_of exchanges) ≡ 1 → OnceOrEnded id exchanges stop held answer
+    -- before `initialized` nothing is sent but one reply for each request, and nothing follows the null
+    pub order : KeepsOrder exchanges stop null answer
     -- each reply of the client comes to the server with the payload of its own request, once
-    pub payloads : GivesPayloads letters stop output
+    pub payloads : GivesPayloads (letters_of exchanges) stop (sends_of exchanges)

@@ -1,8 +1,9 @@
 -- A session over a reader and a writer, as its contract says it.
-use Rattle.std.proofs.Common.{◌≡◌, refl, sym, ◌∙◌, ap, inl, inr, ℕ, Bool, true, false, true≢false, List, [], ◌∷◌, ◌++◌, append-nil, Some, None, Option, IfSome}
+use Rattle.std.proofs.Common.{◌≡◌, refl, sym, ◌∙◌, ap, subst, inl, inr, ℕ, Bool, true, false, true≢false, List, [], ◌∷◌, ◌++◌, append-nil, Some, None, Option, IfSome}
 use Rattle.std.proofs.lemmas.List.Elements.{filter_map-append}
 use Rattle.std.specs.List.{FoldsTo, list_all, filter_map}
-use Rattle.std.specs.Prelude.{Ok, Err, MatchOption}
+use Rattle.std.specs.Prelude.{Result, Ok, Err, MatchOption}
+use Rattle.std.specs.declared.io.ErrorKind.{ErrorKind}
 use Rattle.lsp_message.proofs.Contents.{frame_unread}
 use Rattle.lsp_message.specs.Frame.{body_means, reading_within}
 use Rattle.lsp_message.specs.Letters.{Begins}
@@ -14,23 +15,23 @@ use Rattle.lsp_message.specs.declared.frame.ReadFault.TheVariants.{Input, Memory
 use Rattle.lsp_message.specs.declared.frame.WriteFault.{WriteFault}
 use Rattle.lsp_message.specs.declared.frame.WriteFault.TheVariants.{Output, Memory as NoMemory}
 use Rattle.lsp_session.proofs.SessionFacts.{is_no_exit, Facts}
-use Rattle.lsp_session.proofs.SpeechStarts.{FoldsTo-split}
 use Rattle.lsp_session.proofs.SessionStreams.{Brought, brought_open, no_timeout, whole_first, GetsPart, NotRefused, gets_written, gets_keeps}
 use Rattle.lsp_session.proofs.Streaming.{streams_of}
+use Rattle.lsp_session.proofs.Waiting.{FoldsTo-split}
 use Rattle.lsp_session.specs.Event.{Event, closed}
 use Rattle.lsp_session.specs.FrameBoxes.{FrameOutboxSends}
 use Rattle.lsp_session.specs.ProtocolError.{out_of_memory}
-use Rattle.lsp_session.specs.Session.{SessionAnswer, SessionPart, Stop, decided, no_more, timed_out, refused, exhausted}
-use Rattle.lsp_session.specs.SessionBytes.{BeginsWith, all_of, BreaksOffLast, GetsFirst, IsUnsent, LeftUnwritten, FailedAfter, Comes, Fails, WriteFails, RunsOut, Gives}
+use Rattle.lsp_session.specs.Session.{Exchange, letters_of, sends_of, SessionAnswer, SessionPart, Stop, decided, no_more, timed_out, refused, exhausted}
+use Rattle.lsp_session.specs.SessionBytes.{BeginsWith, BreaksOffLast, GetsFirst, IsUnsent, LeftAfter, FailedAfter, LeftUnwritten, Gives}
 use Rattle.lsp_session.specs.SessionFault.{ran_out, came_to_no_more, plain_answer, read_fault, read_answer, session_answer}
-use Rattle.lsp_session.specs.SessionRun.{message_in, is_open, Brings, Runs}
+use Rattle.lsp_session.specs.SessionRun.{message_in, is_open, all_of, Brings, Runs}
 use Rattle.lsp_session.specs.StreamBoxes.{stream_of, StreamInboxGives}
 use Rattle.lsp_session.specs.Streams.{Stream, StreamGives, StreamReads}
 use Rattle.lsp_session.specs.declared.loops.ReadEnd.{ReadEnd}
 use Rattle.lsp_session.specs.declared.loops.ReadEnd.TheVariants.{End, Fault}
 use Rattle.lsp_session.specs.declared.loops.frame_outbox.FrameOutbox.{FrameOutbox}
 use Rattle.lsp_session.specs.declared.loops.stream_inbox.StreamInbox.{StreamInbox}
-use Rattle.lsp_session.specs.declared.loops.stream_session.SessionFault.TheVariants.{Memory}
+use Rattle.lsp_session.specs.declared.loops.stream_session.SessionFault.TheVariants.{Protocol, Read, Write, Memory}
 
 -- the answer of a session in which an allocation failed
 pub ran_out_answer : (answer : SessionAnswer) → ran_out answer ≡ true → answer ≡ Err out_of_memory
@@ -48,101 +49,84 @@ module _ (limit : ℕ) where
   unread_at : (fault : ReadFault) (at : List ℕ) → (reading_within limit at).outcome ≡ Err fault → reading_within limit at ≡ record { outcome = Err fault; rest = (reading_within limit at).rest }
   unread_at fault at is = ap (λ o. record { outcome = o; rest = (reading_within limit at).rest }) is
 
-  module _ (P : SessionPart) (text : List ℕ) (a b : Option (List ℕ))
-      (letters : List Message) (output : List Message) (null : Option Message) where
+  module _ (P : SessionPart) (text : List ℕ) (a b : Option (List ℕ)) (xs : List Exchange) (null : Option Message) where
     -- an allocation failed
-    runs_out : (left : Option (List ℕ)) (stop : Stop) (answer : SessionAnswer) → P letters stop output null answer
-        → (at : List ℕ) × BeginsWith limit text letters at × StopsWithin left (reading_within limit at) → GetsFirst (all_of output null) a b → RunsOut limit P text left a b
-    runs_out left stop answer part read written =
-        record { letters = letters; at = read.0; read = read.1; rest = read.2; stop = stop; output = output; null = null; answer = answer; part = part; written = written }
+    runs_out : (left : Option (List ℕ)) (stop : Stop) (answer : SessionAnswer) → P xs stop null answer
+        → (at : List ℕ) × BeginsWith limit text (letters_of xs) at × StopsWithin left (reading_within limit at) → GetsFirst (sends_of xs) a b → Gives limit P text left a b (Err Memory)
+    runs_out left stop answer part read wrote =
+        record { exchanges = xs; at = read.0; read = read.1; stop = stop; null = null; answer = answer; part = part; ends = read.2; wrote = wrote }
 
     -- a write failed
-    write_fails : (left : Option (List ℕ)) (stop : Stop) (answer : SessionAnswer) → P letters stop output null answer
-        → (at : List ℕ) × BeginsWith limit text letters at × LeftUnwritten limit null at left → IsUnsent stop null → BreaksOffLast (all_of output null) a b → WriteFails limit P text left a b
-    write_fails left stop answer part read unsent written = record {
-      letters = letters;
+    write_fails : (left : Option (List ℕ)) (stop : Stop) (answer : SessionAnswer) (kind : ErrorKind) → P xs stop null answer
+        → (at : List ℕ) × BeginsWith limit text (letters_of xs) at × LeftUnwritten limit null at left → IsUnsent stop null → BreaksOffLast (sends_of xs) a b
+        → Gives limit P text left a b (Err (Write (Output kind)))
+    write_fails left stop answer kind part read unsent wrote = record {
+      exchanges = xs;
       at = read.0;
       read = read.1;
-      rest = read.2;
       stop = stop;
-      output = output;
       null = null;
-      unsent = unsent;
       answer = answer;
       part = part;
-      written = written;
+      ends = read.2;
+      wrote = (tt, unsent, wrote);
     }
 
-    module _ (written : GetsFrames (all_of output null) a b) (new : Stream) (answer : SessionAnswer) where
+    module _ (wrote : GetsFrames (sends_of xs) a b) (new : Stream) where
       -- a session that came to its end
-      plain_gives : (answer : SessionAnswer) → ran_out answer ≡ false → Comes limit P text new.remaining a b answer → Gives limit P text new.remaining a b (plain_answer answer)
-      plain_gives (Ok end) enough comes = comes
-      plain_gives (Err fault) enough comes = rw enough comes
+      plain_gives : (answer : SessionAnswer) (stop : Stop) (at : List ℕ) → ran_out answer ≡ false → P xs stop null answer → BeginsWith limit text (letters_of xs) at
+          → LeftAfter limit stop at new.remaining → Gives limit P text new.remaining a b (plain_answer answer)
+      plain_gives (Ok end) stop at enough part read left =
+          record { exchanges = xs; at = at; read = read; stop = stop; null = null; answer = Ok end; part = part; ends = (refl, left); wrote = wrote }
+      plain_gives (Err fault) stop at enough part read left =
+          rw enough (record { exchanges = xs; at = at; read = read; stop = stop; null = null; answer = Err fault; part = part; ends = (refl, left); wrote = wrote })
 
-      module _ (part : P letters decided output null answer) (facts : Facts decided letters answer) (brought : Brought limit text letters new) where
-        decided_plain : Gives limit P text new.remaining a b (plain_answer answer)
-        decided_plain = plain_gives answer facts.0 (record {
-          letters = letters;
-          at = brought.at;
-          read = brought.read;
-          stop = decided;
-          rest = brought.left;
-          output = output;
-          null = null;
-          part = part;
-          written = written;
-        })
+      module _ (answer : SessionAnswer) where
+        module _ (part : P xs decided null answer) (facts : Facts decided (letters_of xs) answer) (brought : Brought limit text (letters_of xs) new) where
+          decided_plain : Gives limit P text new.remaining a b (plain_answer answer)
+          decided_plain = plain_gives answer decided brought.at facts.0 part brought.read brought.left
 
-        -- a letter decided
-        decided_gives : (goes : Bool) → list_all is_no_exit letters ≡ goes → Gives limit P text new.remaining a b (read_answer answer new.end)
-        decided_gives false exits = rw (brought.end, exits) decided_plain
-        decided_gives true none = at (came_to_no_more answer) refl
-          where
-            at : (c : Bool) → came_to_no_more answer ≡ c → Gives limit P text new.remaining a b (read_answer answer new.end)
-            at false is = rw (brought.end, none, is) decided_plain
-            at true is = absurd (true≢false (sym none ∙ facts.1 is))
+          -- a message decided
+          decided_gives : (goes : Bool) → list_all is_no_exit (letters_of xs) ≡ goes → Gives limit P text new.remaining a b (read_answer answer new.end)
+          decided_gives false exits = rw (brought.end, exits) decided_plain
+          decided_gives true none = at (came_to_no_more answer) refl
+            where
+              at : (c : Bool) → came_to_no_more answer ≡ c → Gives limit P text new.remaining a b (read_answer answer new.end)
+              at false is = rw (brought.end, none, is) decided_plain
+              at true is = absurd (true≢false (sym none ∙ facts.1 is))
 
-      module _ (part : P letters no_more output null answer) (facts : Facts no_more letters answer) where
-        -- as many were taken as can be counted
-        many_gives : Brought limit text letters new → Gives limit P text new.remaining a b (read_answer answer new.end)
-        many_gives brought = rw (brought.end, facts.2, facts.1) (record {
-          letters = letters;
-          at = brought.at;
-          read = brought.read;
-          rest = rw brought.left (frame_unread body_means limit brought.at);
-          output = output;
-          null = null;
-          answer = answer;
-          part = part;
-          written = written;
-        })
-
-        module _ (at : List ℕ) (read : BeginsWith limit text letters at) where
-          fails : (fault : ReadFault) → FailedAfter limit fault at new.remaining → Fails limit P text new.remaining a b fault
-          fails fault rest =
-              record { letters = letters; at = at; read = read; rest = rest; output = output; null = null; answer = answer; part = part; written = written }
-
-          fault_gives : (fault : ReadFault) → Answers (λ (m : Message). m) (Err fault) new.remaining (reading_within limit at) → Gives limit P text new.remaining a b (Err (read_fault fault))
-          fault_gives (Input kind) answers = fails (Input kind) answers
-          fault_gives NoMemoryToRead answers = runs_out new.remaining no_more answer part (at, read, answers) (whole_first (all_of output null) a b written)
-          fault_gives fault answers = fails fault ((reading_within limit at).rest, unread_at fault at answers.0, answers.1)
-
-          -- no more came
-          end_gives : (end : Option ReadEnd) → StreamReads limit (Some at) closed end new.remaining → Gives limit P text new.remaining a b (read_answer answer end)
-          end_gives None reads = absurd reads
-          end_gives (Some End) reads = plain_gives answer facts.0 (record {
-            letters = letters;
-            at = at;
-            read = read;
+        module _ (part : P xs no_more null answer) (facts : Facts no_more (letters_of xs) answer) where
+          -- as many were taken as can be counted
+          many_gives : Brought limit text (letters_of xs) new → Gives limit P text new.remaining a b (read_answer answer new.end)
+          many_gives brought = rw (brought.end, facts.2, facts.1) (record {
+            exchanges = xs;
+            at = brought.at;
+            read = brought.read;
             stop = no_more;
-            rest = ((reading_within limit at).rest, ap (λ o. record { outcome = o; rest = (reading_within limit at).rest }) reads.0.0, reads.0.1);
-            output = output;
             null = null;
+            answer = answer;
             part = part;
-            written = written;
+            ends = (refl, rw brought.left (frame_unread body_means limit brought.at));
+            wrote = wrote;
           })
-          end_gives (Some (Fault fault)) reads = rw facts.0 (fault_gives fault reads.0)
-          end_gives (Some end) reads = absurd reads
+
+          module _ (at : List ℕ) (read : BeginsWith limit text (letters_of xs) at) where
+            fails : (fault : ReadFault) → FailedAfter limit fault at new.remaining → Gives limit P text new.remaining a b (Err (Read fault))
+            fails fault rest =
+                record { exchanges = xs; at = at; read = read; stop = no_more; null = null; answer = answer; part = part; ends = (refl, rest); wrote = wrote }
+
+            fault_gives : (fault : ReadFault) → Answers (λ (m : Message). m) (Err fault) new.remaining (reading_within limit at) → Gives limit P text new.remaining a b (Err (read_fault fault))
+            fault_gives (Input kind) answers = fails (Input kind) answers
+            fault_gives NoMemoryToRead answers = runs_out new.remaining no_more answer part (at, read, answers) (whole_first (sends_of xs) a b wrote)
+            fault_gives fault answers = fails fault ((reading_within limit at).rest, unread_at fault at answers.0, answers.1)
+
+            -- no more came
+            end_gives : (end : Option ReadEnd) → StreamReads limit (Some at) closed end new.remaining → Gives limit P text new.remaining a b (read_answer answer end)
+            end_gives None reads = absurd reads
+            end_gives (Some End) reads = plain_gives answer no_more at facts.0 part read
+                ((reading_within limit at).rest, ap (λ o. record { outcome = o; rest = (reading_within limit at).rest }) reads.0.0, reads.0.1)
+            end_gives (Some (Fault fault)) reads = rw facts.0 (fault_gives fault reads.0)
+            end_gives (Some end) reads = absurd reads
 
   -- the last of several events
   last_event : (earlier : List Event) (event : Event) (old new : Stream) → FoldsTo (StreamGives limit) old (earlier ++ event ∷ []) new
@@ -197,7 +181,7 @@ module _ (limit : ℕ) where
         let after : (reading_within limit parts.0).rest ≡ all.at = ap (λ (r : Reading Message). r.rest) parts.2.1 ∙ parts.2.2 in
         (parts.0, parts.1, ([], rw after all.left))
 
-    -- where a message was not sent, nothing after the last letter was taken, but for what is awaited after the null
+    -- where a message was not sent, nothing after the last one was taken, but for what is awaited after the null
     left_unsent : (letters : List Message) (stop : Stop) (null : Option Message) (answer : SessionAnswer) → Brings events letters stop → Facts stop letters answer → IsUnsent stop null
         → (at : List ℕ) × BeginsWith limit text letters at × LeftUnwritten limit null at new.remaining
     left_unsent letters stop (Some null) answer brought facts unsent = left_within letters stop answer brought facts
@@ -206,71 +190,71 @@ module _ (limit : ℕ) where
     left_unsent letters stop None answer brought facts unsent = absurd unsent
 
   module _ (P : SessionPart)
-      (knows : (letters : List Message) (stop : Stop) (output : List Message) (null : Option Message) (answer : SessionAnswer) → P letters stop output null answer → Facts stop letters answer)
+      (knows : (xs : List Exchange) (stop : Stop) (null : Option Message) (answer : SessionAnswer) → P xs stop null answer → Facts stop (letters_of xs) answer)
       (text : List ℕ) (old new : Stream) (unended : old.end ≡ None) (known : old.remaining ≡ Some text)
-      (events : List Event) (run : FoldsTo (StreamGives limit) old events new) (letters : List Message)
-      (output : List Message) (null : Option Message) (answer : SessionAnswer) (a b : Option (List ℕ)) (written : GetsFrames (all_of output null) a b) where
-    closed_gives : (earlier : List Event) → events ≡ earlier ++ closed ∷ [] → list_all is_open earlier ≡ true → filter_map message_in events ≡ letters → P letters no_more output null answer
+      (events : List Event) (run : FoldsTo (StreamGives limit) old events new) (xs : List Exchange)
+      (null : Option Message) (answer : SessionAnswer) (a b : Option (List ℕ)) (wrote : GetsFrames (sends_of xs) a b) where
+    closed_gives : (earlier : List Event) → events ≡ earlier ++ closed ∷ [] → list_all is_open earlier ≡ true → filter_map message_in events ≡ letters_of xs → P xs no_more null answer
         → Gives limit P text new.remaining a b (read_answer answer new.end)
     closed_gives earlier cut still_open brings part =
-        let facts = knows letters no_more output null answer part in
-        let last = closed_at text old new unended known events run earlier letters cut still_open brings facts.2 in
-        end_gives P text a b letters output null written new answer part facts last.at last.read new.end last.reads
+        let facts = knows xs no_more null answer part in
+        let last = closed_at text old new unended known events run earlier (letters_of xs) cut still_open brings facts.2 in
+        end_gives P text a b xs null wrote new answer part facts last.at last.read new.end last.reads
 
-    open_brought : filter_map message_in events ≡ letters → list_all is_open events ≡ true → Brought limit text letters new
+    open_brought : filter_map message_in events ≡ letters_of xs → list_all is_open events ≡ true → Brought limit text (letters_of xs) new
     open_brought brings still_open = rw brings at (brought_open limit events text old new unended known run still_open)
 
     -- no write failed
-    pub stop_gives : (stop : Stop) → Brings events letters stop → NotRefused stop → P letters stop output null answer → Gives limit P text new.remaining a b (read_answer answer new.end)
+    pub stop_gives : (stop : Stop) → Brings events (letters_of xs) stop → NotRefused stop → P xs stop null answer → Gives limit P text new.remaining a b (read_answer answer new.end)
     stop_gives decided brought taken part =
-        decided_gives P text a b letters output null written new answer part (knows letters decided output null answer part) (open_brought brought.0 brought.1) (list_all is_no_exit letters) refl
+        decided_gives P text a b xs null wrote new answer part (knows xs decided null answer part) (open_brought brought.0 brought.1) (list_all is_no_exit (letters_of xs)) refl
     stop_gives no_more brought taken part = elim brought.1 [
       | inl last ↦ closed_gives last.0 last.1 last.2 brought.0 part
-      | inr many ↦ many_gives P text a b letters output null written new answer part (knows letters no_more output null answer part) (open_brought brought.0 many.1)
+      | inr many ↦ many_gives P text a b xs null wrote new answer part (knows xs no_more null answer part) (open_brought brought.0 many.1)
     ]
     stop_gives timed_out brought taken part = absurd (no_timeout limit brought.1.0 old new (rw brought.1.1 at run))
     stop_gives (refused fault) brought taken part = absurd taken
     stop_gives exhausted brought taken part =
-        let facts = knows letters exhausted output null answer part in
+        let facts = knows xs exhausted null answer part in
         rw (ran_out_answer answer facts, ran_out_gives new.end)
-        (runs_out P text a b letters output null new.remaining exhausted answer part
-        (left_within text old new unended known events run letters exhausted answer brought facts) (whole_first (all_of output null) a b written))
+        (runs_out P text a b xs null new.remaining exhausted answer part
+        (left_within text old new unended known events run (letters_of xs) exhausted answer brought facts) (whole_first (sends_of xs) a b wrote))
 
   module _ {R W : Type 0} (remaining : R → Option (List ℕ)) (contents : W → Option (List ℕ))
       (P : SessionPart)
-      (knows : (letters : List Message) (stop : Stop) (output : List Message) (null : Option Message) (answer : SessionAnswer) → P letters stop output null answer → Facts stop letters answer)
+      (knows : (xs : List Exchange) (stop : Stop) (null : Option Message) (answer : SessionAnswer) → P xs stop null answer → Facts stop (letters_of xs) answer)
       (inbox inbox' : StreamInbox R) (outbox outbox' : FrameOutbox W) (unended : inbox.end ≡ None) (limited : inbox.limit ≡ limit) (unfailed : outbox.fault ≡ None)
       (answer : SessionAnswer) (runs : Runs (StreamInboxGives remaining) (FrameOutboxSends contents) P (inbox, outbox) answer (inbox', outbox')) where
     -- what a session over boxes comes to in bytes
     runs_give : (text : List ℕ) → remaining inbox.reader.now ≡ Some text
         → Gives limit P text (remaining inbox'.reader.now) (contents outbox.writer.now) (contents outbox'.writer.now) (session_answer answer inbox'.end outbox'.fault)
     runs_give text known =
-        at outbox'.fault (gets_written contents outbox outbox' runs.output runs.null unfailed runs.stop runs.got)
+        at outbox'.fault (subst (λ sends. MatchOption outbox'.fault (NotRefused runs.stop × GetsFrames sends (contents outbox.writer.now) (contents outbox'.writer.now))
+        (λ f. IsUnsent runs.stop runs.null × GetsPart f sends (contents outbox.writer.now) (contents outbox'.writer.now))) runs.all (gets_written contents outbox outbox' runs.output runs.null unfailed runs.stop runs.got))
       where
         run : FoldsTo (StreamGives limit) (stream_of remaining inbox) runs.events (stream_of remaining inbox')
         run = (streams_of remaining limit runs.events inbox inbox' limited runs.received).0
 
-        within : (at : List ℕ) × BeginsWith limit text runs.letters at × StopsWithin (remaining inbox'.reader.now) (reading_within limit at)
+        facts : Facts runs.stop (letters_of runs.exchanges) answer
+        facts = knows runs.exchanges runs.stop runs.null answer runs.part
+
+        within : (at : List ℕ) × BeginsWith limit text (letters_of runs.exchanges) at × StopsWithin (remaining inbox'.reader.now) (reading_within limit at)
         within =
-            left_within text (stream_of remaining inbox) (stream_of remaining inbox') unended known runs.events run runs.letters runs.stop answer runs.brought
-            (knows runs.letters runs.stop runs.output runs.null answer runs.part)
+            left_within text (stream_of remaining inbox) (stream_of remaining inbox') unended known runs.events run (letters_of runs.exchanges) runs.stop answer runs.brought facts
 
         at : (fault : Option WriteFault)
-            → MatchOption fault (NotRefused runs.stop × GetsFrames (all_of runs.output runs.null) (contents outbox.writer.now) (contents outbox'.writer.now))
-            (λ f. IsUnsent runs.stop runs.null × GetsPart f (all_of runs.output runs.null) (contents outbox.writer.now) (contents outbox'.writer.now))
+            → MatchOption fault (NotRefused runs.stop × GetsFrames (sends_of runs.exchanges) (contents outbox.writer.now) (contents outbox'.writer.now))
+            (λ f. IsUnsent runs.stop runs.null × GetsPart f (sends_of runs.exchanges) (contents outbox.writer.now) (contents outbox'.writer.now))
             → Gives limit P text (remaining inbox'.reader.now) (contents outbox.writer.now) (contents outbox'.writer.now) (session_answer answer inbox'.end fault)
         at None written =
-            stop_gives P knows text (stream_of remaining inbox) (stream_of remaining inbox') unended known runs.events run runs.letters runs.output runs.null answer
+            stop_gives P knows text (stream_of remaining inbox) (stream_of remaining inbox') unended known runs.events run runs.exchanges runs.null answer
             (contents outbox.writer.now) (contents outbox'.writer.now) written.1 runs.stop runs.brought written.0 runs.part
-        at (Some (Output kind)) unwritten = (
-          tt,
-          write_fails P text (contents outbox.writer.now) (contents outbox'.writer.now) runs.letters runs.output runs.null (remaining inbox'.reader.now) runs.stop answer runs.part
-              (left_unsent text (stream_of remaining inbox) (stream_of remaining inbox') unended known runs.events run runs.letters runs.stop runs.null answer runs.brought
-              (knows runs.letters runs.stop runs.output runs.null answer runs.part) unwritten.0)
-              unwritten.0 unwritten.1,
-        )
+        at (Some (Output kind)) unwritten =
+            write_fails P text (contents outbox.writer.now) (contents outbox'.writer.now) runs.exchanges runs.null (remaining inbox'.reader.now) runs.stop answer kind runs.part
+            (left_unsent text (stream_of remaining inbox) (stream_of remaining inbox') unended known runs.events run (letters_of runs.exchanges) runs.stop runs.null answer runs.brought facts unwritten.0)
+            unwritten.0 unwritten.1
         at (Some NoMemory) unwritten =
-            runs_out P text (contents outbox.writer.now) (contents outbox'.writer.now) runs.letters runs.output runs.null (remaining inbox'.reader.now) runs.stop answer runs.part
+            runs_out P text (contents outbox.writer.now) (contents outbox'.writer.now) runs.exchanges runs.null (remaining inbox'.reader.now) runs.stop answer runs.part
             within unwritten.1
 
     -- the same of the reader and the writer that were lent

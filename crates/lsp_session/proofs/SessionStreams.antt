@@ -18,8 +18,8 @@ use Rattle.lsp_session.specs.Boxes.{Takes}
 use Rattle.lsp_session.specs.Event.{Event, message, timeout, closed}
 use Rattle.lsp_session.specs.FrameBoxes.{FrameOutboxSends, Told, kept_write}
 use Rattle.lsp_session.specs.Session.{Stop, decided, no_more, timed_out, refused, exhausted}
-use Rattle.lsp_session.specs.SessionBytes.{BeginsWith, all_of, BreaksOffLast, GetsFirst, IsUnsent}
-use Rattle.lsp_session.specs.SessionRun.{message_in, is_open, OffersLast, RefusesLast, Gets}
+use Rattle.lsp_session.specs.SessionBytes.{BeginsWith, BreaksOffLast, GetsFirst, IsUnsent}
+use Rattle.lsp_session.specs.SessionRun.{message_in, is_open, all_of, OffersLast, RefusesLast, Gets}
 use Rattle.lsp_session.specs.Streams.{Stream, StreamGives, StreamReads, Reads}
 use Rattle.lsp_session.specs.declared.lifecycle.SendFault.{SendFault}
 use Rattle.lsp_session.specs.declared.lifecycle.SendFault.TheVariants.{Closed as Shut, Memory as Full}

@@ -9,7 +9,7 @@ use Rattle.lsp_message.specs.Written.{GetsFrames}
 use Rattle.lsp_session.specs.ProtocolError.{ProtocolFault, ShowsUnallowed}
 use Rattle.lsp_session.specs.Session.{Stop}
 use Rattle.lsp_session.specs.SessionBytes.{BeginsWith, LeftAfter, FailedAfter}
-use Rattle.lsp_session.specs.declared.loops.serving.SessionEnd.{SessionEnd}
+use Rattle.lsp_session.specs.declared.loops.handler.SessionEnd.{SessionEnd}
 use Rattle.lsp_session.specs.declared.loops.stream_session.SessionFault.{SessionFault}
 use Rattle.lsp_session.specs.declared.loops.stream_session.SessionFault.TheVariants.{Protocol, Read, Write, Memory}
 
@@ -39,7 +39,7 @@ module _ (limit : ℕ) (text : List ℕ) (left old new : Option (List ℕ)) wher
   abbrev pub ReadsNoMore : List ℕ → Type 0
   ReadsNoMore at = (stop : Stop) × LeftAfter limit stop at left
 
-  -- The same but for the last message that was read, a request that the lifecycle does not allow: the fault shows it.
+  -- The same but for the last message that was read, a request that the lifecycle does not allow, as the fault says.
   pub record AnswersAllButLast (fault : ProtocolFault) : Type 0 where
     pub unallowed : ShowsUnallowed fault
     pub before : List Message

@@ -1,136 +1,156 @@
--- A session of a server (LSP 3.17, "Server lifecycle"), over its letters: the messages that it used, in order.
-use Rattle.serde_json.specs.Data.{Data, object, member, no_members}
+-- A session of a server (LSP 3.17, "Server lifecycle"): what is sent for which message, and where a session may stop.
+use Rattle.serde_json.specs.Data.{Data}
 use Rattle.std.specs.Bool.{MatchBool}
-use Rattle.std.specs.List.{AllZip, list_all, filter_map}
-use Rattle.std.specs.Prelude.{◌≡◌, ℕ, Bool, true, false, not, ◌&&◌, List, [], ◌∷◌, ◌++◌, Option, Some, None, Result, Ok, Err, IsErrAnd, codes}
+use Rattle.std.specs.Prelude.{◌≡◌, ◌⊎◌, ℕ, Bool, not, ◌&&◌, List, [], ◌∷◌, ◌++◌, Option, Some, None, Result, Ok, Err}
 use Rattle.lsp_message.specs.Id.{Id}
 use Rattle.lsp_message.specs.Message.{Message, ErrorObject, request, notification, response}
 use Rattle.lsp_message.specs.Methods.{is_early, is_initialized, is_exit}
 pub use Rattle.lsp_message.specs.Methods.{request_id, is_initialize, is_shutdown}
-use Rattle.lsp_session.specs.ProtocolError.{ProtocolFault, disconnected, expected_initialize, expected_initialized, unexpected_in_shutdown, shutdown_timeout, shutdown_disconnected, out_of_memory, Shows, fault_of_refusal}
-use Rattle.lsp_session.specs.Replies.{ok_reply, null_reply, IsEarlyReply}
+use Rattle.lsp_session.specs.ProtocolError.{ProtocolFault, disconnected, expected_initialize, expected_initialized, unexpected_in_shutdown, shutdown_timeout, shutdown_disconnected, out_of_memory, fault_of_refusal}
+use Rattle.lsp_session.specs.Replies.{null_reply, IsEarlyReply}
+use Rattle.lsp_session.specs.Service.{Behavior}
 use Rattle.lsp_session.specs.declared.lifecycle.SendFault.{SendFault}
-use Rattle.lsp_session.specs.declared.loops.serving.SessionEnd.{SessionEnd}
-use Rattle.lsp_session.specs.declared.loops.serving.SessionEnd.TheVariants.{ShutDown, Closed}
+use Rattle.lsp_session.specs.declared.loops.handler.SessionEnd.{SessionEnd}
+use Rattle.lsp_session.specs.declared.loops.handler.SessionEnd.TheVariants.{ShutDown, Closed}
+
+-- A message that came, and what the outbox was offered for it, in order. It took all of that, unless the session stopped there
+-- since the outbox refused the last one, or that one is the null of `shutdown`, which may get lost.
+pub record Exchange : Type 0 where
+  pub letter : Message
+  pub said : List Message
+
+abbrev pub letters_of : List Exchange → List Message
+letters_of [] = []
+letters_of (x ∷ xs) = x.letter ∷ letters_of xs
+
+abbrev pub sends_of : List Exchange → List Message
+sends_of [] = []
+sends_of (x ∷ xs) = x.said ++ sends_of xs
 
 abbrev pub SessionAnswer : Type 0
 SessionAnswer = Result SessionEnd ProtocolFault
 
--- why a session used no further letter
+-- why a session used no further message
 pub data Stop : Type 0 where
-  -- the last letter decided
+  -- the last one decided
   decided : Stop
   -- no more came
   no_more : Stop
   -- nothing came in time
   timed_out : Stop
-  -- the outbox refused the last reply
+  -- the outbox refused the last message that it was offered
   refused : SendFault → Stop
   -- an allocation failed at the message that came next
   exhausted : Stop
 
--- What is said of a session, or of a part of it: its letters, why there is no further one, its output but for the null of
--- `shutdown`, that null, and its answer.
+-- What is said of a session: its exchanges, where it stopped, the null of `shutdown`, which is the last message that is sent, and
+-- its answer. Two things that are said of a session are said of the same exchanges.
 abbrev pub SessionPart : Type 1
-SessionPart = List Message → Stop → List Message → Option Message → SessionAnswer → Type 0
-
--- the result of `initialize`
-abbrev pub initialize_result : Data → Data
-initialize_result capabilities = object (member (codes "capabilities") capabilities no_members)
-
--- no letter comes after the one that decided
-abbrev pub IsLast : List Message → Stop → Type 0
-IsLast rest stop = (rest ≡ []) × (stop ≡ decided)
-
--- the answer where no letter decided
-abbrev pub Undecided : Stop → SessionAnswer → SessionAnswer → Type 0
-Undecided decided at_end answer = ⊥
-Undecided no_more at_end answer = answer ≡ at_end
-Undecided timed_out at_end answer = ⊥
-Undecided (refused fault) at_end answer = answer ≡ Err (fault_of_refusal fault)
-Undecided exhausted at_end answer = answer ≡ Err out_of_memory
-
--- After `shutdown` was answered, `exit` is awaited, and not for ever.
-abbrev pub AfterShutdown : List Message → Stop → SessionAnswer → Type 0
-AfterShutdown [] timed_out answer = answer ≡ Err shutdown_timeout
-AfterShutdown [] (refused fault) answer = ⊥
-AfterShutdown [] stop answer = Undecided stop (Err shutdown_disconnected) answer
-AfterShutdown (m ∷ rest) stop answer =
-    IsLast rest stop × MatchBool (is_exit m) (answer ≡ Ok ShutDown) (IsErrAnd answer (Shows unexpected_in_shutdown))
+SessionPart = List Exchange → Stop → Option Message → SessionAnswer → Type 0
 
 -- neither the request `shutdown` nor the notification `exit`
 abbrev pub is_served : Message → Bool
 is_served m = not (is_shutdown m) && not (is_exit m)
 
--- After the letters that the handler serves, `exit` closes the session, and `shutdown` is answered with null.
-abbrev pub AfterServed : List Message → Stop → Option Message → SessionAnswer → Type 0
-AfterServed [] stop null answer = Undecided stop (Ok Closed) answer × (null ≡ None)
-AfterServed (request i method params ∷ rest) stop null answer =
-    (is_shutdown (request i method params) ≡ true) × (null ≡ Some (null_reply i)) × AfterShutdown rest stop answer
-AfterServed (m ∷ rest) stop null answer = (is_exit m ≡ true) × IsLast rest stop × (null ≡ None) × (answer ≡ Ok Closed)
+-- where a session stands
+pub data Phase : Type 0 where
+  -- no `initialize` got a result yet
+  starting : Phase
+  -- it did, and `initialized` is awaited
+  replied : Phase
+  -- `initialized` came
+  serving : Phase
+  -- `shutdown` came under this id and got its null, and `exit` is awaited
+  asked : Id → Phase
+  -- A message decided, and this is the answer. Before it `shutdown` had got this null, or had not come.
+  ended : Option Message → SessionAnswer → Phase
 
-module _ {H : Type 0} (answers : H → Id → List ℕ → Data → Result Data ErrorObject → H → Type 0) (notes : H → List ℕ → Data → H → Type 0) where
-  -- One letter takes the handler from old to new. A request gets one reply, under its id, and other letters get none.
-  abbrev pub Handles : H → Message → List Message → H → Type 0
-  Handles old (request i method params) replies new =
-      (outcome : Result Data ErrorObject) × answers old i method params outcome new × (replies ≡ response i outcome ∷ [])
-  Handles old (notification method params) replies new = notes old method params new × (replies ≡ [])
-  Handles old (response i outcome) replies new = (new ≡ old) × (replies ≡ [])
+-- the null that `shutdown` got
+abbrev pub null_of : Phase → Option Message
+null_of starting = None
+null_of replied = None
+null_of serving = None
+null_of (asked i) = Some (null_reply i)
+null_of (ended null answer) = null
 
-  -- Letters, in order, take the handler from old to new, with these replies in the same order.
-  abbrev pub HandlesAll : H → List Message → List Message → H → Type 0
-  HandlesAll old [] output new = (new ≡ old) × (output ≡ [])
-  HandlesAll old (m ∷ letters) output new =
-      (mid : H) × (replies : List Message) × (more : List Message)
-      × Handles old m replies mid × HandlesAll mid letters more new × (output ≡ replies ++ more)
+-- where a session stands after `initialize` got this outcome: after an error the client may send it again
+abbrev pub phase_after : Result Data ErrorObject → Phase
+phase_after (Ok result) = replied
+phase_after (Err error) = starting
 
-  -- nothing is written, and the handler isn't called
-  abbrev pub IsSilent : H → H → List Message → Option Message → Type 0
-  IsSilent h h' output null = (h' ≡ h) × (output ≡ []) × (null ≡ None)
+-- nothing is sent, and the session ends with a fault that shows the message
+abbrev pub Fails : (List ℕ → ProtocolFault) → Phase → List Message → Phase → Type 0
+Fails fault phase said next = (shown : List ℕ) × (said ≡ []) × (next ≡ ended (null_of phase) (Err (fault shown)))
 
-  -- What the handler is in the end. Where an allocation failed and no `shutdown` was answered, nothing is said of it: it may have
-  -- been called for the message that came next.
-  abbrev pub IsLeft : Stop → Option Message → H → H → Type 0
-  IsLeft exhausted None after h' = Unit {0}
-  IsLeft stop null after h' = h' ≡ after
+-- `shutdown` is answered with null, and `exit` closes the session
+abbrev pub Leaves : Message → List Message → Phase → Type 0
+Leaves (request i method params) said next = (said ≡ null_reply i ∷ []) × (next ≡ asked i)
+Leaves m said next = (said ≡ []) × (next ≡ ended None (Ok Closed))
 
-  -- From `initialized` on, the handler serves the letters before the first `shutdown` or `exit`.
-  pub record Serves (h h' : H) (letters : List Message) (stop : Stop) (output : List Message) (null : Option Message) (answer : SessionAnswer) : Type 0 where
-    pub middle : List Message
-    pub rest : List Message
-    pub cut : letters ≡ middle ++ rest
-    pub served : list_all is_served middle ≡ true
-    pub after : H
-    pub handled : HandlesAll h middle output after
-    pub left : IsLeft stop null after h'
-    pub end : AfterServed rest stop null answer
+module _ {S : Type 0} (may : Behavior S) where
+  -- In this phase this message comes; this is sent for it; this is the next phase, and the service then. Before `initialize`
+  -- each other request is answered with an error, and a notification but `exit` is dropped.
+  abbrev pub Step : Phase → S → Message → List Message → Phase → S → Type 0
+  Step starting s (request i method params) said next s' =
+      MatchBool (is_initialize (request i method params))
+      ((outcome : Result Data ErrorObject) × may.initializes s params outcome s' × (said ≡ response i outcome ∷ []) × (next ≡ phase_after outcome))
+      ((reply : Message) × IsEarlyReply i reply × (said ≡ reply ∷ []) × (next ≡ starting) × (s' ≡ s))
+  Step starting s m said next s' = MatchBool (is_early m) ((said ≡ []) × (next ≡ starting)) (Fails expected_initialize starting said next) × (s' ≡ s)
+  Step replied s m said next s' =
+      MatchBool (is_initialized m) (may.opens s said s' × (next ≡ serving)) (Fails expected_initialized replied said next × (s' ≡ s))
+  Step serving s m said next s' = MatchBool (is_served m) (may.gives s m said s' × (next ≡ serving)) (Leaves m said next × (s' ≡ s))
+  Step (asked i) s m said next s' =
+      MatchBool (is_exit m) ((said ≡ []) × (next ≡ ended (Some (null_reply i)) (Ok ShutDown))) (Fails unexpected_in_shutdown (asked i) said next) × (s' ≡ s)
+  Step (ended null by) s m said next s' = ⊥
 
-  -- After `initialize` was answered, the next letter is `initialized`.
-  abbrev pub AfterInitialize : H → H → SessionPart
-  AfterInitialize h h' [] stop output null answer = Undecided stop (Err disconnected) answer × IsSilent h h' output null
-  AfterInitialize h h' (m ∷ rest) stop output null answer =
-      MatchBool (is_initialized m) (Serves h h' rest stop output null answer)
-      (IsLast rest stop × IsErrAnd answer (Shows expected_initialized) × IsSilent h h' output null)
+  -- exchanges, one after another
+  abbrev pub Steps : Phase → S → List Exchange → Phase → S → Type 0
+  Steps phase s [] phase' s' = (phase' ≡ phase) × (s' ≡ s)
+  Steps phase s (x ∷ xs) phase' s' = (next : Phase) × (mid : S) × Step phase s x.letter x.said next mid × Steps next mid xs phase' s'
 
-  -- After the early letters, `initialize` is answered with the capabilities, and `exit` or a response ends the session.
-  abbrev pub AfterEarly : Data → H → H → SessionPart
-  AfterEarly capabilities h h' [] stop output null answer = Undecided stop (Err disconnected) answer × IsSilent h h' output null
-  AfterEarly capabilities h h' (request i method params ∷ rest) stop output null answer =
-      (is_initialize (request i method params) ≡ true)
-      × ((later : List Message) × (output ≡ ok_reply i (initialize_result capabilities) ∷ later) × AfterInitialize h h' rest stop later null answer)
-  AfterEarly capabilities h h' (m ∷ rest) stop output null answer =
-      (is_early m ≡ false) × IsLast rest stop × IsErrAnd answer (Shows expected_initialize) × IsSilent h h' output null
+  -- The outbox refused what was offered last, and what was to follow it for the same message was not offered.
+  pub record CutsOff (phase : Phase) (s : S) (exchanges : List Exchange) (phase' : Phase) (s' : S) : Type 0 where
+    pub earlier : List Exchange
+    pub letter : Message
+    pub part : List Message
+    pub unsaid : Message
+    pub more : List Message
+    pub cut : exchanges ≡ earlier ++ record { letter = letter; said = part ++ unsaid ∷ [] } ∷ []
+    pub next : Phase
+    pub mid : S
+    pub steps : Steps phase s earlier next mid
+    pub step : Step next mid letter (part ++ unsaid ∷ more) phase' s'
 
-  -- What a session writes and answers. Before `initialize` each request is answered with an error, and a notification is
-  -- dropped. The null of `shutdown`, which comes last, stands apart: `serve` takes no notice where it can't
-  -- be sent.
-  pub record SessionOut (capabilities : Data) (h h' : H) (letters : List Message) (stop : Stop) (output : List Message) (null : Option Message) (answer : SessionAnswer) : Type 0 where
-    pub before : List Message
-    pub rest : List Message
-    pub cut : letters ≡ before ++ rest
-    pub early : list_all is_early before ≡ true
-    pub replies : List Message
-    pub later : List Message
-    pub written : output ≡ replies ++ later
-    pub each_replied : AllZip IsEarlyReply (filter_map request_id before) replies
-    pub end : AfterEarly capabilities h h' rest stop later null answer
+  abbrev pub Reaches : Stop → Phase → S → List Exchange → Phase → S → Type 0
+  Reaches (refused fault) phase s exchanges phase' s' = CutsOff phase s exchanges phase' s'
+  Reaches stop phase s exchanges phase' s' = Steps phase s exchanges phase' s'
+
+  -- In this phase, with this service, a session may stop so, give this answer, and leave the service as this. That the null is
+  -- refused is no matter. Where an allocation failed, the service may have been called for the message that came next.
+  abbrev pub Stops : Phase → S → Stop → SessionAnswer → S → Type 0
+  Stops (ended null by) s decided answer s' = (answer ≡ by) × (s' ≡ s)
+  Stops (ended null by) s stop answer s' = ⊥
+  Stops phase s decided answer s' = ⊥
+  Stops starting s no_more answer s' = (answer ≡ Err disconnected) × (s' ≡ s)
+  Stops replied s no_more answer s' = (answer ≡ Err disconnected) × (s' ≡ s)
+  Stops serving s no_more answer s' = (answer ≡ Ok Closed) × (s' ≡ s)
+  Stops (asked i) s no_more answer s' = (answer ≡ Err shutdown_disconnected) × (s' ≡ s)
+  Stops (asked i) s timed_out answer s' = (answer ≡ Err shutdown_timeout) × (s' ≡ s)
+  Stops phase s timed_out answer s' = ⊥
+  Stops (asked i) s (refused fault) answer s' = ⊥
+  Stops phase s (refused fault) answer s' = (answer ≡ Err (fault_of_refusal fault)) × (s' ≡ s)
+  Stops (asked i) s exhausted answer s' = (answer ≡ Err out_of_memory) × (s' ≡ s)
+  Stops serving s exhausted answer s' = answer ≡ Err out_of_memory
+  Stops phase s exhausted answer s' = (answer ≡ Err out_of_memory) × ((s' ≡ s) ⊎ may.starves s s')
+
+  -- a session from some phase on
+  pub record SessionFrom (phase : Phase) (s s' : S) (exchanges : List Exchange) (stop : Stop) (null : Option Message) (answer : SessionAnswer) : Type 0 where
+    pub last : Phase
+    pub after : S
+    pub reached : Reaches stop phase s exchanges last after
+    pub null_is : null ≡ null_of last
+    pub stopped : Stops last after stop answer s'
+
+  -- a whole session
+  abbrev pub SessionOut : S → S → SessionPart
+  SessionOut = SessionFrom starting

@@ -1,6 +1,6 @@
 -- A session over a reader and a writer: bytes in to bytes out (LSP 3.17, "Base Protocol" and "Server lifecycle").
 use Rattle.std.specs.List.{FoldsTo}
-use Rattle.std.specs.Prelude.{◌≡◌, ◌⊎◌, ℕ, List, [], ◌∷◌, ◌++◌, Option, Some, None, Result, Ok, Err}
+use Rattle.std.specs.Prelude.{◌≡◌, ℕ, List, [], ◌∷◌, ◌++◌, Option, Some, None, Result, Ok, Err}
 use Rattle.lsp_message.specs.Faults.{read_fault_text, write_fault_text}
 use Rattle.lsp_message.specs.Frame.{Begins, reading_within}
 use Rattle.lsp_message.specs.Message.{Message}
@@ -9,19 +9,14 @@ use Rattle.lsp_message.specs.Written.{GetsFrames, GetsFramesAndPart, IsOutput}
 use Rattle.lsp_message.specs.declared.frame.ReadFault.{ReadFault}
 use Rattle.lsp_message.specs.declared.frame.ReadFault.TheVariants.{Input, Memory as NoMemoryToRead}
 use Rattle.lsp_session.specs.ProtocolError.{fault_text}
-use Rattle.lsp_session.specs.Session.{SessionAnswer, SessionPart, Stop, decided, no_more, refused}
-use Rattle.lsp_session.specs.declared.loops.serving.SessionEnd.{SessionEnd}
+use Rattle.lsp_session.specs.Session.{SessionAnswer, SessionPart, Exchange, letters_of, sends_of, Stop, decided, no_more, refused}
+use Rattle.lsp_session.specs.declared.loops.handler.SessionEnd.{SessionEnd}
 use Rattle.lsp_session.specs.declared.loops.stream_session.SessionFault.{SessionFault}
 use Rattle.lsp_session.specs.declared.loops.stream_session.SessionFault.TheVariants.{Protocol, Read, Write, Memory}
 
 -- these are the first messages of the text, whose content parts have at most so many bytes, and the rest follows them
 abbrev pub BeginsWith : ℕ → List ℕ → List Message → List ℕ → Type 0
 BeginsWith limit = FoldsTo (Begins limit)
-
--- all that a session writes, the null of `shutdown` last
-abbrev pub all_of : List Message → Option Message → List Message
-all_of output None = output
-all_of output (Some null) = output ++ null ∷ []
 
 -- the writer got frames of all but the last of these messages, and a beginning of a frame of that one
 pub record BreaksOffLast (ms : List Message) (old new : Option (List ℕ)) : Type 0 where
@@ -34,89 +29,63 @@ pub record BreaksOffLast (ms : List Message) (old new : Option (List ℕ)) : Typ
 abbrev pub GetsFirst : List Message → Option (List ℕ) → Option (List ℕ) → Type 0
 GetsFirst ms old new = (sent : List Message) × (unsent : List Message) × (ms ≡ sent ++ unsent) × GetsFrames sent old new
 
--- the last message was not sent: a reply, or the null of `shutdown`
+-- the last message was not sent: one that the outbox refused, or the null of `shutdown`
 abbrev pub IsUnsent : Stop → Option Message → Type 0
 IsUnsent stop (Some null) = Unit {0}
 IsUnsent (refused fault) None = Unit {0}
 IsUnsent stop None = ⊥
 
--- What follows the last letter is left, where a letter decided. Where the text ended instead, what follows its end is left: nothing.
--- A session over bytes has no timeout, and its failures stand below.
+-- A session whose messages are the first ones of a text. `Ends` is said of its end and the rest of the text, `Wrote` of what was
+-- written. A session in threads has two tables of its own for this record.
+pub record SessionOver (limit : ℕ) (P : SessionPart) (text : List ℕ)
+    (Ends : SessionAnswer → Stop → Option Message → List ℕ → Type 0) (Wrote : Stop → Option Message → List Message → Type 0) : Type 0 where
+  pub exchanges : List Exchange
+  pub at : List ℕ
+  pub read : BeginsWith limit text (letters_of exchanges) at
+  pub stop : Stop
+  pub null : Option Message
+  pub answer : SessionAnswer
+  pub part : P exchanges stop null answer
+  pub ends : Ends answer stop null at
+  pub wrote : Wrote stop null (sends_of exchanges)
+
+-- What follows the last message is left, where that one decided. Where the text ended instead, what follows its end is left:
+-- nothing. A session over bytes has no timeout, and its failures stand below.
 abbrev pub LeftAfter : ℕ → Stop → List ℕ → Option (List ℕ) → Type 0
 LeftAfter limit decided at left = left ≡ Some at
 LeftAfter limit no_more at left = (rest : List ℕ) × (reading_within limit at ≡ record { outcome = Ok None; rest = rest }) × (left ≡ Some rest)
 LeftAfter limit stop at left = ⊥
 
--- Reading failed after the last letter.
+-- Reading failed after the last message.
 abbrev pub FailedAfter : ℕ → ReadFault → List ℕ → Option (List ℕ) → Type 0
 FailedAfter limit (Input kind) at left = StopsWithin left (reading_within limit at)
 FailedAfter limit NoMemoryToRead at left = ⊥
 FailedAfter limit fault at left = (rest : List ℕ) × (reading_within limit at ≡ record { outcome = Err fault; rest = rest }) × (left ≡ Some rest)
 
--- What is left where a write failed: what follows the last letter. Only after the null, which is not waited for, may more have been taken.
+-- A write failed. No byte after the last message was taken, but perhaps after the null, which is not waited for.
 abbrev pub LeftUnwritten : ℕ → Option Message → List ℕ → Option (List ℕ) → Type 0
 LeftUnwritten limit None at left = left ≡ Some at
 LeftUnwritten limit (Some null) at left = StopsWithin left (reading_within limit at)
 
-module _ (limit : ℕ) (P : SessionPart) (text : List ℕ) (left old new : Option (List ℕ)) where
-  -- The session came to its end: its letters are the first messages of the text, and all its output was written.
-  pub record Comes (answer : SessionAnswer) : Type 0 where
-    pub letters : List Message
-    pub at : List ℕ
-    pub read : BeginsWith limit text letters at
-    pub stop : Stop
-    pub rest : LeftAfter limit stop at left
-    pub output : List Message
-    pub null : Option Message
-    pub part : P letters stop output null answer
-    pub written : GetsFrames (all_of output null) old new
+-- For what a session over bytes answers: the answer by the lifecycle, and what is left of the text, of which `at` follows the last
+-- message that was used.
+abbrev pub Ends : ℕ → Option (List ℕ) → Result SessionEnd SessionFault → SessionAnswer → Stop → Option Message → List ℕ → Type 0
+Ends limit left (Ok end) answer stop null at = (answer ≡ Ok end) × LeftAfter limit stop at left
+Ends limit left (Err (Protocol fault)) answer stop null at = (answer ≡ Err fault) × LeftAfter limit stop at left
+Ends limit left (Err (Read fault)) answer stop null at = (stop ≡ no_more) × FailedAfter limit fault at left
+Ends limit left (Err (Write fault)) answer stop null at = LeftUnwritten limit null at left
+Ends limit left (Err Memory) answer stop null at = StopsWithin left (reading_within limit at)
 
-  -- No further letter could be read. All output for those before was written.
-  pub record Fails (fault : ReadFault) : Type 0 where
-    pub letters : List Message
-    pub at : List ℕ
-    pub read : BeginsWith limit text letters at
-    pub rest : FailedAfter limit fault at left
-    pub output : List Message
-    pub null : Option Message
-    pub answer : SessionAnswer
-    pub part : P letters no_more output null answer
-    pub written : GetsFrames (all_of output null) old new
+-- What the writer got of all that was sent: frames of it; or, where a write failed, frames of all but the last message, which was
+-- not sent, and a beginning of a frame of that one; or, where an allocation failed, frames of the first messages.
+abbrev pub Wrote : Option (List ℕ) → Option (List ℕ) → Result SessionEnd SessionFault → Stop → Option Message → List Message → Type 0
+Wrote old new (Err (Write fault)) stop null sends = IsOutput fault × IsUnsent stop null × BreaksOffLast sends old new
+Wrote old new (Err Memory) stop null sends = GetsFirst sends old new
+Wrote old new result stop null sends = GetsFrames sends old new
 
-  -- A write failed. What was written of the output is all but its last message, and a beginning of that one. Nothing after the
-  -- last letter was taken, but perhaps the next message after the null.
-  pub record WriteFails : Type 0 where
-    pub letters : List Message
-    pub at : List ℕ
-    pub read : BeginsWith limit text letters at
-    pub stop : Stop
-    pub output : List Message
-    pub null : Option Message
-    pub rest : LeftUnwritten limit null at left
-    pub unsent : IsUnsent stop null
-    pub answer : SessionAnswer
-    pub part : P letters stop output null answer
-    pub written : BreaksOffLast (all_of output null) old new
-
-  -- An allocation failed. The first messages of the output were written, each whole.
-  pub record RunsOut : Type 0 where
-    pub letters : List Message
-    pub at : List ℕ
-    pub read : BeginsWith limit text letters at
-    pub rest : StopsWithin left (reading_within limit at)
-    pub stop : Stop
-    pub output : List Message
-    pub null : Option Message
-    pub answer : SessionAnswer
-    pub part : P letters stop output null answer
-    pub written : GetsFirst (all_of output null) old new
-
-  abbrev pub Gives : Result SessionEnd SessionFault → Type 0
-  Gives (Ok end) = Comes (Ok end)
-  Gives (Err (Protocol fault)) = Comes (Err fault)
-  Gives (Err (Read fault)) = Fails fault
-  Gives (Err (Write fault)) = IsOutput fault × WriteFails
-  Gives (Err Memory) = RunsOut
+-- bytes in to bytes out
+abbrev pub Gives : ℕ → SessionPart → List ℕ → Option (List ℕ) → Option (List ℕ) → Option (List ℕ) → Result SessionEnd SessionFault → Type 0
+Gives limit P text left old new result = SessionOver limit P text (Ends limit left result) (Wrote old new result)
 
 -- what a fault prints
 abbrev pub session_fault_text : SessionFault → Option (List ℕ)

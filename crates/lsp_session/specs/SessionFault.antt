@@ -9,8 +9,8 @@ use Rattle.lsp_session.specs.ProtocolError.{ProtocolFault, is_disconnected, is_m
 use Rattle.lsp_session.specs.Session.{SessionAnswer}
 use Rattle.lsp_session.specs.declared.loops.ReadEnd.{ReadEnd}
 use Rattle.lsp_session.specs.declared.loops.ReadEnd.TheVariants.{Fault}
-use Rattle.lsp_session.specs.declared.loops.serving.SessionEnd.{SessionEnd}
-use Rattle.lsp_session.specs.declared.loops.serving.SessionEnd.TheVariants.{ShutDown, Closed}
+use Rattle.lsp_session.specs.declared.loops.handler.SessionEnd.{SessionEnd}
+use Rattle.lsp_session.specs.declared.loops.handler.SessionEnd.TheVariants.{ShutDown, Closed}
 use Rattle.lsp_session.specs.declared.loops.stream_session.SessionFault.{SessionFault}
 use Rattle.lsp_session.specs.declared.loops.stream_session.SessionFault.TheVariants.{Protocol, Read, Write, Memory}
 

@@ -1,10 +1,10 @@
--- A session over boxes: what was received are its letters, and what the outbox got is its output.
+-- A session over boxes: what was received are the messages of its exchanges, and what the outbox got is all that it sent.
 use Rattle.std.specs.List.{FoldsTo, list_all, filter_map}
 use Rattle.std.specs.Prelude.{◌≡◌, ◌≤◌, ◌-◌, ◌^◌, ◌⊎◌, Bool, true, false, List, [], ◌∷◌, ◌++◌, length, Option, Some, None, Err}
 use Rattle.lsp_message.specs.Message.{Message}
 use Rattle.lsp_session.specs.Boxes.{Sends, Receives, Offers, Takes}
 use Rattle.lsp_session.specs.Event.{Event, message, timeout, closed}
-use Rattle.lsp_session.specs.Session.{SessionAnswer, SessionPart, is_shutdown, Stop, decided, no_more, timed_out, refused, exhausted}
+use Rattle.lsp_session.specs.Session.{SessionAnswer, SessionPart, Exchange, letters_of, sends_of, is_shutdown, Stop, decided, no_more, timed_out, refused, exhausted}
 use Rattle.lsp_session.specs.declared.lifecycle.SendFault.{SendFault}
 
 -- the message that an event brings
@@ -37,6 +37,11 @@ abbrev pub AwaitsExit : List Event → Option Message → Type 0
 AwaitsExit events None = Unit {0}
 AwaitsExit events (Some null) = (earlier : List Event) × (m : Message) × (last : Event) × (events ≡ earlier ++ message m ∷ last ∷ []) × (is_shutdown m ≡ true)
 
+-- all that a session sends, the null of `shutdown` last
+abbrev pub all_of : List Message → Option Message → List Message
+all_of output None = output
+all_of output (Some null) = output ++ null ∷ []
+
 module _ {O : Type 0} (sends : Sends O) where
   -- the null, where there is one, is offered, whatever the outbox answers
   abbrev pub OffersLast : O → Option Message → O → Type 0
@@ -59,14 +64,15 @@ module _ {I O : Type 0} (receives : Receives I) (sends : Sends O) where
   pub record RunsAwaiting (Awaits : List Event → Option Message → Type 0) (P : SessionPart) (old : I × O) (answer : SessionAnswer) (new : I × O) : Type 0 where
     pub events : List Event
     pub received : FoldsTo receives old.0 events new.0
-    pub letters : List Message
+    pub exchanges : List Exchange
     pub stop : Stop
-    pub brought : Brings events letters stop
+    pub brought : Brings events (letters_of exchanges) stop
     pub output : List Message
     pub null : Option Message
+    pub all : all_of output null ≡ sends_of exchanges
     pub awaited : Awaits events null
     pub got : Gets sends old.1 output null stop new.1
-    pub part : P letters stop output null answer
+    pub part : P exchanges stop null answer
 
   -- the same of a whole session, or of its part from some message on
   abbrev pub Runs : SessionPart → I × O → SessionAnswer → I × O → Type 0

@@ -3,6 +3,7 @@ use Rattle.std.specs.Bool.{MatchBool}
 use Rattle.std.specs.Prelude.{◌≡◌, ◌⊎◌, ℕ, List, Bool, true, false, Result, Ok, Err, IsErrAnd, codes}
 use Rattle.std.specs.Str.{bytes_eq}
 use Rattle.lsp_message.specs.Id.{Id}
+use Rattle.lsp_message.specs.Message.{Message, request}
 use Rattle.lsp_message.specs.Methods.{is_exit}
 use Rattle.lsp_session.specs.Boxes.{Sends, Receives, Offers}
 use Rattle.lsp_session.specs.Event.{Event, message, timeout, closed}
@@ -36,3 +37,8 @@ module _ {I O : Type 0} (receives : Receives I) (sends : Sends O) where
       MatchBool (bytes_eq method (codes "shutdown"))
       (OffersNull id old answer new ⊎ ((answer ≡ Err out_of_memory) × (new ≡ old)))
       ((answer ≡ Ok false) × (new ≡ old))
+
+  -- the same of any message, of which only a request can be `shutdown`
+  abbrev pub ShutsDownAt : Message → I × O → ShutdownAnswer → I × O → Type 0
+  ShutsDownAt (request i method params) old answer new = ShutsDown i method old answer new
+  ShutsDownAt m old answer new = (answer ≡ Ok false) × (new ≡ old)

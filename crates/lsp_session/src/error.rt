@@ -65,6 +65,15 @@ impl From<SendFault> for ProtocolError {
     }
 }
 
+impl From<AllocError> for ProtocolError {
+    ghost from_gives = { λ _ error. error ≡ out_of_memory };
+
+    /// The error `out of memory`.
+    fn from(_failed: AllocError) -> ProtocolError {
+        ProtocolError::out_of_memory()
+    }
+}
+
 impl ProtocolError {
     ghost use Rattle.lsp_session.specs.ProtocolError.{is_disconnected, is_memory};
 

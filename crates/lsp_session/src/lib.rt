@@ -13,7 +13,7 @@ pub use lifecycle::{
     finish, finish_within, is_exit, shutdown, start_within, wait_within,
 };
 pub use loops::{
-    FrameOutbox, Handler, Opener, ReadEnd, Said, SessionEnd, SessionFault, Speaker, StreamInbox,
-    WriteEnd, initialize_result, read_loop, read_loop_within, serve, serve_with, session,
-    session_answer, session_with, session_with_within, session_within, speak, write_loop,
+    FrameOutbox, Handler, HandlerService, Output, ReadEnd, Service, SessionEnd, SessionFault,
+    StreamInbox, WriteEnd, initialize_result, read_loop, read_loop_within, serve, serve_with,
+    session, session_answer, session_with, session_with_within, session_within, write_loop,
 };

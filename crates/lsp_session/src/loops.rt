@@ -10,17 +10,20 @@ use lsp_message::{Message, ReadFault};
 use std::alloc::Global;
 use std::io::{BufRead, ErrorKind};
 
-mod answering;
+mod engine;
 mod frame_outbox;
-mod serving;
-mod speaking;
+mod handler;
+mod handler_service;
+mod service;
 mod stream_inbox;
 mod stream_session;
 mod write;
 
+pub use engine::serve_with;
 pub use frame_outbox::FrameOutbox;
-pub use serving::{Handler, SessionEnd, initialize_result, serve};
-pub use speaking::{Opener, Said, Speaker, serve_with, speak};
+pub use handler::{Handler, SessionEnd, initialize_result, serve};
+pub use handler_service::HandlerService;
+pub use service::{Output, Service};
 pub use stream_inbox::StreamInbox;
 pub use stream_session::{
     SessionFault, session, session_answer, session_with, session_with_within, session_within,

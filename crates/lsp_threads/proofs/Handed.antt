@@ -6,7 +6,7 @@ use Rattle.lsp_message.specs.Message as plain
 use Rattle.lsp_message.specs.View.{message_view}
 use Rattle.lsp_message.specs.declared.frame.ReadFault.TheVariants.{Input, Memory as NoMemory}
 use Rattle.lsp_message.specs.declared.msg.Message.{Message}
-use Rattle.lsp_session.proofs.SpeechStarts.{FoldsTo-split}
+use Rattle.lsp_session.proofs.Waiting.{FoldsTo-split}
 use Rattle.lsp_session.specs.Boxes.{Takes}
 use Rattle.lsp_session.specs.ReadLoop.{Hands}
 use Rattle.lsp_session.specs.declared.loops.ReadEnd.{ReadEnd}

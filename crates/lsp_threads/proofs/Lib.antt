@@ -3,3 +3,4 @@ pub mod Handed
 pub mod Passing
 pub mod Pumped
 pub mod Sessions
+pub mod ThreadsAs

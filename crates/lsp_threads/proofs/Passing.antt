@@ -11,7 +11,7 @@ use Rattle.lsp_message.specs.Written.{AreFramesOf, GetsFrames}
 use Rattle.lsp_message.specs.declared.frame.WriteFault.{WriteFault}
 use Rattle.lsp_message.specs.declared.frame.WriteFault.TheVariants.{Output, Memory}
 use Rattle.lsp_message.specs.declared.msg.Message.{Message}
-use Rattle.lsp_session.proofs.SpeechStarts.{FoldsTo-split}
+use Rattle.lsp_session.proofs.Waiting.{FoldsTo-split}
 use Rattle.lsp_session.specs.Boxes.{Takes, WaitsFor, is_timeout}
 use Rattle.lsp_session.specs.Event.{Event, message, timeout, closed}
 use Rattle.lsp_session.specs.WriteLoop.{BreaksOffAt, OffersAll, WritesOut}

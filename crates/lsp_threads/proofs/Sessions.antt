@@ -6,6 +6,7 @@ use Rattle.std.proofs.lemmas.List.Elements.{filter_map-append}
 use Rattle.std.specs.Bool.{MatchBool}
 use Rattle.std.specs.List.{FoldsTo, list_all, filter_map}
 use Rattle.std.specs.Prelude.{Result, Ok, Err, if◌then◌else◌}
+use Rattle.std.specs.declared.io.ErrorKind.TheVariants.{Other}
 use mathlib.Core.List.{IsPrefix}
 use Rattle.lsp_message.specs.Letters.{Begins, PassesAll, is_exit}
 use Rattle.lsp_message.specs.Message as plain
@@ -18,14 +19,14 @@ use Rattle.lsp_message.specs.declared.frame.WriteFault.TheVariants.{Output, Memo
 use Rattle.lsp_message.specs.declared.msg.Message.{Message}
 use Rattle.lsp_session.proofs.SessionFacts.{is_no_exit, Facts}
 use Rattle.lsp_session.proofs.SessionGives.{ran_out_answer, ran_out_gives}
-use Rattle.lsp_session.proofs.SpeechStarts.{FoldsTo-split, and-true}
+use Rattle.lsp_session.proofs.Waiting.{FoldsTo-split, and-true}
 use Rattle.lsp_session.proofs.SessionStreams.{NotRefused, whole_first}
 use Rattle.lsp_session.specs.Boxes.{Takes}
 use Rattle.lsp_session.specs.Event.{Event, message, timeout, closed}
-use Rattle.lsp_session.specs.Session.{SessionAnswer, Stop, decided, no_more, timed_out, refused, exhausted}
-use Rattle.lsp_session.specs.SessionBytes.{BeginsWith, all_of}
+use Rattle.lsp_session.specs.Session.{Exchange, letters_of, sends_of, SessionAnswer, SessionPart, Stop, decided, no_more, timed_out, refused, exhausted}
+use Rattle.lsp_session.specs.SessionBytes.{BeginsWith}
 use Rattle.lsp_session.specs.SessionFault.{ran_out, came_to_no_more, plain_answer, read_answer, session_answer}
-use Rattle.lsp_session.specs.SessionRun.{message_in, is_open, Brings, OffersLast, Gets, Runs}
+use Rattle.lsp_session.specs.SessionRun.{message_in, is_open, all_of, Brings, OffersLast, Gets, Runs}
 use Rattle.lsp_session.specs.declared.lifecycle.SendFault.{SendFault}
 use Rattle.lsp_session.specs.declared.loops.ReadEnd.{ReadEnd}
 use Rattle.lsp_session.specs.declared.loops.ReadEnd.TheVariants.{Exit, End, Fault, Closed, Memory}
@@ -36,7 +37,8 @@ use Rattle.lsp_relay.proofs.Parcels.{ended_begins, ended_more, has_end_closed, h
 use Rattle.lsp_threads.proofs.Passing.{posted, sends_relay}
 use Rattle.lsp_threads.specs.RelayBoxes.{RelaySends, RelayGives, Receiving}
 use Rattle.lsp_relay.specs.Relay.{ended, has_end, Sending}
-use Rattle.lsp_threads.specs.Threads.{EndsSo, FailsAt, Comes, Fails, RunsOut, ThreadsGive, session_end}
+use Rattle.lsp_session.specs.declared.loops.stream_session.SessionFault.TheVariants.{Read, Memory as NoRoom}
+use Rattle.lsp_threads.specs.Threads.{EndsSo, FailsAt, ThreadsGive, session_end}
 use Rattle.lsp_threads.specs.Workers.{HandsOn, WritesAll, WritesTaken, write_fault}
 use Rattle.lsp_relay.specs.declared.ends.Parcel.{Parcel}
 use Rattle.lsp_relay.specs.declared.ends.Parcel.TheVariants as parcel
@@ -175,81 +177,58 @@ module _ (limit : ℕ) where
       let all = reads_begin text end ms reads in
       let parts = FoldsTo-split (Begins limit) letters more text all.0 (subst (λ l. BeginsWith limit text l all.0) cut all.1) in (parts.0, parts.1)
 
-  module _ (P : List plain.Message → Stop → List plain.Message → Option plain.Message → SessionAnswer → Type 0) (text : List ℕ) (a b : Option (List ℕ))
-      (letters output : List plain.Message) (null : Option plain.Message) (answer : SessionAnswer) where
+  module _ (P : SessionPart) (text : List ℕ) (a b : Option (List ℕ)) (es : List Exchange) (null : Option plain.Message) (answer : SessionAnswer) where
     -- a write failed
-    broken_gives : (stop : Stop) (at : List ℕ) → BeginsWith limit text letters at → P letters stop output null answer → (fault : WriteFault) (end : Option ReadEnd)
-        → WritesAll (all_of output null) (Unwritten fault) a b → ThreadsGive limit P text a b (session_answer answer end (Some fault))
-    broken_gives stop at read part (Output kind) end (whole, last, unwritten, cut, broken) = (
-      tt,
-      record {
-        letters = letters;
-        at = at;
-        read = read;
-        stop = stop;
-        output = output;
-        null = null;
-        answer = answer;
-        part = part;
-        written = record { whole = whole; next = last; unwritten = unwritten; cut = cut; got = broken };
-      },
-    )
-    broken_gives stop at read part NoMemory end (whole, last, unwritten, cut, broken) = record {
-      letters = letters;
+    broken_gives : (stop : Stop) (at : List ℕ) → BeginsWith limit text (letters_of es) at → P es stop null answer → (fault : WriteFault) (end : Option ReadEnd)
+        → WritesAll (sends_of es) (Unwritten fault) a b → ThreadsGive limit P text a b (session_answer answer end (Some fault))
+    broken_gives stop at read part (Output kind) end (whole, last, unwritten, cut, broken) = record {
+      exchanges = es;
       at = at;
       read = read;
       stop = stop;
-      output = output;
       null = null;
       answer = answer;
       part = part;
-      written = (whole, last ∷ unwritten, cut, broken);
+      ends = tt;
+      wrote = (tt, record { whole = whole; next = last; unwritten = unwritten; cut = cut; got = broken });
     }
+    broken_gives stop at read part NoMemory end (whole, last, unwritten, cut, broken) =
+        record { exchanges = es; at = at; read = read; stop = stop; null = null; answer = answer; part = part; ends = tt; wrote = (whole, last ∷ unwritten, cut, broken) }
 
-    module _ (written : GetsFrames (all_of output null) a b) where
-      runs_out : (stop : Stop) (at : List ℕ) → BeginsWith limit text letters at → P letters stop output null answer → RunsOut limit P text a b
-      runs_out stop at read part = record {
-        letters = letters;
-        at = at;
-        read = read;
-        stop = stop;
-        output = output;
-        null = null;
-        answer = answer;
-        part = part;
-        written = whole_first (all_of output null) a b written;
-      }
+    module _ (wrote : GetsFrames (sends_of es) a b) where
+      runs_out : (stop : Stop) (at : List ℕ) → BeginsWith limit text (letters_of es) at → P es stop null answer → ThreadsGive limit P text a b (Err NoRoom)
+      runs_out stop at read part =
+          record { exchanges = es; at = at; read = read; stop = stop; null = null; answer = answer; part = part; ends = tt; wrote = whole_first (sends_of es) a b wrote }
 
-      plain_gives : (given : SessionAnswer) → ran_out given ≡ false → Comes limit P text a b given → ThreadsGive limit P text a b (plain_answer given)
-      plain_gives (Ok end) enough comes = comes
-      plain_gives (Err fault) enough comes = rw enough comes
+      plain_gives : (given : SessionAnswer) → given ≡ answer → ran_out given ≡ false → (stop : Stop) (at : List ℕ) → BeginsWith limit text (letters_of es) at → EndsSo limit stop at
+          → P es stop null answer → ThreadsGive limit P text a b (plain_answer given)
+      plain_gives (Ok end) same enough stop at read ends part =
+          record { exchanges = es; at = at; read = read; stop = stop; null = null; answer = answer; part = part; ends = (sym same, ends); wrote = wrote }
+      plain_gives (Err fault) same enough stop at read ends part =
+          rw enough (record { exchanges = es; at = at; read = read; stop = stop; null = null; answer = answer; part = part; ends = (sym same, ends); wrote = wrote })
 
-      comes_to : (stop : Stop) (at : List ℕ) → BeginsWith limit text letters at → EndsSo limit stop at → P letters stop output null answer → Comes limit P text a b answer
-      comes_to stop at read ends part =
-          record { letters = letters; at = at; read = read; stop = stop; ends = ends; output = output; null = null; part = part; written = written }
-
-      fails_at : (fault : ReadFault) (at : List ℕ) → BeginsWith limit text letters at → FailsAt limit fault at → P letters no_more output null answer → Fails limit P text a b fault
+      fails_at : (fault : ReadFault) (at : List ℕ) → BeginsWith limit text (letters_of es) at → FailsAt limit fault at → P es no_more null answer → ThreadsGive limit P text a b (Err (Read fault))
       fails_at fault at read ends part =
-          record { letters = letters; at = at; read = read; ends = ends; output = output; null = null; answer = answer; part = part; written = written }
+          record { exchanges = es; at = at; read = read; stop = no_more; null = null; answer = answer; part = part; ends = (refl, ends); wrote = wrote }
 
       -- a letter decided
-      decided_gives : (at : List ℕ) → BeginsWith limit text letters at → P letters decided output null answer → Facts decided letters answer
-          → (goes : Bool) → list_all is_no_exit letters ≡ goes → (exited : Bool) → exited ≡ (if goes then false else true) → (read : ReadEnd)
+      decided_gives : (at : List ℕ) → BeginsWith limit text (letters_of es) at → P es decided null answer → Facts decided (letters_of es) answer
+          → (goes : Bool) → list_all is_no_exit (letters_of es) ≡ goes → (exited : Bool) → exited ≡ (if goes then false else true) → (read : ReadEnd)
           → ThreadsGive limit P text a b (read_answer answer (session_end false exited read))
-      decided_gives at begun part facts false exits exited is read = rw is (plain_gives answer facts.0 (comes_to decided at begun tt part))
+      decided_gives at begun part facts false exits exited is read = rw is (plain_gives answer refl facts.0 decided at begun tt part)
       decided_gives at begun part facts true none exited is read = pick (came_to_no_more answer) refl
         where
           pick : (c : Bool) → came_to_no_more answer ≡ c → ThreadsGive limit P text a b (read_answer answer (session_end false exited read))
-          pick false more = rw (is, more) (plain_gives answer facts.0 (comes_to decided at begun tt part))
+          pick false more = rw (is, more) (plain_gives answer refl facts.0 decided at begun tt part)
           pick true more = absurd (true≢false (sym none ∙ facts.1 more))
 
       -- as many were taken as can be counted
-      many_gives : (at : List ℕ) → BeginsWith limit text letters at → P letters no_more output null answer → Facts no_more letters answer → (exited : Bool) → exited ≡ false → (read : ReadEnd)
+      many_gives : (at : List ℕ) → BeginsWith limit text (letters_of es) at → P es no_more null answer → Facts no_more (letters_of es) answer → (exited : Bool) → exited ≡ false → (read : ReadEnd)
           → ThreadsGive limit P text a b (read_answer answer (session_end false exited read))
-      many_gives at begun part facts exited is read = rw (is, facts.1) (fails_at (Input _) at begun tt part)
+      many_gives at begun part facts exited is read = rw (is, facts.1) (fails_at (Input Other) at begun tt part)
 
       -- no more came: the reader's end counts
-      end_gives : (read : ReadEnd) → ReadsTo limit text read letters → P letters no_more output null answer → Facts no_more letters answer
+      end_gives : (read : ReadEnd) → ReadsTo limit text read (letters_of es) → P es no_more null answer → Facts no_more (letters_of es) answer
           → ThreadsGive limit P text a b (read_answer answer (Some read))
       end_gives Exit (rest, (before, last, at, cut, passed, begins, exits)) part facts =
           absurd (no_exit_last before last (rw cut at facts.2) exits)
@@ -257,10 +236,10 @@ module _ (limit : ℕ) where
           no_exit_last : (before : List plain.Message) (last : plain.Message) → list_all is_no_exit (before ++ last ∷ []) ≡ true → is_exit last ≡ true → ⊥
           no_exit_last [] last all exits = cc (rw exits at all)
           no_exit_last (m ∷ ms) last all exits = no_exit_last ms last (and-true (is_no_exit m) (list_all is_no_exit (ms ++ last ∷ [])) all).1 exits
-      end_gives End (rest, (at, passed, end)) part facts = plain_gives answer facts.0 (comes_to no_more at (passes_begin letters text at passed) (rest, end) part)
-      end_gives (Fault (Input kind)) (at, passed) part facts = rw facts.0 (fails_at (Input kind) at (passes_begin letters text at passed) tt part)
-      end_gives (Fault NoMemoryToRead) (at, passed) part facts = rw facts.0 (runs_out no_more at (passes_begin letters text at passed) part)
-      end_gives (Fault fault) (rest, (at, passed, end)) part facts = rw facts.0 (fails_at fault at (passes_begin letters text at passed) (rest, end) part)
+      end_gives End (rest, (at, passed, end)) part facts = plain_gives answer refl facts.0 no_more at (passes_begin (letters_of es) text at passed) (rest, end) part
+      end_gives (Fault (Input kind)) (at, passed) part facts = rw facts.0 (fails_at (Input kind) at (passes_begin (letters_of es) text at passed) tt part)
+      end_gives (Fault NoMemoryToRead) (at, passed) part facts = rw facts.0 (runs_out no_more at (passes_begin (letters_of es) text at passed) part)
+      end_gives (Fault fault) (rest, (at, passed, end)) part facts = rw facts.0 (fails_at fault at (passes_begin (letters_of es) text at passed) (rest, end) part)
       end_gives Closed reads part facts = absurd reads
       end_gives Memory reads part facts = absurd reads
 
@@ -314,8 +293,8 @@ module _ (limit : ℕ) where
           same = ap (λ l. map message_view l) same ∙ got.1 ∙ rw (cut, filter_map-append message_in earlier (closed ∷ []), append-nil) refl;
         }
 
-  module _ (P : List plain.Message → Stop → List plain.Message → Option plain.Message → SessionAnswer → Type 0)
-      (knows : (letters : List plain.Message) (stop : Stop) (output : List plain.Message) (null : Option plain.Message) (answer : SessionAnswer) → P letters stop output null answer → Facts stop letters answer)
+  module _ (P : SessionPart)
+      (knows : (es : List Exchange) (stop : Stop) (null : Option plain.Message) (answer : SessionAnswer) → P es stop null answer → Facts stop (letters_of es) answer)
       (text : List ℕ) (a b : Option (List ℕ)) (inbox inbox' : Receiving Message) (outbox outbox' : Sending Message) (answer : SessionAnswer)
       (runs : Runs RelayGives RelaySends P (inbox, outbox) answer (inbox', outbox'))
       (none : inbox.taken ≡ []) (unexited : inbox.exited ≡ false)
@@ -346,41 +325,41 @@ module _ (limit : ℕ) where
         first_of letters (brought.0 ∷ o.more) (o.cut ∙ ap (λ l. l ++ o.more) brought.1 ∙ append_assoc letters (brought.0 ∷ []) o.more)
 
     -- no write failed
-    stop_gives : (letters output : List plain.Message) (null : Option plain.Message) (stop : Stop) → Brings runs.events letters stop → NotRefused stop → P letters stop output null answer
-        → GetsFrames (all_of output null) a b → ThreadsGive limit P text a b (read_answer answer answered)
-    stop_gives letters output null decided brought taken_all part written =
+    stop_gives : (es : List Exchange) (null : Option plain.Message) (stop : Stop) → Brings runs.events (letters_of es) stop → NotRefused stop → P es stop null answer
+        → GetsFrames (sends_of es) a b → ThreadsGive limit P text a b (read_answer answer answered)
+    stop_gives es null decided brought taken_all part wrote =
         let o = opened brought.1 in
-        let begun = letters_begin letters decided brought in
-        rw o.still_open (decided_gives P text a b letters output null answer written begun.0 begun.1 part (knows letters decided output null answer part)
-        (list_all is_no_exit letters) refl inbox'.exited (rw brought.0 at o.exited) read)
-    stop_gives letters output null no_more brought taken_all part written = elim brought.1 [
+        let begun = letters_begin (letters_of es) decided brought in
+        rw o.still_open (decided_gives P text a b es null answer wrote begun.0 begun.1 part (knows es decided null answer part)
+        (list_all is_no_exit (letters_of es)) refl inbox'.exited (rw brought.0 at o.exited) read)
+    stop_gives es null no_more brought taken_all part wrote = elim brought.1 [
       | inl last ↦
           let c = closed_to inbox inbox' none unexited runs.events runs.received taken drained xs all last.0 last.1 last.2 in
-          rw c.is_closed (end_gives P text a b letters output null answer written read (subst (ReadsTo limit text read) (c.same ∙ brought.0) reads) part (knows letters no_more output null answer part))
+          rw c.is_closed (end_gives P text a b es null answer wrote read (subst (ReadsTo limit text read) (c.same ∙ brought.0) reads) part (knows es no_more null answer part))
       | inr many ↦
           let o = opened many.1 in
-          let begun = letters_begin letters no_more brought in
-          let facts = knows letters no_more output null answer part in
+          let begun = letters_begin (letters_of es) no_more brought in
+          let facts = knows es no_more null answer part in
           let unexited' : inbox'.exited ≡ false = rw (brought.0, facts.2) at o.exited in
-          rw o.still_open (many_gives P text a b letters output null answer written begun.0 begun.1 part facts inbox'.exited unexited' read)
+          rw o.still_open (many_gives P text a b es null answer wrote begun.0 begun.1 part facts inbox'.exited unexited' read)
     ]
-    stop_gives letters output null timed_out brought taken_all part written = absurd (never_timed_out brought.1.0 inbox inbox' (rw brought.1.1 at runs.received))
-    stop_gives letters output null (refused fault) brought taken_all part written = absurd taken_all
-    stop_gives letters output null exhausted brought taken_all part written =
-        let begun = letters_begin letters exhausted brought in
-        rw (ran_out_answer answer (knows letters exhausted output null answer part), ran_out_gives answered)
-        (runs_out P text a b letters output null answer written exhausted begun.0 begun.1 part)
+    stop_gives es null timed_out brought taken_all part wrote = absurd (never_timed_out brought.1.0 inbox inbox' (rw brought.1.1 at runs.received))
+    stop_gives es null (refused fault) brought taken_all part wrote = absurd taken_all
+    stop_gives es null exhausted brought taken_all part wrote =
+        let begun = letters_begin (letters_of es) exhausted brought in
+        rw (ran_out_answer answer (knows es exhausted null answer part), ran_out_gives answered)
+        (runs_out P text a b es null answer wrote exhausted begun.0 begun.1 part)
 
     -- what a session over relays comes to in bytes
-    pub runs_give : (wrote : WriteEnd) → NotRefused runs.stop → WritesAll (all_of runs.output runs.null) wrote a b
+    pub runs_give : (wrote : WriteEnd) → NotRefused runs.stop → WritesAll (sends_of runs.exchanges) wrote a b
         → ThreadsGive limit P text a b (session_answer answer answered (write_fault wrote))
-    runs_give AllWritten taken_all written = stop_gives runs.letters runs.output runs.null runs.stop runs.brought taken_all runs.part written
+    runs_give AllWritten taken_all written = stop_gives runs.exchanges runs.null runs.stop runs.brought taken_all runs.part written
     runs_give (Unwritten fault) taken_all written =
-        let begun = letters_begin runs.letters runs.stop runs.brought in
-        broken_gives P text a b runs.letters runs.output runs.null answer runs.stop begun.0 begun.1 runs.part fault answered written
+        let begun = letters_begin (letters_of runs.exchanges) runs.stop runs.brought in
+        broken_gives P text a b runs.exchanges runs.null answer runs.stop begun.0 begun.1 runs.part fault answered written
 
-  module _ (P : List plain.Message → Stop → List plain.Message → Option plain.Message → SessionAnswer → Type 0)
-      (knows : (letters : List plain.Message) (stop : Stop) (output : List plain.Message) (null : Option plain.Message) (answer : SessionAnswer) → P letters stop output null answer → Facts stop letters answer)
+  module _ (P : SessionPart)
+      (knows : (es : List Exchange) (stop : Stop) (null : Option plain.Message) (answer : SessionAnswer) → P es stop null answer → Facts stop (letters_of es) answer)
       (a b : Option (List ℕ)) (inbox inbox' : Receiving Message) (outbox outbox' : Sending Message) (answer : SessionAnswer)
       (runs : Runs RelayGives RelaySends P (inbox, outbox) answer (inbox', outbox'))
       (none : inbox.taken ≡ []) (unexited : inbox.exited ≡ false) (unsent : outbox.sent ≡ [])
@@ -389,13 +368,13 @@ module _ (limit : ℕ) where
       (replies_taken replies : List (Parcel Message)) (finished : replies ≡ outbox'.sent ++ parcel.End ∷ []) (wrote : WriteEnd) (written : WritesTaken replies_taken wrote a b)
       (replies_settled : IsPrefix replies_taken replies) where
     -- the output was written
-    output_written : NotRefused runs.stop × WritesAll (all_of runs.output runs.null) wrote a b
+    output_written : NotRefused runs.stop × WritesAll (sends_of runs.exchanges) wrote a b
     output_written =
         let all = all_posted outbox outbox' runs.output runs.null runs.stop runs.got in
         let posted' = all.1 in
         let is : replies ≡ ended posted'.0 = finished ∙ ap (λ l. l ++ parcel.End ∷ []) (posted'.2 ∙ ap (λ l. l ++ map parcel.Message posted'.0) unsent) in
         let same : written.0 ≡ posted'.0 = same_messages written.0 posted'.0 replies_taken replies written.1 is replies_settled in
-        let views : map message_view written.0 ≡ all_of runs.output runs.null = ap (λ l. map message_view l) same ∙ posted'.1 in
+        let views : map message_view written.0 ≡ sends_of runs.exchanges = ap (λ l. map message_view l) same ∙ posted'.1 ∙ runs.all in
         (all.0, subst (λ ms. WritesAll ms wrote a b) views written.2)
 
     -- what the threads of a session come to in bytes

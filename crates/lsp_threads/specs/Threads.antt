@@ -6,10 +6,10 @@ use Rattle.lsp_message.specs.Written.{GetsFrames, GetsFramesAndPart, IsOutput}
 use Rattle.lsp_message.specs.declared.frame.ReadFault.{ReadFault}
 use Rattle.lsp_message.specs.declared.frame.ReadFault.TheVariants.{Input, Memory as NoMemoryToRead}
 use Rattle.lsp_session.specs.Session.{SessionAnswer, SessionPart, Stop, decided, no_more}
-use Rattle.lsp_session.specs.SessionBytes.{BeginsWith, all_of, GetsFirst}
+use Rattle.lsp_session.specs.SessionBytes.{GetsFirst, SessionOver}
 use Rattle.lsp_session.specs.declared.loops.ReadEnd.{ReadEnd}
 use Rattle.lsp_session.specs.declared.loops.ReadEnd.TheVariants.{Exit}
-use Rattle.lsp_session.specs.declared.loops.serving.SessionEnd.{SessionEnd}
+use Rattle.lsp_session.specs.declared.loops.handler.SessionEnd.{SessionEnd}
 use Rattle.lsp_session.specs.declared.loops.stream_session.SessionFault.{SessionFault}
 use Rattle.lsp_session.specs.declared.loops.stream_session.SessionFault.TheVariants.{Protocol, Read, Write, Memory}
 
@@ -33,61 +33,25 @@ FailsAt limit (Input kind) at = Unit {0}
 FailsAt limit NoMemoryToRead at = ⊥
 FailsAt limit fault at = (rest : List ℕ) × (reading_within limit at ≡ record { outcome = Err fault; rest = rest })
 
-module _ (limit : ℕ) (P : SessionPart) (text : List ℕ) (old new : Option (List ℕ)) where
-  -- The session came to its end: its letters are the first messages of the text, and all its output was written.
-  pub record Comes (answer : SessionAnswer) : Type 0 where
-    pub letters : List Message
-    pub at : List ℕ
-    pub read : BeginsWith limit text letters at
-    pub stop : Stop
-    pub ends : EndsSo limit stop at
-    pub output : List Message
-    pub null : Option Message
-    pub part : P letters stop output null answer
-    pub written : GetsFrames (all_of output null) old new
+-- For what a session in threads answers: the answer by the lifecycle, and how the text goes on at `at`, after the last message that
+-- was used. Where a write or an allocation failed, nothing is said of it.
+abbrev pub EndsInThreads : ℕ → Result SessionEnd SessionFault → SessionAnswer → Stop → Option Message → List ℕ → Type 0
+EndsInThreads limit (Ok end) answer stop null at = (answer ≡ Ok end) × EndsSo limit stop at
+EndsInThreads limit (Err (Protocol fault)) answer stop null at = (answer ≡ Err fault) × EndsSo limit stop at
+EndsInThreads limit (Err (Read fault)) answer stop null at = (stop ≡ no_more) × FailsAt limit fault at
+EndsInThreads limit (Err (Write fault)) answer stop null at = Unit {0}
+EndsInThreads limit (Err Memory) answer stop null at = Unit {0}
 
-  -- No further letter could be read, and the session asked for one. All output for those before was written.
-  pub record Fails (fault : ReadFault) : Type 0 where
-    pub letters : List Message
-    pub at : List ℕ
-    pub read : BeginsWith limit text letters at
-    pub ends : FailsAt limit fault at
-    pub output : List Message
-    pub null : Option Message
-    pub answer : SessionAnswer
-    pub part : P letters no_more output null answer
-    pub written : GetsFrames (all_of output null) old new
+-- What the writer got of all that was sent: frames of it; or, where a write failed, frames of the first messages and a beginning of
+-- the next; or, where an allocation failed, frames of the first messages.
+abbrev pub WroteInThreads : Option (List ℕ) → Option (List ℕ) → Result SessionEnd SessionFault → Stop → Option Message → List Message → Type 0
+WroteInThreads old new (Err (Write fault)) stop null sends = IsOutput fault × BreaksOffWithin sends old new
+WroteInThreads old new (Err Memory) stop null sends = GetsFirst sends old new
+WroteInThreads old new result stop null sends = GetsFrames sends old new
 
-  -- A write failed. The output is that of a session over the first messages of the text, and the writer got a beginning of it.
-  pub record WriteFails : Type 0 where
-    pub letters : List Message
-    pub at : List ℕ
-    pub read : BeginsWith limit text letters at
-    pub stop : Stop
-    pub output : List Message
-    pub null : Option Message
-    pub answer : SessionAnswer
-    pub part : P letters stop output null answer
-    pub written : BreaksOffWithin (all_of output null) old new
-
-  -- An allocation failed. The writer got frames of the first messages of such an output.
-  pub record RunsOut : Type 0 where
-    pub letters : List Message
-    pub at : List ℕ
-    pub read : BeginsWith limit text letters at
-    pub stop : Stop
-    pub output : List Message
-    pub null : Option Message
-    pub answer : SessionAnswer
-    pub part : P letters stop output null answer
-    pub written : GetsFirst (all_of output null) old new
-
-  abbrev pub ThreadsGive : Result SessionEnd SessionFault → Type 0
-  ThreadsGive (Ok end) = Comes (Ok end)
-  ThreadsGive (Err (Protocol fault)) = Comes (Err fault)
-  ThreadsGive (Err (Read fault)) = Fails fault
-  ThreadsGive (Err (Write fault)) = IsOutput fault × WriteFails
-  ThreadsGive (Err Memory) = RunsOut
+-- bytes in to bytes out
+abbrev pub ThreadsGive : ℕ → SessionPart → List ℕ → Option (List ℕ) → Option (List ℕ) → Result SessionEnd SessionFault → Type 0
+ThreadsGive limit P text old new result = SessionOver limit P text (EndsInThreads limit result) (WroteInThreads old new result)
 
 -- What ended the messages of a session whose inbox was closed so, and gave an `exit` so: a reader's end counts where the
 -- session came to it. For private clauses.

@@ -5,6 +5,7 @@
 mod ahead;
 mod boxes;
 mod framing;
+pub mod laws;
 mod pumping;
 mod speaking;
 mod threads;

@@ -1,40 +1,40 @@
-//! A session of a server that speaks, whose reader and writer run in threads of their own.
+//! A session of any service, whose reader and writer run in threads of their own.
 ghost use Rattle.std.specs.Prelude.{◌≡◌, [], IfOk, IfSome};
 ghost use Rattle.lsp_message.specs.Frame.{no_limit};
-ghost use Rattle.lsp_session.specs.Speech.{SpeechOut};
+ghost use Rattle.lsp_session.specs.Session.{SessionOut};
 ghost use Rattle.lsp_threads.specs.Threads.{ThreadsGive};
 
 use crate::boxes::{RelayInbox, RelayOutbox};
 use crate::threads::{Builders, Threaded, Workers, session_end, start_both};
 use crate::workers::{StartFault, fault_of};
 use lsp_relay::settle_all;
-use lsp_session::{Opener, Speaker, serve_with, session_answer};
+use lsp_session::{Service, serve_with, session_answer};
 use std::alloc::Global;
 use std::io::{BufRead, Write};
 use std::sync::Wait;
 use std::thread::{Builder, Threads};
 
-/// Runs a session of a server that speaks (LSP 3.17, "Server lifecycle") with a thread that reads, a thread that writes and the
-/// server on the caller's thread. In every schedule its answer and the bytes that it writes are such as `session_with` may give.
+/// Runs a session of a service (LSP 3.17, "Server lifecycle") with a thread that reads, a thread that writes and the
+/// service on the caller's thread. In every schedule its answer and the bytes that it writes are such as `session_with` may give.
 ///
-/// Starts, faults and the end are those of `run_threads`. A message that the server sends is written while the server goes on.
+/// Starts, faults and the end are those of `run_threads`. A message that the service gives is written while the service goes on.
 pub fn run_threads_with<T, R, W, S>(
     rt: &T,
     alloc: Global,
     reader: R,
     writer: W,
-    speaker: &mut S,
+    service: &mut S,
 ) -> Result<Threaded<W>, StartFault>
 where
     T: Threads + Wait + Copy + Drop + Send + 'static,
     R: BufRead + Drop + Send + 'static,
     W: Write + Drop + Send + 'static,
-    S: Speaker + Opener,
+    S: Service,
     ensures { IfSome (R.remaining reader) (λ text. IfOk result (λ done.
-        ThreadsGive no_limit (SpeechOut S.gives S.initializes S.opens S.starves speaker.old speaker.new)
+        ThreadsGive no_limit (SessionOut S.behavior service.old service.new)
         text (W.contents writer) (W.contents done.writer) done.answer)) }
 {
-    run_threads_with_within(rt, alloc, reader, writer, speaker, u64::MAX)
+    run_threads_with_within(rt, alloc, reader, writer, service, u64::MAX)
 }
 
 /// `run_threads_with` over messages whose content part has at most `limit` bytes. A longer one is `SessionFault::Read` of
@@ -44,44 +44,66 @@ pub fn run_threads_with_within<T, R, W, S>(
     alloc: Global,
     reader: R,
     writer: W,
-    speaker: &mut S,
+    service: &mut S,
     limit: u64,
 ) -> Result<Threaded<W>, StartFault>
 where
     T: Threads + Wait + Copy + Drop + Send + 'static,
     R: BufRead + Drop + Send + 'static,
     W: Write + Drop + Send + 'static,
-    S: Speaker + Opener,
+    S: Service,
     ensures { IfSome (R.remaining reader) (λ text. IfOk result (λ done.
-        ThreadsGive limit (SpeechOut S.gives S.initializes S.opens S.starves speaker.old speaker.new)
+        ThreadsGive limit (SessionOut S.behavior service.old service.new)
         text (W.contents writer) (W.contents done.writer) done.answer)) }
 {
     let builders = Builders {
         writer: Builder::new(),
         reader: Builder::new(),
     };
+    run_threads_with_by(rt, builders, alloc, reader, writer, service, limit)
+}
+
+/// As `run_threads_with_within`, with builders for the two threads, which can set the sizes of their stacks.
+pub fn run_threads_with_by<T, R, W, S>(
+    rt: &T,
+    builders: Builders,
+    alloc: Global,
+    reader: R,
+    writer: W,
+    service: &mut S,
+    limit: u64,
+) -> Result<Threaded<W>, StartFault>
+where
+    T: Threads + Wait + Copy + Drop + Send + 'static,
+    R: BufRead + Drop + Send + 'static,
+    W: Write + Drop + Send + 'static,
+    S: Service,
+    ensures { IfSome (R.remaining reader) (λ text. IfOk result (λ done.
+        ThreadsGive limit (SessionOut S.behavior service.old service.new)
+        text (W.contents writer) (W.contents done.writer) done.answer)) }
+{
     match start_both(rt, builders, alloc, reader, limit, writer) {
-        Ok(workers) => Ok(speak_between(rt, alloc, workers, speaker)),
+        Ok(workers) => Ok(serve_between(rt, alloc, workers, service)),
         Err(fault) => Err(fault),
     }
 }
 
 /// The session between the two threads.
-fn speak_between<T, R, W, S>(
+fn serve_between<T, R, W, S>(
     rt: &T,
     alloc: Global,
     workers: Workers<R, W>,
-    speaker: &mut S,
+    service: &mut S,
 ) -> Threaded<W>
 where
     T: Threads + Wait + Copy + Drop,
     R: BufRead + Drop,
     W: Write + Drop,
-    S: Speaker + Opener,
+    S: Service,
     requires reading { (workers.rx.taken ≡ []) × (workers.reading.promise.tx.value.relay ≡ workers.rx.relay) × (workers.reading.promise.tx.value.sent ≡ []) }
     requires writing { (workers.replies.sent ≡ []) × (workers.writing.promise.rx.value.relay ≡ workers.replies.relay) }
     ensures { IfSome (R.remaining workers.reading.promise.reader.value) (λ text.
-        ThreadsGive workers.reading.promise.limit (SpeechOut S.gives S.initializes S.opens S.starves speaker.old speaker.new) text
+        ThreadsGive workers.reading.promise.limit (SessionOut S.behavior service.old service.new) text
         (W.contents workers.writing.promise.writer.value) (W.contents result.writer) result.answer) }
 {
     let Workers {
@@ -93,7 +115,7 @@ where
     } = workers;
     let mut inbox = RelayInbox::new(*rt, rx);
     let mut outbox = RelayOutbox::new(*rt, replies, spent);
-    let answer = serve_with(alloc, &mut inbox, &mut outbox, speaker);
+    let answer = serve_with(alloc, &mut inbox, &mut outbox, service);
     let closed = inbox.is_closed();
     let exited = inbox.gave_exit();
     let replies = outbox.finish();

@@ -2,15 +2,17 @@
 ghost use Rattle.serde_json.specs.View.{view};
 ghost use Rattle.std.specs.Prelude.{◌≡◌, [], IfOk, IfSome};
 ghost use Rattle.lsp_message.specs.Frame.{no_limit};
+ghost use Rattle.lsp_session.specs.HandlerSession.{of_handler};
 ghost use Rattle.lsp_session.specs.Session.{SessionOut};
 ghost use Rattle.lsp_threads.specs.Threads.{ThreadsGive, session_end as session_end_spec};
 
-use crate::boxes::{RelayInbox, RelayOutbox, SPENT_ROOM, deliver};
-use crate::workers::{ROOM, Reader, StartFault, Writer, fault_of, start_reader, start_writer};
+use crate::boxes::{SPENT_ROOM, deliver};
+use crate::speaking::run_threads_with_by;
+use crate::workers::{ROOM, Reader, StartFault, Writer, start_reader, start_writer};
 use crossbeam_channel::{Receiver, bounded};
 use lsp_message::Message;
-use lsp_relay::{Parcel, RelayRx, RelayTx, relay, settle_all};
-use lsp_session::{Handler, ReadEnd, SessionEnd, SessionFault, WriteEnd, serve, session_answer};
+use lsp_relay::{Parcel, RelayRx, RelayTx, relay};
+use lsp_session::{Handler, HandlerService, ReadEnd, SessionEnd, SessionFault, WriteEnd};
 use serde_json::Value;
 use std::alloc::Global;
 use std::io::{BufRead, Write};
@@ -48,7 +50,7 @@ where
     W: Write + Drop + Send + 'static,
     H: Handler,
     ensures { IfSome (R.remaining reader) (λ text. IfOk result (λ done.
-        ThreadsGive no_limit (SessionOut H.answers H.notes (view capabilities) handler.old handler.new) text (W.contents writer) (W.contents done.writer) done.answer)) }
+        ThreadsGive no_limit (SessionOut (of_handler H.answers H.notes (view capabilities)) handler.old handler.new) text (W.contents writer) (W.contents done.writer) done.answer)) }
 {
     run_threads_within(rt, alloc, reader, writer, capabilities, handler, u64::MAX)
 }
@@ -70,7 +72,7 @@ where
     W: Write + Drop + Send + 'static,
     H: Handler,
     ensures { IfSome (R.remaining reader) (λ text. IfOk result (λ done.
-        ThreadsGive limit (SessionOut H.answers H.notes (view capabilities) handler.old handler.new) text (W.contents writer) (W.contents done.writer) done.answer)) }
+        ThreadsGive limit (SessionOut (of_handler H.answers H.notes (view capabilities)) handler.old handler.new) text (W.contents writer) (W.contents done.writer) done.answer)) }
 {
     let builders = Builders {
         writer: Builder::new(),
@@ -114,12 +116,11 @@ where
     W: Write + Drop + Send + 'static,
     H: Handler,
     ensures { IfSome (R.remaining reader) (λ text. IfOk result (λ done.
-        ThreadsGive limit (SessionOut H.answers H.notes (view capabilities) handler.old handler.new) text (W.contents writer) (W.contents done.writer) done.answer)) }
+        ThreadsGive limit (SessionOut (of_handler H.answers H.notes (view capabilities)) handler.old handler.new) text (W.contents writer) (W.contents done.writer) done.answer)) }
 {
-    match start_both(rt, builders, alloc, reader, limit, writer) {
-        Ok(workers) => Ok(serve_between(rt, alloc, workers, capabilities, handler)),
-        Err(fault) => Err(fault),
-    }
+    let mut capabilities = capabilities;
+    let mut service = HandlerService::new(alloc, &mut capabilities, handler);
+    run_threads_with_by(rt, builders, alloc, reader, writer, &mut service, limit)
 }
 
 /// The two threads, and the caller's ends of their relays.
@@ -197,47 +198,6 @@ fn end_writing<T: Threads + Wait, W: Write + Drop>(
     let mut replies = replies;
     deliver(rt, &mut replies, Parcel::End);
     let _ = writing.join(rt);
-}
-
-/// The session between the two threads.
-fn serve_between<T, R, W, H>(
-    rt: &T,
-    alloc: Global,
-    workers: Workers<R, W>,
-    capabilities: Value,
-    handler: &mut H,
-) -> Threaded<W>
-where
-    T: Threads + Wait + Copy + Drop,
-    R: BufRead + Drop,
-    W: Write + Drop,
-    H: Handler,
-    requires reading { (workers.rx.taken ≡ []) × (workers.reading.promise.tx.value.relay ≡ workers.rx.relay) × (workers.reading.promise.tx.value.sent ≡ []) }
-    requires writing { (workers.replies.sent ≡ []) × (workers.writing.promise.rx.value.relay ≡ workers.replies.relay) }
-    ensures { IfSome (R.remaining workers.reading.promise.reader.value) (λ text.
-        ThreadsGive workers.reading.promise.limit (SessionOut H.answers H.notes (view capabilities) handler.old handler.new) text
-        (W.contents workers.writing.promise.writer.value) (W.contents result.writer) result.answer) }
-{
-    let Workers {
-        rx,
-        replies,
-        spent,
-        reading,
-        writing,
-    } = workers;
-    let mut inbox = RelayInbox::new(*rt, rx);
-    let mut outbox = RelayOutbox::new(*rt, replies, spent);
-    let answer = serve(alloc, &mut inbox, &mut outbox, capabilities, handler);
-    let closed = inbox.is_closed();
-    let exited = inbox.gave_exit();
-    let replies = outbox.finish();
-    let rx = inbox.drain();
-    let (tx, read) = reading.join(rt);
-    let (replies_rx, writer, wrote) = writing.join(rt);
-    settle_all(rt, rx, tx);
-    settle_all(rt, replies_rx, replies);
-    let answer = session_answer(answer, session_end(closed, exited, read), fault_of(wrote));
-    Threaded { writer, answer }
 }
 
 /// What ended the messages of a session.

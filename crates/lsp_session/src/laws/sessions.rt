@@ -1,17 +1,21 @@
 //! What a session does with the requests of its client.
 ghost use Rattle.serde_json.specs.Data.{Data};
-ghost use Rattle.std.specs.Prelude.{◌≡◌, true, ℕ, List, Option, None, Result, Err, IfSome};
+ghost use Rattle.std.specs.Prelude.{◌≡◌, true, false, ℕ, List, ◌∷◌, ◌++◌, Option, None, Result, Err, IfSome};
 ghost use Rattle.lsp_message.specs.Frame.{no_limit};
 ghost use Rattle.lsp_message.specs.Message.{Message};
 ghost use Rattle.lsp_session.specs.Answered.{AnswersAll, ReadsNoMore, AnswersRequests};
+ghost use Rattle.lsp_session.specs.HandlerSession.{of_handler};
 ghost use Rattle.lsp_session.specs.ProtocolError.{ProtocolFault, is_disconnected};
-ghost use Rattle.lsp_session.specs.Session.{AfterServed, SessionAnswer, SessionOut, refused};
+ghost use Rattle.lsp_session.specs.Session.{Exchange, SessionAnswer, Stop, sends_of, refused, SessionOut};
 ghost use Rattle.lsp_session.specs.SessionBytes.{Gives};
-ghost use Rattle.lsp_session.specs.declared.lifecycle.SendFault.{SendFault};
-ghost use Rattle.lsp_session.specs.declared.loops.serving.SessionEnd.{SessionEnd as EndOfSession};
+ghost use Rattle.lsp_session.specs.SessionLaws.{Both, KeepsOrder, is_reply, OpenedBy};
+ghost use Rattle.lsp_session.specs.SessionRun.{Runs};
+ghost use Rattle.lsp_session.specs.declared.lifecycle.SendFault.{SendFault as RefusedSend};
+ghost use Rattle.lsp_session.specs.declared.loops.handler.SessionEnd.{SessionEnd as EndOfSession};
 ghost use Rattle.lsp_session.specs.declared.loops.stream_session.SessionFault.{SessionFault as FaultOfSession};
 
-use crate::loops::{Handler, SessionEnd, SessionFault, session};
+use crate::lifecycle::{Inbox, Outbox};
+use crate::loops::{Handler, Service, SessionEnd, SessionFault, session};
 use serde_json::Value;
 use std::alloc::Global;
 use std::io::{BufRead, Write};
@@ -20,7 +24,7 @@ use std::io::{BufRead, Write};
 /// reply, under its id, in order: a fact of each session that was run.
 pub fn session_answers_requests<H: Handler>()
     ensures { (limit : ℕ) (capabilities : Data) (before after : H) (text : List ℕ) (left old new : Option (List ℕ)) (answer : Result EndOfSession FaultOfSession)
-        → Gives limit (SessionOut H.answers H.notes capabilities before after) text left old new answer
+        → Gives limit (SessionOut (of_handler H.answers H.notes capabilities) before after) text left old new answer
         → AnswersRequests limit text left old new answer }
 {}
 
@@ -32,11 +36,32 @@ pub fn lost_client_was_answered()
         → AnswersAll limit text left old new (ReadsNoMore limit text left old new) }
 {}
 
-/// After a message that the outbox refused nothing more is sent, the null of `shutdown` neither: a fact of each session, from
-/// the letters on that its handler or its speaker no longer serves.
-pub fn nothing_follows_a_refusal()
-    ensures { (letters : List Message) (fault : SendFault) (null : Option Message) (answer : SessionAnswer)
-        → AfterServed letters (refused fault) null answer → null ≡ None }
+/// After a message that the outbox refused nothing more is sent, the null of `shutdown` neither: a fact of each session.
+pub fn nothing_follows_a_refusal<S: Service>()
+    ensures { (old new : S) (exchanges : List Exchange) (fault : RefusedSend) (null : Option Message) (answer : SessionAnswer)
+        → SessionOut S.behavior old new exchanges (refused fault) null answer → null ≡ None }
+{}
+
+/// Whatever is no reply is sent after the client sent `initialize` and then `initialized`, and after the result of
+/// `initialize` (LSP 3.17, "Server lifecycle"): a fact of each session that keeps its order.
+pub fn only_replies_come_first()
+    ensures { (exchanges : List Exchange) (stop : Stop) (null : Option Message) (answer : SessionAnswer) (before more : List Message) (sent : Message)
+        → KeepsOrder exchanges stop null answer → sends_of exchanges ≡ before ++ sent ∷ more → is_reply sent ≡ false → OpenedBy exchanges before }
+{}
+
+/// A session keeps the order of the lifecycle (LSP 3.17, "Server lifecycle"), whatever its service gives: up to and with `initialize`
+/// each request gets one reply, the result of `initialize` last, and nothing else is sent before `initialized` comes; then the
+/// first `shutdown` gets null, which is the last message that is sent. A fact of each session that was run, over its exchanges,
+/// over boxes, and from bytes to bytes with a limit or without one.
+pub fn session_keeps_order<I: Inbox, O: Outbox, S: Service>()
+    ensures exchanges { (old new : S) (exchanges : List Exchange) (stop : Stop) (null : Option Message) (answer : SessionAnswer)
+        → SessionOut S.behavior old new exchanges stop null answer → KeepsOrder exchanges stop null answer }
+    ensures boxes { (old new : S) (before after : I × O) (answer : SessionAnswer)
+        → Runs I.receives O.sends (SessionOut S.behavior old new) before answer after
+        → Runs I.receives O.sends (Both (SessionOut S.behavior old new) KeepsOrder) before answer after }
+    ensures bytes { (limit : ℕ) (old new : S) (text : List ℕ) (left before after : Option (List ℕ)) (answer : Result EndOfSession FaultOfSession)
+        → Gives limit (SessionOut S.behavior old new) text left before after answer
+        → Gives limit (Both (SessionOut S.behavior old new) KeepsOrder) text left before after answer }
 {}
 
 /// Each request of a session gets exactly one reply, under its id, in order, and no reply goes to anything else (JSON-RPC

@@ -2,16 +2,14 @@
 ghost use Rattle.serde_json.specs.View.{view};
 ghost use Rattle.std.specs.Prelude.{◌≡◌, IfSome};
 ghost use Rattle.lsp_message.specs.Frame.{no_limit};
+ghost use Rattle.lsp_session.specs.HandlerSession.{of_handler};
 ghost use Rattle.lsp_session.specs.Session.{SessionOut};
 ghost use Rattle.lsp_session.specs.SessionBytes.{Gives};
-ghost use Rattle.lsp_session.specs.Speech.{SpeechOut};
 ghost use Rattle.lsp_session.specs.SessionFault.{ran_out as ran_out_spec, came_to_no_more as came_to_no_more_spec, protocol_fault as protocol_fault_spec, read_fault as read_fault_spec, plain_answer as plain_answer_spec, read_answer as read_answer_spec, session_answer as session_answer_spec};
 
 use crate::error::ProtocolError;
-use crate::loops::answering::Answering;
-use crate::loops::{
-    FrameOutbox, Handler, Opener, ReadEnd, SessionEnd, Speaker, StreamInbox, serve_with,
-};
+use crate::loops::handler_service::HandlerService;
+use crate::loops::{FrameOutbox, Handler, ReadEnd, Service, SessionEnd, StreamInbox, serve_with};
 use lsp_message::{ReadFault, WriteFault};
 use serde_json::Value;
 use std::alloc::Global;
@@ -69,7 +67,7 @@ pub fn session<R: BufRead, W: Write, H: Handler>(
     handler: &mut H,
 ) -> Result<SessionEnd, SessionFault>
     ensures { IfSome (R.remaining reader.old) (λ text.
-        Gives no_limit (SessionOut H.answers H.notes (view capabilities) handler.old handler.new)
+        Gives no_limit (SessionOut (of_handler H.answers H.notes (view capabilities)) handler.old handler.new)
         text (R.remaining reader.new) (W.contents writer.old) (W.contents writer.new) result) }
 {
     session_within(alloc, reader, writer, capabilities, handler, u64::MAX)
@@ -86,44 +84,44 @@ pub fn session_within<R: BufRead, W: Write, H: Handler>(
     limit: u64,
 ) -> Result<SessionEnd, SessionFault>
     ensures { IfSome (R.remaining reader.old) (λ text.
-        Gives limit (SessionOut H.answers H.notes (view capabilities) handler.old handler.new)
+        Gives limit (SessionOut (of_handler H.answers H.notes (view capabilities)) handler.old handler.new)
         text (R.remaining reader.new) (W.contents writer.old) (W.contents writer.new) result) }
 {
     let mut capabilities = capabilities;
-    let mut speaker = Answering::new(alloc, &mut capabilities, handler);
-    session_with_within(alloc, reader, writer, &mut speaker, limit)
+    let mut service = HandlerService::new(alloc, &mut capabilities, handler);
+    session_with_within(alloc, reader, writer, &mut service, limit)
 }
 
 /// `serve_with` from bytes to bytes (LSP 3.17, "Base Protocol" and "Server lifecycle"), as `session` is `serve`.
-pub fn session_with<R: BufRead, W: Write, S: Speaker + Opener>(
+pub fn session_with<R: BufRead, W: Write, S: Service>(
     alloc: Global,
     reader: &mut R,
     writer: &mut W,
-    speaker: &mut S,
+    service: &mut S,
 ) -> Result<SessionEnd, SessionFault>
     ensures { IfSome (R.remaining reader.old) (λ text.
-        Gives no_limit (SpeechOut S.gives S.initializes S.opens S.starves speaker.old speaker.new)
+        Gives no_limit (SessionOut S.behavior service.old service.new)
         text (R.remaining reader.new) (W.contents writer.old) (W.contents writer.new) result) }
 {
-    session_with_within(alloc, reader, writer, speaker, u64::MAX)
+    session_with_within(alloc, reader, writer, service, u64::MAX)
 }
 
 /// `session_with` over messages whose content part has at most `limit` bytes. A longer one is `SessionFault::Read` of
 /// `ReadFault::TooLong`, and is unread.
-pub fn session_with_within<R: BufRead, W: Write, S: Speaker + Opener>(
+pub fn session_with_within<R: BufRead, W: Write, S: Service>(
     alloc: Global,
     reader: &mut R,
     writer: &mut W,
-    speaker: &mut S,
+    service: &mut S,
     limit: u64,
 ) -> Result<SessionEnd, SessionFault>
     ensures { IfSome (R.remaining reader.old) (λ text.
-        Gives limit (SpeechOut S.gives S.initializes S.opens S.starves speaker.old speaker.new)
+        Gives limit (SessionOut S.behavior service.old service.new)
         text (R.remaining reader.new) (W.contents writer.old) (W.contents writer.new) result) }
 {
     let mut inbox = StreamInbox::within(alloc, reader, limit);
     let mut outbox = FrameOutbox::new(alloc, writer);
-    let answer = serve_with(alloc, &mut inbox, &mut outbox, speaker);
+    let answer = serve_with(alloc, &mut inbox, &mut outbox, service);
     session_answer(answer, inbox.end(), outbox.fault())
 }
 

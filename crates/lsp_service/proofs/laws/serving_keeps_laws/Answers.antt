@@ -1,7 +1,8 @@
 use Rattle.lsp_service.specs.Law.{KeepsLaws}
-use Rattle.lsp_service.specs.Working.{desk_of}
+use Rattle.lsp_service.specs.Working.{desk_of, at_desk}
+use Rattle.lsp_session.specs.Session.{SessionOut}
 use Rattle.lsp_session.proofs.Describing.{runs_as}
-use Rattle.lsp_service.proofs.Keeping.{Out, keeps_laws}
+use Rattle.lsp_service.proofs.Lawful.{keeps_laws}
 use Rattle.lsp_service.proofs.laws.serving_keeps_laws.Goals as goal
 
 pub returns : goal.returns
@@ -13,7 +14,6 @@ returns g c =
     let begins = g.S.Server.begins in
     let initializes = g.S.Server.initializes in
     let old = c.new-working.result in
-    let new = c.serve_with-answer.new.speaker in
-    runs_as g.I.Inbox.receives g.O.Outbox.sends (Out requested notified replied takes_back begins initializes old new) (KeepsLaws requested notified replied takes_back begins (desk_of new.client).held) _ _ _
-    (λ letters stop output null. keeps_laws requested notified replied takes_back begins initializes old new c.new-working.ensures.fresh letters stop output null _)
-    c.serve_with-answer.ensures
+    let new = c.serve_with-answer.new.service in
+    runs_as (SessionOut (at_desk requested notified replied takes_back begins initializes) old new) (KeepsLaws requested notified replied takes_back begins (desk_of new.client).held)
+    (keeps_laws requested notified replied takes_back begins initializes old new c.new-working.ensures.fresh) g.I.Inbox.receives g.O.Outbox.sends _ _ _ c.serve_with-answer.ensures

@@ -1,22 +1,19 @@
 use Rattle.std.proofs.Common.{sym, ap, ◌∙◌}
 use Rattle.serde_json.specs.View.{view}
-use Rattle.lsp_session.specs.Answering.{KeepsHandler, AnsweringGives, AnsweringInitializes, AnsweringOpens}
+use Rattle.lsp_session.specs.HandlerService.{lent_handler}
+use Rattle.lsp_session.specs.HandlerSession.{of_handler}
 use Rattle.lsp_session.specs.Session.{SessionOut}
-use Rattle.lsp_session.specs.Speech.{SpeechOut}
-use Rattle.lsp_session.proofs.Adapting.{session_as}
 use Rattle.lsp_session.proofs.Describing.{known_as}
+use Rattle.lsp_session.proofs.Lending.{session_as}
 use Rattle.lsp_session.proofs.loops.stream_session.session_within.Goals as goal
 
 pub returns : goal.returns
 returns g c =
     let answers = g.H.Handler.answers in
     let notes = g.H.Handler.notes in
-    let old = c.new-speaker.result in
-    let new = c.session_with_within.new.speaker in
-    let before = c.args.handler.now in
-    known_as c.args.limit (SpeechOut (AnsweringGives answers notes) AnsweringInitializes AnsweringOpens KeepsHandler old new)
-    (SessionOut answers notes (view c.args.capabilities) before _)
-    (session_as answers notes new before _ (view c.args.capabilities) old
-    (record { same = c.new-speaker.ensures.unchanged; back = λ names. c.handler-1.given.1 (sym c.new-speaker.ensures.same_handler ∙ sym names) })
-    (ap view c.new-speaker.ensures.capabilities))
+    let old = c.new-service.result in
+    let new = c.session_with_within.new.service in
+    known_as (SessionOut (lent_handler answers notes) old new) (SessionOut (of_handler answers notes (view c.args.capabilities)) c.args.handler.now _)
+    (session_as answers notes (view c.args.capabilities) old new _ (λ names. c.handler-1.given.1 (sym c.new-service.ensures.same_handler ∙ sym names))
+    c.args.handler.now c.new-service.ensures.unchanged (ap view c.new-service.ensures.capabilities)) c.args.limit
     _ _ _ _ _ c.session_with_within.ensures

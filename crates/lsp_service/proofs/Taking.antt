@@ -1,0 +1,315 @@
+-- A server takes part in its session, by its stated meaning.
+use Rattle.std.proofs.Common.{◌≡◌, refl, sym, ◌∙◌, ap, subst, inl, inr, ◌⊎◌, ℕ, ◌+◌, Bool, true, false, List, [], ◌∷◌, ◌++◌, append_assoc, append-nil, length, arith, Option, Some, None}
+use Rattle.std.specs.Bool.{MatchBool}
+use Rattle.std.specs.FinMap as map
+use Rattle.std.specs.List.{list_all}
+use Rattle.std.specs.Prelude.{Result, Ok, Err}
+use Rattle.serde_json.specs.Data.{Data}
+use Rattle.lsp_message.specs.Id.{Id}
+use Rattle.lsp_message.specs.Message.{Message, ErrorObject, request, notification, response}
+use Rattle.lsp_message.specs.Methods.{is_early, is_initialize, is_initialized, is_exit}
+use Rattle.lsp_session.proofs.Ran.{part_none, part_one, Ran, reaches_ran}
+use Rattle.lsp_session.proofs.SessionSteps.{IsWhole as IsSent}
+use Rattle.lsp_session.specs.ProtocolError.{expected_initialize, expected_initialized, unexpected_in_shutdown}
+use Rattle.lsp_session.specs.Replies.{null_reply, IsEarlyReply}
+use Rattle.lsp_session.specs.Session.{Exchange, letters_of, sends_of, SessionAnswer, Stop, decided, no_more, timed_out, refused, exhausted, Phase, starting, replied as in_reply, serving, asked, ended, phase_after, is_served, Fails, Leaves, Step, Reaches}
+use Rattle.lsp_session.specs.declared.loops.handler.SessionEnd.TheVariants.{Closed, ShutDown}
+use Rattle.lsp_service.specs.Desk.{Act, Desk}
+use Rattle.lsp_service.specs.Law.{IsWhole, requests_in, is_request, is_refusal, IsUninvited, EndsAtResult, IsUnserved, TakesPart, GivesPayloads}
+use Rattle.lsp_service.specs.Working.{seen, desk_of}
+use Rattle.lsp_service.specs.declared.desk.Working.{Working}
+use Rattle.lsp_service.proofs.Keeping.{working, Unasked, silent_opened}
+use Rattle.lsp_service.proofs.Returning.{requests-append, GivesAll, part_whole}
+
+whole_sent : (stop : Stop) → IsWhole stop → IsSent stop
+whole_sent decided whole = tt
+whole_sent no_more whole = tt
+whole_sent timed_out whole = tt
+whole_sent (refused fault) whole = whole
+whole_sent exhausted whole = tt
+
+module _ {S P : Type 0}
+    (requested : S → Id → List ℕ → Data → List (Act P) → S → Type 0)
+    (notified : S → List ℕ → Data → List (Act P) → S → Type 0)
+    (replied : S → P → Result Data ErrorObject → List (Act P) → S → Type 0)
+    (takes_back : S → P → S → Type 0)
+    (begins : S → List (Act P) → S → Type 0)
+    (initializes : S → Data → Result Data ErrorObject → S → Type 0) (stop : Stop) where
+  abbrev Runs_from : Phase → Working S P → List Exchange → Phase → Working S P → Type 0
+  Runs_from = Ran (working requested notified replied takes_back begins initializes) stop
+
+  abbrev Part : List Message → Stop → List Message → Type 0
+  Part = TakesPart requested notified replied takes_back begins
+
+  abbrev Payloads : List Message → Stop → List Message → Type 0
+  Payloads = GivesPayloads requested notified replied takes_back begins
+
+  abbrev Gives_all : Working S P → List Exchange → Working S P → Type 0
+  Gives_all = GivesAll requested notified replied takes_back begins
+
+  -- ---- from `initialized` on
+
+  over : (xs : List Exchange) (null : Option Message) (by : SessionAnswer) (q : Phase) (w w' : Working S P) → Runs_from (ended null by) w xs q w' → xs ≡ []
+  over [] null by q w w' run = refl
+  over (x ∷ xs) null by q w w' run = absurd run.6
+
+  -- after the null nothing is sent
+  quiet : (xs : List Exchange) (i : Id) (q : Phase) (w w' : Working S P) → Runs_from (asked i) w xs q w' → sends_of xs ≡ []
+  quiet [] i q w w' run = refl
+  quiet (x ∷ xs) i q w w' run = at (is_exit x.letter) run.6.0
+    where
+      none : (by : SessionAnswer) → run.0 ≡ [] → run.4 ≡ ended (Some (null_reply i)) by → x.said ++ sends_of xs ≡ []
+      none by silent next =
+          rw (part_none x.said run.1 run.0 run.2 silent, over xs (Some (null_reply i)) by q run.5 w' (rw next at run.8)) refl
+
+      at : (b : Bool) → MatchBool b ((run.0 ≡ []) × (run.4 ≡ ended (Some (null_reply i)) (Ok ShutDown))) (Fails unexpected_in_shutdown (asked i) run.0 run.4) → x.said ++ sends_of xs ≡ []
+      at true step = none (Ok ShutDown) step.0 step.1
+      at false step = none (Err (unexpected_in_shutdown step.0)) step.1 step.2
+
+  -- the messages that the server was given, and those after them
+  record Served (w : Working S P) (xs : List Exchange) : Type 0 where
+    served : List Exchange
+    rest : List Exchange
+    after : Working S P
+    given : Gives_all w served after
+    all_served : list_all is_served (letters_of served) ≡ true
+    unserved : IsUnserved (letters_of rest)
+    cut : letters_of xs ≡ letters_of served ++ letters_of rest
+    more : List Message
+    sent : requests_in (sends_of served) ≡ requests_in (sends_of xs) ++ more
+    whole : IsWhole stop → more ≡ []
+
+  serve_none : (w : Working S P) → Served w []
+  serve_none w = record {
+    served = [];
+    rest = [];
+    after = w;
+    given = refl;
+    all_served = refl;
+    unserved = tt;
+    cut = refl;
+    more = [];
+    sent = refl;
+    whole = λ is. refl;
+  }
+
+  -- `shutdown` or `exit` comes
+  serve_left : (w : Working S P) (x : Exchange) (xs : List Exchange) → is_served x.letter ≡ false → requests_in (sends_of (x ∷ xs)) ≡ [] → Served w (x ∷ xs)
+  serve_left w x xs other silent = record {
+    served = [];
+    rest = x ∷ xs;
+    after = w;
+    given = refl;
+    all_served = refl;
+    unserved = other;
+    cut = refl;
+    more = [];
+    sent = rw silent refl;
+    whole = λ is. refl;
+  }
+
+  -- one more message comes first
+  serve_more : (w mid : Working S P) (x : Exchange) (xs : List Exchange) (full more : List Message) → is_served x.letter ≡ true → x.said ++ more ≡ full
+      → (working requested notified replied takes_back begins initializes).gives w x.letter full mid → (more ≡ []) ⊎ ((xs ≡ []) × (IsSent stop → ⊥)) → Served mid xs → Served w (x ∷ xs)
+  serve_more w mid x xs full more served cut gives (inl none) later = record {
+    served = record { letter = x.letter; said = full } ∷ later.served;
+    rest = later.rest;
+    after = later.after;
+    given = (mid, gives, later.given);
+    all_served = rw served later.all_served;
+    unserved = later.unserved;
+    cut = ap (λ (l : List Message). x.letter ∷ l) later.cut;
+    more = later.more;
+    sent = requests-append full (sends_of later.served) ∙ (λ i. requests_in (same i) ++ later.sent i)
+        ∙ sym (append_assoc (requests_in x.said) (requests_in (sends_of xs)) later.more)
+        ∙ ap (λ (l : List Message). l ++ later.more) (sym (requests-append x.said (sends_of xs)));
+    whole = later.whole;
+  }
+    where
+      same : full ≡ x.said
+      same = sym cut ∙ ap (λ (l : List Message). x.said ++ l) none ∙ append-nil x.said
+  serve_more w mid x xs full more served cut gives (inr last) later = record {
+    served = record { letter = x.letter; said = full } ∷ [];
+    rest = [];
+    after = mid;
+    given = (mid, gives, refl);
+    all_served = rw served refl;
+    unserved = tt;
+    cut = rw last.0 refl;
+    more = requests_in more;
+    sent = ap requests_in (append-nil full) ∙ ap requests_in (sym cut) ∙ requests-append x.said more ∙ ap (λ (l : List Message). requests_in l ++ requests_in more) (sym (append-nil x.said))
+        ∙ ap (λ (l : List Exchange). requests_in (x.said ++ sends_of l) ++ requests_in more) (sym last.0);
+    whole = λ is. absurd (last.1 (whole_sent stop is));
+  }
+
+  left_silent : (w w' : Working S P) (q next : Phase) (m : Message) (full said more : List Message) (xs : List Exchange) → Leaves m full next → said ++ more ≡ full → (said ≡ [] → full ≡ [])
+      → Runs_from next w xs q w' → requests_in (said ++ sends_of xs) ≡ []
+  left_silent w w' q next (request i method params) full said more xs leaves cut none run =
+      rw (part_one said more full (null_reply i) cut none leaves.0, quiet xs i q w w' (rw leaves.1 at run)) refl
+  left_silent w w' q next (notification method params) full said more xs leaves cut none run =
+      rw (part_none said more full cut leaves.0, over xs None (Ok Closed) q w w' (rw leaves.1 at run)) refl
+  left_silent w w' q next (response i outcome) full said more xs leaves cut none run =
+      rw (part_none said more full cut leaves.0, over xs None (Ok Closed) q w w' (rw leaves.1 at run)) refl
+
+  serve_all : (xs : List Exchange) (q : Phase) (w w' : Working S P) → Runs_from serving w xs q w' → Served w xs
+  serve_all [] q w w' run = serve_none w
+  serve_all (x ∷ xs) q w w' run = at (λ rest. serve_all xs q run.5 w' rest) (is_served x.letter) refl run.6
+    where
+      at : (Runs_from serving run.5 xs q w' → Served run.5 xs) → (b : Bool) → is_served x.letter ≡ b
+          → MatchBool b ((working requested notified replied takes_back begins initializes).gives w x.letter run.0 run.5 × (run.4 ≡ serving)) (Leaves x.letter run.0 run.4 × (run.5 ≡ w))
+          → Served w (x ∷ xs)
+      at later true e step = serve_more w run.5 x xs run.0 run.1 e run.2 step.0 run.7 (later (rw step.1 at run.8))
+      at later false e step = serve_left w x xs e (left_silent run.5 w' q run.4 x.letter run.0 x.said run.1 xs step.0 run.2 run.3 run.8)
+
+  -- ---- from the result of `initialize` on
+
+  -- what follows the result
+  abbrev After : List Exchange → Type 0
+  After xs =
+      (IsUninvited (letters_of xs) × (sends_of xs ≡ []))
+      ⊎ ((m : Message) × (rest : List Message) × (letters_of xs ≡ m ∷ rest) × (is_initialized m ≡ true) × Part rest stop (requests_in (sends_of xs)))
+
+  part_opened : (w mid : Working S P) (x : Exchange) (xs : List Exchange) (full more : List Message) → (desk_of w.client).said ≡ [] → Unasked requested notified replied takes_back begins initializes w
+      → x.said ++ more ≡ full → (more ≡ []) ⊎ ((xs ≡ []) × (IsSent stop → ⊥)) → (working requested notified replied takes_back begins initializes).opens w full mid
+      → Served mid xs → Part (letters_of xs) stop (requests_in (x.said ++ sends_of xs))
+  part_opened w mid x xs full more silent unasked cut (inl none) opened s =
+      subst (λ (l : List Message). Part l stop (requests_in (x.said ++ sends_of xs))) (sym s.cut)
+      (part_whole requested notified replied takes_back begins w mid s.after full s.served s.rest stop (requests_in (x.said ++ sends_of xs)) s.more silent unasked opened s.given s.all_served s.unserved
+      ((λ i. requests_in (same i) ++ s.sent i) ∙ sym (append_assoc (requests_in x.said) (requests_in (sends_of xs)) s.more)
+      ∙ ap (λ (l : List Message). l ++ s.more) (sym (requests-append x.said (sends_of xs)))) s.whole)
+    where
+      same : full ≡ x.said
+      same = sym cut ∙ ap (λ (l : List Message). x.said ++ l) none ∙ append-nil x.said
+  part_opened w mid x xs full more silent unasked cut (inr last) opened s =
+      rw last.0 (part_whole requested notified replied takes_back begins w mid mid full [] [] stop (requests_in (x.said ++ [])) (requests_in more) silent unasked opened refl refl tt
+      (append-nil (requests_in full) ∙ ap requests_in (sym cut) ∙ requests-append x.said more ∙ ap (λ (l : List Message). requests_in l ++ requests_in more) (sym (append-nil x.said)))
+      (λ is. absurd (last.1 (whole_sent stop is))))
+
+  after_result : (xs : List Exchange) (q : Phase) (w w' : Working S P) → (desk_of w.client).said ≡ [] → Unasked requested notified replied takes_back begins initializes w
+      → Runs_from in_reply w xs q w' → After xs
+  after_result [] q w w' silent unasked run = inl (tt, refl)
+  after_result (x ∷ xs) q w w' silent unasked run = at (is_initialized x.letter) refl run.6
+    where
+      at : (b : Bool) → is_initialized x.letter ≡ b
+          → MatchBool b ((working requested notified replied takes_back begins initializes).opens w run.0 run.5 × (run.4 ≡ serving)) (Fails expected_initialized in_reply run.0 run.4 × (run.5 ≡ w))
+          → After (x ∷ xs)
+      at true e step = inr (
+        x.letter,
+        letters_of xs,
+        refl,
+        e,
+        part_opened w run.5 x xs run.0 run.1 silent unasked run.2 run.7 step.0 (serve_all xs q run.5 w' (rw step.1 at run.8)),
+      )
+      at false e step = inl (e, rw (part_none x.said run.1 run.0 run.2 step.0.1, over xs None (Err (expected_initialized step.0.0)) q run.5 w' (rw step.0.2 at run.8)) refl)
+
+  -- ---- from the beginning on
+
+  payloads_note : (method : List ℕ) (params : Data) (letters : List Message) (output : List Message)
+      → Payloads letters stop output → Payloads (notification method params ∷ letters) stop output
+  payloads_note method params letters output payloads = elim payloads [
+    | inl none ↦ inl none
+    | inr p ↦ inr (elim p [
+      | inl ends ↦ inl (record {
+        early = notification method params ∷ ends.early;
+        ask = ends.ask;
+        rest = ends.rest;
+        cut = ap (λ ms. notification method params ∷ ms) ends.cut;
+        asks = ends.asks;
+        uninvited = ends.uninvited;
+        refusals = ends.refusals;
+        id = ends.id;
+        result = ends.result;
+        sent = ends.sent;
+        refused_all = ends.refused_all;
+        each = omega (arith, ends.each);
+      })
+      | inr p ↦ inr (notification method params ∷ p.0, p.1, p.2, p.3, ap (λ ms. notification method params ∷ ms) p.4, p.5, p.6, p.7)
+    ])
+  ]
+
+  payloads_reply : (i : Id) (method : List ℕ) (params : Data) (error : ErrorObject) (letters : List Message) (output : List Message)
+      → Payloads letters stop output → Payloads (request i method params ∷ letters) stop (response i (Err error) ∷ output)
+  payloads_reply i method params error letters output payloads = elim payloads [
+    | inl none ↦ inl none
+    | inr p ↦ inr (elim p [
+      | inl ends ↦ inl (record {
+        early = request i method params ∷ ends.early;
+        ask = ends.ask;
+        rest = ends.rest;
+        cut = ap (λ ms. request i method params ∷ ms) ends.cut;
+        asks = ends.asks;
+        uninvited = ends.uninvited;
+        refusals = response i (Err error) ∷ ends.refusals;
+        id = ends.id;
+        result = ends.result;
+        sent = ap (λ ms. response i (Err error) ∷ ms) ends.sent;
+        refused_all = ends.refused_all;
+        each = omega (arith, ends.each);
+      })
+      | inr p ↦ inr (request i method params ∷ p.0, p.1, p.2, p.3, ap (λ ms. request i method params ∷ ms) p.4, p.5, p.6, p.7)
+    ])
+  ]
+
+  payloads_result : (i : Id) (method : List ℕ) (params result : Data) (xs : List Exchange) → is_initialize (request i method params) ≡ true → After xs
+      → Payloads (request i method params ∷ letters_of xs) stop (response i (Ok result) ∷ sends_of xs)
+  payloads_result i method params result xs asks after = elim after [
+    | inl unopened ↦ inr (inl (record {
+      early = [];
+      ask = request i method params;
+      rest = letters_of xs;
+      cut = refl;
+      asks = asks;
+      uninvited = unopened.0;
+      refusals = [];
+      id = i;
+      result = result;
+      sent = rw unopened.1 refl;
+      refused_all = refl;
+      each = refl;
+    }))
+    | inr opened ↦ inr (inr ([], request i method params, opened.0, opened.1, ap (λ (l : List Message). request i method params ∷ l) opened.2, asks, opened.3, opened.4))
+  ]
+
+  payloads_from : (xs : List Exchange) (q : Phase) (w w' : Working S P) → (desk_of w.client).said ≡ [] → Unasked requested notified replied takes_back begins initializes w
+      → Runs_from starting w xs q w' → Payloads (letters_of xs) stop (sends_of xs)
+  payloads_from [] q w w' silent unasked run = inl refl
+  payloads_from (x ∷ xs) q w w' silent unasked run =
+      at (λ silent unasked rest. payloads_from xs q run.5 w' silent unasked rest) x.letter refl run.6
+    where
+      at : ((desk_of run.5.client).said ≡ [] → Unasked requested notified replied takes_back begins initializes run.5 → Runs_from starting run.5 xs q w' → Payloads (letters_of xs) stop (sends_of xs))
+          → (m : Message) → x.letter ≡ m → Step (working requested notified replied takes_back begins initializes) starting w m run.0 run.4 run.5
+          → Payloads (x.letter ∷ letters_of xs) stop (x.said ++ sends_of xs)
+      at later (request i method params) is step = by (is_initialize (request i method params)) refl step
+        where
+          one : (r : Message) → run.0 ≡ r ∷ [] → x.said ≡ r ∷ []
+          one r e = part_one x.said run.1 run.0 r run.2 run.3 e
+
+          after : (outcome : Result Data ErrorObject) → is_initialize (request i method params) ≡ true → desk_of run.5.client ≡ desk_of w.client → run.4 ≡ phase_after outcome
+              → Payloads (request i method params ∷ letters_of xs) stop (response i outcome ∷ sends_of xs)
+          after (Ok result) e same next = payloads_result i method params result xs e
+              (after_result xs q run.5 w' (ap (λ (d : Desk P). d.said) same ∙ silent) (ap (λ (d : Desk P). d.asked) same ∙ unasked) (rw next at run.8))
+          after (Err error) e same next = payloads_reply i method params error (letters_of xs) (sends_of xs)
+              (later (ap (λ (d : Desk P). d.said) same ∙ silent) (ap (λ (d : Desk P). d.asked) same ∙ unasked) (rw next at run.8))
+
+          by : (b : Bool) → is_initialize (request i method params) ≡ b
+              → MatchBool b
+              ((outcome : Result Data ErrorObject) × (working requested notified replied takes_back begins initializes).initializes w params outcome run.5 × (run.0 ≡ response i outcome ∷ []) × (run.4 ≡ phase_after outcome))
+              ((reply : Message) × IsEarlyReply i reply × (run.0 ≡ reply ∷ []) × (run.4 ≡ starting) × (run.5 ≡ w))
+              → Payloads (x.letter ∷ letters_of xs) stop (x.said ++ sends_of xs)
+          by true e step = rw (is, one (response i step.0) step.2) (after step.0 e step.1.1 step.3)
+          by false e step = rw (is, one step.0 step.2, step.1.is) (payloads_reply i method params _ (letters_of xs) (sends_of xs)
+              (later (ap (λ (v : Working S P). (desk_of v.client).said) step.4 ∙ silent) (ap (λ (v : Working S P). (desk_of v.client).asked) step.4 ∙ unasked) (rw step.3 at run.8)))
+      at later (notification method params) is step = by (is_early (notification method params)) step.0
+        where
+          by : (b : Bool) → MatchBool b ((run.0 ≡ []) × (run.4 ≡ starting)) (Fails expected_initialize starting run.0 run.4)
+              → Payloads (x.letter ∷ letters_of xs) stop (x.said ++ sends_of xs)
+          by true early = rw (is, part_none x.said run.1 run.0 run.2 early.0) (payloads_note method params (letters_of xs) (sends_of xs)
+              (later (ap (λ (v : Working S P). (desk_of v.client).said) step.1 ∙ silent) (ap (λ (v : Working S P). (desk_of v.client).asked) step.1 ∙ unasked) (rw early.1 at run.8)))
+          by false fails = inl (rw (part_none x.said run.1 run.0 run.2 fails.1, over xs None (Err (expected_initialize fails.0)) q run.5 w' (rw fails.2 at run.8)) refl)
+      at later (response i outcome) is step =
+          inl (rw (part_none x.said run.1 run.0 run.2 step.0.1, over xs None (Err (expected_initialize step.0.0)) q run.5 w' (rw step.0.2 at run.8)) refl)
+
+  pub keeps_payloads : (w w' : Working S P) (xs : List Exchange) (q : Phase) → (desk_of w.client).said ≡ [] → Unasked requested notified replied takes_back begins initializes w
+      → Reaches (working requested notified replied takes_back begins initializes) stop starting w xs q w' → Payloads (letters_of xs) stop (sends_of xs)
+  keeps_payloads w w' xs q silent unasked reached =
+      payloads_from xs q w w' silent unasked (reaches_ran (working requested notified replied takes_back begins initializes) stop starting q w w' xs reached)

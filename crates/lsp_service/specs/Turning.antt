@@ -1,0 +1,58 @@
+-- What a server's acts at a message send, in order: at most one message each.
+use Rattle.serde_json.specs.Data.{Data}
+use Rattle.std.specs.FinMap as map
+use Rattle.std.specs.Prelude.{◌≡◌, ℕ, pos, List, [], ◌∷◌, ◌++◌, Option, Some, None, Result, Err, if◌then◌else◌}
+use Rattle.lsp_message.specs.Id.{Id, number}
+use Rattle.lsp_message.specs.Message.{Message, ErrorObject, request, notification, response}
+use Rattle.lsp_queue.specs.Queue.{pending_of, count_of}
+use Rattle.lsp_service.specs.Desk.{Act, tells, asks, replies, cancels, Desk, is_spent, does, does_all, unsent, holds, given, canceled, cancelled_by, cancel_method, cancel_params, cleared, TakesBack}
+use Rattle.lsp_service.specs.Law.{Handed}
+
+module _ {P : Type 0} where
+  -- What an act sends: a notification; a request, where an id is left, under the next id; the answer of a request that is held; the
+  -- cancellation of a request of the server's own that has no reply yet.
+  abbrev pub sends_by : Desk P → Act P → List Message
+  sends_by d (tells method params) = notification method params ∷ []
+  sends_by d (asks method params payload) = if is_spent (count_of d.asked) then [] else request (number (pos (count_of d.asked))) method params ∷ []
+  sends_by d (replies id outcome) = if map.contains_key d.held id then response id outcome ∷ [] else []
+  sends_by d (cancels z) = if map.contains_key (pending_of d.asked) (number z) then notification cancel_method (cancel_params z) ∷ [] else []
+
+  -- what acts send, one after another
+  abbrev pub all_sends : Desk P → List (Act P) → List Message
+  all_sends d [] = []
+  all_sends d (act ∷ acts) = sends_by d act ++ all_sends (does d act) acts
+
+  -- The desk when the server acts at a message: a request that came is held, and the payload of a reply was given out.
+  abbrev pub desk_at : Desk P → Message → Option P → Desk P
+  desk_at d (request id method params) payload = holds d id
+  desk_at d (notification method params) payload = d
+  desk_at d (response id outcome) None = d
+  desk_at d (response id outcome) (Some payload) = given d id
+
+  -- the answer to a request that was cancelled, where there is one
+  abbrev pub settled_by : Option Id → List (Act P)
+  settled_by None = []
+  settled_by (Some id) = replies id (Err canceled) ∷ []
+
+  -- the acts of the server at a message, and where the message cancels a request, the answer to that one, if it is still held
+  abbrev pub settled_at : Message → List (Act P) → List (Act P)
+  settled_at (request id method params) acts = acts
+  settled_at (notification method params) acts = acts ++ settled_by (cancelled_by method params)
+  settled_at (response id outcome) acts = acts
+
+module _ {S P : Type 0}
+    (requested : S → Id → List ℕ → Data → List (Act P) → S → Type 0)
+    (notified : S → List ℕ → Data → List (Act P) → S → Type 0)
+    (replied : S → P → Result Data ErrorObject → List (Act P) → S → Type 0)
+    (takes_back : S → P → S → Type 0)
+    (begins : S → List (Act P) → S → Type 0) where
+  -- At a message the server, which stated what it may do, did this, and what these acts send is all that is sent. That is the desk
+  -- afterwards, and the server, which took back what found no id.
+  pub record ActsAt (old : S × Desk P) (m : Message) (said : List Message) (new : S × Desk P) : Type 0 where
+    pub payload : Option P
+    pub acts : List (Act P)
+    pub did : S
+    pub handed : Handed requested notified replied takes_back begins old.0 m payload acts did
+    pub back : TakesBack takes_back did (unsent (count_of old.1.asked) acts) new.0
+    pub sent : said ≡ old.1.said ++ all_sends (desk_at old.1 m payload) (settled_at m acts)
+    pub desk : new.1 ≡ cleared (does_all (desk_at old.1 m payload) (settled_at m acts))

@@ -1,0 +1,383 @@
+-- The handshake as the beginning of a session.
+use Rattle.std.proofs.Common.{◌≡◌, refl, sym, ap, inl, inr, ℕ, ◌-◌, ◌^◌, ◌≤◌, Bool, true, false, not, ◌&&◌, List, [], ◌∷◌, ◌++◌, length, suc, arith, Some, None, Option, codes}
+use Rattle.std.specs.Bool.{MatchBool}
+use Rattle.std.specs.List.{FoldsTo, AllZip, list_all, filter_map}
+use Rattle.std.specs.Prelude.{Result, Ok, Err}
+use Rattle.std.specs.Str.{bytes_eq}
+use Rattle.serde_json.specs.Data.{Data}
+use Rattle.lsp_message.specs.Id.{Id}
+use Rattle.lsp_message.specs.Message.{Message, ErrorObject, request, notification, response}
+use Rattle.lsp_session.proofs.Engine.{From, Goes, goes_none, goes_step, goes_both, goes_run, goes_count, ends_closed, ends_exhausted, ends_decided, ends_refused}
+use Rattle.lsp_session.proofs.Waiting.{FoldsTo-split, and-true, waits_none}
+use Rattle.lsp_session.specs.Boxes.{Takes, WaitsFor}
+use Rattle.lsp_session.specs.Event.{Event, message, timeout, closed}
+use Rattle.lsp_session.specs.Finish.{FinishAnswer, IsUninvited, EventFinishes, FinishesAt, is_initialized}
+use Rattle.lsp_session.specs.Outputs.{RefusesOne}
+use Rattle.lsp_session.specs.ProtocolError.{ProtocolFault, disconnected, out_of_memory}
+use Rattle.lsp_session.specs.Service.{Behavior}
+use Rattle.lsp_session.proofs.SessionSteps.{open_after}
+use Rattle.lsp_session.specs.Session.{SessionAnswer, Exchange, letters_of, sends_of, starting, replied, serving, ended, phase_after, request_id, is_initialize, Step, Steps}
+use Rattle.lsp_session.specs.SessionRun.{message_in, is_open, Runs}
+use Rattle.lsp_session.specs.Start.{StartAnswer, is_early, is_undecided, request_of, IsEarlyReply, fault_of_refusal, PassesOver, RefusesReply, Decides, MessageDecides, StartsWithin}
+use Rattle.lsp_session.specs.Turns.{Turn, stopped, got, TakesTurn}
+use Rattle.lsp_session.specs.declared.lifecycle.SendFault.{SendFault}
+use Rattle.lsp_session.specs.declared.loops.handler.SessionEnd.TheVariants.{Closed}
+
+-- the answer of a session that `finish` ends
+abbrev as_answer : FinishAnswer → SessionAnswer
+as_answer (Ok u) = Ok Closed
+as_answer (Err e) = Err e
+
+-- the answer of a session that the handshake ends
+abbrev answer_of : StartAnswer → SessionAnswer
+answer_of (Ok u) = Ok Closed
+answer_of (Err e) = Err e
+
+-- what `initialize` asked
+abbrev found_by : StartAnswer → Option (Id × Data)
+found_by (Ok found) = Some found
+found_by (Err e) = None
+
+-- the event of a turn
+abbrev event_of : Turn → Option Event
+event_of stopped = None
+event_of (got e) = Some e
+
+-- the letters of some turns
+abbrev turn_letters : List Turn → List Message
+turn_letters turns = filter_map message_in (filter_map event_of turns)
+
+-- the answer of a gate that is always open
+abbrev AlwaysYes : {G : Type 0} → G → Bool → G → Type 0
+AlwaysYes old answer new = answer ≡ true
+
+-- what is undecided are early letters
+letters_early : (turns : List Turn) → list_all is_undecided turns ≡ true → list_all is_early (turn_letters turns) ≡ true
+letters_early [] all = refl
+letters_early (stopped ∷ turns) all = cc
+letters_early (got closed ∷ turns) all = cc
+letters_early (got timeout ∷ turns) all = letters_early turns all
+letters_early (got (message m) ∷ turns) all = let both = and-true (is_early m) (list_all is_undecided turns) all in rw (both.0, letters_early turns both.1) refl
+
+-- and end nothing
+turns_open : (turns : List Turn) → list_all is_undecided turns ≡ true → list_all is_open (filter_map event_of turns) ≡ true
+turns_open [] all = refl
+turns_open (stopped ∷ turns) all = cc
+turns_open (got closed ∷ turns) all = cc
+turns_open (got timeout ∷ turns) all = turns_open turns all
+turns_open (got (message m) ∷ turns) all = let both = and-true (is_early m) (list_all is_undecided turns) all in turns_open turns both.1
+
+-- the requests of some turns are those of their letters
+requests_same : (turns : List Turn) → filter_map request_of turns ≡ filter_map request_id (turn_letters turns)
+requests_same [] = refl
+requests_same (stopped ∷ turns) = requests_same turns
+requests_same (got closed ∷ turns) = requests_same turns
+requests_same (got timeout ∷ turns) = requests_same turns
+requests_same (got (message (request i method params)) ∷ turns) = ap (λ rest. i ∷ rest) (requests_same turns)
+requests_same (got (message (response i outcome)) ∷ turns) = requests_same turns
+requests_same (got (message (notification method params)) ∷ turns) = requests_same turns
+
+module _ {G I : Type 0} (receives : I → Event → I → Type 0) where
+  -- with an open gate each turn receives an event
+  turns_receive : (turns : List Turn) (g g' : G) (i i' : I) → FoldsTo (TakesTurn (AlwaysYes {G = G}) receives) (g, i) turns (g', i') → FoldsTo receives i (filter_map event_of turns) i'
+  turns_receive [] g g' i i' run = ap (λ (p : G × I). p.1) run
+  turns_receive (stopped ∷ turns) g g' i i' run = cc (run.1.0)
+  turns_receive (got e ∷ turns) g g' i i' run = (run.0.1, run.1.1, turns_receive turns run.0.0 g' run.0.1 i' run.2)
+
+  turns_events : (turns : List Turn) (g g' : G) (i i' : I) → FoldsTo (TakesTurn (AlwaysYes {G = G}) receives) (g, i) turns (g', i') → length (filter_map event_of turns) ≡ length turns
+  turns_events [] g g' i i' run = refl
+  turns_events (stopped ∷ turns) g g' i i' run = cc (run.1.0)
+  turns_events (got e ∷ turns) g g' i i' run = ap (λ n. suc n) (turns_events turns run.0.0 g' run.0.1 i' run.2)
+
+module _ {S : Type 0} (may : Behavior S) where
+  -- exchanges, of which these are the messages, and what is sent for them
+  record Early (s : S) (before replies : List Message) : Type 0 where
+    exchanges : List Exchange
+    came : before ≡ letters_of exchanges
+    sent : replies ≡ sends_of exchanges
+    steps : Steps may starting s exchanges starting s
+
+  -- one more message before them
+  early_then : (s : S) (m : Message) (said before replies : List Message) → Step may starting s m said starting s → Early s before replies → Early s (m ∷ before) (said ++ replies)
+  early_then s m said before replies step more = record {
+    exchanges = record { letter = m; said = said } ∷ more.exchanges;
+    came = ap (λ ms. m ∷ ms) more.came;
+    sent = ap (λ ms. said ++ ms) more.sent;
+    steps = (starting, s, step, more.steps);
+  }
+
+  -- early messages are steps, for which their replies are sent
+  early_steps : (s : S) (before replies : List Message) → list_all is_early before ≡ true → AllZip IsEarlyReply (filter_map request_id before) replies → Early s before replies
+  early_steps s [] [] early each = record { exchanges = []; came = refl; sent = refl; steps = (refl, refl) }
+  early_steps s [] (r ∷ rs) early each = absurd each
+  early_steps s (request i method params ∷ before) [] early each = absurd each
+  early_steps s (request i method params ∷ before) (r ∷ rs) early each =
+      let both = and-true (not (bytes_eq method (codes "initialize"))) (list_all is_early before) early in
+      at (bytes_eq method (codes "initialize")) refl both.0 (early_steps s before rs both.1 each.1)
+    where
+      at : (b : Bool) → bytes_eq method (codes "initialize") ≡ b → not (bytes_eq method (codes "initialize")) ≡ true → Early s before rs
+          → Early s (request i method params ∷ before) (r ∷ rs)
+      at true e other more = let never : not true ≡ true = rw e at other in absurd (cc (never))
+      at false e other more = early_then s (request i method params) (r ∷ []) before rs (rw e (r, each.0, refl, refl, refl)) more
+  early_steps s (notification method params ∷ before) replies early each =
+      let both = and-true (is_early (notification method params)) (list_all is_early before) early in
+      early_then s (notification method params) [] before replies (rw both.0 (refl, refl), refl) (early_steps s before replies both.1 each)
+  early_steps s (response i outcome ∷ before) replies early each = absurd (cc (early))
+
+-- the turn that brings `initialize`
+decided_turn : (last : Turn) (id : Id) (params : Data) → Decides last (Ok (id, params))
+    → (method : List ℕ) × (last ≡ got (message (request id method params))) × (is_initialize (request id method params) ≡ true)
+decided_turn stopped id params decides = let e : ◌≡◌ {A = StartAnswer} (Ok (id, params)) (Err Rattle.lsp_session.specs.ProtocolError.aborted) = decides in cc
+decided_turn (got closed) id params decides = let e : ◌≡◌ {A = StartAnswer} (Ok (id, params)) (Err disconnected) = decides in cc
+decided_turn (got timeout) id params decides = absurd decides
+decided_turn (got (message (response i1 outcome))) id params decides = absurd decides
+decided_turn (got (message (notification method params1))) id params decides = absurd decides.1
+decided_turn (got (message (request id1 method params1))) id params decides =
+    let same : ◌≡◌ {A = Id × Data} (id, params) (id1, params1) = id_same id id1 params params1 decides.1 in
+    (method, rw (ap (λ (p : Id × Data). p.0) same, ap (λ (p : Id × Data). p.1) same) refl, decides.0)
+  where
+    id_same : (a b : Id) (p q : Data) → ◌≡◌ {A = StartAnswer} (Ok (a, p)) (Ok (b, q)) → ◌≡◌ {A = Id × Data} (a, p) (b, q)
+    id_same a b p q same = some_same (a, p) (b, q) (ap (λ (x : StartAnswer). found_by x) same)
+      where
+        some_same : (x y : Id × Data) → ◌≡◌ {A = Option (Id × Data)} (Some x) (Some y) → x ≡ y
+        some_same x y same = cc
+
+module _ {S I O : Type 0} (may : Behavior S)
+    (receives : I → Event → I → Type 0) (sends : O → Message → Result (Unit {0}) SendFault → O → Type 0) where
+  -- ---- `start_within`, with an open gate
+
+  -- `initialize` came, after early letters
+  pub record Asked (s : S) (i : I) (o : O) (id : Id) (params : Data) (i' : I) (o' : O) : Type 0 where
+    pub at : I
+    pub goes : Goes may receives sends 0 starting s (i, o) starting s (at, o')
+    pub method : List ℕ
+    pub is : is_initialize (request id method params) ≡ true
+    pub waits : WaitsFor receives at (message (request id method params)) i'
+
+  -- a message that is not awaited
+  unexpected : (s : S) (i i' : I) (o : O) (m : Message) (fault : ProtocolFault) → receives i (message m) i' → MessageDecides m (Err fault)
+      → Runs receives sends (From may receives sends starting s s) (i, o) (Err fault) (i', o)
+  unexpected s i i' o (request id method params) fault received decides = let e : ◌≡◌ {A = StartAnswer} (Err fault) (Ok (id, params)) = decides.1 in cc
+  unexpected s i i' o (response id outcome) fault received decides =
+      ends_decided may receives sends starting s i i' o (response id outcome) (Err fault) (waits_none receives i i' _ received) ((decides.0, refl, ap (λ (x : ProtocolFault). ended None (Err x)) decides.1), refl)
+  unexpected s i i' o (notification method params) fault received decides =
+      ends_decided may receives sends starting s i i' o (notification method params) (Err fault) (waits_none receives i i' _ received)
+      (rw decides.0 (decides.1.0, refl, ap (λ (x : ProtocolFault). ended None (Err x)) decides.1.1), refl)
+
+  module _ {G : Type 0} where
+    abbrev Takes_turns : G × I → List Turn → G × I → Type 0
+    Takes_turns = FoldsTo (TakesTurn (AlwaysYes {G = G}) receives)
+
+    -- early turns
+    early_goes : (s : S) (count : ℕ) (turns : List Turn) (g g' : G) (i i' : I) (o o' : O) (replies : List Message) → count ≤ length turns
+        → Takes_turns (g, i) turns (g', i') → PassesOver sends o turns replies o' → Goes may receives sends count starting s (i, o) starting s (i', o')
+    early_goes s count turns g g' i i' o o' replies few taken passed =
+        let early = early_steps may s (turn_letters turns) replies (letters_early turns passed.undecided) (rw (requests_same turns) at passed.each_replied) in
+        record {
+          events = filter_map event_of turns;
+          many = rw (turns_events receives turns g g' i i' taken) few;
+          still_open = turns_open turns passed.undecided;
+          received = turns_receive receives turns g g' i i' taken;
+          exchanges = early.exchanges;
+          came = early.came;
+          taken = rw early.sent at passed.taken;
+          steps = early.steps;
+        }
+
+    -- the greatest number of turns left the handshake undecided
+    pub started_none : (s : S) (g g' : G) (i i' : I) (o o' : O)
+        → StartsWithin (AlwaysYes {G = G}) receives sends (2 ^ 64 - 1) (g, i, o) None (g', i', o')
+        → Runs receives sends (From may receives sends starting s s) (i, o) (Err disconnected) (i', o')
+    started_none s g g' i i' o o' starts =
+        let end = starts.starts.end in
+        let many = starts.none_after_all refl in
+        rw end.1 (goes_count may receives sends starting starting s s (i, o) (i', starts.starts.mid) tt
+        (early_goes s (2 ^ 64 - 1) starts.starts.before g g' i i' o starts.starts.mid starts.replies (rw (sym end.0, many) (omega arith)) (rw end.0 at starts.taken) starts.starts.passed))
+
+    -- early turns, then the last one
+    last_then : (s s' : S) (g g' : G) (i i' i'' : I) (o o' o'' : O) (turns before : List Turn) (last : Turn) (replies : List Message) (answer : SessionAnswer)
+        → Takes_turns (g, i) turns (g', i') → turns ≡ before ++ last ∷ [] → PassesOver sends o before replies o'
+        → ((g1 : G) (i1 : I) → TakesTurn (AlwaysYes {G = G}) receives (g1, i1) last (g', i') → Runs receives sends (From may receives sends starting s s') (i1, o') answer (i'', o''))
+        → Runs receives sends (From may receives sends starting s s') (i, o) answer (i'', o'')
+    last_then s s' g g' i i' i'' o o' o'' turns before last replies answer taken cut passed rest =
+        let parts = FoldsTo-split (TakesTurn (AlwaysYes {G = G}) receives) before (last ∷ []) (g, i) (g', i') (rw cut at taken) in
+        goes_run may receives sends 0 starting starting s s s' (i, o) (parts.0.1, o') (i'', o'') answer
+        (early_goes s 0 before g parts.0.0 i parts.0.1 o o' replies (omega arith) parts.1 passed)
+        (rest parts.0.0 parts.0.1 (rw parts.2.2 at parts.2.1))
+
+    -- the outbox refuses the reply to the last turn's request
+    refused_run : (s : S) (g g' : G) (i i' : I) (o o' : O) (last : Turn) (fault : SendFault)
+        → TakesTurn (AlwaysYes {G = G}) receives (g, i) last (g', i') → RefusesReply sends o last fault o'
+        → Runs receives sends (From may receives sends starting s s) (i, o) (Err (fault_of_refusal fault)) (i', o')
+    refused_run s g g' i i' o o' stopped fault turn lost = cc (turn.0)
+    refused_run s g g' i i' o o' (got closed) fault turn lost = absurd (cc (lost.brings))
+    refused_run s g g' i i' o o' (got timeout) fault turn lost = absurd (cc (lost.brings))
+    refused_run s g g' i i' o o' (got (message (notification method params))) fault turn lost = absurd (cc (lost.brings))
+    refused_run s g g' i i' o o' (got (message (response id outcome))) fault turn lost = absurd (cc (lost.brings))
+    refused_run s g g' i i' o o' (got (message (request id method params))) fault turn lost = at (bytes_eq method (codes "initialize")) refl lost.undecided
+      where
+        same : (a b : Id) → Some a ≡ Some b → a ≡ b
+        same a b e = cc
+
+        at : (b : Bool) → bytes_eq method (codes "initialize") ≡ b → not (bytes_eq method (codes "initialize")) ≡ true
+            → Runs receives sends (From may receives sends starting s s) (i, o) (Err (fault_of_refusal fault)) (i', o')
+        at true e other = let never : not true ≡ true = rw e at other in absurd (cc (never))
+        at false e other = ends_refused may receives sends starting starting s s i i' o o' (request id method params) (lost.reply ∷ []) (fault_of_refusal fault) tt
+            (waits_none receives i i' _ turn.1) (rw e (lost.reply, rw (same id lost.id lost.brings) lost.replies, refl, refl, refl))
+            (record { part = []; unsent = lost.reply; more = []; cut = refl; mid = o; taken = refl; refusal = fault; refuses = lost.refuses; is = refl })
+
+    -- the last turn decides against the session
+    ends_run : (s : S) (g g' : G) (i i' : I) (o : O) (last : Turn) (fault : ProtocolFault)
+        → TakesTurn (AlwaysYes {G = G}) receives (g, i) last (g', i') → Decides last (Err fault)
+        → Runs receives sends (From may receives sends starting s s) (i, o) (Err fault) (i', o)
+    ends_run s g g' i i' o stopped fault turn decides = cc (turn.0)
+    ends_run s g g' i i' o (got timeout) fault turn decides = absurd decides
+    ends_run s g g' i i' o (got closed) fault turn decides =
+        rw (ap (λ (a : StartAnswer). answer_of a) decides) (ends_closed may receives sends starting s i i' o tt (waits_none receives i i' closed turn.1))
+    ends_run s g g' i i' o (got (message m)) fault turn decides = unexpected s i i' o m fault turn.1 decides
+
+    -- the handshake failed
+    pub started_err : (s : S) (g g' : G) (i i' : I) (o o' : O) (limit : ℕ) (fault : ProtocolFault)
+        → StartsWithin (AlwaysYes {G = G}) receives sends limit (g, i, o) (Some (Err fault)) (g', i', o')
+        → Runs receives sends (From may receives sends starting s s) (i, o) (Err fault) (i', o')
+    started_err s g g' i i' o o' limit fault starts =
+        let end = starts.starts.end in
+        let mid = starts.starts.mid in
+        let before = starts.starts.before in
+        elim end.2 [
+          | inl d ↦ rw d.1 (last_then s s g g' i i' i' o mid mid starts.turns before end.0 starts.replies (Err fault) starts.taken end.1 starts.starts.passed
+              (λ g1 i1 turn. ends_run s g1 g' i1 i' mid end.0 fault turn d.0))
+          | inr f ↦ elim f [
+            | inl r ↦ rw (fault_same fault (fault_of_refusal r.0) r.2)
+                (last_then s s g g' i i' i' o mid o' starts.turns before end.0 starts.replies (Err (fault_of_refusal r.0)) starts.taken end.1 starts.starts.passed
+                (λ g1 i1 turn. refused_run s g1 g' i1 i' mid o' end.0 r.0 turn r.1))
+            | inr r ↦ rw (fault_same fault out_of_memory r.3, r.4)
+                (last_then s s g g' i i' i' o mid mid starts.turns before end.0 starts.replies (Err out_of_memory) starts.taken end.1 starts.starts.passed
+                (λ g1 i1 turn. exhausted_run g1 g' i1 i' mid r.0 (rw r.1 at turn)))
+          ]
+        ]
+      where
+        fault_same : (e f : ProtocolFault) → ◌≡◌ {A = StartAnswer} (Err e) (Err f) → e ≡ f
+        fault_same e f same = cc
+
+        exhausted_run : (g g' : G) (i i' : I) (o : O) (m : Message) → TakesTurn (AlwaysYes {G = G}) receives (g, i) (got (message m)) (g', i')
+            → Runs receives sends (From may receives sends starting s s) (i, o) (Err out_of_memory) (i', o)
+        exhausted_run g g' i i' o m turn = ends_exhausted may receives sends starting s s i i' o m tt (waits_none receives i i' (message m) turn.1) (refl, inl refl)
+
+    pub asked : (s : S) (g g' : G) (i i' : I) (o o' : O) (limit : ℕ) (id : Id) (params : Data)
+        → StartsWithin (AlwaysYes {G = G}) receives sends limit (g, i, o) (Some (Ok (id, params))) (g', i', o') → Asked s i o id params i' o'
+    asked s g g' i i' o o' limit id params starts =
+        let end = starts.starts.end in
+        elim end.2 [
+          | inl d ↦ (
+              let turn = decided_turn end.0 id params d.0 in
+              let ask = got (message (request id turn.0 params)) in
+              let parts = FoldsTo-split (TakesTurn (AlwaysYes {G = G}) receives) starts.starts.before (ask ∷ []) (g, i) (g', i') (rw turn.1 at (rw end.1 at starts.taken)) in
+              record {
+                at = parts.0.1;
+                goes = early_goes s 0 starts.starts.before g parts.0.0 i parts.0.1 o o' starts.replies (omega arith) parts.1 (rw d.1 starts.starts.passed);
+                method = turn.0;
+                is = turn.2;
+                waits = waits_none receives parts.0.1 i' _ (let turn : TakesTurn (AlwaysYes {G = G}) receives parts.0 ask (g', i') = rw parts.2.2 at parts.2.1 in turn.1);
+              }
+              )
+          | inr f ↦ elim f [
+            | inl r ↦ let e : ◌≡◌ {A = StartAnswer} (Ok (id, params)) (Err (fault_of_refusal r.0)) = r.2 in cc
+            | inr r ↦ let e : ◌≡◌ {A = StartAnswer} (Ok (id, params)) (Err out_of_memory) = r.3 in cc
+          ]
+        ]
+
+  -- ---- from `initialize` on
+
+  module _ (s s' : S) (i i' : I) (o o' : O) (id : Id) (params : Data) (ask : Asked s i o id params i' o') where
+    answers : (outcome : Result Data ErrorObject) → may.initializes s params outcome s'
+        → Step may starting s (request id ask.method params) (response id outcome ∷ []) (phase_after outcome) s'
+    answers outcome answered = rw ask.is (outcome, answered, refl, refl)
+
+    pub ask_starved : may.starves s s' → Runs receives sends (From may receives sends starting s s') (i, o) (Err out_of_memory) (i', o')
+    ask_starved starved = goes_run may receives sends 0 starting starting s s s' (i, o) (ask.at, o') (i', o') (Err out_of_memory) ask.goes
+        (ends_exhausted may receives sends starting s s' ask.at i' o' (request id ask.method params) tt ask.waits (refl, inr starved))
+
+    -- it is answered with an error
+    pub declined : (error : ErrorObject) (o'' : O) → may.initializes s params (Err error) s' → sends o' (response id (Err error)) (Ok tt) o''
+        → Goes may receives sends 1 starting s (i, o) starting s' (i', o'')
+    declined error o'' answered took = goes_both may receives sends 0 1 starting starting starting s s s' (i, o) (ask.at, o') (i', o'') ask.goes
+        (goes_step may receives sends starting starting s s' ask.at i' o' o'' (request id ask.method params) _ ask.waits (answers (Err error) answered) (o'', took, refl))
+
+    -- the outbox refuses the answer
+    pub unanswered : (outcome : Result Data ErrorObject) (o'' : O) (fault : SendFault) → may.initializes s params outcome s' → sends o' (response id outcome) (Err fault) o''
+        → Runs receives sends (From may receives sends starting s s') (i, o) (Err (fault_of_refusal fault)) (i', o'')
+    unanswered outcome o'' fault answered refuses = goes_run may receives sends 0 starting starting s s s' (i, o) (ask.at, o') (i', o'') _ ask.goes
+        (ends_refused may receives sends starting (phase_after outcome) s s' ask.at i' o' o'' (request id ask.method params) _ _ (open_after outcome) ask.waits (answers outcome answered)
+        (record { part = []; unsent = response id outcome; more = []; cut = refl; mid = o'; taken = refl; refusal = fault; refuses = refuses; is = refl }))
+
+    module _ (result : Data) (answered : may.initializes s params (Ok result) s') where
+      -- it is answered with a result, which was taken
+      result_goes : (o'' : O) → sends o' (response id (Ok result)) (Ok tt) o'' → Goes may receives sends 1 starting s (i, o) replied s' (i', o'')
+      result_goes o'' took = goes_both may receives sends 0 1 starting starting replied s s s' (i, o) (ask.at, o') (i', o'') ask.goes
+          (goes_step may receives sends starting replied s s' ask.at i' o' o'' (request id ask.method params) _ ask.waits (answers (Ok result) answered) (o'', took, refl))
+
+      -- another message than `initialized` came
+      uninvited : (i'' : I) (o : O) (m : Message) (fault : ProtocolFault) (b : Bool) → is_initialized m ≡ b
+          → WaitsFor receives i' (message m) i'' → MatchBool b (◌≡◌ {A = FinishAnswer} (Err fault) (Ok tt)) (IsUninvited fault)
+          → Runs receives sends (From may receives sends replied s' s') (i', o) (Err fault) (i'', o)
+      uninvited i'' o m fault true e waits decides = cc
+      uninvited i'' o m fault false e waits decides = elim decides [
+        | inl shows ↦ ends_decided may receives sends replied s' i' i'' o m (Err fault) waits (rw e ((shows.0, refl, ap (λ (x : ProtocolFault). ended None (Err x)) shows.1), refl))
+        | inr memory ↦ rw memory (ends_exhausted may receives sends replied s' s' i' i'' o m tt waits (refl, inl refl))
+      ]
+
+      finish_run : (i'' : I) (o : O) (event : Event) (fault : ProtocolFault) → WaitsFor receives i' event i'' → EventFinishes event (Err fault)
+          → Runs receives sends (From may receives sends replied s' s') (i', o) (Err fault) (i'', o)
+      finish_run i'' o (message m) fault waits decides = uninvited i'' o m fault (is_initialized m) refl waits decides
+      finish_run i'' o timeout fault waits decides = absurd decides
+      finish_run i'' o closed fault waits decides =
+          rw (ap (λ (a : FinishAnswer). as_answer a) decides) (ends_closed may receives sends replied s' i' i'' o tt waits)
+
+      -- `finish` fails
+      pub finish_failed : (i'' : I) (o'' : O) (fault : ProtocolFault) → FinishesAt receives sends (response id (Ok result)) (i', o') (Err fault) (i'', o'')
+          → Runs receives sends (From may receives sends starting s s') (i, o) (Err fault) (i'', o'')
+      finish_failed i'' o'' fault finishes = elim finishes [
+        | inl f ↦ goes_run may receives sends 1 starting replied s s' s' (i, o) (i', o'') (i'', o'') (Err fault) (result_goes o'' f.0) (finish_run i'' o'' f.1 fault f.2 f.3)
+        | inr f ↦ rw (f.3, ap (λ (a : FinishAnswer). as_answer a) f.2) (unanswered (Ok result) o'' f.0 answered f.1)
+      ]
+
+      module _ (i'' : I) (o'' : O) (finishes : FinishesAt receives sends (response id (Ok result)) (i', o') (Ok tt) (i'', o'')) where
+        -- what `finish` ensures where it succeeds
+        pub record Invited : Type 0 where
+          pub goes : Goes may receives sends 1 starting s (i, o) replied s' (i', o'')
+          pub letter : Message
+          pub is : is_initialized letter ≡ true
+          pub waits : WaitsFor receives i' (message letter) i''
+
+        invited_by : (event : Event) → WaitsFor receives i' event i'' → EventFinishes event (Ok tt) → Takes sends o' (response id (Ok result)) o'' → Invited
+        invited_by (message m) waits decides took = at (is_initialized m) refl decides
+          where
+            at : (b : Bool) → is_initialized m ≡ b → MatchBool b (◌≡◌ {A = FinishAnswer} (Ok tt) (Ok tt)) ⊥ → Invited
+            at true e same = record { goes = result_goes o'' took; letter = m; is = e; waits = waits }
+            at false e none = absurd none
+        invited_by timeout waits decides took = absurd decides
+        invited_by closed waits decides took = let e : ◌≡◌ {A = FinishAnswer} (Ok tt) (Err disconnected) = decides in cc
+
+        invited : Invited
+        invited = elim finishes [
+          | inl f ↦ invited_by f.1 f.2 f.3 f.0
+          | inr f ↦ let e : ◌≡◌ {A = FinishAnswer} (Ok tt) (Err (fault_of_refusal f.0)) = f.2 in cc
+        ]
+
+        -- at `initialized` an allocation fails
+        pub open_starved : (s'' : S) → may.starves s' s'' → Runs receives sends (From may receives sends starting s s'') (i, o) (Err out_of_memory) (i'', o'')
+        open_starved s'' starved = goes_run may receives sends 1 starting replied s s' s'' (i, o) (i', o'') (i'', o'') (Err out_of_memory) invited.goes
+            (ends_exhausted may receives sends replied s' s'' i' i'' o'' invited.letter tt invited.waits (refl, inr starved))
+
+        module _ (s'' : S) (sent : List Message) (o3 : O) (opens : may.opens s' sent s'') where
+          -- what is said to it is refused
+          pub open_refused : (fault : ProtocolFault) → RefusesOne sends o'' sent fault o3
+              → Runs receives sends (From may receives sends starting s s'') (i, o) (Err fault) (i'', o3)
+          open_refused fault lost = goes_run may receives sends 1 starting replied s s' s'' (i, o) (i', o'') (i'', o3) (Err fault) invited.goes
+              (ends_refused may receives sends replied serving s' s'' i' i'' o'' o3 invited.letter sent fault tt invited.waits (rw invited.is (opens, refl)) lost)
+
+          -- it is taken
+          pub opened : FoldsTo (Takes sends) o'' sent o3 → Goes may receives sends 2 starting s (i, o) serving s'' (i'', o3)
+          opened taken = goes_both may receives sends 1 1 starting replied serving s s' s'' (i, o) (i', o'') (i'', o3) invited.goes
+              (goes_step may receives sends replied serving s' s'' i' i'' o'' o3 invited.letter sent invited.waits (rw invited.is (opens, refl)) taken)

@@ -1,0 +1,154 @@
+-- Laws of the exchanges of a session.
+use Rattle.std.proofs.Common.{◌≡◌, refl, sym, ap, List, [], ◌∷◌, ◌++◌, append_assoc, Option, Some, None}
+use Rattle.std.specs.Prelude.{Result, Ok, Err}
+use Rattle.serde_json.specs.Data.{Data}
+use Rattle.lsp_message.specs.Message.{Message, ErrorObject}
+use Rattle.lsp_session.specs.ProtocolError.{ProtocolFault, disconnected, shutdown_disconnected, fault_of_refusal}
+use Rattle.lsp_session.specs.Service.{Behavior}
+use Rattle.lsp_session.specs.Session.{Exchange, letters_of, sends_of, SessionAnswer, Stop, decided, no_more, timed_out, refused, exhausted, Phase, starting, replied, serving, asked, ended, null_of, phase_after, Step, Steps, CutsOff, Reaches, Stops, SessionFrom}
+use Rattle.lsp_session.specs.SessionRun.{all_of}
+use Rattle.lsp_session.specs.declared.lifecycle.SendFault.{SendFault}
+use Rattle.lsp_session.specs.declared.loops.handler.SessionEnd.TheVariants.{Closed}
+
+pub letters_both : (xs ys : List Exchange) → letters_of (xs ++ ys) ≡ letters_of xs ++ letters_of ys
+letters_both [] ys = refl
+letters_both (x ∷ xs) ys = ap (λ ms. x.letter ∷ ms) (letters_both xs ys)
+
+pub sends_both : (xs ys : List Exchange) → sends_of (xs ++ ys) ≡ sends_of xs ++ sends_of ys
+sends_both [] ys = refl
+sends_both (x ∷ xs) ys = rw (sends_both xs ys, append_assoc) refl
+
+pub all_after : (before output : List Message) (null : Option Message) → all_of (before ++ output) null ≡ before ++ all_of output null
+all_after before output None = refl
+all_after before output (Some null) = append_assoc before output (null ∷ [])
+
+-- no message was refused
+abbrev pub IsWhole : Stop → Type 0
+IsWhole (refused fault) = ⊥
+IsWhole stop = Unit {0}
+
+-- neither `shutdown` came, nor a message that decided
+abbrev pub IsOpen : Phase → Type 0
+IsOpen (asked i) = ⊥
+IsOpen (ended null answer) = ⊥
+IsOpen phase = Unit {0}
+
+-- no message decided
+abbrev pub GoesOn : Phase → Type 0
+GoesOn (ended null answer) = ⊥
+GoesOn phase = Unit {0}
+
+-- the answer where no further message comes
+abbrev pub answer_at_end : Phase → SessionAnswer
+answer_at_end starting = Err disconnected
+answer_at_end replied = Err disconnected
+answer_at_end serving = Ok Closed
+answer_at_end (asked i) = Err shutdown_disconnected
+answer_at_end (ended null answer) = answer
+
+pub open_null : (p : Phase) → IsOpen p → None ≡ null_of p
+open_null starting is = refl
+open_null replied is = refl
+open_null serving is = refl
+open_null (asked i) is = absurd is
+open_null (ended null answer) is = absurd is
+
+pub open_after : (outcome : Result Data ErrorObject) → IsOpen (phase_after outcome)
+open_after (Ok result) = tt
+open_after (Err error) = tt
+
+module _ {S : Type 0} (may : Behavior S) where
+  pub stops_at_end : (p : Phase) (s : S) → IsOpen p → Stops may p s no_more (answer_at_end p) s
+  stops_at_end starting s is = (refl, refl)
+  stops_at_end replied s is = (refl, refl)
+  stops_at_end serving s is = (refl, refl)
+  stops_at_end (asked i) s is = absurd is
+  stops_at_end (ended null answer) s is = absurd is
+
+  pub stops_refused : (p : Phase) (s : S) (refusal : SendFault) (fault : ProtocolFault) → IsOpen p → fault ≡ fault_of_refusal refusal
+      → Stops may p s (refused refusal) (Err fault) s
+  stops_refused starting s refusal fault is same = (ap (λ (x : ProtocolFault). Err x) same, refl)
+  stops_refused replied s refusal fault is same = (ap (λ (x : ProtocolFault). Err x) same, refl)
+  stops_refused serving s refusal fault is same = (ap (λ (x : ProtocolFault). Err x) same, refl)
+  stops_refused (asked i) s refusal fault is same = absurd is
+  stops_refused (ended null answer) s refusal fault is same = absurd is
+
+  -- steps, one after another
+  pub steps_both : (p p' p'' : Phase) (s s' s'' : S) (xs ys : List Exchange)
+      → Steps may p s xs p' s' → Steps may p' s' ys p'' s'' → Steps may p s (xs ++ ys) p'' s''
+  steps_both p p' p'' s s' s'' [] ys first second = rw (sym first.0, sym first.1) second
+  steps_both p p' p'' s s' s'' (x ∷ xs) ys first second =
+      (first.0, first.1, first.2, steps_both first.0 p' p'' first.1 s' s'' xs ys first.3 second)
+
+  pub one_step : (p p' : Phase) (s s' : S) (m : Message) (said : List Message) → Step may p s m said p' s'
+      → Steps may p s (record { letter = m; said = said } ∷ []) p' s'
+  one_step p p' s s' m said step = (p', s', step, (refl, refl))
+
+  -- where no message was refused
+  pub reaches_whole : (stop : Stop) (p p' : Phase) (s s' : S) (xs : List Exchange) → IsWhole stop → Steps may p s xs p' s' → Reaches may stop p s xs p' s'
+  reaches_whole decided p p' s s' xs whole steps = steps
+  reaches_whole no_more p p' s s' xs whole steps = steps
+  reaches_whole timed_out p p' s s' xs whole steps = steps
+  reaches_whole exhausted p p' s s' xs whole steps = steps
+  reaches_whole (refused fault) p p' s s' xs whole steps = absurd whole
+
+  pub whole_steps : (stop : Stop) (p p' : Phase) (s s' : S) (xs : List Exchange) → IsWhole stop → Reaches may stop p s xs p' s' → Steps may p s xs p' s'
+  whole_steps decided p p' s s' xs whole steps = steps
+  whole_steps no_more p p' s s' xs whole steps = steps
+  whole_steps timed_out p p' s s' xs whole steps = steps
+  whole_steps exhausted p p' s s' xs whole steps = steps
+  whole_steps (refused fault) p p' s s' xs whole steps = absurd whole
+
+  -- the same, up to what ended the session
+  reaches_both : (stop : Stop) (p p' p'' : Phase) (s s' s'' : S) (xs ys : List Exchange)
+      → Steps may p s xs p' s' → Reaches may stop p' s' ys p'' s'' → Reaches may stop p s (xs ++ ys) p'' s''
+  reaches_both decided p p' p'' s s' s'' xs ys first second = steps_both p p' p'' s s' s'' xs ys first second
+  reaches_both no_more p p' p'' s s' s'' xs ys first second = steps_both p p' p'' s s' s'' xs ys first second
+  reaches_both timed_out p p' p'' s s' s'' xs ys first second = steps_both p p' p'' s s' s'' xs ys first second
+  reaches_both exhausted p p' p'' s s' s'' xs ys first second = steps_both p p' p'' s s' s'' xs ys first second
+  reaches_both (refused fault) p p' p'' s s' s'' xs ys first second = record {
+    earlier = xs ++ second.earlier;
+    letter = second.letter;
+    part = second.part;
+    unsaid = second.unsaid;
+    more = second.more;
+    cut = rw (second.cut, append_assoc) refl;
+    next = second.next;
+    mid = second.mid;
+    steps = steps_both p p' second.next s s' second.mid xs second.earlier first second.steps;
+    step = second.step;
+  }
+
+  -- a session from some phase on, after exchanges that lead to it
+  pub from_after : (p p' : Phase) (s s' s'' : S) (xs ys : List Exchange) (stop : Stop) (null : Option Message) (answer : SessionAnswer)
+      → Steps may p s xs p' s' → SessionFrom may p' s' s'' ys stop null answer → SessionFrom may p s s'' (xs ++ ys) stop null answer
+  from_after p p' s s' s'' xs ys stop null answer first later = record {
+    last = later.last;
+    after = later.after;
+    reached = reaches_both stop p p' later.last s s' later.after xs ys first later.reached;
+    null_is = later.null_is;
+    stopped = later.stopped;
+  }
+
+-- What holds of a session as long as it goes on, or when a message decided.
+module _ {S : Type 0} (may : Behavior S) (Holds : Phase → List Exchange → Type 0)
+    (none : (p : Phase) → GoesOn p → Holds p [])
+    (one : (p q : Phase) (s s' : S) (x : Exchange) → Step may p s x.letter x.said q s' → Holds q (x ∷ []))
+    (more : (p q : Phase) (x : Exchange) (xs : List Exchange) → GoesOn p → Holds p (x ∷ []) → Holds q xs → Holds q (x ∷ xs)) where
+  hold_last : (q : Phase) (null : Option Message) (answer : SessionAnswer) (mid s' : S) (x : Exchange) (xs : List Exchange) → Holds (ended null answer) (x ∷ [])
+      → Steps may (ended null answer) mid xs q s' → Holds q (x ∷ xs)
+  hold_last q null answer mid s' x [] first rest = rw rest.0 first
+  hold_last q null answer mid s' x (y ∷ ys) first rest = absurd rest.2
+
+  hold_then : (q next : Phase) (mid s' : S) (x : Exchange) (xs : List Exchange) → Holds next (x ∷ []) → Steps may next mid xs q s'
+      → ((next : Phase) → GoesOn next → Steps may next mid xs q s' → Holds q xs) → Holds q (x ∷ xs)
+  hold_then q starting mid s' x xs first rest later = more starting q x xs tt first (later starting tt rest)
+  hold_then q replied mid s' x xs first rest later = more replied q x xs tt first (later replied tt rest)
+  hold_then q serving mid s' x xs first rest later = more serving q x xs tt first (later serving tt rest)
+  hold_then q (asked i) mid s' x xs first rest later = more (asked i) q x xs tt first (later (asked i) tt rest)
+  hold_then q (ended null answer) mid s' x xs first rest later = hold_last q null answer mid s' x xs first rest
+
+  pub steps_hold : (p q : Phase) (s s' : S) (xs : List Exchange) → GoesOn p → Steps may p s xs q s' → Holds q xs
+  steps_hold p q s s' [] on steps = rw steps.0 (none p on)
+  steps_hold p q s s' (x ∷ xs) on steps =
+      hold_then q steps.0 steps.1 s' x xs (one p steps.0 s steps.1 x steps.2) steps.3 (λ next still rest. steps_hold next q steps.1 s' xs still rest)

@@ -1,0 +1,5 @@
+use Rattle.lsp_session.proofs.Ending.{opened_before}
+use Rattle.lsp_session.proofs.laws.sessions.only_replies_come_first.Goals as goal
+
+pub returns : goal.returns
+returns c = opened_before

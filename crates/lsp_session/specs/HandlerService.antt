@@ -1,0 +1,23 @@
+-- A handler that was lent, as a service.
+use Rattle.serde_json.specs.Data.{Data}
+use Rattle.serde_json.specs.View.{view}
+use Rattle.std.specs.Prelude.{◌≡◌, ℕ, List, [], Result, Ok}
+use Rattle.lsp_message.specs.Id.{Id}
+use Rattle.lsp_message.specs.Message.{ErrorObject}
+use Rattle.lsp_session.specs.HandlerSession.{Handles, initialize_result}
+use Rattle.lsp_session.specs.Service.{Behavior}
+use Rattle.lsp_session.specs.declared.loops.handler_service.HandlerService.{HandlerService}
+
+module _ {H : Type 0} where
+  -- the handler that was lent is kept, as it is
+  abbrev pub KeepsHandler : HandlerService H → HandlerService H → Type 0
+  KeepsHandler old new = (new.handler.now ≡ old.handler.now) × (new.handler.ghost_name ≡ old.handler.ghost_name)
+
+  -- `of_handler`, of the handler that was lent and the capabilities that are left
+  abbrev pub lent_handler : (H → Id → List ℕ → Data → Result Data ErrorObject → H → Type 0) → (H → List ℕ → Data → H → Type 0) → Behavior (HandlerService H)
+  lent_handler answers notes = record {
+    initializes = λ old params outcome new. (outcome ≡ Ok (initialize_result (view old.capabilities.now))) × KeepsHandler old new;
+    opens = λ old said new. (said ≡ []) × KeepsHandler old new;
+    gives = λ old m said new. Handles answers notes old.handler.now m said new.handler.now × (new.handler.ghost_name ≡ old.handler.ghost_name);
+    starves = KeepsHandler;
+  }

@@ -1,0 +1,96 @@
+// A session of a server (LSP 3.17, "Server lifecycle").
+ghost use Rattle.serde_json.specs.View.{view};
+ghost use Rattle.std.specs.Prelude.{◌≡◌, List, IfOk, string_bytes};
+ghost use Rattle.lsp_message.specs.View.{outcome_view};
+ghost use Rattle.lsp_session.specs.HandlerSession.{of_handler, initialize_result as initialize_result_spec};
+ghost use Rattle.lsp_session.specs.Session.{SessionOut};
+ghost use Rattle.lsp_session.specs.SessionRun.{Runs};
+
+use crate::error::ProtocolError;
+use crate::lifecycle::{Inbox, Outbox};
+use crate::loops::engine::serve_with;
+use crate::loops::handler_service::HandlerService;
+use lsp_message::{Notification, Request, Response, ResponseError};
+use serde_json::{Map, Value, put};
+use std::alloc::{AllocError, Global};
+
+/// How a session ended.
+#[derive(Clone, Copy, Debug, PartialEq, Eq)]
+pub enum SessionEnd {
+    /// The client asked for `shutdown`, and then sent `exit`.
+    ShutDown,
+    /// From `initialized` on, the client sent `exit` without a `shutdown`, or no more messages came.
+    Closed,
+}
+
+/// What a server does with the requests and the notifications of a session.
+pub trait Handler {
+    ghost use Rattle.serde_json.specs.Data.{Data};
+    ghost use Rattle.std.specs.Prelude.{ℕ, Result};
+    ghost use Rattle.lsp_message.specs.Id.{Id};
+    ghost use Rattle.lsp_message.specs.Message.{ErrorObject};
+
+    /// A request with this id, method and params may have this outcome, and change the handler so.
+    ghost answers: { Self → Id → List ℕ → Data → Result Data ErrorObject → Self → Type 0 };
+
+    /// A notification with this method and these params may change the handler so.
+    ghost notes: { Self → List ℕ → Data → Self → Type 0 };
+
+    /// What came of a request: its result, or an error (JSON-RPC 2.0, section 5). The session sends it under the
+    /// request's id. An outer `Err` says that an allocation failed, and ends the session.
+    fn answer(&mut self, request: &Request) -> Result<Result<Value, ResponseError>, AllocError>
+        ensures { IfOk result (λ outcome.
+            answers self.old request.now.id (string_bytes request.now.method) (view request.now.params) (outcome_view outcome) self.new) };
+
+    /// Takes notice of a notification (JSON-RPC 2.0, section 4.1). An `Err` says that an allocation failed, and ends the
+    /// session.
+    fn note(&mut self, notification: &Notification) -> Result<(), AllocError>
+        ensures { IfOk result (λ _. notes self.old (string_bytes notification.now.method) (view notification.now.params) self.new) };
+
+    /// The reply to a request that is given to keep: under its id, with an outcome that `answer` may give. The session calls
+    /// this method, which calls `answer`. A handler that gives the params back writes it as well, and moves them.
+    fn respond(&mut self, request: Request) -> Result<Response, AllocError>
+        ensures id { IfOk result (λ response. response.id ≡ request.id) }
+        ensures outcome { IfOk result (λ response.
+            answers self.old request.id (string_bytes request.method) (view request.params) (outcome_view response.response_result) self.new) }
+    {
+        let response_result = self.answer(&request)?;
+        Ok(Response {
+            id: request.id,
+            response_result,
+        })
+    }
+}
+
+/// Runs a session of a server: the handshake, the handler's answers, and the shutdown (LSP 3.17, "Server lifecycle").
+///
+/// `initialize` is answered with `{"capabilities":<capabilities>}`. From `initialized` on each request is answered, in
+/// order, with what the handler gives, and each notification is told to it; a response is dropped. `shutdown` is answered
+/// with null, and `exit` then gives `ShutDown`. `Closed` comes where, from `initialized` on, `exit` comes without a
+/// `shutdown` or no more messages come. What comes at the wrong time is in the table of `lifecycle`.
+///
+/// An outbox that is closed to a reply ends the session with `disconnected channel`, and an allocation that fails with
+/// `out of memory`; that the null could not be sent is ignored. After 2^64 - 1 events it ends as if no more messages came.
+pub fn serve<I: Inbox, O: Outbox, H: Handler>(
+    alloc: Global,
+    inbox: &mut I,
+    outbox: &mut O,
+    capabilities: Value,
+    handler: &mut H,
+) -> Result<SessionEnd, ProtocolError>
+    ensures { Runs I.receives O.sends (SessionOut (of_handler H.answers H.notes (view capabilities)) handler.old handler.new)
+        (inbox.old, outbox.old) result (inbox.new, outbox.new) }
+{
+    let mut capabilities = capabilities;
+    let mut service = HandlerService::new(alloc, &mut capabilities, handler);
+    serve_with(alloc, inbox, outbox, &mut service)
+}
+
+/// The result of `initialize`: `{"capabilities":<capabilities>}`. An `Err` is a failed allocation.
+pub fn initialize_result(alloc: Global, capabilities: Value) -> Result<Value, AllocError>
+    ensures { IfOk result (λ value. view value ≡ initialize_result_spec (view capabilities)) }
+{
+    let mut members = Map::new(alloc);
+    put(&mut members, alloc, "capabilities", capabilities)?;
+    Ok(Value::Object(members))
+}

@@ -1,0 +1,60 @@
+// A handler, as a service that sends nothing but its answers.
+ghost use Rattle.std.specs.Prelude.{◌≡◌};
+ghost use Rattle.lsp_session.specs.HandlerService.{lent_handler};
+
+use crate::loops::handler::{Handler, initialize_result};
+use crate::loops::service::{Output, Service};
+use lsp_message::{Message, Notification, Request, Response, ResponseError};
+use serde_json::Value;
+use std::alloc::{AllocError, Global};
+use std::mem;
+
+/// A handler as a service: it gives the handler's answers, and answers `initialize` with the capabilities, which it takes out of their
+/// place.
+#[derive(Drop)]
+pub struct HandlerService<'a, H> {
+    alloc: Global,
+    capabilities: &'a mut Value,
+    handler: &'a mut H,
+}
+
+impl<'a, H: Handler> HandlerService<'a, H> {
+    /// A service over a handler. It takes no memory.
+    pub fn new(alloc: Global, capabilities: &'a mut Value, handler: &'a mut H) -> Self
+        ensures same_handler { result.handler.ghost_name ≡ handler.entry.ghost_name }
+        ensures unchanged { result.handler.now ≡ handler.old }
+        ensures capabilities { result.capabilities.now ≡ capabilities.old }
+    {
+        HandlerService {
+            alloc,
+            capabilities,
+            handler,
+        }
+    }
+}
+
+impl<'a, H: Handler> Service for HandlerService<'a, H> {
+    ghost behavior = { lent_handler H.answers H.notes };
+
+    fn initialize(&mut self, _params: Value) -> Result<Result<Value, ResponseError>, AllocError> {
+        let capabilities = mem::replace(self.capabilities, Value::Null);
+        Ok(Ok(initialize_result(self.alloc, capabilities)?))
+    }
+
+    fn initialized(&mut self) -> Result<Output, AllocError> {
+        Ok(Output::Nothing)
+    }
+
+    fn request(&mut self, request: Request) -> Result<Output, AllocError> {
+        Ok(Output::One(Message::Response(self.handler.respond(request)?)))
+    }
+
+    fn notification(&mut self, notification: Notification) -> Result<Output, AllocError> {
+        self.handler.note(&notification)?;
+        Ok(Output::Nothing)
+    }
+
+    fn response(&mut self, _response: Response) -> Result<Output, AllocError> {
+        Ok(Output::Nothing)
+    }
+}

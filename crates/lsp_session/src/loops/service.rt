@@ -1,0 +1,52 @@
+// What a session runs.
+ghost use Rattle.serde_json.specs.View.{view};
+ghost use Rattle.std.specs.Prelude.{IfOk, OnErr};
+ghost use Rattle.lsp_message.specs.View.{request_view, notification_view, response_view, outcome_view};
+ghost use Rattle.lsp_session.specs.OutputView.{output_view};
+
+use lsp_message::{Message, Notification, Request, Response, ResponseError};
+use serde_json::Value;
+use std::alloc::AllocError;
+
+/// Messages that a session is to send, in order.
+#[derive(Debug, Drop)]
+pub enum Output {
+    /// No message.
+    Nothing,
+    /// One message. It takes no memory.
+    One(Message),
+    /// As many as there are.
+    Several(Vec<Message>),
+}
+
+/// What a session runs: it answers `initialize`, speaks first after `initialized`, and gives messages to send for each message
+/// after that. An outer `Err` is a failed allocation, and ends the session; nothing is sent for that message.
+pub trait Service {
+    ghost use Rattle.lsp_session.specs.Service.{Behavior};
+
+    /// What it may give, and how it may change.
+    ghost behavior: { Behavior Self };
+
+    /// What comes of `initialize` (LSP 3.17, "Initialize Request"): the result, with the capabilities, the server's name and
+    /// version; or an error, which is sent as the reply, and the session goes on waiting for another `initialize`.
+    fn initialize(&mut self, params: Value) -> Result<Result<Value, ResponseError>, AllocError>
+        ensures outcome { IfOk result (λ outcome. behavior.initializes self.old (view params) (outcome_view outcome) self.new) }
+        ensures err { OnErr result (behavior.starves self.old self.new) };
+
+    /// What it says when `initialized` came, before the next message: all messages, in order.
+    fn initialized(&mut self) -> Result<Output, AllocError>
+        ensures output { IfOk result (λ output. behavior.opens self.old (output_view output) self.new) }
+        ensures err { OnErr result (behavior.starves self.old self.new) };
+
+    /// What comes of a request: all messages that the session is to send for it, in order.
+    fn request(&mut self, request: Request) -> Result<Output, AllocError>
+        ensures { IfOk result (λ output. behavior.gives self.old (request_view request) (output_view output) self.new) };
+
+    /// The same of a notification.
+    fn notification(&mut self, notification: Notification) -> Result<Output, AllocError>
+        ensures { IfOk result (λ output. behavior.gives self.old (notification_view notification) (output_view output) self.new) };
+
+    /// The same of a response.
+    fn response(&mut self, response: Response) -> Result<Output, AllocError>
+        ensures { IfOk result (λ output. behavior.gives self.old (response_view response) (output_view output) self.new) };
+}

@@ -1,0 +1,17 @@
+//! What a session in threads keeps, as an implication.
+ghost use Rattle.std.specs.Prelude.{ℕ, List, Option, Result};
+ghost use Rattle.lsp_session.specs.Session.{SessionOut};
+ghost use Rattle.lsp_session.specs.SessionLaws.{Both, KeepsOrder};
+ghost use Rattle.lsp_session.specs.declared.loops.handler.SessionEnd.{SessionEnd as EndOfSession};
+ghost use Rattle.lsp_session.specs.declared.loops.stream_session.SessionFault.{SessionFault as FaultOfSession};
+ghost use Rattle.lsp_threads.specs.Threads.{ThreadsGive};
+
+use lsp_session::Service;
+
+/// A session in threads keeps the order of the lifecycle, as `session_keeps_order` says it of one on one thread (LSP 3.17, "Server
+/// lifecycle"): a fact of each session that was run.
+pub fn threads_keep_order<S: Service>()
+    ensures { (limit : ℕ) (old new : S) (text : List ℕ) (before after : Option (List ℕ)) (answer : Result EndOfSession FaultOfSession)
+        → ThreadsGive limit (SessionOut S.behavior old new) text before after answer
+        → ThreadsGive limit (Both (SessionOut S.behavior old new) KeepsOrder) text before after answer }
+{}
