@@ -1,7 +1,5 @@
 // A link between two peers on its own, and a world step by step. Whole runs of two peers stand in `example_two_peers`.
-use lsp_server::{
-    Link, Message, Notification, Outcome, RequestId, Side, Step, World, WorldFault,
-};
+use lsp_server::{Link, Message, Notification, Outcome, RequestId, Side, Step, World, WorldFault};
 use serde_json::Value;
 use std::alloc::{AllocError, Global};
 use std::test::Fail;
@@ -87,16 +85,32 @@ fn a_world_step_by_step(rt: HostRuntime) -> Result<(), Fail> {
     let world = World::new(alloc);
     let (world, outcome) = world.step(register(alloc, Value::Null, 7)?)?;
     assert_eq!(rt; outcome, Outcome::Registered(first()));
-    let (world, outcome) = world.step(Step::Pass { to: Side::B, bytes: 59 })?;
+    let (world, outcome) = world.step(Step::Pass {
+        to: Side::B,
+        bytes: 59,
+    })?;
     assert_eq!(rt; outcome, Outcome::Passed(59));
-    let (world, outcome) = world.step(Step::Take { side: Side::B, label: 4 })?;
+    let (world, outcome) = world.step(Step::Take {
+        side: Side::B,
+        label: 4,
+    })?;
     assert_eq!(rt; outcome, Outcome::Arrived(first()));
-    let (world, outcome) = world.step(Step::GiveUp { side: Side::B, id: first() })?;
+    let (world, outcome) = world.step(Step::GiveUp {
+        side: Side::B,
+        id: first(),
+    })?;
     assert_eq!(rt; outcome, Outcome::GaveUp(4));
     let result = Value::Bool(true);
-    let (mut world, outcome) = world.step(Step::Answer { side: Side::B, id: first(), result })?;
+    let (mut world, outcome) = world.step(Step::Answer {
+        side: Side::B,
+        id: first(),
+        result,
+    })?;
     assert_eq!(rt; outcome, Outcome::Absent);
-    assert_eq!(rt; world.queue(Side::A).outgoing.data(&first()).copied(), Some(7));
+    assert_eq!(rt;
+        world.queue(Side::A).outgoing.data(&first()).copied(),
+        Some(7)
+    );
     assert_eq!(rt; world.hand_out(alloc, Side::B).len(), 1);
     assert_eq!(rt; world.taken(Side::B).len(), 0);
     assert_eq!(rt; world.hand_out(alloc, Side::B).len(), 0);
@@ -109,12 +123,21 @@ fn only_the_take_of_a_deep_message_is_a_fault(rt: HostRuntime) -> Result<(), Fai
     let world = World::new(alloc);
     let (world, outcome) = world.step(register(alloc, nested(alloc, 127)?, 1)?)?;
     assert_eq!(rt; outcome, Outcome::Registered(RequestId::from(0)));
-    let (world, outcome) = world.step(Step::Take { side: Side::B, label: 0 })?;
+    let (world, outcome) = world.step(Step::Take {
+        side: Side::B,
+        label: 0,
+    })?;
     assert_eq!(rt; outcome, Outcome::Waiting);
-    let (world, _) = world.step(Step::Pass { to: Side::B, bytes: 1000 })?;
+    let (world, _) = world.step(Step::Pass {
+        to: Side::B,
+        bytes: 1000,
+    })?;
     let (world, outcome) = world.step(register(alloc, Value::Null, 2)?)?;
     assert_eq!(rt; outcome, Outcome::Registered(RequestId::from(1)));
-    let taken = world.step(Step::Take { side: Side::B, label: 0 });
+    let taken = world.step(Step::Take {
+        side: Side::B,
+        label: 0,
+    });
     assert!(rt; matches!(taken, Err(WorldFault::NotReadBack)));
     Ok(())
 }
