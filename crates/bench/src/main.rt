@@ -4,9 +4,10 @@
 //!     bench session [speaking] [null]             a session on one thread: each request gets its params back, or null
 //!     bench threads pass | pump | run_threads     messages passed on by one thread and by two; the session on three threads
 //!     bench queues [N ..]                         a call on the request queues, with N requests pending
+//!     bench texts [N ..]                          N edits at the start, in the middle and at the end of a large text
 //!     bench all                                   each of these on the same input, under its name
 //!
-//! All but `queues` read frames from standard input, and write frames to standard output. `speaking` is a server that speaks
+//! All but `queues` and `texts` read frames from standard input, and write frames to standard output. `speaking` is a server that speaks
 //! (`session_with`), which gives the same replies.
 #![tactic(auto)]
 
@@ -14,6 +15,7 @@ mod json;
 mod queues;
 mod session;
 mod speaking;
+mod texts;
 mod threads;
 
 use anyhow::{Result, bail};
@@ -29,7 +31,7 @@ use std::{env, io};
 const READ_AHEAD: usize = 65536;
 
 const USAGE: &str =
-    "usage: bench json | session [speaking] [null] | threads pass|pump|run_threads | queues [N ..] | all";
+    "usage: bench json | session [speaking] [null] | threads pass|pump|run_threads | queues [N ..] | texts [N ..] | all";
 
 /// The measures that go over frames.
 const OVER_FRAMES: [&str; 7] = [
@@ -49,6 +51,7 @@ fn main(rt: HostRuntime) -> Result<()> {
     let mut reader = BufReader::with_capacity(alloc, READ_AHEAD, rt.reader())?;
     match words.as_slice() {
         [word, counts @ ..] if word.as_str() == "queues" => queues::measure(&rt, alloc, counts),
+        [word, counts @ ..] if word.as_str() == "texts" => texts::measure(&rt, alloc, counts),
         [word] if word.as_str() == "all" => {
             let mut text = Vec::new(alloc);
             reader.read_to_end(&mut text)?;
@@ -70,7 +73,7 @@ fn joined(alloc: Global, words: &[String]) -> Result<String> {
     Ok(text)
 }
 
-/// Each measure over these bytes, and after them the one of the queues.
+/// Each measure over these bytes, and after them those of the queues and of texts.
 fn run_all<T>(rt: &T, alloc: Global, text: &[u8]) -> Result<()>
 where
     T: Threads + Wait + Print + Clock + Copy + Drop + Send + 'static,
@@ -83,7 +86,10 @@ where
         println!(rt; "")?;
     }
     println!(rt; "queues")?;
-    queues::measure(rt, alloc, &[])
+    queues::measure(rt, alloc, &[])?;
+    println!(rt; "")?;
+    println!(rt; "texts")?;
+    texts::measure(rt, alloc, &[])
 }
 
 /// The measure of this name.

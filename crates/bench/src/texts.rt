@@ -1,0 +1,84 @@
+//! How the time of an edit depends on where it stands in a text of a million bytes.
+use anyhow::{Context, Result};
+use lsp_text::{Position, PositionEncoding, Range, Text};
+use std::alloc::Global;
+use std::time::{Clock, Instant};
+
+const LINES: u32 = 25_000;
+
+/// How many keystrokes are made where no number is given, and no time is printed.
+const FEW: u32 = 10;
+
+const UTF16: PositionEncoding = PositionEncoding::Utf16;
+
+/// For each word makes so many keystrokes at the text's start, in its middle and at its end, and so many new lines in its middle, asks
+/// for the positions of as many offsets, and prints the microseconds of each. Without words it says how long the text is after a few
+/// keystrokes at its start.
+pub fn measure<R: Clock + Print>(rt: &R, alloc: Global, words: &[String]) -> Result<()> {
+    if words.is_empty() {
+        let mut text = large(alloc)?;
+        typed(alloc, &mut text, 0, "x", FEW)?;
+        let bytes = text.as_str().len();
+        println!(rt; "{bytes} bytes")?;
+        return Ok(());
+    }
+    for word in words {
+        let count = word.parse::<u32>().context("how many keystrokes")?;
+        time_edits(rt, alloc, count)?;
+    }
+    Ok(())
+}
+
+fn time_edits<R: Clock + Print>(rt: &R, alloc: Global, count: u32) -> Result<()> {
+    let start = Instant::now(rt)?;
+    let mut text = large(alloc)?;
+    let took = start.elapsed(rt)?.as_micros();
+    println!(rt; "made and indexed: {took} us")?;
+    for line in [0u32, 12_500, LINES] {
+        let start = Instant::now(rt)?;
+        typed(alloc, &mut text, line, "x", count)?;
+        let took = start.elapsed(rt)?.as_micros();
+        println!(rt; "{count} keystrokes at line {line}: {took} us")?;
+    }
+    let start = Instant::now(rt)?;
+    typed(alloc, &mut text, 12_500, "y\n", count)?;
+    let took = start.elapsed(rt)?.as_micros();
+    println!(rt; "{count} new lines at line 12500: {took} us")?;
+    let start = Instant::now(rt)?;
+    let sum = asked(&text, count);
+    let took = start.elapsed(rt)?.as_micros();
+    println!(rt; "{count} positions of offsets and back: {took} us, sum {sum}")?;
+    Ok(())
+}
+
+fn large(alloc: Global) -> Result<Text> {
+    let mut text = String::new(alloc);
+    for _ in 0..LINES {
+        text.push_str("    let value = some_call(argument, 1);\n")?;
+    }
+    Ok(Text::new(alloc, text.as_str())?)
+}
+
+/// Inserts these characters so many times in a line.
+fn typed(alloc: Global, text: &mut Text, line: u32, new: &str, count: u32) -> Result<()> {
+    for i in 0..count {
+        let start = Position {
+            line,
+            character: i % 40,
+        };
+        let range = Range { start, end: start };
+        text.apply(alloc, Some(range), UTF16, new)?;
+    }
+    Ok(())
+}
+
+/// The sum of so many offsets, each by way of its position.
+fn asked(text: &Text, count: u32) -> u64 {
+    let mut sum: u64 = 0;
+    for i in 0..count {
+        let offset = (i as usize).wrapping_mul(100);
+        let place = text.position_at(offset, UTF16);
+        sum = sum.wrapping_add(text.offset_at(place, UTF16) as u64);
+    }
+    sum
+}
