@@ -24,7 +24,7 @@ sys.dont_write_bytecode = True
 
 from client import EXIT, INITIALIZE_REPLY, INITIALIZED, PATIENCE, SERVE, SHUTDOWN, SHUTDOWN_REPLY, frame
 from peers import Program, build_all
-from pump import machine
+from pump import BENCH, machine
 from speed_streams import INITIALIZE, make_streams
 
 HOST = "127.0.0.1"
