@@ -80,7 +80,7 @@ pub record Due (id : Id) (m : Message) (said : List Message) (held held' : Pendi
   pub most : how_many (is_reply_under id) said + held_under id held' ≤ one_if (is_request_under id m) + held_under id held
   pub least : 1 ≤ one_if (is_request_under id m) + held_under id held → 1 ≤ how_many (is_reply_under id) said + held_under id held'
 
--- a server at its desk, as a speaker
+-- a server at its desk, as a service
 abbrev pub gives : {S P : Type 0} (requested : S → Id → List ℕ → Data → List (Act P) → S → Type 0)
     (notified : S → List ℕ → Data → List (Act P) → S → Type 0)
     (replied : S → P → Result Data ErrorObject → List (Act P) → S → Type 0)

@@ -32,8 +32,8 @@ use std::io::{BufRead, Write};
 /// In each beginning of the session the replies under an id are no more than the client's requests under it: no reply goes to
 /// anything else, and none comes twice. A request whose id the client used once has exactly one reply. Or it has none: it is still
 /// held, or the session ended at it, since the lifecycle does not allow it, and the fault shows it. Up to `initialized` nothing is
-/// sent but one reply for each request. Nothing follows the null of `shutdown`. Where the outbox refused a message, or an allocation failed, a request may be left
-/// without a reply; the rest holds there too.
+/// sent but one reply for each request. Nothing follows the null of `shutdown`. Where the outbox refused a message, or an allocation
+/// failed, a request may be left without a reply; the rest holds there too.
 ///
 /// Each reply of the client comes to the server with the payload of its own request, once: what was kept with the request that
 /// was sent under its id. A reply under an id that is not pending reaches nobody.

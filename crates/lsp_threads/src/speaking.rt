@@ -15,7 +15,7 @@ use std::sync::Wait;
 use std::thread::{Builder, Threads};
 
 /// Runs a session of a service (LSP 3.17, "Server lifecycle") with a thread that reads, a thread that writes and the
-/// service on the caller's thread. In every schedule its answer and the bytes that it writes are such as `session_with` may give.
+/// service on the caller's thread. In every schedule its answer and the bytes that it writes are such as a session allows.
 ///
 /// Starts, faults and the end are those of `run_threads`. A message that the service gives is written while the service goes on.
 pub fn run_threads_with<T, R, W, S>(

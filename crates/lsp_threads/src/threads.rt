@@ -29,7 +29,7 @@ pub struct Threaded<W> {
 }
 
 /// Runs a session of a server (LSP 3.17, "Server lifecycle") with a thread that reads, a thread that writes and the handler on
-/// the caller's thread. In every schedule its answer and the bytes that it writes are such as `session` may give.
+/// the caller's thread. In every schedule its answer and the bytes that it writes are such as a session allows.
 ///
 /// - The fault means that a thread was not started, or that an allocation failed. Nothing was read or written then.
 /// - It returns only when the reader comes to its end, to a fault or to an `exit`. What is read after the session's answer is
