@@ -5,7 +5,7 @@
 
 use anyhow::{Result as Answer, bail};
 use lsp_server::{
-    Act, Notification, Request, RequestId, ResponseError, Server, SessionEnd, Working, session_with,
+    Act, Notification, Request, RequestId, ResponseError, Server, SessionEnd, QueuedServer, session_of_service,
 };
 use serde_json::{Value, json};
 use std::alloc::{AllocError, Global};
@@ -195,8 +195,8 @@ fn main(rt: HostRuntime) -> Answer<()> {
         open: Vec::new(alloc),
         waiting: Vec::new(alloc),
     };
-    let mut working = Working::new(alloc, checker);
-    match session_with(alloc, &mut reader, &mut io::writer(&rt), &mut working)? {
+    let mut working = QueuedServer::new(alloc, checker);
+    match session_of_service(alloc, &mut reader, &mut io::writer(&rt), &mut working)? {
         SessionEnd::ShutDown => Ok(()),
         SessionEnd::Closed => bail!("the client left without a shutdown"),
     }

@@ -7,8 +7,8 @@ ghost use Rattle.lsp_session.specs.SessionLaws.{Both};
 ghost use Rattle.lsp_session.specs.declared.loops.handler.SessionEnd.{SessionEnd as EndOfSession};
 ghost use Rattle.lsp_session.specs.declared.loops.stream_session.SessionFault.{SessionFault as FaultOfSession};
 ghost use Rattle.lsp_service.specs.Law.{KeepsLaws};
-ghost use Rattle.lsp_service.specs.Working.{at_desk, desk_of};
-ghost use Rattle.lsp_service.specs.declared.desk.Working.{Working as AtDesk};
+ghost use Rattle.lsp_service.specs.QueuedServer.{at_desk, desk_of};
+ghost use Rattle.lsp_service.specs.declared.desk.QueuedServer.{QueuedServer as AtDesk};
 ghost use Rattle.lsp_threads.specs.Threads.{ThreadsGive};
 
 pub use lsp_dispatch::laws::replies_once;
@@ -27,7 +27,7 @@ pub use lsp_session::laws::{sessions, streams, turns};
 pub use lsp_threads::laws::threads_keep_order;
 
 /// A session of a server in threads keeps the laws, as `server_keeps_laws` says it of one on one thread: a fact of each session that
-/// was run by `run_threads_with`, with a limit or without one.
+/// was run by `run_threads_of_service`, with a limit or without one.
 pub fn server_in_threads_keeps_laws<S: Server>()
     ensures { (limit : ℕ) (old new : AtDesk S S.Payload) → desk_of old.client ≡ record { held = fin.empty; asked = (fin.empty, 0); said = [] }
         → (text : List ℕ) (before after : Option (List ℕ)) (answer : Result EndOfSession FaultOfSession)

@@ -13,8 +13,8 @@ use Rattle.lsp_session.specs.Session.{Exchange, letters_of, sends_of, SessionAns
 use Rattle.lsp_session.specs.declared.loops.handler.SessionEnd.TheVariants.{Closed, ShutDown}
 use Rattle.lsp_service.specs.Desk.{Act, Desk}
 use Rattle.lsp_service.specs.Law.{one_if, is_request_under, is_reply_under, how_many, held_under, IsWhole, NeverMore, OnceOrEnded}
-use Rattle.lsp_service.specs.Working.{seen, desk_of}
-use Rattle.lsp_service.specs.declared.desk.Working.{Working}
+use Rattle.lsp_service.specs.QueuedServer.{seen, desk_of}
+use Rattle.lsp_service.specs.declared.desk.QueuedServer.{QueuedServer}
 use Rattle.lsp_service.proofs.Keeping.{working, Clear, clear_same, silent_opened, due_opened, no_request}
 use Rattle.lsp_service.proofs.Owing.{how_many-append, due_one}
 
@@ -25,11 +25,11 @@ module _ {S P : Type 0}
     (takes_back : S → P → S → Type 0)
     (begins : S → List (Act P) → S → Type 0)
     (initializes : S → Data → Result Data ErrorObject → S → Type 0) where
-  abbrev Goes : Phase → Working S P → Message → List Message → Phase → Working S P → Type 0
+  abbrev Goes : Phase → QueuedServer S P → Message → List Message → Phase → QueuedServer S P → Type 0
   Goes = Step (working requested notified replied takes_back begins initializes)
 
   -- nothing is to be sent, and before `initialized` nothing is held
-  abbrev Clean : Phase → Working S P → Type 0
+  abbrev Clean : Phase → QueuedServer S P → Type 0
   Clean starting w = Clear requested notified replied takes_back begins initializes w
   Clean in_reply w = Clear requested notified replied takes_back begins initializes w
   Clean serving w = (desk_of w.client).said ≡ []
@@ -37,7 +37,7 @@ module _ {S P : Type 0}
   Clean (ended null by) w = Unit {0}
 
   module _ (id : Id) where
-    abbrev owed : Working S P → ℕ
+    abbrev owed : QueuedServer S P → ℕ
     owed w = held_under id (desk_of w.client).held
 
     abbrev R : List Message → ℕ
@@ -51,17 +51,17 @@ module _ {S P : Type 0}
     Unallowed m q = (is_request_under id m ≡ true) × (null : Option Message) × (fault : ProtocolFault) × (q ≡ ended null (Err fault)) × ShowsUnallowed fault
 
     -- one exchange
-    record Count (w w' : Working S P) (q : Phase) (m : Message) (said : List Message) : Type 0 where
+    record Count (w w' : QueuedServer S P) (q : Phase) (m : Message) (said : List Message) : Type 0 where
       most : R said + owed w' ≤ one_if (is_request_under id m) + owed w
       least : 1 ≤ one_if (is_request_under id m) + owed w → (1 ≤ R said + owed w') ⊎ Unallowed m q
       clean : Clean q w'
 
     -- one reply for a request, or nothing for another message
-    count_even : (w w' : Working S P) (q : Phase) (m : Message) (said : List Message) → R said ≡ one_if (is_request_under id m) → owed w' ≡ owed w → Clean q w' → Count w w' q m said
+    count_even : (w w' : QueuedServer S P) (q : Phase) (m : Message) (said : List Message) → R said ≡ one_if (is_request_under id m) → owed w' ≡ owed w → Clean q w' → Count w w' q m said
     count_even w w' q m said one same clean = record { most = omega (arith, one, same); least = λ some. inl (omega (arith, one, same, some)); clean = clean }
 
     -- a fault ends the session
-    count_fault : (w w' : Working S P) (q : Phase) (m : Message) (said : List Message) (null : Option Message) (fault : ProtocolFault) → said ≡ [] → q ≡ ended null (Err fault) → w' ≡ w
+    count_fault : (w w' : QueuedServer S P) (q : Phase) (m : Message) (said : List Message) (null : Option Message) (fault : ProtocolFault) → said ≡ [] → q ≡ ended null (Err fault) → w' ≡ w
         → (is_request_under id m ≡ true → ShowsUnallowed fault) → Count w w' q m said
     count_fault w w' q m said null fault silent next same unallowed = rw (silent, next, same) (at (is_request_under id m) refl)
       where
@@ -69,7 +69,7 @@ module _ {S P : Type 0}
         at true e = record { most = omega arith; least = λ some. inr (e, null, fault, refl, unallowed e); clean = tt }
         at false e = record { most = omega arith; least = λ some. inl (let n = (rw e at some) in omega (arith, n)); clean = tt }
 
-    count_init : (w w' : Working S P) (i : Id) (method : List ℕ) (params : Data) (said : List Message) (q : Phase) → Clean starting w → (b : Bool)
+    count_init : (w w' : QueuedServer S P) (i : Id) (method : List ℕ) (params : Data) (said : List Message) (q : Phase) → Clean starting w → (b : Bool)
         → MatchBool b
         ((outcome : Result Data ErrorObject) × (working requested notified replied takes_back begins initializes).initializes w params outcome w' × (said ≡ response i outcome ∷ []) × (q ≡ phase_after outcome))
         ((reply : Message) × IsEarlyReply i reply × (said ≡ reply ∷ []) × (q ≡ starting) × (w' ≡ w))
@@ -87,14 +87,14 @@ module _ {S P : Type 0}
     count_init w w' i method params said q clean false step =
         rw (step.2, step.1.is, step.3, step.4) (count_even w w starting (request i method params) (response i _ ∷ []) (omega arith) refl clean)
 
-    count_note : (w w' : Working S P) (method : List ℕ) (params : Data) (said : List Message) (q : Phase) → Clean starting w → (b : Bool)
+    count_note : (w w' : QueuedServer S P) (method : List ℕ) (params : Data) (said : List Message) (q : Phase) → Clean starting w → (b : Bool)
         → MatchBool b ((said ≡ []) × (q ≡ starting)) (Fails expected_initialize starting said q) → w' ≡ w
         → Count w w' q (notification method params) said
     count_note w w' method params said q clean true step same = rw (step.0, step.1, same) (count_even w w starting (notification method params) [] refl refl clean)
     count_note w w' method params said q clean false step same =
         count_fault w w' q (notification method params) said None (expected_initialize step.0) step.1 step.2 same (λ e. absurd (cc (e)))
 
-    count_open : (w w' : Working S P) (m : Message) (said : List Message) (q : Phase) → Clean in_reply w → (b : Bool) → is_initialized m ≡ b
+    count_open : (w w' : QueuedServer S P) (m : Message) (said : List Message) (q : Phase) → Clean in_reply w → (b : Bool) → is_initialized m ≡ b
         → MatchBool b ((working requested notified replied takes_back begins initializes).opens w said w' × (q ≡ serving)) (Fails expected_initialized in_reply said q × (w' ≡ w))
         → Count w w' q m said
     count_open w w' m said q clean true e step =
@@ -109,7 +109,7 @@ module _ {S P : Type 0}
     count_open w w' m said q clean false e step =
         count_fault w w' q m said None (expected_initialized step.0.0) step.0.1 step.0.2 step.1 (λ is. inl (step.0.0, refl))
 
-    count_leave : (w : Working S P) (m : Message) (said : List Message) (q : Phase) → Leaves m said q → Count w w q m said
+    count_leave : (w : QueuedServer S P) (m : Message) (said : List Message) (q : Phase) → Leaves m said q → Count w w q m said
     count_leave w (request i method params) said q leaves =
         rw (leaves.0, leaves.1) (count_even w w (asked i) (request i method params) (null_reply i ∷ []) (omega arith) refl tt)
     count_leave w (notification method params) said q leaves =
@@ -117,7 +117,7 @@ module _ {S P : Type 0}
     count_leave w (response i outcome) said q leaves =
         rw (leaves.0, leaves.1) (count_even w w (ended None (Ok Closed)) (response i outcome) [] refl refl tt)
 
-    count_serve : (w w' : Working S P) (m : Message) (said : List Message) (q : Phase) → Clean serving w → (b : Bool)
+    count_serve : (w w' : QueuedServer S P) (m : Message) (said : List Message) (q : Phase) → Clean serving w → (b : Bool)
         → MatchBool b ((working requested notified replied takes_back begins initializes).gives w m said w' × (q ≡ serving)) (Leaves m said q × (w' ≡ w))
         → Count w w' q m said
     count_serve w w' m said q clean true step =
@@ -130,7 +130,7 @@ module _ {S P : Type 0}
     no_exit (notification method params) e = refl
     no_exit (response i outcome) e = refl
 
-    count_exit : (w w' : Working S P) (i : Id) (m : Message) (said : List Message) (q : Phase) → (b : Bool) → is_exit m ≡ b
+    count_exit : (w w' : QueuedServer S P) (i : Id) (m : Message) (said : List Message) (q : Phase) → (b : Bool) → is_exit m ≡ b
         → MatchBool b ((said ≡ []) × (q ≡ ended (Some (null_reply i)) (Ok ShutDown))) (Fails unexpected_in_shutdown (asked i) said q) → w' ≡ w
         → Count w w' q m said
     count_exit w w' i m said q true e step same =
@@ -139,7 +139,7 @@ module _ {S P : Type 0}
     count_exit w w' i m said q false e step same =
         count_fault w w' q m said (Some (null_reply i)) (unexpected_in_shutdown step.0) step.1 step.2 same (λ is. inr (step.0, refl))
 
-    count : (p q : Phase) (w w' : Working S P) (m : Message) (said : List Message) → Clean p w → Goes p w m said q w' → Count w w' q m said
+    count : (p q : Phase) (w w' : QueuedServer S P) (m : Message) (said : List Message) → Clean p w → Goes p w m said q w' → Count w w' q m said
     count starting q w w' (request i method params) said clean step = count_init w w' i method params said q clean (is_initialize (request i method params)) step
     count starting q w w' (notification method params) said clean step = count_note w w' method params said q clean (is_early (notification method params)) step.0 step.1
     count starting q w w' (response i outcome) said clean step =
@@ -150,7 +150,7 @@ module _ {S P : Type 0}
     count (ended null by) q w w' m said clean step = absurd step
 
     -- a beginning of the exchanges, the last of which may be cut off
-    most_of : (stop : Stop) (before after xs : List Exchange) (p q : Phase) (w w' : Working S P) → Ran (working requested notified replied takes_back begins initializes) stop p w xs q w' → Clean p w
+    most_of : (stop : Stop) (before after xs : List Exchange) (p q : Phase) (w w' : QueuedServer S P) → Ran (working requested notified replied takes_back begins initializes) stop p w xs q w' → Clean p w
         → xs ≡ before ++ after → R (sends_of before) ≤ Q (letters_of before) + owed w
     most_of stop [] after xs p q w w' run clean e = omega arith
     most_of stop (b ∷ bs) after [] p q w w' run clean e = cc (e)
@@ -163,7 +163,7 @@ module _ {S P : Type 0}
         let most = one.most in
         rw (sym same) (omega (arith, more, sent, most, whole))
 
-    pub never_more : (stop : Stop) (w w' : Working S P) (xs : List Exchange) (q : Phase) → Reaches (working requested notified replied takes_back begins initializes) stop starting w xs q w'
+    pub never_more : (stop : Stop) (w w' : QueuedServer S P) (xs : List Exchange) (q : Phase) → Reaches (working requested notified replied takes_back begins initializes) stop starting w xs q w'
         → Clean starting w → NeverMore id xs
     never_more stop w w' xs q reached clean before after e =
         let most = most_of stop before after xs starting q w w' (reaches_ran (working requested notified replied takes_back begins initializes) stop starting q w w' xs reached) clean e in
@@ -174,12 +174,12 @@ module _ {S P : Type 0}
     abbrev EndsUnallowed : List Exchange → Phase → Type 0
     EndsUnallowed xs q = (before : List Exchange) × (x : Exchange) × (xs ≡ before ++ x ∷ []) × Unallowed x.letter q
 
-    over : (xs : List Exchange) (q : Phase) (null : Option Message) (by : SessionAnswer) (w w' : Working S P)
+    over : (xs : List Exchange) (q : Phase) (null : Option Message) (by : SessionAnswer) (w w' : QueuedServer S P)
         → Steps (working requested notified replied takes_back begins initializes) (ended null by) w xs q w' → (xs ≡ []) × (q ≡ ended null by)
     over [] q null by w w' run = (refl, run.0)
     over (x ∷ xs) q null by w w' run = absurd run.2
 
-    least_of : (xs : List Exchange) (p q : Phase) (w w' : Working S P) → Steps (working requested notified replied takes_back begins initializes) p w xs q w' → Clean p w
+    least_of : (xs : List Exchange) (p q : Phase) (w w' : QueuedServer S P) → Steps (working requested notified replied takes_back begins initializes) p w xs q w' → Clean p w
         → 1 ≤ Q (letters_of xs) + owed w → (1 ≤ R (sends_of xs) + owed w') ⊎ EndsUnallowed xs q
     least_of [] p q w w' run clean some = inl (rw run.1 (omega (arith, some)))
     least_of (x ∷ xs) p q w w' run clean some = at (λ clean some. least_of xs run.0 q run.1 w' run.3 clean some) (one_if (is_request_under id x.letter) + owed w) refl
@@ -215,7 +215,7 @@ module _ {S P : Type 0}
         ]
 
     -- how it ended, where the last request was not allowed
-    ended_so : (q : Phase) (null : Option Message) (fault : ProtocolFault) (stop : Stop) (answer : SessionAnswer) (w w' : Working S P) → q ≡ ended null (Err fault) → IsWhole stop
+    ended_so : (q : Phase) (null : Option Message) (fault : ProtocolFault) (stop : Stop) (answer : SessionAnswer) (w w' : QueuedServer S P) → q ≡ ended null (Err fault) → IsWhole stop
         → Stops (working requested notified replied takes_back begins initializes) q w stop answer w' → (stop ≡ decided) × (answer ≡ Err fault)
     ended_so q null fault stop answer w w' e whole stops = at stop whole (rw e at stops)
       where
@@ -226,7 +226,7 @@ module _ {S P : Type 0}
         at (refused f) whole stops = absurd whole
         at exhausted whole stops = absurd whole
 
-    left_in : (q : Phase) (stop : Stop) (answer : SessionAnswer) (w w' : Working S P) → IsWhole stop
+    left_in : (q : Phase) (stop : Stop) (answer : SessionAnswer) (w w' : QueuedServer S P) → IsWhole stop
         → Stops (working requested notified replied takes_back begins initializes) q w stop answer w' → w' ≡ w
     left_in q (refused f) answer w w' whole stops = absurd whole
     left_in q exhausted answer w w' whole stops = absurd whole
@@ -246,7 +246,7 @@ module _ {S P : Type 0}
     left_in (ended null by) no_more answer w w' whole stops = absurd stops
     left_in (ended null by) timed_out answer w w' whole stops = absurd stops
 
-    run_of : (stop : Stop) (w w' : Working S P) (xs : List Exchange) (q : Phase) → IsWhole stop → Reaches (working requested notified replied takes_back begins initializes) stop starting w xs q w'
+    run_of : (stop : Stop) (w w' : QueuedServer S P) (xs : List Exchange) (q : Phase) → IsWhole stop → Reaches (working requested notified replied takes_back begins initializes) stop starting w xs q w'
         → Steps (working requested notified replied takes_back begins initializes) starting w xs q w'
     run_of decided w w' xs q whole run = run
     run_of no_more w w' xs q whole run = run
@@ -258,7 +258,7 @@ module _ {S P : Type 0}
     is_one None one = absurd (omega (arith, one))
     is_one (Some u) one = refl
 
-    pub answered_once : (stop : Stop) (answer : SessionAnswer) (w after w' : Working S P) (xs : List Exchange) (q : Phase)
+    pub answered_once : (stop : Stop) (answer : SessionAnswer) (w after w' : QueuedServer S P) (xs : List Exchange) (q : Phase)
         → Reaches (working requested notified replied takes_back begins initializes) stop starting w xs q after
         → Stops (working requested notified replied takes_back begins initializes) q after stop answer w' → Clean starting w → IsWhole stop → Q (letters_of xs) ≡ 1
         → OnceOrEnded id xs stop (desk_of w'.client).held answer
@@ -271,7 +271,7 @@ module _ {S P : Type 0}
         most = never_more stop w after xs q reached clean xs [] (sym (append-nil xs))
 
         left : owed w' ≡ owed after
-        left = ap (λ (v : Working S P). held_under id (desk_of v.client).held) (left_in q stop answer after w' whole stops)
+        left = ap (λ (v : QueuedServer S P). held_under id (desk_of v.client).held) (left_in q stop answer after w' whole stops)
 
         at : (n : ℕ) → R (sends_of xs) ≡ n → OnceOrEnded id xs stop (desk_of w'.client).held answer
         at (suc n) e = inl (omega (arith, e, most, one))

@@ -10,8 +10,8 @@ use Rattle.lsp_session.specs.Finish.{is_initialized}
 use Rattle.lsp_session.specs.Service.{Behavior}
 use Rattle.lsp_service.specs.Desk.{Act, Desk, OpensSaying}
 use Rattle.lsp_service.specs.Law.{one_if, is_request_under, is_reply_under, how_many, held_under}
-use Rattle.lsp_service.specs.Working.{seen, desk_of, at_desk}
-use Rattle.lsp_service.specs.declared.desk.Working.{Working}
+use Rattle.lsp_service.specs.QueuedServer.{seen, desk_of, at_desk}
+use Rattle.lsp_service.specs.declared.desk.QueuedServer.{QueuedServer}
 use Rattle.lsp_service.proofs.Owing.{due, due_acts}
 
 pub no_request : (id : Id) (m : Message) → is_initialized m ≡ true → is_request_under id m ≡ false
@@ -26,32 +26,32 @@ module _ {S P : Type 0}
     (takes_back : S → P → S → Type 0)
     (begins : S → List (Act P) → S → Type 0)
     (initializes : S → Data → Result Data ErrorObject → S → Type 0) where
-  abbrev pub working : Behavior (Working S P)
+  abbrev pub working : Behavior (QueuedServer S P)
   working = at_desk requested notified replied takes_back begins initializes
 
   -- nothing was asked
-  abbrev pub Unasked : Working S P → Type 0
+  abbrev pub Unasked : QueuedServer S P → Type 0
   Unasked w = (desk_of w.client).asked ≡ (map.empty, 0)
 
   -- nothing is held and nothing is to be sent
-  pub record Clear (w : Working S P) : Type 0 where
+  pub record Clear (w : QueuedServer S P) : Type 0 where
     pub silent : (desk_of w.client).said ≡ []
     pub none : (id : Id) → held_under id (desk_of w.client).held ≡ 0
 
-  pub clear_fresh : (w : Working S P) → desk_of w.client ≡ record { held = map.empty; asked = (map.empty, 0); said = [] } → Clear w
+  pub clear_fresh : (w : QueuedServer S P) → desk_of w.client ≡ record { held = map.empty; asked = (map.empty, 0); said = [] } → Clear w
   clear_fresh w fresh = record {
     silent = ap (λ (d : Desk P). d.said) fresh;
     none = λ id. ap (λ (d : Desk P). held_under id d.held) fresh ∙ ap (λ o. one_if (is_some o)) (get-empty id_cmp id);
   }
 
-  pub clear_same : (w w' : Working S P) → desk_of w'.client ≡ desk_of w.client → Clear w → Clear w'
+  pub clear_same : (w w' : QueuedServer S P) → desk_of w'.client ≡ desk_of w.client → Clear w → Clear w'
   clear_same w w' same clear = record {
     silent = ap (λ (d : Desk P). d.said) same ∙ clear.silent;
     none = λ id. ap (λ (d : Desk P). held_under id d.held) same ∙ clear.none id;
   }
 
   -- what is said at `initialized` answers nothing
-  pub due_opened : (id : Id) (w w' : Working S P) (said : List Message) → Clear w → working.opens w said w'
+  pub due_opened : (id : Id) (w w' : QueuedServer S P) (said : List Message) → Clear w → working.opens w said w'
       → how_many (is_reply_under id) said + held_under id (desk_of w'.client).held ≡ 0
   due_opened id w w' said clear opened =
       let after = opened.0 in
@@ -61,5 +61,5 @@ module _ {S P : Type 0}
       let sent : how_many (is_reply_under id) said ≡ how_many (is_reply_under id) after.1.said = ap (how_many (is_reply_under id)) opened.2 in
       omega (arith, kept, none, silent, sent, clear.none id)
 
-  pub silent_opened : (w w' : Working S P) (said : List Message) → working.opens w said w' → (desk_of w'.client).said ≡ []
+  pub silent_opened : (w w' : QueuedServer S P) (said : List Message) → working.opens w said w' → (desk_of w'.client).said ≡ []
   silent_opened w w' said opened = ap (λ (x : S × Desk P). x.1.said) opened.3

@@ -9,8 +9,8 @@ use Rattle.lsp_session.proofs.Ordering.{keeps_order}
 use Rattle.lsp_session.specs.Session.{Exchange, SessionAnswer, Stop, SessionOut}
 use Rattle.lsp_service.specs.Desk.{Act, Desk}
 use Rattle.lsp_service.specs.Law.{KeepsLaws}
-use Rattle.lsp_service.specs.Working.{desk_of}
-use Rattle.lsp_service.specs.declared.desk.Working.{Working}
+use Rattle.lsp_service.specs.QueuedServer.{desk_of}
+use Rattle.lsp_service.specs.declared.desk.QueuedServer.{QueuedServer}
 use Rattle.lsp_service.proofs.Counting.{never_more, answered_once}
 use Rattle.lsp_service.proofs.Keeping.{working, clear_fresh}
 use Rattle.lsp_service.proofs.Taking.{keeps_payloads}
@@ -22,7 +22,7 @@ module _ {S P : Type 0}
     (takes_back : S → P → S → Type 0)
     (begins : S → List (Act P) → S → Type 0)
     (initializes : S → Data → Result Data ErrorObject → S → Type 0) where
-  pub keeps_laws : (w w' : Working S P) → desk_of w.client ≡ record { held = map.empty; asked = (map.empty, 0); said = [] }
+  pub keeps_laws : (w w' : QueuedServer S P) → desk_of w.client ≡ record { held = map.empty; asked = (map.empty, 0); said = [] }
       → (xs : List Exchange) (stop : Stop) (null : Option Message) (answer : SessionAnswer)
       → SessionOut (working requested notified replied takes_back begins initializes) w w' xs stop null answer
       → KeepsLaws requested notified replied takes_back begins (desk_of w'.client).held xs stop null answer

@@ -11,8 +11,8 @@ use Rattle.lsp_message.specs.Message.{Message, ErrorObject, request, notificatio
 use Rattle.lsp_queue.specs.Queue.{Pending, pending_of, count_of}
 use Rattle.lsp_service.specs.Desk.{Act, tells, asks, replies, cancels, settles, canceled, cancelled_by, cancel_method, cancel_params, Desk, is_spent, sends_request, does, does_all, holds, given, cleared, says, Acts, Works, WorksGiving}
 use Rattle.lsp_service.specs.Law.{one_if, is_request_under, is_reply_under, how_many, held_under}
-use Rattle.lsp_service.specs.Working.{seen, desk_of}
-use Rattle.lsp_service.specs.declared.desk.Working.{Working}
+use Rattle.lsp_service.specs.QueuedServer.{seen, desk_of}
+use Rattle.lsp_service.specs.declared.desk.QueuedServer.{QueuedServer}
 
 pub how_many-append : (p : Message → Bool) (xs ys : List Message) → how_many p (xs ++ ys) ≡ how_many p xs + how_many p ys
 how_many-append p [] ys = omega arith
@@ -84,7 +84,7 @@ pub record Due (id : Id) (m : Message) (said : List Message) (held held' : Pendi
 abbrev pub gives : {S P : Type 0} (requested : S → Id → List ℕ → Data → List (Act P) → S → Type 0)
     (notified : S → List ℕ → Data → List (Act P) → S → Type 0)
     (replied : S → P → Result Data ErrorObject → List (Act P) → S → Type 0)
-    (takes_back : S → P → S → Type 0) → Working S P → Message → List Message → Working S P → Type 0
+    (takes_back : S → P → S → Type 0) → QueuedServer S P → Message → List Message → QueuedServer S P → Type 0
 gives requested notified replied takes_back old m said new = WorksGiving requested notified replied takes_back (seen old) m said (seen new)
 
 module _ {S P : Type 0}
@@ -108,7 +108,7 @@ module _ {S P : Type 0}
       at None same = ap (λ (x : S × Desk P). due id x.1) same
       at (Some payload) did = ap (due id) did.4 ∙ due_acts id (given d i) did.0
 
-  pub due_one : (w w' : Working S P) (m : Message) (said : List Message) → (desk_of w.client).said ≡ [] → gives requested notified replied takes_back w m said w'
+  pub due_one : (w w' : QueuedServer S P) (m : Message) (said : List Message) → (desk_of w.client).said ≡ [] → gives requested notified replied takes_back w m said w'
       → Due id m said (desk_of w.client).held (desk_of w'.client).held
   due_one w w' m said silent step =
       let desk : desk_of w'.client ≡ cleared step.0.1 = ap (λ (x : S × Desk P). x.1) step.3 in

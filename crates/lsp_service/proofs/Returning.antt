@@ -15,8 +15,8 @@ use Rattle.lsp_queue.specs.Queue.{Asked, pending_of, count_of}
 use Rattle.lsp_session.specs.Session.{Exchange, letters_of, sends_of, Stop, is_served}
 use Rattle.lsp_service.specs.Desk.{Act, tells, asks, replies, cancels, settles, canceled, cancelled_by, cancel_method, cancel_params, Desk, is_spent, sends_request, does, does_all, ids_after, unsent, holds, given, says, TakesBack, Acts, Works, OpensSaying}
 use Rattle.lsp_service.specs.Law.{is_reply_under, Sent, Turn, requests_in, request_of, ids_after_all, sent_by, all_sent, kept_under, acts_of, was_given, GivesOwnPayloads, Handed, TakesTurns, IsUnserved, IsWhole, TakesPart}
-use Rattle.lsp_service.specs.Working.{seen, desk_of}
-use Rattle.lsp_service.specs.declared.desk.Working.{Working}
+use Rattle.lsp_service.specs.QueuedServer.{seen, desk_of}
+use Rattle.lsp_service.specs.declared.desk.QueuedServer.{QueuedServer}
 use Rattle.lsp_service.proofs.Desking.{ids_counted}
 use Rattle.lsp_service.proofs.Owing.{gives}
 
@@ -277,7 +277,7 @@ module _ {S P : Type 0}
     (replied : S → P → Result Data ErrorObject → List (Act P) → S → Type 0)
     (takes_back : S → P → S → Type 0)
     (begins : S → List (Act P) → S → Type 0) where
-  abbrev gives_at : Working S P → Message → List Message → Working S P → Type 0
+  abbrev gives_at : QueuedServer S P → Message → List Message → QueuedServer S P → Type 0
   gives_at = gives requested notified replied takes_back
 
   abbrev answered : Desk P → Id → Bool → Desk P
@@ -367,24 +367,24 @@ module _ {S P : Type 0}
           }
 
   -- the server is given these messages, and this is sent for each
-  abbrev pub GivesAll : Working S P → List Exchange → Working S P → Type 0
+  abbrev pub GivesAll : QueuedServer S P → List Exchange → QueuedServer S P → Type 0
   GivesAll w [] w' = w' ≡ w
-  GivesAll w (x ∷ xs) w' = (mid : Working S P) × gives_at w x.letter x.said mid × GivesAll mid xs w'
+  GivesAll w (x ∷ xs) w' = (mid : QueuedServer S P) × gives_at w x.letter x.said mid × GivesAll mid xs w'
 
   -- exchanges are as many turns
-  pub record Turned (w w' : Working S P) (xs : List Exchange) (sent : List (Sent P)) (before : List (Turn P)) : Type 0 where
+  pub record Turned (w w' : QueuedServer S P) (xs : List Exchange) (sent : List (Sent P)) (before : List (Turn P)) : Type 0 where
     pub turns : List (Turn P)
     pub letters_are : map_list (λ (turn : Turn P). turn.letter) turns ≡ letters_of xs
     pub took : TakesTurns requested notified replied takes_back begins (count_of (desk_of w.client).asked) w.server turns w'.server
     pub said : requests_in (sends_of xs) ≡ map_list request_of (all_sent (count_of (desk_of w.client).asked) (acts_of turns))
     pub fits : Fits (count_of (desk_of w.client).asked) sent before turns
 
-  turn_all : (w w' : Working S P) (xs : List Exchange) (sent : List (Sent P)) (before : List (Turn P)) → (desk_of w.client).said ≡ []
+  turn_all : (w w' : QueuedServer S P) (xs : List Exchange) (sent : List (Sent P)) (before : List (Turn P)) → (desk_of w.client).said ≡ []
       → Agrees sent before (desk_of w.client).asked → GivesAll w xs w' → Turned w w' xs sent before
   turn_all w w' [] sent before silent agrees all = record {
     turns = [];
     letters_are = refl;
-    took = ap (λ (x : Working S P). x.server) all;
+    took = ap (λ (x : QueuedServer S P). x.server) all;
     said = refl;
     fits = tt;
   }
@@ -420,7 +420,7 @@ module _ {S P : Type 0}
       }
 
   -- what was done at `initialized`
-  record Began (w w' : Working S P) (said : List Message) : Type 0 where
+  record Began (w w' : QueuedServer S P) (said : List Message) : Type 0 where
     begun : List (Act P)
     did : S
     began : begins w.server begun did
@@ -430,7 +430,7 @@ module _ {S P : Type 0}
     agrees : Agrees (all_sent 0 begun) [] (desk_of w'.client).asked
     silent : (desk_of w'.client).said ≡ []
 
-  began_at : (w w' : Working S P) (said : List Message) → (desk_of w.client).said ≡ [] → (desk_of w.client).asked ≡ (map.empty, 0)
+  began_at : (w w' : QueuedServer S P) (said : List Message) → (desk_of w.client).said ≡ [] → (desk_of w.client).asked ≡ (map.empty, 0)
       → OpensSaying takes_back begins (seen w) said (seen w') → Began w w' said
   began_at w w' said silent unasked opened =
       let after = opened.0 in
@@ -457,7 +457,7 @@ module _ {S P : Type 0}
   Part = TakesPart requested notified replied takes_back begins
 
   -- The server's part: what it said to `initialized`, the messages that it was given, and what came after these.
-  pub part_whole : (w mid after : Working S P) (said : List Message) (xs rest : List Exchange) (stop : Stop) (requests more : List Message)
+  pub part_whole : (w mid after : QueuedServer S P) (said : List Message) (xs rest : List Exchange) (stop : Stop) (requests more : List Message)
       → (desk_of w.client).said ≡ [] → (desk_of w.client).asked ≡ (map.empty, 0) → OpensSaying takes_back begins (seen w) said (seen mid)
       → GivesAll mid xs after → list_all is_served (letters_of xs) ≡ true → IsUnserved (letters_of rest)
       → requests_in said ++ requests_in (sends_of xs) ≡ requests ++ more → (IsWhole stop → more ≡ []) → Part (letters_of xs ++ letters_of rest) stop requests

@@ -16,8 +16,8 @@ use Rattle.lsp_session.specs.Session.{Exchange, letters_of, sends_of, SessionAns
 use Rattle.lsp_session.specs.declared.loops.handler.SessionEnd.TheVariants.{Closed, ShutDown}
 use Rattle.lsp_service.specs.Desk.{Act, Desk}
 use Rattle.lsp_service.specs.Law.{IsWhole, requests_in, is_request, is_refusal, IsUninvited, EndsAtResult, IsUnserved, TakesPart, GivesPayloads}
-use Rattle.lsp_service.specs.Working.{seen, desk_of}
-use Rattle.lsp_service.specs.declared.desk.Working.{Working}
+use Rattle.lsp_service.specs.QueuedServer.{seen, desk_of}
+use Rattle.lsp_service.specs.declared.desk.QueuedServer.{QueuedServer}
 use Rattle.lsp_service.proofs.Keeping.{working, Unasked, silent_opened}
 use Rattle.lsp_service.proofs.Returning.{requests-append, GivesAll, part_whole}
 
@@ -35,7 +35,7 @@ module _ {S P : Type 0}
     (takes_back : S → P → S → Type 0)
     (begins : S → List (Act P) → S → Type 0)
     (initializes : S → Data → Result Data ErrorObject → S → Type 0) (stop : Stop) where
-  abbrev Runs_from : Phase → Working S P → List Exchange → Phase → Working S P → Type 0
+  abbrev Runs_from : Phase → QueuedServer S P → List Exchange → Phase → QueuedServer S P → Type 0
   Runs_from = Ran (working requested notified replied takes_back begins initializes) stop
 
   abbrev Part : List Message → Stop → List Message → Type 0
@@ -44,17 +44,17 @@ module _ {S P : Type 0}
   abbrev Payloads : List Message → Stop → List Message → Type 0
   Payloads = GivesPayloads requested notified replied takes_back begins
 
-  abbrev Gives_all : Working S P → List Exchange → Working S P → Type 0
+  abbrev Gives_all : QueuedServer S P → List Exchange → QueuedServer S P → Type 0
   Gives_all = GivesAll requested notified replied takes_back begins
 
   -- ---- from `initialized` on
 
-  over : (xs : List Exchange) (null : Option Message) (by : SessionAnswer) (q : Phase) (w w' : Working S P) → Runs_from (ended null by) w xs q w' → xs ≡ []
+  over : (xs : List Exchange) (null : Option Message) (by : SessionAnswer) (q : Phase) (w w' : QueuedServer S P) → Runs_from (ended null by) w xs q w' → xs ≡ []
   over [] null by q w w' run = refl
   over (x ∷ xs) null by q w w' run = absurd run.6
 
   -- after the null nothing is sent
-  quiet : (xs : List Exchange) (i : Id) (q : Phase) (w w' : Working S P) → Runs_from (asked i) w xs q w' → sends_of xs ≡ []
+  quiet : (xs : List Exchange) (i : Id) (q : Phase) (w w' : QueuedServer S P) → Runs_from (asked i) w xs q w' → sends_of xs ≡ []
   quiet [] i q w w' run = refl
   quiet (x ∷ xs) i q w w' run = at (is_exit x.letter) run.6.0
     where
@@ -67,10 +67,10 @@ module _ {S P : Type 0}
       at false step = none (Err (unexpected_in_shutdown step.0)) step.1 step.2
 
   -- the messages that the server was given, and those after them
-  record Served (w : Working S P) (xs : List Exchange) : Type 0 where
+  record Served (w : QueuedServer S P) (xs : List Exchange) : Type 0 where
     served : List Exchange
     rest : List Exchange
-    after : Working S P
+    after : QueuedServer S P
     given : Gives_all w served after
     all_served : list_all is_served (letters_of served) ≡ true
     unserved : IsUnserved (letters_of rest)
@@ -79,7 +79,7 @@ module _ {S P : Type 0}
     sent : requests_in (sends_of served) ≡ requests_in (sends_of xs) ++ more
     whole : IsWhole stop → more ≡ []
 
-  serve_none : (w : Working S P) → Served w []
+  serve_none : (w : QueuedServer S P) → Served w []
   serve_none w = record {
     served = [];
     rest = [];
@@ -94,7 +94,7 @@ module _ {S P : Type 0}
   }
 
   -- `shutdown` or `exit` comes
-  serve_left : (w : Working S P) (x : Exchange) (xs : List Exchange) → is_served x.letter ≡ false → requests_in (sends_of (x ∷ xs)) ≡ [] → Served w (x ∷ xs)
+  serve_left : (w : QueuedServer S P) (x : Exchange) (xs : List Exchange) → is_served x.letter ≡ false → requests_in (sends_of (x ∷ xs)) ≡ [] → Served w (x ∷ xs)
   serve_left w x xs other silent = record {
     served = [];
     rest = x ∷ xs;
@@ -109,7 +109,7 @@ module _ {S P : Type 0}
   }
 
   -- one more message comes first
-  serve_more : (w mid : Working S P) (x : Exchange) (xs : List Exchange) (full more : List Message) → is_served x.letter ≡ true → x.said ++ more ≡ full
+  serve_more : (w mid : QueuedServer S P) (x : Exchange) (xs : List Exchange) (full more : List Message) → is_served x.letter ≡ true → x.said ++ more ≡ full
       → (working requested notified replied takes_back begins initializes).gives w x.letter full mid → (more ≡ []) ⊎ ((xs ≡ []) × (IsSent stop → ⊥)) → Served mid xs → Served w (x ∷ xs)
   serve_more w mid x xs full more served cut gives (inl none) later = record {
     served = record { letter = x.letter; said = full } ∷ later.served;
@@ -142,7 +142,7 @@ module _ {S P : Type 0}
     whole = λ is. absurd (last.1 (whole_sent stop is));
   }
 
-  left_silent : (w w' : Working S P) (q next : Phase) (m : Message) (full said more : List Message) (xs : List Exchange) → Leaves m full next → said ++ more ≡ full → (said ≡ [] → full ≡ [])
+  left_silent : (w w' : QueuedServer S P) (q next : Phase) (m : Message) (full said more : List Message) (xs : List Exchange) → Leaves m full next → said ++ more ≡ full → (said ≡ [] → full ≡ [])
       → Runs_from next w xs q w' → requests_in (said ++ sends_of xs) ≡ []
   left_silent w w' q next (request i method params) full said more xs leaves cut none run =
       rw (part_one said more full (null_reply i) cut none leaves.0, quiet xs i q w w' (rw leaves.1 at run)) refl
@@ -151,7 +151,7 @@ module _ {S P : Type 0}
   left_silent w w' q next (response i outcome) full said more xs leaves cut none run =
       rw (part_none said more full cut leaves.0, over xs None (Ok Closed) q w w' (rw leaves.1 at run)) refl
 
-  serve_all : (xs : List Exchange) (q : Phase) (w w' : Working S P) → Runs_from serving w xs q w' → Served w xs
+  serve_all : (xs : List Exchange) (q : Phase) (w w' : QueuedServer S P) → Runs_from serving w xs q w' → Served w xs
   serve_all [] q w w' run = serve_none w
   serve_all (x ∷ xs) q w w' run = at (λ rest. serve_all xs q run.5 w' rest) (is_served x.letter) refl run.6
     where
@@ -169,7 +169,7 @@ module _ {S P : Type 0}
       (IsUninvited (letters_of xs) × (sends_of xs ≡ []))
       ⊎ ((m : Message) × (rest : List Message) × (letters_of xs ≡ m ∷ rest) × (is_initialized m ≡ true) × Part rest stop (requests_in (sends_of xs)))
 
-  part_opened : (w mid : Working S P) (x : Exchange) (xs : List Exchange) (full more : List Message) → (desk_of w.client).said ≡ [] → Unasked requested notified replied takes_back begins initializes w
+  part_opened : (w mid : QueuedServer S P) (x : Exchange) (xs : List Exchange) (full more : List Message) → (desk_of w.client).said ≡ [] → Unasked requested notified replied takes_back begins initializes w
       → x.said ++ more ≡ full → (more ≡ []) ⊎ ((xs ≡ []) × (IsSent stop → ⊥)) → (working requested notified replied takes_back begins initializes).opens w full mid
       → Served mid xs → Part (letters_of xs) stop (requests_in (x.said ++ sends_of xs))
   part_opened w mid x xs full more silent unasked cut (inl none) opened s =
@@ -185,7 +185,7 @@ module _ {S P : Type 0}
       (append-nil (requests_in full) ∙ ap requests_in (sym cut) ∙ requests-append x.said more ∙ ap (λ (l : List Message). requests_in l ++ requests_in more) (sym (append-nil x.said)))
       (λ is. absurd (last.1 (whole_sent stop is))))
 
-  after_result : (xs : List Exchange) (q : Phase) (w w' : Working S P) → (desk_of w.client).said ≡ [] → Unasked requested notified replied takes_back begins initializes w
+  after_result : (xs : List Exchange) (q : Phase) (w w' : QueuedServer S P) → (desk_of w.client).said ≡ [] → Unasked requested notified replied takes_back begins initializes w
       → Runs_from in_reply w xs q w' → After xs
   after_result [] q w w' silent unasked run = inl (tt, refl)
   after_result (x ∷ xs) q w w' silent unasked run = at (is_initialized x.letter) refl run.6
@@ -270,7 +270,7 @@ module _ {S P : Type 0}
     | inr opened ↦ inr (inr ([], request i method params, opened.0, opened.1, ap (λ (l : List Message). request i method params ∷ l) opened.2, asks, opened.3, opened.4))
   ]
 
-  payloads_from : (xs : List Exchange) (q : Phase) (w w' : Working S P) → (desk_of w.client).said ≡ [] → Unasked requested notified replied takes_back begins initializes w
+  payloads_from : (xs : List Exchange) (q : Phase) (w w' : QueuedServer S P) → (desk_of w.client).said ≡ [] → Unasked requested notified replied takes_back begins initializes w
       → Runs_from starting w xs q w' → Payloads (letters_of xs) stop (sends_of xs)
   payloads_from [] q w w' silent unasked run = inl refl
   payloads_from (x ∷ xs) q w w' silent unasked run =
@@ -298,18 +298,18 @@ module _ {S P : Type 0}
               → Payloads (x.letter ∷ letters_of xs) stop (x.said ++ sends_of xs)
           by true e step = rw (is, one (response i step.0) step.2) (after step.0 e step.1.1 step.3)
           by false e step = rw (is, one step.0 step.2, step.1.is) (payloads_reply i method params _ (letters_of xs) (sends_of xs)
-              (later (ap (λ (v : Working S P). (desk_of v.client).said) step.4 ∙ silent) (ap (λ (v : Working S P). (desk_of v.client).asked) step.4 ∙ unasked) (rw step.3 at run.8)))
+              (later (ap (λ (v : QueuedServer S P). (desk_of v.client).said) step.4 ∙ silent) (ap (λ (v : QueuedServer S P). (desk_of v.client).asked) step.4 ∙ unasked) (rw step.3 at run.8)))
       at later (notification method params) is step = by (is_early (notification method params)) step.0
         where
           by : (b : Bool) → MatchBool b ((run.0 ≡ []) × (run.4 ≡ starting)) (Fails expected_initialize starting run.0 run.4)
               → Payloads (x.letter ∷ letters_of xs) stop (x.said ++ sends_of xs)
           by true early = rw (is, part_none x.said run.1 run.0 run.2 early.0) (payloads_note method params (letters_of xs) (sends_of xs)
-              (later (ap (λ (v : Working S P). (desk_of v.client).said) step.1 ∙ silent) (ap (λ (v : Working S P). (desk_of v.client).asked) step.1 ∙ unasked) (rw early.1 at run.8)))
+              (later (ap (λ (v : QueuedServer S P). (desk_of v.client).said) step.1 ∙ silent) (ap (λ (v : QueuedServer S P). (desk_of v.client).asked) step.1 ∙ unasked) (rw early.1 at run.8)))
           by false fails = inl (rw (part_none x.said run.1 run.0 run.2 fails.1, over xs None (Err (expected_initialize fails.0)) q run.5 w' (rw fails.2 at run.8)) refl)
       at later (response i outcome) is step =
           inl (rw (part_none x.said run.1 run.0 run.2 step.0.1, over xs None (Err (expected_initialize step.0.0)) q run.5 w' (rw step.0.2 at run.8)) refl)
 
-  pub keeps_payloads : (w w' : Working S P) (xs : List Exchange) (q : Phase) → (desk_of w.client).said ≡ [] → Unasked requested notified replied takes_back begins initializes w
+  pub keeps_payloads : (w w' : QueuedServer S P) (xs : List Exchange) (q : Phase) → (desk_of w.client).said ≡ [] → Unasked requested notified replied takes_back begins initializes w
       → Reaches (working requested notified replied takes_back begins initializes) stop starting w xs q w' → Payloads (letters_of xs) stop (sends_of xs)
   keeps_payloads w w' xs q silent unasked reached =
       payloads_from xs q w w' silent unasked (reaches_ran (working requested notified replied takes_back begins initializes) stop starting q w w' xs reached)

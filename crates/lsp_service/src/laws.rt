@@ -15,17 +15,17 @@ ghost use Rattle.lsp_session.specs.declared.loops.stream_session.SessionFault.{S
 ghost use Rattle.lsp_service.specs.Desk.{WorksGiving};
 ghost use Rattle.lsp_service.specs.Law.{is_reply_under, how_many, held_under, OnceOrEnded, KeepsLaws};
 ghost use Rattle.lsp_service.specs.Turning.{ActsAt};
-ghost use Rattle.lsp_service.specs.Working.{at_desk, desk_of, seen};
-ghost use Rattle.lsp_service.specs.declared.desk.Working.{Working as AtDesk};
+ghost use Rattle.lsp_service.specs.QueuedServer.{at_desk, desk_of, seen};
+ghost use Rattle.lsp_service.specs.declared.desk.QueuedServer.{QueuedServer as AtDesk};
 
-use crate::desk::{Server, Working};
+use crate::desk::{QueuedServer, Server};
 use lsp_session::{
-    Inbox, Outbox, ProtocolError, SessionEnd, SessionFault, serve_with, session_with,
+    Inbox, Outbox, ProtocolError, SessionEnd, SessionFault, serve_service, session_of_service,
 };
 use std::alloc::Global;
 use std::io::{BufRead, Write};
 
-/// What a session says of its exchanges implies the laws, where nothing was held, asked or said before it, as after `Working::new`:
+/// What a session says of its exchanges implies the laws, where nothing was held, asked or said before it, as after `QueuedServer::new`:
 /// a fact of each session of a server that was run, over its exchanges, over boxes, and from bytes to bytes with a limit or without
 /// one. `lsp_server::laws` has the same in threads.
 ///
@@ -70,33 +70,39 @@ pub fn lost_client_is_owed_what_is_held()
         → OnceOrEnded id exchanges stop held (Err fault) → (how_many (is_reply_under id) (sends_of exchanges) ≡ 1) ⊎ (held_under id held ≡ 1) }
 {}
 
-/// `serve_with` of a server, with the laws as its contract.
+/// `serve_service` of a server, with the laws as its contract.
 pub fn serving_keeps_laws<I: Inbox, O: Outbox, S: Server>(
     alloc: Global,
     inbox: &mut I,
     outbox: &mut O,
     server: S,
-) -> (Working<S, S::Payload>, Result<SessionEnd, ProtocolError>)
+) -> (
+    QueuedServer<S, S::Payload>,
+    Result<SessionEnd, ProtocolError>,
+)
     ensures { Runs I.receives O.sends (KeepsLaws S.requested S.notified S.replied S.takes_back S.begins (desk_of result.0.client).held)
         (inbox.old, outbox.old) result.1 (inbox.new, outbox.new) }
 {
-    let mut working = Working::new(alloc, server);
-    let answer = serve_with(alloc, inbox, outbox, &mut working);
+    let mut working = QueuedServer::new(alloc, server);
+    let answer = serve_service(alloc, inbox, outbox, &mut working);
     (working, answer)
 }
 
-/// `session_with` of a server, with the same contract over the messages that the bytes are.
+/// `session_of_service` of a server, with the same contract over the messages that the bytes are.
 pub fn session_keeps_laws<R: BufRead, W: Write, S: Server>(
     alloc: Global,
     reader: &mut R,
     writer: &mut W,
     server: S,
-) -> (Working<S, S::Payload>, Result<SessionEnd, SessionFault>)
+) -> (
+    QueuedServer<S, S::Payload>,
+    Result<SessionEnd, SessionFault>,
+)
     ensures { IfSome (R.remaining reader.old) (λ text.
         Gives no_limit (KeepsLaws S.requested S.notified S.replied S.takes_back S.begins (desk_of result.0.client).held)
         text (R.remaining reader.new) (W.contents writer.old) (W.contents writer.new) result.1) }
 {
-    let mut working = Working::new(alloc, server);
-    let answer = session_with(alloc, reader, writer, &mut working);
+    let mut working = QueuedServer::new(alloc, server);
+    let answer = session_of_service(alloc, reader, writer, &mut working);
     (working, answer)
 }

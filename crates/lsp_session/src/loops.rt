@@ -19,14 +19,15 @@ mod stream_inbox;
 mod stream_session;
 mod write;
 
-pub use engine::serve_with;
+pub use engine::serve_service;
 pub use frame_outbox::FrameOutbox;
 pub use handler::{Handler, SessionEnd, initialize_result, serve};
 pub use handler_service::HandlerService;
 pub use service::{Output, Service};
 pub use stream_inbox::StreamInbox;
 pub use stream_session::{
-    SessionFault, session, session_answer, session_with, session_with_within, session_within,
+    SessionFault, session, session_answer, session_of_service, session_of_service_within,
+    session_within,
 };
 pub use write::{WriteEnd, write_loop};
 

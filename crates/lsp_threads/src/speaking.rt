@@ -8,7 +8,7 @@ use crate::boxes::{RelayInbox, RelayOutbox};
 use crate::threads::{Builders, Threaded, Workers, session_end, start_both};
 use crate::workers::{StartFault, fault_of};
 use lsp_relay::settle_all;
-use lsp_session::{Service, serve_with, session_answer};
+use lsp_session::{Service, serve_service, session_answer};
 use std::alloc::Global;
 use std::io::{BufRead, Write};
 use std::sync::Wait;
@@ -18,7 +18,7 @@ use std::thread::{Builder, Threads};
 /// service on the caller's thread. In every schedule its answer and the bytes that it writes are such as a session allows.
 ///
 /// Starts, faults and the end are those of `run_threads`. A message that the service gives is written while the service goes on.
-pub fn run_threads_with<T, R, W, S>(
+pub fn run_threads_of_service<T, R, W, S>(
     rt: &T,
     alloc: Global,
     reader: R,
@@ -34,12 +34,12 @@ where
         ThreadsGive no_limit (SessionOut S.behavior service.old service.new)
         text (W.contents writer) (W.contents done.writer) done.answer)) }
 {
-    run_threads_with_within(rt, alloc, reader, writer, service, u64::MAX)
+    run_threads_of_service_within(rt, alloc, reader, writer, service, u64::MAX)
 }
 
-/// `run_threads_with` over messages whose content part has at most `limit` bytes. A longer one is `SessionFault::Read` of
+/// `run_threads_of_service` over messages whose content part has at most `limit` bytes. A longer one is `SessionFault::Read` of
 /// `ReadFault::TooLong`, where the session came to it.
-pub fn run_threads_with_within<T, R, W, S>(
+pub fn run_threads_of_service_within<T, R, W, S>(
     rt: &T,
     alloc: Global,
     reader: R,
@@ -60,11 +60,11 @@ where
         writer: Builder::new(),
         reader: Builder::new(),
     };
-    run_threads_with_by(rt, builders, alloc, reader, writer, service, limit)
+    run_threads_of_service_by(rt, builders, alloc, reader, writer, service, limit)
 }
 
-/// As `run_threads_with_within`, with builders for the two threads, which can set the sizes of their stacks.
-pub fn run_threads_with_by<T, R, W, S>(
+/// As `run_threads_of_service_within`, with builders for the two threads, which can set the sizes of their stacks.
+pub fn run_threads_of_service_by<T, R, W, S>(
     rt: &T,
     builders: Builders,
     alloc: Global,
@@ -115,7 +115,7 @@ where
     } = workers;
     let mut inbox = RelayInbox::new(*rt, rx);
     let mut outbox = RelayOutbox::new(*rt, replies, spent);
-    let answer = serve_with(alloc, &mut inbox, &mut outbox, service);
+    let answer = serve_service(alloc, &mut inbox, &mut outbox, service);
     let closed = inbox.is_closed();
     let exited = inbox.gave_exit();
     let replies = outbox.finish();

@@ -7,7 +7,7 @@ ghost use Rattle.lsp_session.specs.Session.{SessionOut};
 ghost use Rattle.lsp_threads.specs.Threads.{ThreadsGive, session_end as session_end_spec};
 
 use crate::boxes::{SPENT_ROOM, deliver};
-use crate::speaking::run_threads_with_by;
+use crate::speaking::run_threads_of_service_by;
 use crate::workers::{ROOM, Reader, StartFault, Writer, start_reader, start_writer};
 use crossbeam_channel::{Receiver, bounded};
 use lsp_message::Message;
@@ -120,7 +120,7 @@ where
 {
     let mut capabilities = capabilities;
     let mut service = HandlerService::new(alloc, &mut capabilities, handler);
-    run_threads_with_by(rt, builders, alloc, reader, writer, &mut service, limit)
+    run_threads_of_service_by(rt, builders, alloc, reader, writer, &mut service, limit)
 }
 
 /// The two threads, and the caller's ends of their relays.

@@ -29,7 +29,7 @@ use std::alloc::{AllocError, Global};
 /// An outbox that is closed to a message ends the session with `disconnected channel`, and a failed allocation with
 /// `out of memory`; what was to follow for that message is not sent. That the null could not be sent is ignored. After
 /// 2^64 - 1 events it ends as if no more messages came.
-pub fn serve_with<I: Inbox, O: Outbox, S: Service>(
+pub fn serve_service<I: Inbox, O: Outbox, S: Service>(
     alloc: Global,
     inbox: &mut I,
     outbox: &mut O,

@@ -8,7 +8,7 @@ ghost use Rattle.lsp_session.specs.SessionRun.{Runs};
 
 use crate::error::ProtocolError;
 use crate::lifecycle::{Inbox, Outbox};
-use crate::loops::engine::serve_with;
+use crate::loops::engine::serve_service;
 use crate::loops::handler_service::HandlerService;
 use lsp_message::{Notification, Request, Response, ResponseError};
 use serde_json::{Map, Value, put};
@@ -83,7 +83,7 @@ pub fn serve<I: Inbox, O: Outbox, H: Handler>(
 {
     let mut capabilities = capabilities;
     let mut service = HandlerService::new(alloc, &mut capabilities, handler);
-    serve_with(alloc, inbox, outbox, &mut service)
+    serve_service(alloc, inbox, outbox, &mut service)
 }
 
 /// The result of `initialize`: `{"capabilities":<capabilities>}`. An `Err` is a failed allocation.

@@ -9,7 +9,9 @@ ghost use Rattle.lsp_session.specs.SessionFault.{ran_out as ran_out_spec, came_t
 
 use crate::error::ProtocolError;
 use crate::loops::handler_service::HandlerService;
-use crate::loops::{FrameOutbox, Handler, ReadEnd, Service, SessionEnd, StreamInbox, serve_with};
+use crate::loops::{
+    FrameOutbox, Handler, ReadEnd, Service, SessionEnd, StreamInbox, serve_service,
+};
 use lsp_message::{ReadFault, WriteFault};
 use serde_json::Value;
 use std::alloc::Global;
@@ -89,11 +91,11 @@ pub fn session_within<R: BufRead, W: Write, H: Handler>(
 {
     let mut capabilities = capabilities;
     let mut service = HandlerService::new(alloc, &mut capabilities, handler);
-    session_with_within(alloc, reader, writer, &mut service, limit)
+    session_of_service_within(alloc, reader, writer, &mut service, limit)
 }
 
-/// `serve_with` from bytes to bytes (LSP 3.17, "Base Protocol" and "Server lifecycle"), as `session` is `serve`.
-pub fn session_with<R: BufRead, W: Write, S: Service>(
+/// `serve_service` from bytes to bytes (LSP 3.17, "Base Protocol" and "Server lifecycle"), as `session` is `serve`.
+pub fn session_of_service<R: BufRead, W: Write, S: Service>(
     alloc: Global,
     reader: &mut R,
     writer: &mut W,
@@ -103,12 +105,12 @@ pub fn session_with<R: BufRead, W: Write, S: Service>(
         Gives no_limit (SessionOut S.behavior service.old service.new)
         text (R.remaining reader.new) (W.contents writer.old) (W.contents writer.new) result) }
 {
-    session_with_within(alloc, reader, writer, service, u64::MAX)
+    session_of_service_within(alloc, reader, writer, service, u64::MAX)
 }
 
-/// `session_with` over messages whose content part has at most `limit` bytes. A longer one is `SessionFault::Read` of
+/// `session_of_service` over messages whose content part has at most `limit` bytes. A longer one is `SessionFault::Read` of
 /// `ReadFault::TooLong`, and is unread.
-pub fn session_with_within<R: BufRead, W: Write, S: Service>(
+pub fn session_of_service_within<R: BufRead, W: Write, S: Service>(
     alloc: Global,
     reader: &mut R,
     writer: &mut W,
@@ -121,7 +123,7 @@ pub fn session_with_within<R: BufRead, W: Write, S: Service>(
 {
     let mut inbox = StreamInbox::within(alloc, reader, limit);
     let mut outbox = FrameOutbox::new(alloc, writer);
-    let answer = serve_with(alloc, &mut inbox, &mut outbox, service);
+    let answer = serve_service(alloc, &mut inbox, &mut outbox, service);
     session_answer(answer, inbox.end(), outbox.fault())
 }
 

@@ -3,7 +3,7 @@ use Rattle.lsp_session.specs.Session.{SessionOut}
 use Rattle.lsp_session.specs.SessionLaws.{Both}
 use Rattle.lsp_service.proofs.Lawful.{keeps_laws}
 use Rattle.lsp_service.specs.Law.{KeepsLaws}
-use Rattle.lsp_service.specs.Working.{at_desk, desk_of}
+use Rattle.lsp_service.specs.QueuedServer.{at_desk, desk_of}
 use Rattle.lsp_server.proofs.laws.server_in_threads_keeps_laws.Goals as goal
 
 pub returns : goal.returns

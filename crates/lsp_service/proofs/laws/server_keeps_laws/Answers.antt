@@ -2,7 +2,7 @@ use Rattle.lsp_session.proofs.Describing.{runs_as, over_as}
 use Rattle.lsp_session.specs.Session.{SessionOut}
 use Rattle.lsp_session.specs.SessionLaws.{Both}
 use Rattle.lsp_service.specs.Law.{KeepsLaws}
-use Rattle.lsp_service.specs.Working.{at_desk, desk_of}
+use Rattle.lsp_service.specs.QueuedServer.{at_desk, desk_of}
 use Rattle.lsp_service.proofs.Lawful.{keeps_laws}
 use Rattle.lsp_service.proofs.laws.server_keeps_laws.Goals as goal
 

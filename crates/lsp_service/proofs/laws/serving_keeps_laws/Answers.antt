@@ -1,5 +1,5 @@
 use Rattle.lsp_service.specs.Law.{KeepsLaws}
-use Rattle.lsp_service.specs.Working.{desk_of, at_desk}
+use Rattle.lsp_service.specs.QueuedServer.{desk_of, at_desk}
 use Rattle.lsp_session.specs.Session.{SessionOut}
 use Rattle.lsp_session.proofs.Describing.{runs_as}
 use Rattle.lsp_service.proofs.Lawful.{keeps_laws}
@@ -14,6 +14,6 @@ returns g c =
     let begins = g.S.Server.begins in
     let initializes = g.S.Server.initializes in
     let old = c.new-working.result in
-    let new = c.serve_with-answer.new.service in
+    let new = c.serve_service-answer.new.service in
     runs_as (SessionOut (at_desk requested notified replied takes_back begins initializes) old new) (KeepsLaws requested notified replied takes_back begins (desk_of new.client).held)
-    (keeps_laws requested notified replied takes_back begins initializes old new c.new-working.ensures.fresh) g.I.Inbox.receives g.O.Outbox.sends _ _ _ c.serve_with-answer.ensures
+    (keeps_laws requested notified replied takes_back begins initializes old new c.new-working.ensures.fresh) g.I.Inbox.receives g.O.Outbox.sends _ _ _ c.serve_service-answer.ensures

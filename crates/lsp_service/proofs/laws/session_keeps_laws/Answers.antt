@@ -1,6 +1,6 @@
 use Rattle.lsp_message.specs.Frame.{no_limit}
 use Rattle.lsp_service.specs.Law.{KeepsLaws}
-use Rattle.lsp_service.specs.Working.{desk_of, at_desk}
+use Rattle.lsp_service.specs.QueuedServer.{desk_of, at_desk}
 use Rattle.lsp_session.specs.Session.{SessionOut}
 use Rattle.lsp_session.proofs.Describing.{known_as}
 use Rattle.lsp_service.proofs.Lawful.{keeps_laws}
@@ -15,7 +15,7 @@ returns g c =
     let begins = g.S.Server.begins in
     let initializes = g.S.Server.initializes in
     let old = c.new-working.result in
-    let new = c.session_with-answer.new.service in
+    let new = c.session_of_service-answer.new.service in
     known_as (SessionOut (at_desk requested notified replied takes_back begins initializes) old new) (KeepsLaws requested notified replied takes_back begins (desk_of new.client).held)
     (keeps_laws requested notified replied takes_back begins initializes old new c.new-working.ensures.fresh) no_limit
-    _ _ _ _ _ c.session_with-answer.ensures
+    _ _ _ _ _ c.session_of_service-answer.ensures

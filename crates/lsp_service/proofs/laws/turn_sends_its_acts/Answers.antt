@@ -1,5 +1,5 @@
 use Rattle.lsp_service.proofs.Acting.{acts_at}
-use Rattle.lsp_service.specs.Working.{seen}
+use Rattle.lsp_service.specs.QueuedServer.{seen}
 use Rattle.lsp_service.proofs.laws.turn_sends_its_acts.Goals as goal
 
 pub returns : goal.returns

@@ -12,7 +12,7 @@ returns g c =
     let answers = g.H.Handler.answers in
     let notes = g.H.Handler.notes in
     let old = c.new-service.result in
-    let new = c.serve_with.new.service in
+    let new = c.serve_service.new.service in
     runs_as (SessionOut (lent_handler answers notes) old new) (SessionOut (of_handler answers notes (view c.args.capabilities)) c.args.handler.now _)
     (session_as answers notes (view c.args.capabilities) old new _ (λ names. c.handler-1.given.1 (sym c.new-service.ensures.same_handler ∙ sym names))
-    c.args.handler.now c.new-service.ensures.unchanged (ap view c.new-service.ensures.capabilities)) g.I.Inbox.receives g.O.Outbox.sends _ _ _ c.serve_with.ensures
+    c.args.handler.now c.new-service.ensures.unchanged (ap view c.new-service.ensures.capabilities)) g.I.Inbox.receives g.O.Outbox.sends _ _ _ c.serve_service.ensures

@@ -1,7 +1,7 @@
 use Rattle.std.proofs.Common.{ap}
 use Rattle.lsp_service.specs.Desk.{Desk}
-use Rattle.lsp_service.specs.Working.{seen}
-use Rattle.lsp_service.proofs.desk.WorkingPayloadService.initialized.Goals as goal
+use Rattle.lsp_service.specs.QueuedServer.{seen}
+use Rattle.lsp_service.proofs.desk.QueuedServerPayloadService.initialized.Goals as goal
 
 pub returns : goal.returns
 returns g c = record {

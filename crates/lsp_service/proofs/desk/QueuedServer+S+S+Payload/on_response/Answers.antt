@@ -1,7 +1,7 @@
 use Rattle.std.proofs.Common.{refl, sym}
 use Rattle.lsp_message.specs.View.{outcome_view}
 use Rattle.lsp_service.proofs.Desking.{drops_reply}
-use Rattle.lsp_service.proofs.desk.«Working+S+S+Payload».on_response.Goals as goal
+use Rattle.lsp_service.proofs.desk.«QueuedServer+S+S+Payload».on_response.Goals as goal
 
 pub returns-in-None : goal.returns-in-None
 returns-in-None g c = drops_reply g.S.Server.requested g.S.Server.notified g.S.Server.replied g.S.Server.takes_back _ _ _ _ (outcome_view c.args.response.response_result) _ (sym c.in-None.ensures.value) c.in-None.ensures.removed refl

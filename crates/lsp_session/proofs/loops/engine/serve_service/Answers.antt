@@ -5,7 +5,7 @@ use Rattle.lsp_message.specs.View.{error_view}
 use Rattle.lsp_session.proofs.Engine.{goes_none, goes_both, goes_run, goes_count}
 use Rattle.lsp_session.proofs.Handshake.{started_none, started_err, asked, ask_starved, declined, unanswered, finish_failed, open_starved, open_refused, opened}
 use Rattle.lsp_session.specs.Session.{starting}
-use Rattle.lsp_session.proofs.loops.engine.serve_with.Goals as goal
+use Rattle.lsp_session.proofs.loops.engine.serve_service.Goals as goal
 
 pub loop-attempt-init : goal.loop-attempt-init
 loop-attempt-init g c = goes_none g.S.Service.behavior g.I.Inbox.receives g.O.Outbox.sends starting _ _

@@ -1,8 +1,8 @@
 use Rattle.std.proofs.Common.{◌∙◌, ap}
 use Rattle.std.proofs.lemmas.Result.{IfOk-weaker}
 use Rattle.lsp_service.specs.Desk.{Desk, settles}
-use Rattle.lsp_service.specs.Working.{desk_of, seen}
-use Rattle.lsp_service.proofs.desk.«Working+S+S+Payload».on_notification.Goals as goal
+use Rattle.lsp_service.specs.QueuedServer.{desk_of, seen}
+use Rattle.lsp_service.proofs.desk.«QueuedServer+S+S+Payload».on_notification.Goals as goal
 
 pub returns : goal.returns
 returns g c =

@@ -1,6 +1,6 @@
 use Rattle.lsp_session.proofs.Engine.{Goes}
 use Rattle.lsp_session.specs.Session.{starting}
-use Rattle.lsp_session.proofs.loops.engine.serve_with.Given as goal
+use Rattle.lsp_session.proofs.loops.engine.serve_service.Given as goal
 
 -- `initialize` was declined so far
 abbrev pub invariant-loop-attempt : goal.invariant-loop-attempt
