@@ -18,7 +18,7 @@ use Rattle.lsp_session.specs.Event.{Event, message, timeout, closed}
 use Rattle.lsp_session.specs.Outputs.{RefusesOne}
 use Rattle.lsp_session.specs.ProtocolError.{ProtocolFault, out_of_memory}
 use Rattle.lsp_session.specs.Replies.{null_reply}
-use Rattle.lsp_session.specs.Service.{Behavior}
+use Rattle.lsp_session.specs.Session.{Behavior}
 use Rattle.lsp_session.specs.Session.{SessionAnswer, SessionPart, Exchange, letters_of, sends_of, Stop, decided, no_more, timed_out, refused, exhausted, Phase, starting, replied, serving, asked, ended, null_of, is_served, Step, Steps, Stops, SessionFrom}
 use Rattle.lsp_session.specs.SessionRun.{message_in, is_open, Brings, Gets, Runs}
 use Rattle.lsp_session.specs.Shutdown.{ShutdownAnswer, IsNoExit, EventShutsDown, OffersNull, ShutsDown, ShutsDownAt}

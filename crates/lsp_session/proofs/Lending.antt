@@ -17,10 +17,10 @@ use Rattle.lsp_session.specs.declared.loops.handler.SessionEnd.TheVariants.{Shut
 use Rattle.lsp_session.specs.declared.loops.handler_service.HandlerService.{HandlerService}
 
 module _ {H : Type 0} (answers : H → Id → List ℕ → Data → Result Data ErrorObject → H → Type 0) (notes : H → List ℕ → Data → H → Type 0) (capabilities : Data) where
-  abbrev lent : Rattle.lsp_session.specs.Service.Behavior (HandlerService H)
+  abbrev lent : Rattle.lsp_session.specs.Session.Behavior (HandlerService H)
   lent = lent_handler answers notes
 
-  abbrev plain : Rattle.lsp_session.specs.Service.Behavior H
+  abbrev plain : Rattle.lsp_session.specs.Session.Behavior H
   plain = of_handler answers notes capabilities
 
   -- the capabilities are there until `initialize` is answered

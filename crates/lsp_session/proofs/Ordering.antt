@@ -8,12 +8,12 @@ use Rattle.lsp_message.specs.Id.{Id}
 use Rattle.lsp_message.specs.Message.{Message, ErrorObject, request, notification, response}
 use Rattle.lsp_message.specs.Methods.{is_early, is_initialize, is_initialized, is_shutdown, is_exit}
 use Rattle.lsp_session.proofs.Ran.{no_one, part_none, part_one, Ran, reaches_ran}
-use Rattle.lsp_session.specs.Answered.{RepliesToEach, requests_of}
+use Rattle.lsp_session.specs.Answered.{RepliesToEach, requests_of, AllReplied}
 use Rattle.lsp_session.specs.ProtocolError.{ProtocolFault, disconnected, out_of_memory, fault_of_refusal, Shows, ShowsUnallowed, expected_initialize, expected_initialized, unexpected_in_shutdown}
 use Rattle.lsp_session.specs.Replies.{null_reply, IsEarlyReply}
-use Rattle.lsp_session.specs.Service.{Behavior}
+use Rattle.lsp_session.specs.Session.{Behavior}
 use Rattle.lsp_session.specs.Session.{Exchange, letters_of, sends_of, SessionAnswer, Stop, decided, no_more, timed_out, refused, exhausted, Phase, starting, replied as in_reply, serving, asked, ended, null_of, phase_after, is_served, Fails, Leaves, Step, Stops, SessionOut}
-use Rattle.lsp_session.specs.SessionLaws.{AllReplied, EndsWithResult, IsInvited, IsUnopened, AfterNull, is_no_shutdown, EndsWithNull, HasNoShutdown, KeepsOrder}
+use Rattle.lsp_session.specs.SessionLaws.{EndsWithResult, IsInvited, IsUnopened, AfterNull, is_no_shutdown, EndsWithNull, HasNoShutdown, KeepsOrder}
 use Rattle.lsp_session.specs.declared.lifecycle.SendFault.{SendFault}
 use Rattle.lsp_session.specs.declared.lifecycle.SendFault.TheVariants.{Closed as Shut, Memory as Full}
 use Rattle.lsp_session.specs.declared.loops.handler.SessionEnd.TheVariants.{Closed, ShutDown}

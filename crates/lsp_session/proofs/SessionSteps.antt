@@ -4,7 +4,7 @@ use Rattle.std.specs.Prelude.{Result, Ok, Err}
 use Rattle.serde_json.specs.Data.{Data}
 use Rattle.lsp_message.specs.Message.{Message, ErrorObject}
 use Rattle.lsp_session.specs.ProtocolError.{ProtocolFault, disconnected, shutdown_disconnected, fault_of_refusal}
-use Rattle.lsp_session.specs.Service.{Behavior}
+use Rattle.lsp_session.specs.Session.{Behavior}
 use Rattle.lsp_session.specs.Session.{Exchange, letters_of, sends_of, SessionAnswer, Stop, decided, no_more, timed_out, refused, exhausted, Phase, starting, replied, serving, asked, ended, null_of, phase_after, Step, Steps, CutsOff, Reaches, Stops, SessionFrom}
 use Rattle.lsp_session.specs.SessionRun.{all_of}
 use Rattle.lsp_session.specs.declared.lifecycle.SendFault.{SendFault}
@@ -32,11 +32,6 @@ abbrev pub IsOpen : Phase → Type 0
 IsOpen (asked i) = ⊥
 IsOpen (ended null answer) = ⊥
 IsOpen phase = Unit {0}
-
--- no message decided
-abbrev pub GoesOn : Phase → Type 0
-GoesOn (ended null answer) = ⊥
-GoesOn phase = Unit {0}
 
 -- the answer where no further message comes
 abbrev pub answer_at_end : Phase → SessionAnswer
@@ -92,13 +87,6 @@ module _ {S : Type 0} (may : Behavior S) where
   reaches_whole exhausted p p' s s' xs whole steps = steps
   reaches_whole (refused fault) p p' s s' xs whole steps = absurd whole
 
-  pub whole_steps : (stop : Stop) (p p' : Phase) (s s' : S) (xs : List Exchange) → IsWhole stop → Reaches may stop p s xs p' s' → Steps may p s xs p' s'
-  whole_steps decided p p' s s' xs whole steps = steps
-  whole_steps no_more p p' s s' xs whole steps = steps
-  whole_steps timed_out p p' s s' xs whole steps = steps
-  whole_steps exhausted p p' s s' xs whole steps = steps
-  whole_steps (refused fault) p p' s s' xs whole steps = absurd whole
-
   -- the same, up to what ended the session
   reaches_both : (stop : Stop) (p p' p'' : Phase) (s s' s'' : S) (xs ys : List Exchange)
       → Steps may p s xs p' s' → Reaches may stop p' s' ys p'' s'' → Reaches may stop p s (xs ++ ys) p'' s''
@@ -129,26 +117,3 @@ module _ {S : Type 0} (may : Behavior S) where
     null_is = later.null_is;
     stopped = later.stopped;
   }
-
--- What holds of a session as long as it goes on, or when a message decided.
-module _ {S : Type 0} (may : Behavior S) (Holds : Phase → List Exchange → Type 0)
-    (none : (p : Phase) → GoesOn p → Holds p [])
-    (one : (p q : Phase) (s s' : S) (x : Exchange) → Step may p s x.letter x.said q s' → Holds q (x ∷ []))
-    (more : (p q : Phase) (x : Exchange) (xs : List Exchange) → GoesOn p → Holds p (x ∷ []) → Holds q xs → Holds q (x ∷ xs)) where
-  hold_last : (q : Phase) (null : Option Message) (answer : SessionAnswer) (mid s' : S) (x : Exchange) (xs : List Exchange) → Holds (ended null answer) (x ∷ [])
-      → Steps may (ended null answer) mid xs q s' → Holds q (x ∷ xs)
-  hold_last q null answer mid s' x [] first rest = rw rest.0 first
-  hold_last q null answer mid s' x (y ∷ ys) first rest = absurd rest.2
-
-  hold_then : (q next : Phase) (mid s' : S) (x : Exchange) (xs : List Exchange) → Holds next (x ∷ []) → Steps may next mid xs q s'
-      → ((next : Phase) → GoesOn next → Steps may next mid xs q s' → Holds q xs) → Holds q (x ∷ xs)
-  hold_then q starting mid s' x xs first rest later = more starting q x xs tt first (later starting tt rest)
-  hold_then q replied mid s' x xs first rest later = more replied q x xs tt first (later replied tt rest)
-  hold_then q serving mid s' x xs first rest later = more serving q x xs tt first (later serving tt rest)
-  hold_then q (asked i) mid s' x xs first rest later = more (asked i) q x xs tt first (later (asked i) tt rest)
-  hold_then q (ended null answer) mid s' x xs first rest later = hold_last q null answer mid s' x xs first rest
-
-  pub steps_hold : (p q : Phase) (s s' : S) (xs : List Exchange) → GoesOn p → Steps may p s xs q s' → Holds q xs
-  steps_hold p q s s' [] on steps = rw steps.0 (none p on)
-  steps_hold p q s s' (x ∷ xs) on steps =
-      hold_then q steps.0 steps.1 s' x xs (one p steps.0 s steps.1 x steps.2) steps.3 (λ next still rest. steps_hold next q steps.1 s' xs still rest)
