@@ -5,24 +5,11 @@ use Rattle.serde_json.specs.Data.{Data}
 use Rattle.lsp_message.specs.Id.{Id}
 use Rattle.lsp_message.specs.Message.{Message, ErrorObject, request, notification, response}
 use Rattle.lsp_session.proofs.Ran.{reaches_ran, ended_by, Holds, after_outcome, holds, stops_by}
-use Rattle.lsp_session.proofs.Rows.{Row, at_initialize, at_initialized, at_served, idle, Idle, early_request, early_note, unasked, uninvited, shuts, leaves, exits, stays, IsNoRequest, initialized_no_request, exit_no_request}
+use Rattle.lsp_session.proofs.Rows.{Row, at_initialize, at_initialized, at_served, idle, Idle, early_request, early_note, unasked, uninvited, shuts, leaves, exits, stays, IsNoRequest, initialized_no_request, exit_no_request, silent, one_reply}
 use Rattle.lsp_session.specs.Answered.{RepliesTo, RepliesToEach, requests_of, AllReplied, LastUnanswered, AnswersRequests}
 use Rattle.lsp_session.specs.HandlerSession.{Handles, of_handler}
 use Rattle.lsp_session.specs.ProtocolError.{ProtocolFault, ShowsUnallowed}
 use Rattle.lsp_session.specs.Session.{Behavior, Exchange, SessionAnswer, Stop, decided, Phase, starting, phase_after, SessionOut}
-
--- no request, and nothing is sent
-silent : (x : Exchange) → IsNoRequest x.letter → x.said ≡ [] → AllReplied (x ∷ [])
-silent x mute said = at x.letter refl mute
-  where
-    at : (m : Message) → x.letter ≡ m → IsNoRequest m → AllReplied (x ∷ [])
-    at (request i method params) is mute = absurd mute
-    at (notification method params) is mute = rw (is, said) (tt, tt)
-    at (response i outcome) is mute = rw (is, said) (tt, tt)
-
--- a request and its reply
-one_reply : (x : Exchange) (i : Id) (method : List ℕ) (params : Data) (reply : Message) → x.letter ≡ request i method params → x.said ≡ reply ∷ [] → RepliesTo i reply → AllReplied (x ∷ [])
-one_reply x i method params reply is said replies = rw (is, said) ((replies, tt), tt)
 
 module _ (stop : Stop) where
   -- a message decided

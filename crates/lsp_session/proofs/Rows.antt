@@ -6,9 +6,10 @@ use Rattle.serde_json.specs.Data.{Data}
 use Rattle.lsp_message.specs.Id.{Id}
 use Rattle.lsp_message.specs.Message.{Message, ErrorObject, request, notification, response}
 use Rattle.lsp_message.specs.Methods.{is_early, is_initialize, is_initialized, is_shutdown, is_exit}
+use Rattle.lsp_session.specs.Answered.{RepliesTo, AllReplied}
 use Rattle.lsp_session.specs.ProtocolError.{expected_initialize, expected_initialized, unexpected_in_shutdown}
 use Rattle.lsp_session.specs.Replies.{null_reply, IsEarlyReply}
-use Rattle.lsp_session.specs.Session.{Behavior, Phase, starting, replied, serving, asked, ended, phase_after, is_served, Fails, Leaves, Step}
+use Rattle.lsp_session.specs.Session.{Behavior, Exchange, Phase, starting, replied, serving, asked, ended, phase_after, is_served, Fails, Leaves, Step}
 use Rattle.lsp_session.specs.declared.loops.handler.SessionEnd.TheVariants.{Closed, ShutDown}
 
 -- the message is no request
@@ -23,7 +24,7 @@ pub data Idle (p : Phase) (m : Message) (said : List Message) (q : Phase) : Type
   early_note : p ≡ starting → IsNoRequest m → is_early m ≡ true → said ≡ [] → q ≡ starting → Idle p m said q
   unasked : (shown : List ℕ) → p ≡ starting → IsNoRequest m → said ≡ [] → q ≡ ended None (Err (expected_initialize shown)) → Idle p m said q
   uninvited : (shown : List ℕ) → p ≡ replied → is_initialized m ≡ false → said ≡ [] → q ≡ ended None (Err (expected_initialized shown)) → Idle p m said q
-  shuts : (i : Id) (method : List ℕ) (params : Data) → p ≡ serving → m ≡ request i method params → is_shutdown m ≡ true
+  shuts : (i : Id) (method : List ℕ) (params : Data) → p ≡ serving → m ≡ request i method params → is_shutdown (request i method params) ≡ true
       → said ≡ null_reply i ∷ [] → q ≡ asked i → Idle p m said q
   leaves : p ≡ serving → is_exit m ≡ true → said ≡ [] → q ≡ ended None (Ok Closed) → Idle p m said q
   exits : (i : Id) → p ≡ asked i → is_exit m ≡ true → said ≡ [] → q ≡ ended (Some (null_reply i)) (Ok ShutDown) → Idle p m said q
@@ -100,3 +101,16 @@ pub exit_no_request : (m : Message) → is_exit m ≡ true → IsNoRequest m
 exit_no_request (request i method params) is = absurd (cc (is))
 exit_no_request (notification method params) is = tt
 exit_no_request (response i outcome) is = tt
+
+-- no request, and nothing is sent
+pub silent : (x : Exchange) → IsNoRequest x.letter → x.said ≡ [] → AllReplied (x ∷ [])
+silent x mute said = at x.letter refl mute
+  where
+    at : (m : Message) → x.letter ≡ m → IsNoRequest m → AllReplied (x ∷ [])
+    at (request i method params) is mute = absurd mute
+    at (notification method params) is mute = rw (is, said) (tt, tt)
+    at (response i outcome) is mute = rw (is, said) (tt, tt)
+
+-- a request and its reply
+pub one_reply : (x : Exchange) (i : Id) (method : List ℕ) (params : Data) (reply : Message) → x.letter ≡ request i method params → x.said ≡ reply ∷ [] → RepliesTo i reply → AllReplied (x ∷ [])
+one_reply x i method params reply is said replies = rw (is, said) ((replies, tt), tt)
