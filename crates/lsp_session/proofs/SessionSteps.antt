@@ -41,32 +41,19 @@ answer_at_end serving = Ok Closed
 answer_at_end (asked i) = Err shutdown_disconnected
 answer_at_end (ended null answer) = answer
 
-pub open_null : (p : Phase) → IsOpen p → None ≡ null_of p
-open_null starting is = refl
-open_null replied is = refl
-open_null serving is = refl
-open_null (asked i) is = absurd is
-open_null (ended null answer) is = absurd is
-
 pub open_after : (outcome : Result Data ErrorObject) → IsOpen (phase_after outcome)
 open_after (Ok result) = tt
 open_after (Err error) = tt
 
 module _ {S : Type 0} (may : Behavior S) where
-  pub stops_at_end : (p : Phase) (s : S) → IsOpen p → Stops may p s no_more (answer_at_end p) s
-  stops_at_end starting s is = (refl, refl)
-  stops_at_end replied s is = (refl, refl)
-  stops_at_end serving s is = (refl, refl)
-  stops_at_end (asked i) s is = absurd is
-  stops_at_end (ended null answer) s is = absurd is
-
-  pub stops_refused : (p : Phase) (s : S) (refusal : SendFault) (fault : ProtocolFault) → IsOpen p → fault ≡ fault_of_refusal refusal
-      → Stops may p s (refused refusal) (Err fault) s
-  stops_refused starting s refusal fault is same = (ap (λ (x : ProtocolFault). Err x) same, refl)
-  stops_refused replied s refusal fault is same = (ap (λ (x : ProtocolFault). Err x) same, refl)
-  stops_refused serving s refusal fault is same = (ap (λ (x : ProtocolFault). Err x) same, refl)
-  stops_refused (asked i) s refusal fault is same = absurd is
-  stops_refused (ended null answer) s refusal fault is same = absurd is
+  -- what is known of an open phase: no null, the answer where no more comes, and the answer where a message is refused
+  pub of_open : (p : Phase) (s : S) → IsOpen p
+      → (None ≡ null_of p) × Stops may p s no_more (answer_at_end p) s × ((refusal : SendFault) → Stops may p s (refused refusal) (Err (fault_of_refusal refusal)) s)
+  of_open starting s is = (refl, (refl, refl), λ refusal. (refl, refl))
+  of_open replied s is = (refl, (refl, refl), λ refusal. (refl, refl))
+  of_open serving s is = (refl, (refl, refl), λ refusal. (refl, refl))
+  of_open (asked i) s is = absurd is
+  of_open (ended null answer) s is = absurd is
 
   -- steps, one after another
   pub steps_both : (p p' p'' : Phase) (s s' s'' : S) (xs ys : List Exchange)
