@@ -110,27 +110,18 @@ module _ {W : Type 0} (contents : W → Option (List ℕ)) where
   offered ms m a b c outcome (Some (Output kind)) got writes told = (ms, m, refl, breaks_off ms m (Output kind) a b c got writes)
   offered ms m a b c outcome (Some NoMemory) got writes told = (ms, m ∷ [], refl, (got.0, got.1, Appends-Keeps a b c got.0 got.2 writes))
 
-  -- the same, of an outbox that no write has failed in
-  sent_after : (ms : List Message) (m : Message) (a b : Option (List ℕ)) (mid new : FrameOutbox W) (outcome : Result (Unit {0}) SendFault) → mid.fault ≡ None
-      → b ≡ at mid → GetsFrames ms a b → FrameOutboxSends contents mid m outcome new
-      → MatchOption new.fault ((outcome ≡ Ok tt) × GetsFrames (ms ++ m ∷ []) a (at new)) (λ f. GetsPart f (ms ++ m ∷ []) a (at new))
-  sent_after ms m a b mid new outcome unfailed is got sends =
+  -- the same, of an outbox that no write has failed in, and what follows
+  sent_after : {A B : Type 0} (ms : List Message) (m : Message) (a b : Option (List ℕ)) (mid new : FrameOutbox W) (outcome : Result (Unit {0}) SendFault) → mid.fault ≡ None
+      → b ≡ at mid → GetsFrames ms a b → FrameOutboxSends contents mid m outcome new → (outcome ≡ Ok tt → A) → B
+      → MatchOption new.fault (A × GetsFrames (ms ++ m ∷ []) a (at new)) (λ f. B × GetsPart f (ms ++ m ∷ []) a (at new))
+  sent_after {A} {B} ms m a b mid new outcome unfailed is got sends took lost =
       let writes = rw unfailed at sends.0 in
-      offered ms m a (at mid) (at new) outcome new.fault (rw is at got) writes.0 writes.1
-
-  -- nothing is left to offer, or the null
-  last_written : (stop : Stop) (output : List Message) (null : Option Message) (a : Option (List ℕ)) (mid new : FrameOutbox W) → mid.fault ≡ None → GetsFrames output a (at mid)
-      → OffersLast (FrameOutboxSends contents) mid null new
-      → MatchOption new.fault (Unit {0} × GetsFrames (all_of output null) a (at new)) (λ f. IsUnsent stop null × GetsPart f (all_of output null) a (at new))
-  last_written stop output None a mid new unfailed got same = rw (same, unfailed) (tt, got)
-  last_written stop output (Some null) a mid new unfailed got offers =
-      pick new.fault (sent_after output null a (at mid) mid new offers.outcome unfailed refl got offers.sent)
+      pick new.fault (offered ms m a (at mid) (at new) outcome new.fault (rw is at got) writes.0 writes.1)
     where
-      pick : (fault : Option WriteFault)
-          → MatchOption fault ((offers.outcome ≡ Ok tt) × GetsFrames (output ++ null ∷ []) a (at new)) (λ f. GetsPart f (output ++ null ∷ []) a (at new))
-          → MatchOption fault (Unit {0} × GetsFrames (output ++ null ∷ []) a (at new)) (λ f. Unit {0} × GetsPart f (output ++ null ∷ []) a (at new))
-      pick None both = (tt, both.1)
-      pick (Some f) part = (tt, part)
+      pick : (fault : Option WriteFault) → MatchOption fault ((outcome ≡ Ok tt) × GetsFrames (ms ++ m ∷ []) a (at new)) (λ f. GetsPart f (ms ++ m ∷ []) a (at new))
+          → MatchOption fault (A × GetsFrames (ms ++ m ∷ []) a (at new)) (λ f. B × GetsPart f (ms ++ m ∷ []) a (at new))
+      pick None both = (took both.0, both.1)
+      pick (Some f) part = (lost, part)
 
   module _ (old new : FrameOutbox W) (output : List Message) (null : Option Message) (unfailed : old.fault ≡ None) where
     -- the output is written, or a part of it where a write failed
@@ -140,20 +131,20 @@ module _ {W : Type 0} (contents : W → Option (List ℕ)) where
 
     taken_written : (stop : Stop) (mid : FrameOutbox W) → FoldsTo (Takes (FrameOutboxSends contents)) old output mid → OffersLast (FrameOutboxSends contents) mid null new
         → MatchOption new.fault (Unit {0} × GetsFrames (all_of output null) (at old) (at new)) (λ f. IsUnsent stop null × GetsPart f (all_of output null) (at old) (at new))
-    taken_written stop mid taken offers =
-        let frames = taken_frames contents old output mid unfailed taken in
-        last_written stop output null (at old) mid new frames.0 frames.1 offers
+    taken_written stop mid taken offers = last null offers
+      where
+        frames : (mid.fault ≡ None) × GetsFrames output (at old) (at mid)
+        frames = taken_frames contents old output mid unfailed taken
+
+        last : (null : Option Message) → OffersLast (FrameOutboxSends contents) mid null new
+            → MatchOption new.fault (Unit {0} × GetsFrames (all_of output null) (at old) (at new)) (λ f. IsUnsent stop null × GetsPart f (all_of output null) (at old) (at new))
+        last None same = rw (same, frames.0) (tt, frames.1)
+        last (Some null) offers = sent_after output null (at old) (at mid) mid new offers.outcome frames.0 refl frames.1 offers.sent (λ e. tt) tt
 
     refused_written : (fault : SendFault) → RefusesLast (FrameOutboxSends contents) old output fault new → null ≡ None → IsWritten (refused fault)
     refused_written fault last none =
         let frames = taken_frames contents old last.0 last.2 unfailed last.4 in
-        rw (none, last.3) (pick new.fault (sent_after last.0 last.1 (at old) (at last.2) last.2 new (Err fault) frames.0 refl frames.1 last.5))
-      where
-        pick : (kept : Option WriteFault)
-            → MatchOption kept ((◌≡◌ {A = Result (Unit {0}) SendFault} (Err fault) (Ok tt)) × GetsFrames (last.0 ++ last.1 ∷ []) (at old) (at new)) (λ f. GetsPart f (last.0 ++ last.1 ∷ []) (at old) (at new))
-            → MatchOption kept (⊥ × GetsFrames (last.0 ++ last.1 ∷ []) (at old) (at new)) (λ f. Unit {0} × GetsPart f (last.0 ++ last.1 ∷ []) (at old) (at new))
-        pick None both = absurd (cc (both.0))
-        pick (Some f) part = (tt, part)
+        rw (none, last.3) (sent_after last.0 last.1 (at old) (at last.2) last.2 new (Err fault) frames.0 refl frames.1 last.5 (λ e. cc (e)) tt)
 
     pub gets_written : (stop : Stop) → Gets (FrameOutboxSends contents) old output null stop new → IsWritten stop
     gets_written decided got = taken_written decided got.0 got.1 got.2
