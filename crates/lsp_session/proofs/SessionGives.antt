@@ -15,8 +15,7 @@ use Rattle.lsp_message.specs.declared.frame.ReadFault.TheVariants.{Input, Memory
 use Rattle.lsp_message.specs.declared.frame.WriteFault.{WriteFault}
 use Rattle.lsp_message.specs.declared.frame.WriteFault.TheVariants.{Output, Memory as NoMemory}
 use Rattle.lsp_session.proofs.SessionFacts.{is_no_exit, Facts}
-use Rattle.lsp_session.proofs.SessionStreams.{Brought, brought_open, no_timeout, whole_first, GetsPart, NotRefused, gets_written, gets_keeps}
-use Rattle.lsp_session.proofs.Streaming.{streams_of}
+use Rattle.lsp_session.proofs.SessionStreams.{Brought, brought_open, no_timeout, whole_first, GetsPart, NotRefused, gets_written, gets_keeps, streams_of}
 use Rattle.lsp_session.proofs.Waiting.{FoldsTo-split}
 use Rattle.lsp_session.specs.Event.{Event, closed}
 use Rattle.lsp_session.specs.FrameBoxes.{FrameOutboxSends}

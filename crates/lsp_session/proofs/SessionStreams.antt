@@ -1,31 +1,55 @@
 -- A session over an inbox that reads and an outbox that writes, in bytes.
-use Rattle.std.proofs.Common.{◌≡◌, refl, sym, ◌∙◌, ap, ℕ, Bool, true, false, List, [], ◌∷◌, ◌++◌, append-nil, Some, None, Option}
+use Rattle.std.proofs.Common.{◌≡◌, ◌∙◌, ap, refl, inl, inr, ℕ, List, [], ◌∷◌, ◌++◌, Option, sym, Bool, true, false, append-nil, Some, None}
+use Rattle.std.specs.List.{FoldsTo, list_all, filter_map}
+use Rattle.lsp_message.specs.Message.{Message}
+use Rattle.lsp_session.specs.Boxes.{Sends, Takes}
+use Rattle.lsp_session.specs.Event.{Event, message, timeout, closed}
+use Rattle.lsp_session.specs.Finish.{FinishAnswer, FinishesAt}
+use Rattle.lsp_session.specs.StreamBoxes.{stream_of, StreamInboxGives}
+use Rattle.lsp_session.specs.Streams.{StreamGives, Stream, StreamReads, Reads}
+use Rattle.lsp_session.specs.declared.loops.ReadEnd.{ReadEnd}
+use Rattle.lsp_session.specs.declared.loops.stream_inbox.StreamInbox.{StreamInbox}
 use Rattle.std.proofs.KnownBytes.{Appends-trans}
 use Rattle.std.specs.Io.KnownBytes.{Keeps}
-use Rattle.std.specs.List.{FoldsTo, list_all, filter_map}
 use Rattle.std.specs.Prelude.{Result, Ok, Err, MatchOption, if◌then◌else◌}
 use Rattle.lsp_message.specs.Frame.{reading_within}
 use Rattle.lsp_message.specs.Letters.{is_exit}
-use Rattle.lsp_message.specs.Message.{Message}
 use Rattle.lsp_message.specs.Written.{GetsFrames, GetsFramesAndPart, Writes}
 use Rattle.lsp_message.specs.declared.frame.WriteFault.{WriteFault}
 use Rattle.lsp_message.specs.declared.frame.WriteFault.TheVariants.{Output, Memory as NoMemory}
-use Rattle.lsp_session.proofs.Carrying.{AreFramesOf-push}
+use Rattle.lsp_session.proofs.Writing.{AreFramesOf-push, breaks_off, taken_frames, taken_keeps, Appends-Keeps}
 use Rattle.lsp_session.proofs.Handing.{begins}
-use Rattle.lsp_session.proofs.FrameSteps.{breaks_off, taken_frames, taken_keeps, Appends-Keeps}
 use Rattle.lsp_session.proofs.SessionFacts.{is_no_exit}
-use Rattle.lsp_session.specs.Boxes.{Takes}
-use Rattle.lsp_session.specs.Event.{Event, message, timeout, closed}
 use Rattle.lsp_session.specs.FrameBoxes.{FrameOutboxSends, Told, kept_write}
 use Rattle.lsp_session.specs.Session.{Stop, decided, no_more, timed_out, refused, exhausted}
 use Rattle.lsp_session.specs.SessionBytes.{BeginsWith, GetsFirst, IsUnsent}
 use Rattle.lsp_session.specs.SessionRun.{message_in, is_open, all_of, OffersLast, RefusesLast, Gets}
-use Rattle.lsp_session.specs.Streams.{Stream, StreamGives, StreamReads, Reads}
 use Rattle.lsp_session.specs.declared.lifecycle.SendFault.{SendFault}
 use Rattle.lsp_session.specs.declared.lifecycle.SendFault.TheVariants.{Closed as Shut, Memory as Full}
-use Rattle.lsp_session.specs.declared.loops.ReadEnd.{ReadEnd}
 use Rattle.lsp_session.specs.declared.loops.ReadEnd.TheVariants.{Exit}
 use Rattle.lsp_session.specs.declared.loops.frame_outbox.FrameOutbox.{FrameOutbox}
+
+module _ {R : Type 0} (remaining : R → Option (List ℕ)) (limit : ℕ) where
+  -- receives from an inbox over a reader, as they are seen, and the reader that it was lent
+  pub streams_of : (events : List Event) (old new : StreamInbox R) → old.limit ≡ limit → FoldsTo (StreamInboxGives remaining) old events new
+      → FoldsTo (StreamGives limit) (stream_of remaining old) events (stream_of remaining new) × (new.reader.ghost_name ≡ old.reader.ghost_name)
+  streams_of [] old new limited run = (ap (λ (s : StreamInbox R). stream_of remaining s) run, rw run refl)
+  streams_of (event ∷ events) old new limited run =
+      let rest = streams_of events run.0 new (run.1.2 ∙ limited) run.2 in
+      let first = rw limited at run.1.0 in
+      ((stream_of remaining run.0, first, rest.0), rest.1 ∙ run.1.1)
+
+  module _ {O : Type 0} (sends : Sends O) (first last : R) (old new : StreamInbox R) (before after : O)
+      (limited : old.limit ≡ limit) (same : old.reader.now ≡ first) (named : new.reader.ghost_name ≡ old.reader.ghost_name → last ≡ new.reader.now) where
+    pub finishes_over : (reply : Message) (answer : FinishAnswer) → FinishesAt (StreamInboxGives remaining) sends reply (old, before) answer (new, after)
+        → (end : Option ReadEnd) × FinishesAt (StreamGives limit) sends reply (record { remaining = remaining first; end = old.end }, before) answer (record { remaining = remaining last; end = end }, after)
+    finishes_over reply answer (inl sent) =
+        let waits = sent.2 in
+        let run = streams_of (waits.passed ++ sent.1 ∷ []) old new limited waits.received in
+        rw (named run.1, ← same) (new.end, inl (sent.0, sent.1, record { passed = waits.passed; only_timeouts = waits.only_timeouts; received = run.0 }, sent.3))
+    finishes_over reply answer (inr lost) =
+        rw (named (ap (λ (s : StreamInbox R). s.reader.ghost_name) lost.3), ← same)
+        (new.end, inr (lost.0, lost.1, lost.2, ap (λ (s : StreamInbox R). stream_of remaining s) lost.3))
 
 module _ (limit : ℕ) where
   -- an inbox that has ended brings nothing more

@@ -1,4 +1,4 @@
-use Rattle.lsp_session.proofs.Ending.{no_null}
+use Rattle.lsp_session.proofs.Ordering.{no_null}
 use Rattle.lsp_session.proofs.laws.sessions.nothing_follows_a_refusal.Goals as goal
 
 pub returns : goal.returns
