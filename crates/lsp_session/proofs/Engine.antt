@@ -9,8 +9,8 @@ use Rattle.lsp_session.proofs.Waiting.{FoldsTo-append, list_all-push}
 use Rattle.lsp_session.specs.Boxes.{Takes, WaitsFor, is_timeout, Offers}
 use Rattle.lsp_session.specs.Event.{Event, message, timeout, closed}
 use Rattle.lsp_session.proofs.SessionSteps.{letters_both, sends_both, all_after, IsWhole, IsOpen, answer_at_end, of_open, steps_both, one_step, reaches_whole, from_after}
-use Rattle.lsp_session.specs.Session.{SessionAnswer, SessionPart, Exchange, letters_of, sends_of, Stop, decided, no_more, timed_out, refused, exhausted, Behavior, Phase, starting, replied, serving, asked, ended, null_of, is_served, Step, Steps, Stops, SessionFrom}
-use Rattle.lsp_session.specs.SessionRun.{message_in, is_open, all_of, Brings, OffersLast, Gets, AwaitsExit, Runs}
+use Rattle.lsp_session.specs.Session.{SessionAnswer, SessionPart, Exchange, letters_of, sends_of, Stop, decided, no_more, timed_out, refused, exhausted, Behavior, Phase, serving, asked, ended, null_of, is_served, Step, Steps, Stops, SessionFrom}
+use Rattle.lsp_session.specs.SessionRun.{message_in, is_open, Brings, OffersLast, Gets, AwaitsExit, Runs}
 use Rattle.lsp_session.specs.declared.lifecycle.SendFault.{SendFault}
 use Rattle.std.specs.Bool.{MatchBool}
 use Rattle.std.specs.Str.{bytes_eq}
@@ -72,14 +72,7 @@ gets_after sends old mid new output0 output null timed_out taken got = (got.0, F
 gets_after sends old mid new output0 output null exhausted taken got = (got.0, FoldsTo-append (Takes sends) output0 output old mid got.0 taken got.1, got.2)
 gets_after sends old mid new output0 output null (refused fault) taken got =
     let last = got.0 in (
-      (
-        output0 ++ last.0,
-        last.1,
-        last.2,
-        rw (last.3, append_assoc) refl,
-        FoldsTo-append (Takes sends) output0 last.0 old mid last.2 taken last.4,
-        last.5,
-      ),
+      (output0 ++ last.0, last.1, last.2, rw (last.3, append_assoc) refl, FoldsTo-append (Takes sends) output0 last.0 old mid last.2 taken last.4, last.5),
       got.1,
     )
 

@@ -1,19 +1,17 @@
 -- What the laws of a session say: it keeps the order of the lifecycle, and what follows for its beginning and its end.
-use Rattle.std.proofs.Common.{◌≡◌, refl, sym, ◌∙◌, ap, inl, inr, ◌⊎◌, ℕ, Bool, true, false, true≢false, not, List, [], ◌∷◌, ◌++◌, append-nil, Option, Some, None, append_assoc}
-use Rattle.std.specs.Bool.{MatchBool}
-use Rattle.std.specs.List.{list_all}
+use Rattle.std.proofs.Common.{◌≡◌, refl, sym, ◌∙◌, ap, inl, inr, ◌⊎◌, ℕ, true, false, List, [], ◌∷◌, ◌++◌, Option, Some, None}
 use Rattle.std.specs.Prelude.{Result, Ok, Err, IsErrAnd}
 use Rattle.serde_json.specs.Data.{Data}
 use Rattle.lsp_message.specs.Id.{Id}
 use Rattle.lsp_message.specs.Message.{Message, ErrorObject, request, notification, response}
-use Rattle.lsp_message.specs.Methods.{is_early, is_initialize, is_initialized, is_shutdown, is_exit}
+use Rattle.lsp_message.specs.Methods.{is_initialize}
 use Rattle.lsp_session.proofs.Ran.{part_none, part_one, Ran, reaches_ran, stops_by}
 use Rattle.lsp_session.proofs.Rows.{Row, row, at_initialize, at_initialized, at_served, idle, Idle, early_request, early_note, unasked, uninvited, shuts, leaves, exits, stays, IsNoRequest, initialized_no_request, exit_no_request, silent, one_reply}
 use Rattle.lsp_session.specs.Answered.{IsReplied, RepliesTo, RepliesToEach, requests_of, AllReplied, AnswersRequests}
-use Rattle.lsp_session.specs.ProtocolError.{ProtocolFault, disconnected, out_of_memory, fault_of_refusal, Shows, ShowsUnallowed, expected_initialize, expected_initialized, unexpected_in_shutdown, is_disconnected}
-use Rattle.lsp_session.specs.Replies.{null_reply, IsEarlyReply}
+use Rattle.lsp_session.specs.ProtocolError.{ProtocolFault, disconnected, out_of_memory, fault_of_refusal, ShowsUnallowed, expected_initialize, expected_initialized, unexpected_in_shutdown, is_disconnected}
+use Rattle.lsp_session.specs.Replies.{null_reply}
 use Rattle.lsp_session.specs.Session.{Behavior, Exchange, letters_of, sends_of, SessionAnswer, Stop, decided, no_more, timed_out, refused, exhausted, Phase, starting, replied as in_reply, serving, asked, ended, null_of, phase_after, is_served, Stops, SessionOut, request_id}
-use Rattle.lsp_session.specs.SessionLaws.{EndsWithResult, IsInvited, IsUnopened, AfterNull, is_no_shutdown, EndsWithNull, HasNoShutdown, KeepsOrder, is_reply, OpenedBy}
+use Rattle.lsp_session.specs.SessionLaws.{IsInvited, IsUnopened, AfterNull, is_no_shutdown, EndsWithNull, HasNoShutdown, KeepsOrder, is_reply, OpenedBy}
 use Rattle.lsp_session.specs.declared.lifecycle.SendFault.{SendFault}
 use Rattle.lsp_session.specs.declared.lifecycle.SendFault.TheVariants.{Closed as Shut, Memory as Full}
 use Rattle.lsp_session.specs.declared.loops.handler.SessionEnd.TheVariants.{Closed, ShutDown}
@@ -109,15 +107,7 @@ module _ {S : Type 0} (may : Behavior S) (stop : Stop) (null : Option Message) (
     replied = one_reply x i method params _ is said (_, refl);
     opened = elim rest [
       | inl invited ↦ inl ((
-        record {
-          before = [];
-          id = i;
-          method = method;
-          params = params;
-          result = result;
-          asks = asks;
-          cut = λ j. record { letter = is j; said = said j } ∷ [];
-        },
+        record { before = []; id = i; method = method; params = params; result = result; asks = asks; cut = λ j. record { letter = is j; said = said j } ∷ [] },
         invited.0,
         invited.1,
       )

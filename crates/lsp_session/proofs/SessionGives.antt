@@ -21,9 +21,9 @@ use Rattle.lsp_session.specs.Event.{Event, closed}
 use Rattle.lsp_session.specs.FrameBoxes.{FrameOutboxSends}
 use Rattle.lsp_session.specs.ProtocolError.{out_of_memory}
 use Rattle.lsp_session.specs.Session.{Exchange, letters_of, sends_of, SessionAnswer, SessionPart, Stop, decided, no_more, timed_out, refused, exhausted}
-use Rattle.lsp_session.specs.SessionBytes.{BeginsWith, GetsFirst, IsUnsent, LeftAfter, Ends, Wrote, Gives}
+use Rattle.lsp_session.specs.SessionBytes.{BeginsWith, IsUnsent, LeftAfter, Ends, Wrote, Gives}
 use Rattle.lsp_session.specs.SessionFault.{ran_out, came_to_no_more, plain_answer, read_fault, read_answer, session_answer}
-use Rattle.lsp_session.specs.SessionRun.{message_in, is_open, all_of, Brings, Runs}
+use Rattle.lsp_session.specs.SessionRun.{message_in, is_open, Brings, Runs}
 use Rattle.lsp_session.specs.StreamBoxes.{stream_of, StreamInboxGives}
 use Rattle.lsp_session.specs.Streams.{Stream, StreamGives, StreamReads}
 use Rattle.lsp_session.specs.declared.loops.ReadEnd.{ReadEnd}
@@ -32,7 +32,7 @@ use Rattle.lsp_session.specs.declared.loops.frame_outbox.FrameOutbox.{FrameOutbo
 use Rattle.lsp_session.specs.declared.loops.stream_inbox.StreamInbox.{StreamInbox}
 use Rattle.lsp_session.specs.declared.loops.handler.SessionEnd.{SessionEnd}
 use Rattle.lsp_session.specs.declared.loops.stream_session.SessionFault.{SessionFault}
-use Rattle.lsp_session.specs.declared.loops.stream_session.SessionFault.TheVariants.{Protocol, Read, Write, Memory}
+use Rattle.lsp_session.specs.declared.loops.stream_session.SessionFault.TheVariants.{Write, Memory}
 
 -- the answer of a session in which an allocation failed
 pub ran_out_answer : (answer : SessionAnswer) → ran_out answer ≡ true → answer ≡ Err out_of_memory

@@ -36,14 +36,7 @@ module _ {O : Type 0} (sends : Sends O) where
         → Ends sends old (got (message (request i method params))) (Err (fault_of_refusal fault)) new
     refuses_request fault refuses = inr (inl (
       fault,
-      record {
-        id = i;
-        brings = refl;
-        undecided = rw other refl;
-        reply = reply;
-        replies = answers;
-        refuses = refuses;
-      },
+      record { id = i; brings = refl; undecided = rw other refl; reply = reply; replies = answers; refuses = refuses },
       refl,
     ))
 
