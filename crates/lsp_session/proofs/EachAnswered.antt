@@ -16,7 +16,8 @@ module _ (stop : Stop) where
   abbrev Last : List Exchange → SessionAnswer → Type 0
   Last xs answer = stop ≡ decided → AllReplied xs ⊎ LastUnanswered xs stop answer
 
-  more_replied : (by : Option SessionAnswer) (x : Exchange) (xs : List Exchange) → AllReplied (x ∷ []) → MatchOption by (AllReplied xs) (λ answer. Last xs answer)
+  more_replied : (by : Option SessionAnswer) (x : Exchange) (xs : List Exchange) → AllReplied (x ∷ [])
+      → MatchOption by (AllReplied xs) (λ answer. Last xs answer)
       → MatchOption by (AllReplied (x ∷ xs)) (λ answer. Last (x ∷ xs) answer)
   more_replied None x xs first rest = (first.0, rest)
   more_replied (Some answer) x xs first rest = λ decides. elim (rest decides) [
@@ -55,7 +56,8 @@ module _ (stop : Stop) where
     abbrev plain : Behavior H
     plain = of_handler answers notes capabilities
 
-    module _ (p q : Phase) (h h' : H) (x : Exchange) (full : List Message) (one : (r : Message) → full ≡ r ∷ [] → x.said ≡ r ∷ []) (none : full ≡ [] → x.said ≡ []) where
+    module _ (p q : Phase) (h h' : H) (x : Exchange) (full : List Message) (one : (r : Message) → full ≡ r ∷ [] → x.said ≡ r ∷ [])
+        (none : full ≡ [] → x.said ≡ []) where
       handled : (m : Message) → x.letter ≡ m → Handles answers notes h m full h' → AllReplied (x ∷ [])
       handled (request i method params) is handles = one_reply x i method params _ is (one _ handles.2) (_, refl)
       handled (notification method params) is handles = silent x (rw is tt) (none handles.1)
@@ -79,13 +81,16 @@ module _ (stop : Stop) where
       replied_row (idle same step row) = unserved row
 
     -- what became of the requests of a session
-    pub session_answers : (h h' : H) (xs : List Exchange) (null : Option Message) (answer : SessionAnswer) → SessionOut plain h h' xs stop null answer → AnswersRequests xs stop null answer
+    pub session_answers : (h h' : H) (xs : List Exchange) (null : Option Message) (answer : SessionAnswer) → SessionOut plain h h' xs stop null answer
+        → AnswersRequests xs stop null answer
     session_answers h h' xs null answer out =
         at (ended_by out.last) (stops_by plain out.last out.after h' stop answer out.stopped)
-        (holds plain stop AllReplied Last tt (λ p q s s' x full row one none. replied_row p q s s' x full one none row) (λ q x rest first more. more_replied (ended_by q) x rest first more)
+        (holds plain stop AllReplied Last tt (λ p q s s' x full row one none. replied_row p q s s' x full one none row)
+        (λ q x rest first more. more_replied (ended_by q) x rest first more)
         starting out.last h out.after xs refl (reaches_ran plain stop starting out.last h out.after xs out.reached))
       where
-        at : (by : Option SessionAnswer) → MatchOption by (stop ≡ decided → ⊥) (λ by. (stop ≡ decided) × (answer ≡ by)) → MatchOption by (AllReplied xs) (λ answer. Last xs answer)
+        at : (by : Option SessionAnswer) → MatchOption by (stop ≡ decided → ⊥) (λ by. (stop ≡ decided) × (answer ≡ by))
+            → MatchOption by (AllReplied xs) (λ answer. Last xs answer)
             → AllReplied xs ⊎ LastUnanswered xs stop answer
         at None on all = inl all
         at (Some by) stops last = rw stops.1 (last stops.0)

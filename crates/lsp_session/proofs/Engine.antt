@@ -210,7 +210,8 @@ module _ {S I O : Type 0} (may : Behavior S)
   -- the inbox is closed
   pub ends_closed : (p : Phase) (s : S) (i i' : I) (o : O) → IsOpen p → WaitsFor receives i closed i' → Runs receives sends (From p s s) (i, o) (answer_at_end p) (i', o)
   ends_closed p s i i' o is_open' waits =
-      waited receives sends (From p s s) i i' o closed [] no_more (answer_at_end p) waits (λ passed all. (letters_waited passed closed all, inl (passed, refl, all_open passed all))) tt refl
+      waited receives sends (From p s s) i i' o closed [] no_more (answer_at_end p) waits
+      (λ passed all. (letters_waited passed closed all, inl (passed, refl, all_open passed all))) tt refl
       (record { last = p; after = s; reached = (refl, refl); null_is = (of_open may p s is_open').0; stopped = (of_open may p s is_open').1 })
 
   -- an allocation fails at a message

@@ -39,7 +39,8 @@ abbrev AlwaysYes : {G : Type 0} → G → Bool → G → Type 0
 AlwaysYes old answer new = answer ≡ true
 
 -- what is undecided are early letters, and ends nothing
-early_turns : (turns : List Turn) → list_all is_undecided turns ≡ true → (list_all is_early (turn_letters turns) ≡ true) × (list_all is_open (filter_map event_of turns) ≡ true)
+early_turns : (turns : List Turn) → list_all is_undecided turns ≡ true
+    → (list_all is_early (turn_letters turns) ≡ true) × (list_all is_open (filter_map event_of turns) ≡ true)
 early_turns [] all = (refl, refl)
 early_turns (stopped ∷ turns) all = cc
 early_turns (got closed ∷ turns) all = cc

@@ -48,10 +48,6 @@ module _ {H : Type 0} (answers : H → Id → List ℕ → Data → Result Data 
     ap (λ (x : HandlerService H). x.handler.ghost_name) same,
   )
 
-  step_as : (p p' : Phase) (s s' : HandlerService H) (m : Message) (sent : List Message) → Has p s → Step lent p s m sent p' s'
-      → Step plain p s.handler.now m sent p' s'.handler.now × Has p' s' × (s'.handler.ghost_name ≡ s.handler.ghost_name)
-  step_as p p' s s' m sent has step = row_as p p' s s' m sent has (row lent p p' s s' m sent step)
-
   steps_as : (p p' : Phase) (s s' : HandlerService H) (xs : List Exchange) → Has p s → Steps lent p s xs p' s'
       → Steps plain p s.handler.now xs p' s'.handler.now × Has p' s' × (s'.handler.ghost_name ≡ s.handler.ghost_name)
   steps_as p p' s s' [] has steps = (
@@ -60,7 +56,7 @@ module _ {H : Type 0} (answers : H → Id → List ℕ → Data → Result Data 
     ap (λ (x : HandlerService H). x.handler.ghost_name) steps.1,
   )
   steps_as p p' s s' (x ∷ xs) has steps =
-      let one = step_as p steps.0 s steps.1 x.letter x.said has steps.2 in
+      let one = row_as p steps.0 s steps.1 x.letter x.said has (row lent p steps.0 s steps.1 x.letter x.said steps.2) in
       let more = steps_as steps.0 p' steps.1 s' xs one.1 steps.3 in
       ((steps.0, steps.1.handler.now, one.0, more.0), more.1, more.2 ∙ one.2)
 
@@ -72,7 +68,8 @@ module _ {H : Type 0} (answers : H → Id → List ℕ → Data → Result Data 
   to_as exhausted p p' s s' xs has steps = let all = steps_as p p' s s' xs has steps in (all.0, all.2)
   to_as (refused fault) p p' s s' xs has broken =
       let before = steps_as p broken.next s broken.mid broken.earlier has broken.steps in
-      let one = step_as broken.next p' broken.mid s' broken.letter (broken.part ++ broken.unsaid ∷ broken.more) before.1 broken.step in (
+      let full = broken.part ++ broken.unsaid ∷ broken.more in
+      let one = row_as broken.next p' broken.mid s' broken.letter full before.1 (row lent broken.next p' broken.mid s' broken.letter full broken.step) in (
         record {
           earlier = broken.earlier;
           letter = broken.letter;

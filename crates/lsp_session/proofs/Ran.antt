@@ -74,7 +74,8 @@ module _ {S : Type 0} (may : Behavior S) (stop : Stop) (All : List Exchange → 
   after_outcome (Ok result) xs all = all
   after_outcome (Err error) xs all = all
 
-  none_after : (p q : Phase) (s s' : S) (xs : List Exchange) (answer : SessionAnswer) → ended_by p ≡ Some answer → Ran may stop p s xs q s' → (xs ≡ []) × (q ≡ p)
+  none_after : (p q : Phase) (s s' : S) (xs : List Exchange) (answer : SessionAnswer) → ended_by p ≡ Some answer → Ran may stop p s xs q s'
+      → (xs ≡ []) × (q ≡ p)
   none_after p q s s' [] answer is run = (refl, run.0)
   none_after starting q s s' (x ∷ xs) answer is run = absurd (cc (is))
   none_after replied q s s' (x ∷ xs) answer is run = absurd (cc (is))
@@ -90,10 +91,12 @@ module _ {S : Type 0} (may : Behavior S) (stop : Stop) (All : List Exchange → 
     holds p q s s' [] on run = rw (run.0, on) none
     holds p q s s' (x ∷ xs) on run =
         at (ended_by run.4) refl
-        (one p run.4 s run.5 x run.0 (row may p run.4 s run.5 x.letter run.0 run.6) (λ r e. part_one x.said run.1 run.0 r run.2 run.3 e) (λ e. part_none x.said run.1 run.0 run.2 e))
+        (one p run.4 s run.5 x run.0 (row may p run.4 s run.5 x.letter run.0 run.6) (λ r e. part_one x.said run.1 run.0 r run.2 run.3 e)
+        (λ e. part_none x.said run.1 run.0 run.2 e))
         (λ still. holds run.4 q run.5 s' xs still run.8)
       where
-        at : (by : Option SessionAnswer) → ended_by run.4 ≡ by → MatchOption by (All (x ∷ [])) (λ answer. Last (x ∷ []) answer) → (ended_by run.4 ≡ None → Holds q xs) → Holds q (x ∷ xs)
+        at : (by : Option SessionAnswer) → ended_by run.4 ≡ by → MatchOption by (All (x ∷ [])) (λ answer. Last (x ∷ []) answer)
+            → (ended_by run.4 ≡ None → Holds q xs) → Holds q (x ∷ xs)
         at None is first later = more q x xs first (later is)
         at (Some answer) is first later =
             let over = none_after run.4 q run.5 s' xs answer is run.8 in

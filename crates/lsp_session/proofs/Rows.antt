@@ -48,7 +48,8 @@ left (request i method params) said q other step = at (is_shutdown (request i me
     at false e other = absurd (true≢false (rw e at other))
 left (notification method params) said q other step = at (is_exit (notification method params)) refl other
   where
-    at : (b : Bool) → is_exit (notification method params) ≡ b → is_served (notification method params) ≡ false → Idle serving (notification method params) said q
+    at : (b : Bool) → is_exit (notification method params) ≡ b → is_served (notification method params) ≡ false
+        → Idle serving (notification method params) said q
     at true e other = leaves refl e step.0 step.1
     at false e other = absurd (true≢false (rw e at other))
 left (response i outcome) said q other step = absurd (true≢false other)
@@ -64,7 +65,8 @@ module _ {S : Type 0} (may : Behavior S) where
           ((reply : Message) × IsEarlyReply i reply × (said ≡ reply ∷ []) × (q ≡ starting) × (s' ≡ s))
           → Row may starting s (request i method params) said q s'
       at true e step = at_initialize i method params step.0 refl refl e step.1 step.2 step.3
-      at false e step = idle step.4 (λ T can t. rw e (step.0, step.1, step.2, step.3, refl)) (early_request i method params step.0 refl refl step.1 step.2 step.3)
+      at false e step = idle step.4 (λ T can t. rw e (step.0, step.1, step.2, step.3, refl))
+          (early_request i method params step.0 refl refl step.1 step.2 step.3)
   row starting q s s' (notification method params) said step = idle step.1 (λ T can t. (step.0, refl)) (at (is_early (notification method params)) refl step.0)
     where
       at : (b : Bool) → is_early (notification method params) ≡ b → MatchBool b ((said ≡ []) × (q ≡ starting)) (Fails expected_initialize starting said q)
@@ -85,7 +87,8 @@ module _ {S : Type 0} (may : Behavior S) where
       at false e step = idle step.1 (λ T can t. rw e (step.0, refl)) (left m said q e step.0)
   row (asked i) q s s' m said step = idle step.1 (λ T can t. (step.0, refl)) (at (is_exit m) refl step.0)
     where
-      at : (b : Bool) → is_exit m ≡ b → MatchBool b ((said ≡ []) × (q ≡ ended (Some (null_reply i)) (Ok ShutDown))) (Fails unexpected_in_shutdown (asked i) said q)
+      at : (b : Bool) → is_exit m ≡ b
+          → MatchBool b ((said ≡ []) × (q ≡ ended (Some (null_reply i)) (Ok ShutDown))) (Fails unexpected_in_shutdown (asked i) said q)
           → Idle (asked i) m said q
       at true e step = exits i refl e step.0 step.1
       at false e step = stays i step.0 refl e step.1 step.2
@@ -112,5 +115,6 @@ silent x mute said = at x.letter refl mute
     at (response i outcome) is mute = rw (is, said) (tt, tt)
 
 -- a request and its reply
-pub one_reply : (x : Exchange) (i : Id) (method : List ℕ) (params : Data) (reply : Message) → x.letter ≡ request i method params → x.said ≡ reply ∷ [] → RepliesTo i reply → AllReplied (x ∷ [])
+pub one_reply : (x : Exchange) (i : Id) (method : List ℕ) (params : Data) (reply : Message) → x.letter ≡ request i method params → x.said ≡ reply ∷ []
+    → RepliesTo i reply → AllReplied (x ∷ [])
 one_reply x i method params reply is said replies = rw (is, said) ((replies, tt), tt)

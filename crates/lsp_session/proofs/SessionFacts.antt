@@ -77,11 +77,13 @@ module _ {S : Type 0} (may : Behavior S) (stop : Stop) where
 
   known : (p q : Phase) (s s' : S) (xs : List Exchange) → ended_by p ≡ None → Reaches may stop p s xs q s' → Known q xs
   known p q s s' xs on reached =
-      holds may stop Passed Last refl (λ p q s s' x full row one none. known_row p q s s' x full row) (λ q x rest first more. more_known (ended_by q) x rest first more)
+      holds may stop Passed Last refl (λ p q s s' x full row one none. known_row p q s s' x full row)
+      (λ q x rest first more. more_known (ended_by q) x rest first more)
       p q s s' xs on (reaches_ran may stop p q s s' xs reached)
 
 module _ {S : Type 0} (may : Behavior S) where
-  at_no_more : (q : Phase) (s s' : S) (xs : List Exchange) (answer : SessionAnswer) → Known may no_more q xs → Stops may q s no_more answer s' → Facts no_more (letters_of xs) answer
+  at_no_more : (q : Phase) (s s' : S) (xs : List Exchange) (answer : SessionAnswer) → Known may no_more q xs → Stops may q s no_more answer s'
+      → Facts no_more (letters_of xs) answer
   at_no_more starting s s' xs answer is stops = rw stops.0 (refl, refl, is)
   at_no_more replied s s' xs answer is stops = rw stops.0 (refl, refl, is)
   at_no_more serving s s' xs answer is stops = rw stops.0 (refl, refl, is)
@@ -104,7 +106,8 @@ module _ {S : Type 0} (may : Behavior S) where
           → MatchOption by (Passed xs) (λ answer. Last xs answer) → Facts decided (letters_of xs) answer
       at None none is = absurd (none refl)
       at (Some by) stops is = rw stops.1 is
-  session_facts p s s' on xs no_more null answer out = at_no_more out.last out.after s' xs answer (known may no_more p out.last s out.after xs on out.reached) out.stopped
+  session_facts p s s' on xs no_more null answer out = at_no_more out.last out.after s' xs answer
+      (known may no_more p out.last s out.after xs on out.reached) out.stopped
   session_facts p s s' on xs timed_out null answer out = tt
   session_facts p s s' on xs (refused fault) null answer out = tt
   session_facts p s s' on xs exhausted null answer out = at_exhausted out.last out.after s' answer out.stopped

@@ -63,14 +63,16 @@ module _ (limit : ℕ) where
       plain_ends (Err fault) left stop at enough after = rw enough ((refl, after), wrote)
 
       -- an allocation failed
-      exhausted_ends : (answer : SessionAnswer) → ran_out answer ≡ true → (end : Option ReadEnd) (left : Option (List ℕ)) (at : List ℕ) → StopsWithin left (reading_within limit at)
+      exhausted_ends : (answer : SessionAnswer) → ran_out answer ≡ true → (end : Option ReadEnd) (left : Option (List ℕ)) (at : List ℕ)
+          → StopsWithin left (reading_within limit at)
           → Ended left (read_answer answer end) answer exhausted at
       exhausted_ends answer ran end left at stops = rw (ran_out_answer answer ran, ran_out_gives end) (stops, whole_first sends a b wrote)
 
       module _ (answer : SessionAnswer) (letters : List Message) where
         module _ (text : List ℕ) (new : Stream) (brought : Brought limit text letters new) where
           -- a message decided
-          decided_ends : Facts decided letters answer → (goes : Bool) → list_all is_no_exit letters ≡ goes → Ended new.remaining (read_answer answer new.end) answer decided brought.at
+          decided_ends : Facts decided letters answer → (goes : Bool) → list_all is_no_exit letters ≡ goes
+              → Ended new.remaining (read_answer answer new.end) answer decided brought.at
           decided_ends facts false exits = rw (brought.end, exits) (plain_ends answer new.remaining decided brought.at facts.0 brought.left)
           decided_ends facts true none = at (came_to_no_more answer) refl
             where
@@ -162,7 +164,8 @@ module _ (limit : ℕ) where
       left_unsent kind None stop brought facts unsent = absurd unsent
 
       -- no write failed
-      stop_ends : (sends : List Message) (a b : Option (List ℕ)) → GetsFrames sends a b → (stop : Stop) → Brings events letters stop → NotRefused stop → Facts stop letters answer
+      stop_ends : (sends : List Message) (a b : Option (List ℕ)) → GetsFrames sends a b → (stop : Stop) → Brings events letters stop → NotRefused stop
+          → Facts stop letters answer
           → (at : List ℕ) × BeginsWith limit text letters at × Ended null sends a b new.remaining (read_answer answer new.end) answer stop at
       stop_ends sends a b wrote decided brought taken facts =
           let all = open_brought letters brought.0 brought.1 in
@@ -197,7 +200,8 @@ module _ (limit : ℕ) where
         facts = knows runs.exchanges runs.stop runs.null answer runs.part
 
         gives : (result : Result SessionEnd SessionFault) (at : List ℕ) → BeginsWith limit text (letters_of runs.exchanges) at
-            → Ended runs.null (sends_of runs.exchanges) (contents outbox.writer.now) (contents outbox'.writer.now) (remaining inbox'.reader.now) result answer runs.stop at
+            → Ended runs.null (sends_of runs.exchanges) (contents outbox.writer.now) (contents outbox'.writer.now)
+            (remaining inbox'.reader.now) result answer runs.stop at
             → Gives limit P text (remaining inbox'.reader.now) (contents outbox.writer.now) (contents outbox'.writer.now) result
         gives result at read ended = record {
           exchanges = runs.exchanges;
@@ -216,15 +220,18 @@ module _ (limit : ℕ) where
             (λ f. IsUnsent runs.stop runs.null × GetsPart f (sends_of runs.exchanges) (contents outbox.writer.now) (contents outbox'.writer.now))
             → Gives limit P text (remaining inbox'.reader.now) (contents outbox.writer.now) (contents outbox'.writer.now) (session_answer answer inbox'.end fault)
         at None written =
-            let all = stop_ends text (stream_of remaining inbox) (stream_of remaining inbox') unended known runs.events run (letters_of runs.exchanges) runs.null answer
+            let all = stop_ends text (stream_of remaining inbox) (stream_of remaining inbox') unended known runs.events run
+            (letters_of runs.exchanges) runs.null answer
             (sends_of runs.exchanges) (contents outbox.writer.now) (contents outbox'.writer.now) written.1 runs.stop runs.brought written.0 facts in
             gives (read_answer answer inbox'.end) all.0 all.1 all.2
         at (Some (Output kind)) unwritten =
-            let all = left_unsent text (stream_of remaining inbox) (stream_of remaining inbox') unended known runs.events run (letters_of runs.exchanges) runs.null answer
+            let all = left_unsent text (stream_of remaining inbox) (stream_of remaining inbox') unended known runs.events run
+            (letters_of runs.exchanges) runs.null answer
             kind runs.null runs.stop runs.brought facts unwritten.0 in
             gives (Err (Write (Output kind))) all.0 all.1 (all.2, (tt, unwritten.0, unwritten.1.0, unwritten.1.1, unwritten.1.2, unwritten.1.3))
         at (Some NoMemory) unwritten =
-            let all = left_within text (stream_of remaining inbox) (stream_of remaining inbox') unended known runs.events run (letters_of runs.exchanges) runs.stop answer runs.brought facts in
+            let all = left_within text (stream_of remaining inbox) (stream_of remaining inbox') unended known runs.events run
+            (letters_of runs.exchanges) runs.stop answer runs.brought facts in
             gives (Err Memory) all.0 all.1 (all.2, unwritten.1)
 
     -- the same of the reader and the writer that were lent

@@ -48,7 +48,8 @@ open_after (Err error) = tt
 module _ {S : Type 0} (may : Behavior S) where
   -- what is known of an open phase: no null, the answer where no more comes, and the answer where a message is refused
   pub of_open : (p : Phase) (s : S) → IsOpen p
-      → (None ≡ null_of p) × Stops may p s no_more (answer_at_end p) s × ((refusal : SendFault) → Stops may p s (refused refusal) (Err (fault_of_refusal refusal)) s)
+      → (None ≡ null_of p) × Stops may p s no_more (answer_at_end p) s
+      × ((refusal : SendFault) → Stops may p s (refused refusal) (Err (fault_of_refusal refusal)) s)
   of_open starting s is = (refl, (refl, refl), λ refusal. (refl, refl))
   of_open replied s is = (refl, (refl, refl), λ refusal. (refl, refl))
   of_open serving s is = (refl, (refl, refl), λ refusal. (refl, refl))

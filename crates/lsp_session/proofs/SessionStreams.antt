@@ -135,14 +135,16 @@ module _ {W : Type 0} (contents : W → Option (List ℕ)) where
   offered ms m a b c outcome (Some NoMemory) got writes told = (ms, m ∷ [], refl, (got.0, got.1, Appends-Keeps a b c got.0 got.2 writes))
 
   -- the same, of an outbox that no write has failed in, and what follows
-  sent_after : {A B : Type 0} (ms : List Message) (m : Message) (a b : Option (List ℕ)) (mid new : FrameOutbox W) (outcome : Result (Unit {0}) SendFault) → mid.fault ≡ None
+  sent_after : {A B : Type 0} (ms : List Message) (m : Message) (a b : Option (List ℕ)) (mid new : FrameOutbox W) (outcome : Result (Unit {0}) SendFault)
+      → mid.fault ≡ None
       → b ≡ at mid → GetsFrames ms a b → FrameOutboxSends contents mid m outcome new → (outcome ≡ Ok tt → A) → B
       → MatchOption new.fault (A × GetsFrames (ms ++ m ∷ []) a (at new)) (λ f. B × GetsPart f (ms ++ m ∷ []) a (at new))
   sent_after {A} {B} ms m a b mid new outcome unfailed is got sends took lost =
       let writes = rw unfailed at sends.0 in
       pick new.fault (offered ms m a (at mid) (at new) outcome new.fault (rw is at got) writes.0 writes.1)
     where
-      pick : (fault : Option WriteFault) → MatchOption fault ((outcome ≡ Ok tt) × GetsFrames (ms ++ m ∷ []) a (at new)) (λ f. GetsPart f (ms ++ m ∷ []) a (at new))
+      pick : (fault : Option WriteFault)
+          → MatchOption fault ((outcome ≡ Ok tt) × GetsFrames (ms ++ m ∷ []) a (at new)) (λ f. GetsPart f (ms ++ m ∷ []) a (at new))
           → MatchOption fault (A × GetsFrames (ms ++ m ∷ []) a (at new)) (λ f. B × GetsPart f (ms ++ m ∷ []) a (at new))
       pick None both = (took both.0, both.1)
       pick (Some f) part = (lost, part)

@@ -17,4 +17,8 @@ null_reply i = response i (Ok null)
 -- The reply to a request that comes before `initialize`, under its id: the error ServerNotInitialized, with a text that begins so.
 pub record IsEarlyReply (id : Id) (reply : Message) : Type 0 where
   pub shown : List ℕ
-  pub is : reply ≡ response id (Err (record { code = number_of ServerNotInitialized; message = codes "expected initialize request, got " ++ shown; details = None }))
+  pub is : reply ≡ response id (Err (record {
+    code = number_of ServerNotInitialized;
+    message = codes "expected initialize request, got " ++ shown;
+    details = None;
+  }))

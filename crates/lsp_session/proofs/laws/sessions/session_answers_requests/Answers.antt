@@ -13,4 +13,5 @@ returns-clause-exchanges g c = λ capabilities old new xs stop null answer out.
 pub returns-clause-bytes : goal.returns-clause-bytes
 returns-clause-bytes g c = λ limit capabilities old new text left before after answer gives.
     let P = SessionOut (of_handler g.H.Handler.answers g.H.Handler.notes capabilities) old new in
-    over_as P (Both P AnswersRequests) (λ xs stop null answer out. (out, session_answers stop g.H.Handler.answers g.H.Handler.notes capabilities old new xs null answer out)) limit text _ _ gives
+    over_as P (Both P AnswersRequests) (λ xs stop null answer out.
+    (out, session_answers stop g.H.Handler.answers g.H.Handler.notes capabilities old new xs null answer out)) limit text _ _ gives
