@@ -7,7 +7,7 @@ use Rattle.serde_json.specs.Data.{Data}
 use Rattle.lsp_message.specs.Id.{Id, id_cmp}
 use Rattle.lsp_message.specs.Message.{Message, ErrorObject, request, notification, response}
 use Rattle.lsp_session.specs.Finish.{is_initialized}
-use Rattle.lsp_session.specs.Service.{Behavior}
+use Rattle.lsp_session.specs.Session.{Behavior}
 use Rattle.lsp_service.specs.Desk.{Act, Desk, OpensSaying}
 use Rattle.lsp_service.specs.Law.{one_if, is_request_under, is_reply_under, how_many, held_under}
 use Rattle.lsp_service.specs.QueuedServer.{seen, desk_of, at_desk}

@@ -1,29 +1,131 @@
--- A session over boxes, step by step.
-use Rattle.std.proofs.Common.{◌≡◌, refl, sym, ap, inl, inr, ◌⊎◌, ℕ, ◌+◌, ◌-◌, ◌^◌, ◌≤◌, Bool, true, false, List, [], ◌∷◌, ◌++◌, length, length-append, append_assoc, append-nil, arith, Some, None, Option, codes}
-use Rattle.std.specs.Bool.{MatchBool}
+-- A session over boxes: its parts one after another, and each of its steps.
+use Rattle.std.proofs.Common.{◌≡◌, refl, inl, inr, ◌≤◌, Bool, true, List, [], ◌∷◌, ◌++◌, length, length-append, append_assoc, arith, Some, None, Option, sym, ap, ◌⊎◌, ℕ, ◌+◌, ◌-◌, ◌^◌, false, append-nil, codes}
 use Rattle.std.specs.List.{FoldsTo, list_all, filter_map}
 use Rattle.std.specs.Prelude.{Result, Ok, Err, IsErrAnd}
-use Rattle.std.specs.Str.{bytes_eq}
 use Rattle.std.proofs.lemmas.List.Elements.{filter_map-append}
 use Rattle.std.proofs.lemmas.List.Folds.{list_all-append}
+use Rattle.lsp_message.specs.Message.{Message, request, notification, response}
+use Rattle.lsp_session.proofs.Waiting.{FoldsTo-append, list_all-push}
+use Rattle.lsp_session.specs.Boxes.{Takes, WaitsFor, is_timeout, Offers}
+use Rattle.lsp_session.specs.Event.{Event, message, timeout, closed}
+use Rattle.lsp_session.proofs.SessionSteps.{letters_both, sends_both, all_after, IsWhole, IsOpen, answer_at_end, of_open, steps_both, one_step, reaches_whole, from_after}
+use Rattle.lsp_session.specs.Session.{SessionAnswer, SessionPart, Exchange, letters_of, sends_of, Stop, decided, no_more, timed_out, refused, exhausted, Behavior, Phase, serving, asked, ended, null_of, is_served, Step, Steps, Stops, SessionFrom}
+use Rattle.lsp_session.specs.SessionRun.{message_in, is_open, Brings, OffersLast, Gets, AwaitsExit, Runs}
+use Rattle.lsp_session.specs.declared.lifecycle.SendFault.{SendFault}
+use Rattle.std.specs.Bool.{MatchBool}
+use Rattle.std.specs.Str.{bytes_eq}
 use Rattle.serde_json.specs.Data.{Data}
 use Rattle.lsp_message.specs.Id.{Id}
 use Rattle.lsp_message.specs.Letters.{is_exit}
-use Rattle.lsp_message.specs.Message.{Message, request, notification, response}
-use Rattle.lsp_session.proofs.SessionRuns.{letters_waited, open_waited, open_both, brings_after, runs_after, waited_exhausted, waited_closed, waited_decided}
-use Rattle.lsp_session.proofs.SessionSteps.{letters_both, sends_both, IsWhole, IsOpen, answer_at_end, open_null, stops_at_end, stops_refused, steps_both, one_step, reaches_whole, from_after}
-use Rattle.lsp_session.proofs.Waiting.{FoldsTo-append}
-use Rattle.lsp_session.specs.Boxes.{Offers, Takes, WaitsFor}
-use Rattle.lsp_session.specs.Event.{Event, message, timeout, closed}
 use Rattle.lsp_session.specs.Outputs.{RefusesOne}
 use Rattle.lsp_session.specs.ProtocolError.{ProtocolFault, out_of_memory}
 use Rattle.lsp_session.specs.Replies.{null_reply}
-use Rattle.lsp_session.specs.Service.{Behavior}
-use Rattle.lsp_session.specs.Session.{SessionAnswer, SessionPart, Exchange, letters_of, sends_of, Stop, decided, no_more, timed_out, refused, exhausted, Phase, starting, replied, serving, asked, ended, null_of, is_served, Step, Steps, Stops, SessionFrom}
-use Rattle.lsp_session.specs.SessionRun.{message_in, is_open, Brings, Gets, Runs}
 use Rattle.lsp_session.specs.Shutdown.{ShutdownAnswer, IsNoExit, EventShutsDown, OffersNull, ShutsDown, ShutsDownAt}
-use Rattle.lsp_session.specs.declared.lifecycle.SendFault.{SendFault}
 use Rattle.lsp_session.specs.declared.loops.handler.SessionEnd.TheVariants.{ShutDown, Closed}
+
+-- timeouts hold no message
+no_messages : (passed : List Event) → list_all is_timeout passed ≡ true → filter_map message_in passed ≡ []
+no_messages [] all = refl
+no_messages (message m ∷ events) all = cc
+no_messages (timeout ∷ events) all = no_messages events all
+no_messages (closed ∷ events) all = cc
+
+-- timeouts end nothing
+pub all_open : (passed : List Event) → list_all is_timeout passed ≡ true → list_all is_open passed ≡ true
+all_open [] all = refl
+all_open (message m ∷ events) all = cc
+all_open (timeout ∷ events) all = all_open events all
+all_open (closed ∷ events) all = cc
+
+-- the letters of what a receive without limit took
+pub letters_waited : (passed : List Event) (event : Event) → list_all is_timeout passed ≡ true → filter_map message_in (passed ++ event ∷ []) ≡ filter_map message_in (event ∷ [])
+letters_waited passed event all = rw (filter_map-append message_in passed (event ∷ []), no_messages passed all) refl
+
+pub open_waited : (passed : List Event) (m : Message) → list_all is_timeout passed ≡ true → list_all is_open (passed ++ message m ∷ []) ≡ true
+open_waited passed m all = list_all-push is_open passed (message m) (all_open passed all) refl
+
+pub open_both : (xs ys : List Event) → list_all is_open xs ≡ true → list_all is_open ys ≡ true → list_all is_open (xs ++ ys) ≡ true
+open_both xs ys first second = rw (list_all-append is_open xs ys, first, second) refl
+
+-- more letters, and what ended them, after some that came before
+pub brings_after : (events0 events : List Event) (letters0 letters : List Message) (stop : Stop)
+    → filter_map message_in events0 ≡ letters0 → list_all is_open events0 ≡ true → Brings events letters stop → Brings (events0 ++ events) (letters0 ++ letters) stop
+brings_after events0 events letters0 letters decided e o h = (rw (filter_map-append message_in events0 events, e, h.0) refl, open_both events0 events o h.1)
+brings_after events0 events letters0 letters no_more e o h = (
+  rw (filter_map-append message_in events0 events, e, h.0) refl,
+  elim h.1 [
+    | inl last ↦ inl (events0 ++ last.0, rw (last.1, append_assoc) refl, open_both events0 last.0 o last.2)
+    | inr many ↦ inr (rw (length-append events0 events) (omega (arith, many.0)), open_both events0 events o many.1)
+  ],
+)
+brings_after events0 events letters0 letters timed_out e o h =
+    (rw (filter_map-append message_in events0 events, e, h.0) refl, (events0 ++ h.1.0, rw (h.1.1, append_assoc) refl, open_both events0 h.1.0 o h.1.2))
+brings_after events0 events letters0 letters (refused fault) e o h = (rw (filter_map-append message_in events0 events, e, h.0) refl, open_both events0 events o h.1)
+brings_after events0 events letters0 letters exhausted e o h = (h.0, rw (filter_map-append message_in events0 events, e, h.1, append_assoc) refl, open_both events0 events o h.2)
+
+-- what an outbox got after what it took before
+gets_after : {O : Type 0} (sends : O → Message → Result (Unit {0}) SendFault → O → Type 0) (old mid new : O) (output0 output : List Message) (null : Option Message) (stop : Stop)
+    → FoldsTo (Takes sends) old output0 mid → Gets sends mid output null stop new → Gets sends old (output0 ++ output) null stop new
+gets_after sends old mid new output0 output null decided taken got = (got.0, FoldsTo-append (Takes sends) output0 output old mid got.0 taken got.1, got.2)
+gets_after sends old mid new output0 output null no_more taken got = (got.0, FoldsTo-append (Takes sends) output0 output old mid got.0 taken got.1, got.2)
+gets_after sends old mid new output0 output null timed_out taken got = (got.0, FoldsTo-append (Takes sends) output0 output old mid got.0 taken got.1, got.2)
+gets_after sends old mid new output0 output null exhausted taken got = (got.0, FoldsTo-append (Takes sends) output0 output old mid got.0 taken got.1, got.2)
+gets_after sends old mid new output0 output null (refused fault) taken got =
+    let last = got.0 in (
+      (output0 ++ last.0, last.1, last.2, rw (last.3, append_assoc) refl, FoldsTo-append (Takes sends) output0 last.0 old mid last.2 taken last.4, last.5),
+      got.1,
+    )
+
+awaits_after : (events0 events : List Event) (null : Option Message) → AwaitsExit events null → AwaitsExit (events0 ++ events) null
+awaits_after events0 events None awaited = tt
+awaits_after events0 events (Some null) awaited = (events0 ++ awaited.0, awaited.1, awaited.2, rw (awaited.3, append_assoc) refl, awaited.4)
+
+module _ {I O : Type 0} (receives : I → Event → I → Type 0) (sends : O → Message → Result (Unit {0}) SendFault → O → Type 0) where
+  -- a part of a session that goes on as another part
+  pub runs_after : (P Q : SessionPart) (old mid new : I × O) (answer : SessionAnswer)
+      (events0 : List Event) (xs0 : List Exchange)
+      → FoldsTo receives old.0 events0 mid.0 → filter_map message_in events0 ≡ letters_of xs0 → list_all is_open events0 ≡ true → FoldsTo (Takes sends) old.1 (sends_of xs0) mid.1
+      → ((xs : List Exchange) (stop : Stop) (null : Option Message) → Q xs stop null answer → P (xs0 ++ xs) stop null answer)
+      → Runs receives sends Q mid answer new → Runs receives sends P old answer new
+  runs_after P Q old mid new answer events0 xs0 received brought still_open taken goes_on run = record {
+    events = events0 ++ run.events;
+    received = FoldsTo-append receives events0 run.events old.0 mid.0 new.0 received run.received;
+    exchanges = xs0 ++ run.exchanges;
+    stop = run.stop;
+    brought = rw (letters_both xs0 run.exchanges) (brings_after events0 run.events (letters_of xs0) (letters_of run.exchanges) run.stop brought still_open run.brought);
+    output = sends_of xs0 ++ run.output;
+    null = run.null;
+    all = rw (all_after (sends_of xs0) run.output run.null, run.all, sends_both xs0 run.exchanges) refl;
+    awaited = awaits_after events0 run.events run.null run.awaited;
+    got = gets_after sends old.1 mid.1 new.1 (sends_of xs0) run.output run.null run.stop taken run.got;
+    part = goes_on run.exchanges run.stop run.null run.part;
+  }
+
+  -- the outbox is offered nothing but the null, or not even that
+  pub gets_last : (old new : O) (null : Option Message) (stop : Stop) → IsWhole stop → OffersLast sends old null new → Gets sends old [] null stop new
+  gets_last old new null decided whole offers = (old, refl, offers)
+  gets_last old new null no_more whole offers = (old, refl, offers)
+  gets_last old new null timed_out whole offers = (old, refl, offers)
+  gets_last old new null exhausted whole offers = (old, refl, offers)
+  gets_last old new null (refused fault) whole offers = absurd whole
+
+  -- an event was waited for, and nothing is sent
+  pub waited : (P : SessionPart) (i i' : I) (o : O) (event : Event) (xs : List Exchange) (stop : Stop) (answer : SessionAnswer) → WaitsFor receives i event i'
+      → ((passed : List Event) → list_all is_timeout passed ≡ true → Brings (passed ++ event ∷ []) (letters_of xs) stop) → IsWhole stop → sends_of xs ≡ []
+      → P xs stop None answer → Runs receives sends P (i, o) answer (i', o)
+  waited P i i' o event xs stop answer waits brings whole silent part = record {
+    events = waits.passed ++ event ∷ [];
+    received = waits.received;
+    exchanges = xs;
+    stop = stop;
+    brought = brings waits.passed waits.only_timeouts;
+    output = [];
+    null = None;
+    all = rw silent refl;
+    awaited = tt;
+    got = gets_last o o None stop whole refl;
+    part = part;
+  }
 
 -- the answer of a session whose shutdown gave this
 abbrev pub shut_answer : ShutdownAnswer → SessionAnswer
@@ -33,14 +135,6 @@ shut_answer (Err e) = Err e
 -- the answer of `shutdown` to another request
 abbrev passed_on : ShutdownAnswer
 passed_on = Ok false
-
-gets_null : {O : Type 0} (sends : O → Message → Result (Unit {0}) SendFault → O → Type 0) (old new : O) (null : Message) (stop : Stop)
-    → IsWhole stop → Offers sends null old new → Gets sends old [] (Some null) stop new
-gets_null sends old new null decided whole offers = (old, refl, offers)
-gets_null sends old new null no_more whole offers = (old, refl, offers)
-gets_null sends old new null timed_out whole offers = (old, refl, offers)
-gets_null sends old new null exhausted whole offers = (old, refl, offers)
-gets_null sends old new null (refused fault) whole offers = absurd whole
 
 module _ {S I O : Type 0} (may : Behavior S)
     (receives : I → Event → I → Type 0) (sends : O → Message → Result (Unit {0}) SendFault → O → Type 0) where
@@ -110,24 +204,30 @@ module _ {S I O : Type 0} (may : Behavior S)
     all = refl;
     awaited = tt;
     got = (new.1, all.taken, refl);
-    part = record { last = p'; after = s'; reached = all.steps; null_is = open_null p' is_open'; stopped = stops_at_end may p' s' is_open' };
+    part = record { last = p'; after = s'; reached = all.steps; null_is = (of_open may p' s' is_open').0; stopped = (of_open may p' s' is_open').1 };
   }
 
   -- the inbox is closed
   pub ends_closed : (p : Phase) (s : S) (i i' : I) (o : O) → IsOpen p → WaitsFor receives i closed i' → Runs receives sends (From p s s) (i, o) (answer_at_end p) (i', o)
-  ends_closed p s i i' o is_open' waits = waited_closed receives sends (From p s s) i i' o (answer_at_end p) waits
-      (record { last = p; after = s; reached = (refl, refl); null_is = open_null p is_open'; stopped = stops_at_end may p s is_open' })
+  ends_closed p s i i' o is_open' waits =
+      waited receives sends (From p s s) i i' o closed [] no_more (answer_at_end p) waits
+      (λ passed all. (letters_waited passed closed all, inl (passed, refl, all_open passed all))) tt refl
+      (record { last = p; after = s; reached = (refl, refl); null_is = (of_open may p s is_open').0; stopped = (of_open may p s is_open').1 })
 
   -- an allocation fails at a message
   pub ends_exhausted : (p : Phase) (s s' : S) (i i' : I) (o : O) (m : Message) → IsOpen p → WaitsFor receives i (message m) i' → Stops may p s exhausted (Err out_of_memory) s'
       → Runs receives sends (From p s s') (i, o) (Err out_of_memory) (i', o)
-  ends_exhausted p s s' i i' o m is_open' waits stops = waited_exhausted receives sends (From p s s') i i' o m (Err out_of_memory) waits
-      (record { last = p; after = s; reached = (refl, refl); null_is = open_null p is_open'; stopped = stops })
+  ends_exhausted p s s' i i' o m is_open' waits stops =
+      waited receives sends (From p s s') i i' o (message m) [] exhausted (Err out_of_memory) waits
+      (λ passed all. (m, letters_waited passed (message m) all, open_waited passed m all)) tt refl
+      (record { last = p; after = s; reached = (refl, refl); null_is = (of_open may p s is_open').0; stopped = stops })
 
   -- a message ends the session
   pub ends_decided : (p : Phase) (s : S) (i i' : I) (o : O) (m : Message) (answer : SessionAnswer) → WaitsFor receives i (message m) i'
       → Step may p s m [] (ended None answer) s → Runs receives sends (From p s s) (i, o) answer (i', o)
-  ends_decided p s i i' o m answer waits step = waited_decided receives sends (From p s s) i i' o m answer waits
+  ends_decided p s i i' o m answer waits step =
+      waited receives sends (From p s s) i i' o (message m) (record { letter = m; said = [] } ∷ []) decided answer waits
+      (λ passed all. (letters_waited passed (message m) all, open_waited passed m all)) tt refl
       (record { last = ended None answer; after = s; reached = one_step may p (ended None answer) s s m [] step; null_is = refl; stopped = (refl, refl) })
 
   -- the outbox refuses one of the messages that are sent for it
@@ -160,8 +260,8 @@ module _ {S I O : Type 0} (may : Behavior S)
         steps = (refl, refl);
         step = rw lost.cut at step;
       };
-      null_is = open_null p' is_open';
-      stopped = stops_refused may p' s' lost.refusal fault is_open' lost.is;
+      null_is = (of_open may p' s' is_open').0;
+      stopped = rw lost.is ((of_open may p' s' is_open').2 lost.refusal);
     };
   }
 
@@ -188,7 +288,7 @@ module _ {S I O : Type 0} (may : Behavior S)
         null = Some (null_reply id);
         all = rw silent refl;
         awaited = (waits.passed, ask, event, rw append_assoc refl, asks);
-        got = gets_null sends o o' (null_reply id) stop whole offers;
+        got = gets_last receives sends o o' (Some (null_reply id)) stop whole offers;
         part = record {
           last = last;
           after = s;
@@ -230,13 +330,6 @@ module _ {S I O : Type 0} (may : Behavior S)
     ]
     ends_shut answer false e other shuts = absurd (other shuts.0)
 
-    ends_shut_down : ShutsDown receives sends id method (i1, o) (Ok true) (i', o') → Runs receives sends (From serving s s) (i, o) (Ok ShutDown) (i', o')
-    ends_shut_down shuts = ends_shut (Ok true) (bytes_eq method (codes "shutdown")) refl (λ e. cc) shuts
-
-    ends_shut_fault : (fault : ProtocolFault) → ShutsDown receives sends id method (i1, o) (Err fault) (i', o')
-        → Runs receives sends (From serving s s) (i, o) (Err fault) (i', o')
-    ends_shut_fault fault shuts = ends_shut (Err fault) (bytes_eq method (codes "shutdown")) refl (λ e. cc) shuts
-
     -- another request touches neither the inbox nor the outbox
     passes_other : (b : Bool) → bytes_eq method (codes "shutdown") ≡ b
         → MatchBool b (OffersNull receives sends id (i1, o) (Ok false) (i', o') ⊎ (◌≡◌ {A = ShutdownAnswer} (Ok false) (Err out_of_memory) × ◌≡◌ {A = I × O} (i', o') (i1, o)))
@@ -266,17 +359,12 @@ module _ {S I O : Type 0} (may : Behavior S)
 
   -- the same of any message
   module _ (s : S) (i i1 i' : I) (o o' : O) where
-    pub shuts_down : (m : Message) → WaitsFor receives i (message m) i1 → ShutsDownAt receives sends m (i1, o) (Ok true) (i', o')
-        → Runs receives sends (From serving s s) (i, o) (Ok ShutDown) (i', o')
-    shuts_down (request id method params) waits shuts = ends_shut_down s i i1 i' o o' id method params waits shuts
-    shuts_down (notification method params) waits shuts = absurd (cc (shuts.0))
-    shuts_down (response id outcome) waits shuts = absurd (cc (shuts.0))
-
-    pub shuts_fault : (m : Message) (fault : ProtocolFault) → WaitsFor receives i (message m) i1 → ShutsDownAt receives sends m (i1, o) (Err fault) (i', o')
-        → Runs receives sends (From serving s s) (i, o) (Err fault) (i', o')
-    shuts_fault (request id method params) fault waits shuts = ends_shut_fault s i i1 i' o o' id method params waits fault shuts
-    shuts_fault (notification method params) fault waits shuts = let e : ◌≡◌ {A = ShutdownAnswer} (Err fault) (Ok false) = shuts.0 in cc
-    shuts_fault (response id outcome) fault waits shuts = let e : ◌≡◌ {A = ShutdownAnswer} (Err fault) (Ok false) = shuts.0 in cc
+    pub shuts_down : (m : Message) (answer : ShutdownAnswer) → (answer ≡ Ok false → ⊥) → WaitsFor receives i (message m) i1
+        → ShutsDownAt receives sends m (i1, o) answer (i', o') → Runs receives sends (From serving s s) (i, o) (shut_answer answer) (i', o')
+    shuts_down (request id method params) answer other waits shuts =
+        ends_shut s i i1 i' o o' id method params waits answer (bytes_eq method (codes "shutdown")) refl other shuts
+    shuts_down (notification method params) answer other waits shuts = absurd (other shuts.0)
+    shuts_down (response id outcome) answer other waits shuts = absurd (other shuts.0)
 
     -- another message goes to the service
     pub is_served_by : (m : Message) → is_exit m ≡ false → WaitsFor receives i (message m) i1 → ShutsDownAt receives sends m (i1, o) (Ok false) (i', o')
