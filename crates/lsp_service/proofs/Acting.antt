@@ -1,14 +1,15 @@
 -- What the server does at a message is all that is sent.
-use Rattle.std.proofs.Common.{◌≡◌, refl, sym, ◌∙◌, ap, ℕ, Bool, true, false, List, [], ◌∷◌, ◌++◌, append_assoc, append-nil, Option, Some, None}
+use Rattle.std.proofs.Common.{◌≡◌, refl, sym, ◌∙◌, ap, Bool, true, false, List, [], ◌∷◌, ◌++◌, append_assoc, append-nil, Option, Some, None}
 use Rattle.std.specs.FinMap as map
-use Rattle.std.specs.Prelude.{Result, Err, MatchOption, pos, if◌then◌else◌}
-use Rattle.serde_json.specs.Data.{Data}
+use Rattle.std.specs.Prelude.{MatchOption, pos, if◌then◌else◌}
 use Rattle.lsp_message.specs.Id.{Id, number}
-use Rattle.lsp_message.specs.Message.{Message, ErrorObject, request, notification, response}
+use Rattle.lsp_message.specs.Message.{Message, request, notification, response}
 use Rattle.lsp_queue.specs.Queue.{pending_of, count_of}
-use Rattle.lsp_service.specs.Desk.{Act, tells, asks, replies, cancels, settles, cancelled_by, cancel_method, cancel_params, Desk, is_spent, sends_request, does, does_all, unsent, holds, given, says, cleared, TakesBack, Acts, Works, WorksGiving}
+use Rattle.lsp_service.specs.Desk.{Act, tells, asks, replies, cancels, settles, cancelled_by, cancel_method, cancel_params, Desk, is_spent, sends_request, does, does_all, unsent, given, says, cleared, TakesBack, Acts}
 use Rattle.lsp_service.specs.Law.{Handed}
 use Rattle.lsp_service.specs.Turning.{sends_by, all_sends, desk_at, settled_by, settled_at, ActsAt}
+use Rattle.lsp_service.specs.QueuedServer.{WorksGiving}
+use Rattle.lsp_service.specs.declared.acts.Server.{Ghosts as Stated}
 
 module _ {P : Type 0} where
   said_one : (d : Desk P) (act : Act P) → (does d act).said ≡ d.said ++ sends_by d act
@@ -51,16 +52,11 @@ module _ {P : Type 0} where
   at_said d (response id outcome) None = refl
   at_said d (response id outcome) (Some payload) = refl
 
-module _ {S P : Type 0}
-    (requested : S → Id → List ℕ → Data → List (Act P) → S → Type 0)
-    (notified : S → List ℕ → Data → List (Act P) → S → Type 0)
-    (replied : S → P → Result Data ErrorObject → List (Act P) → S → Type 0)
-    (takes_back : S → P → S → Type 0)
-    (begins : S → List (Act P) → S → Type 0) where
+module _ {S P : Type 0} (may : Stated S P) where
   acts_so : (old : S × Desk P) (m : Message) (said : List Message) (new : S × Desk P) (payload : Option P) (acts : List (Act P)) (did : S) (after : Desk P)
-      → Handed requested notified replied takes_back begins old.0 m payload acts did → TakesBack takes_back did (unsent (count_of old.1.asked) acts) new.0
+      → Handed may old.0 m payload acts did → TakesBack may.takes_back did (unsent (count_of old.1.asked) acts) new.0
       → after ≡ does_all (desk_at old.1 m payload) (settled_at m acts) → said ≡ after.said → new.1 ≡ cleared after
-      → ActsAt requested notified replied takes_back begins old m said new
+      → ActsAt may old m said new
   acts_so old m said new payload acts did after handed back same is left = record {
     payload = payload;
     acts = acts;
@@ -72,8 +68,8 @@ module _ {S P : Type 0}
     desk = left ∙ ap (λ (d : Desk P). cleared d) same;
   }
 
-  pub acts_at : (old : S × Desk P) (m : Message) (said : List Message) (new : S × Desk P) → WorksGiving requested notified replied takes_back old m said new
-      → ActsAt requested notified replied takes_back begins old m said new
+  pub acts_at : (old : S × Desk P) (m : Message) (said : List Message) (new : S × Desk P) → WorksGiving may old m said new
+      → ActsAt may old m said new
   acts_at old (request id method params) said new gives =
       let w = gives.1 in
       let server : new.0 ≡ gives.0.0 = ap (λ (x : S × Desk P). x.0) gives.3 in
@@ -88,8 +84,8 @@ module _ {S P : Type 0}
   acts_at old (response id outcome) said new gives = at (map.get (pending_of old.1.asked) id) gives.1
     where
       at : (o : Option P)
-          → MatchOption o (gives.0 ≡ old) (λ payload. Acts takes_back (replied old.0 payload outcome) (given old.1 id) gives.0)
-          → ActsAt requested notified replied takes_back begins old (response id outcome) said new
+          → MatchOption o (gives.0 ≡ old) (λ payload. Acts may.takes_back (may.replied old.0 payload outcome) (given old.1 id) gives.0)
+          → ActsAt may old (response id outcome) said new
       at None same =
           let server : new.0 ≡ old.0 = ap (λ (x : S × Desk P). x.0) gives.3 ∙ ap (λ (x : S × Desk P). x.0) same in
           acts_so old (response id outcome) said new None [] old.0 gives.0.1 (refl, refl) server (ap (λ (x : S × Desk P). x.1) same) gives.2 (ap (λ (x : S × Desk P). x.1) gives.3)

@@ -1,7 +1,7 @@
 -- How many replies a server's session sends under an id, exchange by exchange.
 use Rattle.std.proofs.Common.{◌≡◌, refl, sym, ◌∙◌, ap, inl, inr, ◌⊎◌, ℕ, zero, suc, ◌+◌, ◌≤◌, Bool, true, false, List, [], ◌∷◌, ◌++◌, append-nil, arith, Option, Some, None}
 use Rattle.std.specs.Bool.{MatchBool}
-use Rattle.std.specs.Prelude.{Result, Ok, Err, IsErrAnd, is_some}
+use Rattle.std.specs.Prelude.{Result, Ok, Err, is_some}
 use Rattle.serde_json.specs.Data.{Data}
 use Rattle.lsp_message.specs.Id.{Id}
 use Rattle.lsp_message.specs.Message.{Message, ErrorObject, request, notification, response}
@@ -9,29 +9,25 @@ use Rattle.lsp_message.specs.Methods.{is_early, is_initialize, is_initialized, i
 use Rattle.lsp_session.proofs.Ran.{Ran, reaches_ran}
 use Rattle.lsp_session.specs.ProtocolError.{ProtocolFault, ShowsUnallowed, expected_initialize, expected_initialized, unexpected_in_shutdown}
 use Rattle.lsp_session.specs.Replies.{null_reply, IsEarlyReply}
-use Rattle.lsp_session.specs.Session.{Exchange, letters_of, sends_of, SessionAnswer, Stop, decided, no_more, timed_out, refused, exhausted, Phase, starting, replied as in_reply, serving, asked, ended, null_of, phase_after, is_served, Fails, Leaves, Step, Steps, Reaches, Stops}
+use Rattle.lsp_session.specs.Session.{Exchange, letters_of, sends_of, SessionAnswer, Stop, decided, no_more, timed_out, refused, exhausted, Phase, starting, replied as in_reply, serving, asked, ended, phase_after, is_served, Fails, Leaves, Step, Steps, Reaches, Stops}
 use Rattle.lsp_session.specs.declared.loops.handler.SessionEnd.TheVariants.{Closed, ShutDown}
-use Rattle.lsp_service.specs.Desk.{Act, Desk}
+use Rattle.lsp_service.specs.Desk.{Desk}
 use Rattle.lsp_service.specs.Law.{one_if, is_request_under, is_reply_under, how_many, held_under, IsWhole, NeverMore, OnceOrEnded}
-use Rattle.lsp_service.specs.QueuedServer.{seen, desk_of}
+use Rattle.lsp_service.specs.QueuedServer.{at_desk}
+use Rattle.lsp_service.specs.View.{desk_of}
 use Rattle.lsp_service.specs.declared.desk.QueuedServer.{QueuedServer}
-use Rattle.lsp_service.proofs.Keeping.{working, Clear, clear_same, silent_opened, due_opened, no_request}
+use Rattle.lsp_service.proofs.Keeping.{Clear, clear_same, silent_opened, due_opened, no_request}
 use Rattle.lsp_service.proofs.Owing.{how_many-append, due_one}
+use Rattle.lsp_service.specs.declared.acts.Server.{Ghosts as Stated}
 
-module _ {S P : Type 0}
-    (requested : S → Id → List ℕ → Data → List (Act P) → S → Type 0)
-    (notified : S → List ℕ → Data → List (Act P) → S → Type 0)
-    (replied : S → P → Result Data ErrorObject → List (Act P) → S → Type 0)
-    (takes_back : S → P → S → Type 0)
-    (begins : S → List (Act P) → S → Type 0)
-    (initializes : S → Data → Result Data ErrorObject → S → Type 0) where
+module _ {S P : Type 0} (may : Stated S P) where
   abbrev Goes : Phase → QueuedServer S P → Message → List Message → Phase → QueuedServer S P → Type 0
-  Goes = Step (working requested notified replied takes_back begins initializes)
+  Goes = Step (at_desk may)
 
   -- nothing is to be sent, and before `initialized` nothing is held
   abbrev Clean : Phase → QueuedServer S P → Type 0
-  Clean starting w = Clear requested notified replied takes_back begins initializes w
-  Clean in_reply w = Clear requested notified replied takes_back begins initializes w
+  Clean starting w = Clear may w
+  Clean in_reply w = Clear may w
   Clean serving w = (desk_of w.client).said ≡ []
   Clean (asked i) w = Unit {0}
   Clean (ended null by) w = Unit {0}
@@ -71,7 +67,7 @@ module _ {S P : Type 0}
 
     count_init : (w w' : QueuedServer S P) (i : Id) (method : List ℕ) (params : Data) (said : List Message) (q : Phase) → Clean starting w → (b : Bool)
         → MatchBool b
-        ((outcome : Result Data ErrorObject) × (working requested notified replied takes_back begins initializes).initializes w params outcome w' × (said ≡ response i outcome ∷ []) × (q ≡ phase_after outcome))
+        ((outcome : Result Data ErrorObject) × (at_desk may).initializes w params outcome w' × (said ≡ response i outcome ∷ []) × (q ≡ phase_after outcome))
         ((reply : Message) × IsEarlyReply i reply × (said ≡ reply ∷ []) × (q ≡ starting) × (w' ≡ w))
         → Count w w' q (request i method params) said
     count_init w w' i method params said q clean true step = rw (step.2, step.3) (at step.0)
@@ -81,9 +77,9 @@ module _ {S P : Type 0}
 
         at : (outcome : Result Data ErrorObject) → Count w w' (phase_after outcome) (request i method params) (response i outcome ∷ [])
         at (Ok result) = count_even w w' in_reply (request i method params) (response i (Ok result) ∷ []) (omega arith) same
-            (clear_same requested notified replied takes_back begins initializes w w' step.1.1 clean)
+            (clear_same may w w' step.1.1 clean)
         at (Err error) = count_even w w' starting (request i method params) (response i (Err error) ∷ []) (omega arith) same
-            (clear_same requested notified replied takes_back begins initializes w w' step.1.1 clean)
+            (clear_same may w w' step.1.1 clean)
     count_init w w' i method params said q clean false step =
         rw (step.2, step.1.is, step.3, step.4) (count_even w w starting (request i method params) (response i _ ∷ []) (omega arith) refl clean)
 
@@ -95,16 +91,16 @@ module _ {S P : Type 0}
         count_fault w w' q (notification method params) said None (expected_initialize step.0) step.1 step.2 same (λ e. absurd (cc (e)))
 
     count_open : (w w' : QueuedServer S P) (m : Message) (said : List Message) (q : Phase) → Clean in_reply w → (b : Bool) → is_initialized m ≡ b
-        → MatchBool b ((working requested notified replied takes_back begins initializes).opens w said w' × (q ≡ serving)) (Fails expected_initialized in_reply said q × (w' ≡ w))
+        → MatchBool b ((at_desk may).opens w said w' × (q ≡ serving)) (Fails expected_initialized in_reply said q × (w' ≡ w))
         → Count w w' q m said
     count_open w w' m said q clean true e step =
-        let none = due_opened requested notified replied takes_back begins initializes id w w' said clean step.0 in
+        let none = due_opened may id w w' said clean step.0 in
         let other : is_request_under id m ≡ false = no_request id m e in
         let empty = clean.none id in
         rw step.1 (record {
           most = omega (arith, none);
           least = λ some. (let n = (rw other at some) in absurd (omega (arith, n, empty)));
-          clean = silent_opened requested notified replied takes_back begins initializes w w' said step.0;
+          clean = silent_opened may w w' said step.0;
         })
     count_open w w' m said q clean false e step =
         count_fault w w' q m said None (expected_initialized step.0.0) step.0.1 step.0.2 step.1 (λ is. inl (step.0.0, refl))
@@ -118,10 +114,10 @@ module _ {S P : Type 0}
         rw (leaves.0, leaves.1) (count_even w w (ended None (Ok Closed)) (response i outcome) [] refl refl tt)
 
     count_serve : (w w' : QueuedServer S P) (m : Message) (said : List Message) (q : Phase) → Clean serving w → (b : Bool)
-        → MatchBool b ((working requested notified replied takes_back begins initializes).gives w m said w' × (q ≡ serving)) (Leaves m said q × (w' ≡ w))
+        → MatchBool b ((at_desk may).gives w m said w' × (q ≡ serving)) (Leaves m said q × (w' ≡ w))
         → Count w w' q m said
     count_serve w w' m said q clean true step =
-        let due = due_one requested notified replied takes_back id w w' m said clean step.0 in
+        let due = due_one may id w w' m said clean step.0 in
         rw step.1 (record { most = due.most; least = λ some. inl (due.least some); clean = ap (λ (x : S × Desk P). x.1.said) step.0.3 })
     count_serve w w' m said q clean false step = rw step.1 (count_leave w m said q step.0)
 
@@ -150,7 +146,7 @@ module _ {S P : Type 0}
     count (ended null by) q w w' m said clean step = absurd step
 
     -- a beginning of the exchanges, the last of which may be cut off
-    most_of : (stop : Stop) (before after xs : List Exchange) (p q : Phase) (w w' : QueuedServer S P) → Ran (working requested notified replied takes_back begins initializes) stop p w xs q w' → Clean p w
+    most_of : (stop : Stop) (before after xs : List Exchange) (p q : Phase) (w w' : QueuedServer S P) → Ran (at_desk may) stop p w xs q w' → Clean p w
         → xs ≡ before ++ after → R (sends_of before) ≤ Q (letters_of before) + owed w
     most_of stop [] after xs p q w w' run clean e = omega arith
     most_of stop (b ∷ bs) after [] p q w w' run clean e = cc (e)
@@ -163,10 +159,10 @@ module _ {S P : Type 0}
         let most = one.most in
         rw (sym same) (omega (arith, more, sent, most, whole))
 
-    pub never_more : (stop : Stop) (w w' : QueuedServer S P) (xs : List Exchange) (q : Phase) → Reaches (working requested notified replied takes_back begins initializes) stop starting w xs q w'
+    pub never_more : (stop : Stop) (w w' : QueuedServer S P) (xs : List Exchange) (q : Phase) → Reaches (at_desk may) stop starting w xs q w'
         → Clean starting w → NeverMore id xs
     never_more stop w w' xs q reached clean before after e =
-        let most = most_of stop before after xs starting q w w' (reaches_ran (working requested notified replied takes_back begins initializes) stop starting q w w' xs reached) clean e in
+        let most = most_of stop before after xs starting q w w' (reaches_ran (at_desk may) stop starting q w w' xs reached) clean e in
         let none = clean.none id in
         omega (arith, most, none)
 
@@ -175,11 +171,11 @@ module _ {S P : Type 0}
     EndsUnallowed xs q = (before : List Exchange) × (x : Exchange) × (xs ≡ before ++ x ∷ []) × Unallowed x.letter q
 
     over : (xs : List Exchange) (q : Phase) (null : Option Message) (by : SessionAnswer) (w w' : QueuedServer S P)
-        → Steps (working requested notified replied takes_back begins initializes) (ended null by) w xs q w' → (xs ≡ []) × (q ≡ ended null by)
+        → Steps (at_desk may) (ended null by) w xs q w' → (xs ≡ []) × (q ≡ ended null by)
     over [] q null by w w' run = (refl, run.0)
     over (x ∷ xs) q null by w w' run = absurd run.2
 
-    least_of : (xs : List Exchange) (p q : Phase) (w w' : QueuedServer S P) → Steps (working requested notified replied takes_back begins initializes) p w xs q w' → Clean p w
+    least_of : (xs : List Exchange) (p q : Phase) (w w' : QueuedServer S P) → Steps (at_desk may) p w xs q w' → Clean p w
         → 1 ≤ Q (letters_of xs) + owed w → (1 ≤ R (sends_of xs) + owed w') ⊎ EndsUnallowed xs q
     least_of [] p q w w' run clean some = inl (rw run.1 (omega (arith, some)))
     least_of (x ∷ xs) p q w w' run clean some = at (λ clean some. least_of xs run.0 q run.1 w' run.3 clean some) (one_if (is_request_under id x.letter) + owed w) refl
@@ -216,10 +212,10 @@ module _ {S P : Type 0}
 
     -- how it ended, where the last request was not allowed
     ended_so : (q : Phase) (null : Option Message) (fault : ProtocolFault) (stop : Stop) (answer : SessionAnswer) (w w' : QueuedServer S P) → q ≡ ended null (Err fault) → IsWhole stop
-        → Stops (working requested notified replied takes_back begins initializes) q w stop answer w' → (stop ≡ decided) × (answer ≡ Err fault)
+        → Stops (at_desk may) q w stop answer w' → (stop ≡ decided) × (answer ≡ Err fault)
     ended_so q null fault stop answer w w' e whole stops = at stop whole (rw e at stops)
       where
-        at : (stop : Stop) → IsWhole stop → Stops (working requested notified replied takes_back begins initializes) (ended null (Err fault)) w stop answer w' → (stop ≡ decided) × (answer ≡ Err fault)
+        at : (stop : Stop) → IsWhole stop → Stops (at_desk may) (ended null (Err fault)) w stop answer w' → (stop ≡ decided) × (answer ≡ Err fault)
         at decided whole stops = (refl, stops.0)
         at no_more whole stops = absurd stops
         at timed_out whole stops = absurd stops
@@ -227,7 +223,7 @@ module _ {S P : Type 0}
         at exhausted whole stops = absurd whole
 
     left_in : (q : Phase) (stop : Stop) (answer : SessionAnswer) (w w' : QueuedServer S P) → IsWhole stop
-        → Stops (working requested notified replied takes_back begins initializes) q w stop answer w' → w' ≡ w
+        → Stops (at_desk may) q w stop answer w' → w' ≡ w
     left_in q (refused f) answer w w' whole stops = absurd whole
     left_in q exhausted answer w w' whole stops = absurd whole
     left_in starting decided answer w w' whole stops = absurd stops
@@ -246,8 +242,8 @@ module _ {S P : Type 0}
     left_in (ended null by) no_more answer w w' whole stops = absurd stops
     left_in (ended null by) timed_out answer w w' whole stops = absurd stops
 
-    run_of : (stop : Stop) (w w' : QueuedServer S P) (xs : List Exchange) (q : Phase) → IsWhole stop → Reaches (working requested notified replied takes_back begins initializes) stop starting w xs q w'
-        → Steps (working requested notified replied takes_back begins initializes) starting w xs q w'
+    run_of : (stop : Stop) (w w' : QueuedServer S P) (xs : List Exchange) (q : Phase) → IsWhole stop → Reaches (at_desk may) stop starting w xs q w'
+        → Steps (at_desk may) starting w xs q w'
     run_of decided w w' xs q whole run = run
     run_of no_more w w' xs q whole run = run
     run_of timed_out w w' xs q whole run = run
@@ -259,12 +255,12 @@ module _ {S P : Type 0}
     is_one (Some u) one = refl
 
     pub answered_once : (stop : Stop) (answer : SessionAnswer) (w after w' : QueuedServer S P) (xs : List Exchange) (q : Phase)
-        → Reaches (working requested notified replied takes_back begins initializes) stop starting w xs q after
-        → Stops (working requested notified replied takes_back begins initializes) q after stop answer w' → Clean starting w → IsWhole stop → Q (letters_of xs) ≡ 1
+        → Reaches (at_desk may) stop starting w xs q after
+        → Stops (at_desk may) q after stop answer w' → Clean starting w → IsWhole stop → Q (letters_of xs) ≡ 1
         → OnceOrEnded id xs stop (desk_of w'.client).held answer
     answered_once stop answer w after w' xs q reached stops clean whole one = at (R (sends_of xs)) refl
       where
-        run : Steps (working requested notified replied takes_back begins initializes) starting w xs q after
+        run : Steps (at_desk may) starting w xs q after
         run = run_of stop w after xs q whole reached
 
         most : R (sends_of xs) ≤ Q (letters_of xs)

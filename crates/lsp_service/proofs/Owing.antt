@@ -1,18 +1,19 @@
 -- Each request of the client is answered once, or still held.
-use Rattle.std.proofs.Common.{◌≡◌, refl, ◌∙◌, ap, ℕ, zero, suc, ◌+◌, ◌≤◌, Bool, true, false, cond, is_some, List, [], ◌∷◌, ◌++◌, arith, Option, Some, None}
+use Rattle.std.proofs.Common.{◌≡◌, refl, ◌∙◌, ap, ℕ, ◌+◌, ◌≤◌, Bool, true, false, cond, is_some, List, [], ◌∷◌, ◌++◌, arith, Option, Some, None}
 use Rattle.std.specs.FinMap as map
-use Rattle.std.specs.FinMap.{get-insert, get-remove, get-empty}
+use Rattle.std.specs.FinMap.{get-insert, get-remove}
 use Rattle.std.specs.Ordering.{eq_by_cmp}
-use Rattle.std.specs.Prelude.{Result, Err, if◌then◌else◌}
-use Rattle.serde_json.specs.Data.{Data}
+use Rattle.std.specs.Prelude.{Err, if◌then◌else◌}
 use Rattle.lsp_message.specs.Id.{Id, id_cmp, number}
 use Rattle.lsp_message.specs.IdLaws.{id_total, id_decides}
-use Rattle.lsp_message.specs.Message.{Message, ErrorObject, request, notification, response}
+use Rattle.lsp_message.specs.Message.{Message, request, notification, response}
 use Rattle.lsp_queue.specs.Queue.{Pending, pending_of, count_of}
-use Rattle.lsp_service.specs.Desk.{Act, tells, asks, replies, cancels, settles, canceled, cancelled_by, cancel_method, cancel_params, Desk, is_spent, sends_request, does, does_all, holds, given, cleared, says, Acts, Works, WorksGiving}
+use Rattle.lsp_service.specs.Desk.{Act, tells, asks, replies, cancels, settles, canceled, cancelled_by, cancel_method, cancel_params, Desk, is_spent, sends_request, does, does_all, holds, given, cleared, says, Acts}
 use Rattle.lsp_service.specs.Law.{one_if, is_request_under, is_reply_under, how_many, held_under}
-use Rattle.lsp_service.specs.QueuedServer.{seen, desk_of}
+use Rattle.lsp_service.specs.QueuedServer.{Works, WorksGiving}
+use Rattle.lsp_service.specs.View.{seen, desk_of}
 use Rattle.lsp_service.specs.declared.desk.QueuedServer.{QueuedServer}
+use Rattle.lsp_service.specs.declared.acts.Server.{Ghosts as Stated}
 
 pub how_many-append : (p : Message → Bool) (xs ys : List Message) → how_many p (xs ++ ys) ≡ how_many p xs + how_many p ys
 how_many-append p [] ys = omega arith
@@ -80,20 +81,9 @@ pub record Due (id : Id) (m : Message) (said : List Message) (held held' : Pendi
   pub most : how_many (is_reply_under id) said + held_under id held' ≤ one_if (is_request_under id m) + held_under id held
   pub least : 1 ≤ one_if (is_request_under id m) + held_under id held → 1 ≤ how_many (is_reply_under id) said + held_under id held'
 
--- a server at its desk, as a service
-abbrev pub gives : {S P : Type 0} (requested : S → Id → List ℕ → Data → List (Act P) → S → Type 0)
-    (notified : S → List ℕ → Data → List (Act P) → S → Type 0)
-    (replied : S → P → Result Data ErrorObject → List (Act P) → S → Type 0)
-    (takes_back : S → P → S → Type 0) → QueuedServer S P → Message → List Message → QueuedServer S P → Type 0
-gives requested notified replied takes_back old m said new = WorksGiving requested notified replied takes_back (seen old) m said (seen new)
-
-module _ {S P : Type 0}
-    (requested : S → Id → List ℕ → Data → List (Act P) → S → Type 0)
-    (notified : S → List ℕ → Data → List (Act P) → S → Type 0)
-    (replied : S → P → Result Data ErrorObject → List (Act P) → S → Type 0)
-    (takes_back : S → P → S → Type 0) (id : Id) where
+module _ {S P : Type 0} (may : Stated S P) (id : Id) where
   -- a message makes one reply more due where it is a request under the id
-  due_work : (s : S) (d : Desk P) (m : Message) (after : S × Desk P) → Works requested notified replied takes_back (s, d) m after
+  due_work : (s : S) (d : Desk P) (m : Message) (after : S × Desk P) → Works may (s, d) m after
       → due id after.1 ≡ how_many (is_reply_under id) d.said + cond (is_request_under id m) 1 (held_under id d.held)
   due_work s d (request i method params) after works =
       ap (due id) works.4 ∙ due_acts id (holds d i) works.0 ∙ ap (λ n. how_many (is_reply_under id) d.said + n) (held_insert id d.held i)
@@ -103,12 +93,12 @@ module _ {S P : Type 0}
   due_work s d (response i outcome) after works = at (map.get (pending_of d.asked) i) works
     where
       at : (o : Option P)
-          → Rattle.std.specs.Prelude.MatchOption o (after ≡ (s, d)) (λ payload. Acts takes_back (replied s payload outcome) (given d i) after)
+          → Rattle.std.specs.Prelude.MatchOption o (after ≡ (s, d)) (λ payload. Acts may.takes_back (may.replied s payload outcome) (given d i) after)
           → due id after.1 ≡ due id d
       at None same = ap (λ (x : S × Desk P). due id x.1) same
       at (Some payload) did = ap (due id) did.4 ∙ due_acts id (given d i) did.0
 
-  pub due_one : (w w' : QueuedServer S P) (m : Message) (said : List Message) → (desk_of w.client).said ≡ [] → gives requested notified replied takes_back w m said w'
+  pub due_one : (w w' : QueuedServer S P) (m : Message) (said : List Message) → (desk_of w.client).said ≡ [] → WorksGiving may (seen w) m said (seen w')
       → Due id m said (desk_of w.client).held (desk_of w'.client).held
   due_one w w' m said silent step =
       let desk : desk_of w'.client ≡ cleared step.0.1 = ap (λ (x : S × Desk P). x.1) step.3 in

@@ -13,12 +13,13 @@ use Rattle.lsp_message.specs.IdLaws.{id_total, id_decides}
 use Rattle.lsp_message.specs.Message.{Message, ErrorObject, request, notification, response}
 use Rattle.lsp_queue.specs.Queue.{Asked, pending_of, count_of}
 use Rattle.lsp_session.specs.Session.{Exchange, letters_of, sends_of, Stop, is_served}
-use Rattle.lsp_service.specs.Desk.{Act, tells, asks, replies, cancels, settles, canceled, cancelled_by, cancel_method, cancel_params, Desk, is_spent, sends_request, does, does_all, ids_after, unsent, holds, given, says, TakesBack, Acts, Works, OpensSaying}
+use Rattle.lsp_service.specs.Desk.{Act, tells, asks, replies, cancels, settles, canceled, cancelled_by, cancel_method, cancel_params, Desk, is_spent, sends_request, does, does_all, ids_after, unsent, holds, given, says, TakesBack, Acts}
 use Rattle.lsp_service.specs.Law.{is_reply_under, Sent, Turn, requests_in, request_of, ids_after_all, sent_by, all_sent, kept_under, acts_of, was_given, GivesOwnPayloads, Handed, TakesTurns, IsUnserved, IsWhole, TakesPart}
-use Rattle.lsp_service.specs.QueuedServer.{seen, desk_of}
+use Rattle.lsp_service.specs.QueuedServer.{Works, WorksGiving, OpensSaying}
+use Rattle.lsp_service.specs.View.{seen, desk_of}
 use Rattle.lsp_service.specs.declared.desk.QueuedServer.{QueuedServer}
 use Rattle.lsp_service.proofs.Desking.{ids_counted}
-use Rattle.lsp_service.proofs.Owing.{gives}
+use Rattle.lsp_service.specs.declared.acts.Server.{Ghosts as Stated}
 
 pub requests-append : (xs ys : List Message) → requests_in (xs ++ ys) ≡ requests_in xs ++ requests_in ys
 requests-append [] ys = refl
@@ -271,15 +272,7 @@ module _ {P : Type 0} where
           nothing false o e = e
       other n more false e = refl
 
-module _ {S P : Type 0}
-    (requested : S → Id → List ℕ → Data → List (Act P) → S → Type 0)
-    (notified : S → List ℕ → Data → List (Act P) → S → Type 0)
-    (replied : S → P → Result Data ErrorObject → List (Act P) → S → Type 0)
-    (takes_back : S → P → S → Type 0)
-    (begins : S → List (Act P) → S → Type 0) where
-  abbrev gives_at : QueuedServer S P → Message → List Message → QueuedServer S P → Type 0
-  gives_at = gives requested notified replied takes_back
-
+module _ {S P : Type 0} (may : Stated S P) where
   abbrev answered : Desk P → Id → Bool → Desk P
   answered d i b = if b then (record { held = map.remove d.held i; asked = d.asked; said = d.said ++ response i (Err canceled) ∷ [] }) else d
 
@@ -296,15 +289,15 @@ module _ {S P : Type 0}
     payload : Option P
     acts : List (Act P)
     did : S
-    handed : Handed requested notified replied takes_back begins s m payload acts did
-    back : TakesBack takes_back did (unsent (count_of d.asked) acts) after.0
+    handed : Handed may s m payload acts did
+    back : TakesBack may.takes_back did (unsent (count_of d.asked) acts) after.0
     said : requests_in after.1.said ≡ requests_in d.said ++ map_list request_of (all_sent (count_of d.asked) acts)
     count : count_of after.1.asked ≡ ids_after_all (count_of d.asked) acts
     fits : FitsOne sent before (record { letter = m; payload = payload; acts = acts })
     agrees : Agrees (sent ++ all_sent (count_of d.asked) acts) (before ++ record { letter = m; payload = payload; acts = acts } ∷ []) after.1.asked
 
   one_turn : (s : S) (d : Desk P) (m : Message) (after : S × Desk P) (sent : List (Sent P)) (before : List (Turn P)) → Agrees sent before d.asked
-      → Works requested notified replied takes_back (s, d) m after → OneTurn s d m after sent before
+      → Works may (s, d) m after → OneTurn s d m after sent before
   one_turn s d (request id method params) after sent before agrees works = record {
     payload = None;
     acts = works.0;
@@ -339,7 +332,7 @@ module _ {S P : Type 0}
           sym (ap (λ j. map.get (pending_of d.asked) j) same ∙ kept) ∙ agrees.pending id
 
       at : (o : Option P) → map.get (pending_of d.asked) i ≡ o
-          → MatchOption o (after ≡ (s, d)) (λ payload. Acts takes_back (replied s payload outcome) (given d i) after)
+          → MatchOption o (after ≡ (s, d)) (λ payload. Acts may.takes_back (may.replied s payload outcome) (given d i) after)
           → OneTurn s d (response i outcome) after sent before
       at None kept same = rw same (record {
         payload = None;
@@ -369,13 +362,13 @@ module _ {S P : Type 0}
   -- the server is given these messages, and this is sent for each
   abbrev pub GivesAll : QueuedServer S P → List Exchange → QueuedServer S P → Type 0
   GivesAll w [] w' = w' ≡ w
-  GivesAll w (x ∷ xs) w' = (mid : QueuedServer S P) × gives_at w x.letter x.said mid × GivesAll mid xs w'
+  GivesAll w (x ∷ xs) w' = (mid : QueuedServer S P) × WorksGiving may (seen w) x.letter x.said (seen mid) × GivesAll mid xs w'
 
   -- exchanges are as many turns
   pub record Turned (w w' : QueuedServer S P) (xs : List Exchange) (sent : List (Sent P)) (before : List (Turn P)) : Type 0 where
     pub turns : List (Turn P)
     pub letters_are : map_list (λ (turn : Turn P). turn.letter) turns ≡ letters_of xs
-    pub took : TakesTurns requested notified replied takes_back begins (count_of (desk_of w.client).asked) w.server turns w'.server
+    pub took : TakesTurns may (count_of (desk_of w.client).asked) w.server turns w'.server
     pub said : requests_in (sends_of xs) ≡ map_list request_of (all_sent (count_of (desk_of w.client).asked) (acts_of turns))
     pub fits : Fits (count_of (desk_of w.client).asked) sent before turns
 
@@ -410,8 +403,8 @@ module _ {S P : Type 0}
           one.did,
           mid.server,
           one.handed,
-          subst (TakesBack takes_back one.did (unsent n one.acts)) (sym server) one.back,
-          subst (λ k. TakesTurns requested notified replied takes_back begins k mid.server rest.turns w'.server) count rest.took,
+          subst (TakesBack may.takes_back one.did (unsent n one.acts)) (sym server) one.back,
+          subst (λ k. TakesTurns may k mid.server rest.turns w'.server) count rest.took,
         );
         said = requests-append x.said (sends_of xs) ∙ (λ i. now i ++ later i)
             ∙ sym (ap (λ l. map_list request_of l) (sent-append n one.acts (acts_of rest.turns))
@@ -423,15 +416,15 @@ module _ {S P : Type 0}
   record Began (w w' : QueuedServer S P) (said : List Message) : Type 0 where
     begun : List (Act P)
     did : S
-    began : begins w.server begun did
-    back : TakesBack takes_back did (unsent 0 begun) w'.server
+    began : may.begins w.server begun did
+    back : TakesBack may.takes_back did (unsent 0 begun) w'.server
     requests : requests_in said ≡ map_list request_of (all_sent 0 begun)
     count : count_of (desk_of w'.client).asked ≡ ids_after_all 0 begun
     agrees : Agrees (all_sent 0 begun) [] (desk_of w'.client).asked
     silent : (desk_of w'.client).said ≡ []
 
   began_at : (w w' : QueuedServer S P) (said : List Message) → (desk_of w.client).said ≡ [] → (desk_of w.client).asked ≡ (map.empty, 0)
-      → OpensSaying takes_back begins (seen w) said (seen w') → Began w w' said
+      → OpensSaying may (seen w) said (seen w') → Began w w' said
   began_at w w' said silent unasked opened =
       let after = opened.0 in
       let acts = opened.1.0 in
@@ -443,8 +436,8 @@ module _ {S P : Type 0}
         begun = acts;
         did = opened.1.1;
         began = opened.1.2;
-        back = subst (λ (s : S). TakesBack takes_back opened.1.1 (unsent 0 acts) s) (sym (ap (λ (x : S × Desk P). x.0) opened.3))
-            (subst (λ n. TakesBack takes_back opened.1.1 (unsent n acts) after.0) none opened.1.3);
+        back = subst (λ (s : S). TakesBack may.takes_back opened.1.1 (unsent 0 acts) s) (sym (ap (λ (x : S × Desk P). x.0) opened.3))
+            (subst (λ n. TakesBack may.takes_back opened.1.1 (unsent n acts) after.0) none opened.1.3);
         requests = ap requests_in opened.2 ∙ ap (λ (x : Desk P). requests_in x.said) opened.1.4 ∙ said_all (desk_of w.client) acts
             ∙ (λ i. requests_in (silent i) ++ map_list request_of (all_sent (none i) acts));
         count = ap count_of asked ∙ ids_all (desk_of w.client) acts ∙ ap (λ n. ids_after_all n acts) none;
@@ -454,11 +447,11 @@ module _ {S P : Type 0}
       }
 
   abbrev Part : List Message → Stop → List Message → Type 0
-  Part = TakesPart requested notified replied takes_back begins
+  Part = TakesPart may
 
   -- The server's part: what it said to `initialized`, the messages that it was given, and what came after these.
   pub part_whole : (w mid after : QueuedServer S P) (said : List Message) (xs rest : List Exchange) (stop : Stop) (requests more : List Message)
-      → (desk_of w.client).said ≡ [] → (desk_of w.client).asked ≡ (map.empty, 0) → OpensSaying takes_back begins (seen w) said (seen mid)
+      → (desk_of w.client).said ≡ [] → (desk_of w.client).asked ≡ (map.empty, 0) → OpensSaying may (seen w) said (seen mid)
       → GivesAll mid xs after → list_all is_served (letters_of xs) ≡ true → IsUnserved (letters_of rest)
       → requests_in said ++ requests_in (sends_of xs) ≡ requests ++ more → (IsWhole stop → more ≡ []) → Part (letters_of xs ++ letters_of rest) stop requests
   part_whole w mid after said xs rest stop requests more silent unasked opened given served unserved sent whole =
@@ -479,7 +472,7 @@ module _ {S P : Type 0}
         last = after.server;
         began = b.began;
         took_back = b.back;
-        took_turns = subst (λ k. TakesTurns requested notified replied takes_back begins k mid.server t.turns after.server) b.count t.took;
+        took_turns = subst (λ k. TakesTurns may k mid.server t.turns after.server) b.count t.took;
         unsaid = more;
         sent = ap (λ l. map_list request_of l) (sent-append 0 b.begun (acts_of t.turns))
             ∙ map-append request_of (all_sent 0 b.begun) (all_sent (ids_after_all 0 b.begun) (acts_of t.turns))

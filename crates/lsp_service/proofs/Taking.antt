@@ -1,5 +1,5 @@
 -- A server takes part in its session, by its stated meaning.
-use Rattle.std.proofs.Common.{◌≡◌, refl, sym, ◌∙◌, ap, subst, inl, inr, ◌⊎◌, ℕ, ◌+◌, Bool, true, false, List, [], ◌∷◌, ◌++◌, append_assoc, append-nil, length, arith, Option, Some, None}
+use Rattle.std.proofs.Common.{◌≡◌, refl, sym, ◌∙◌, ap, subst, inl, inr, ◌⊎◌, ℕ, ◌+◌, Bool, true, false, List, [], ◌∷◌, ◌++◌, append_assoc, append-nil, arith, Option, Some, None}
 use Rattle.std.specs.Bool.{MatchBool}
 use Rattle.std.specs.FinMap as map
 use Rattle.std.specs.List.{list_all}
@@ -14,12 +14,14 @@ use Rattle.lsp_session.specs.ProtocolError.{expected_initialize, expected_initia
 use Rattle.lsp_session.specs.Replies.{null_reply, IsEarlyReply}
 use Rattle.lsp_session.specs.Session.{Exchange, letters_of, sends_of, SessionAnswer, Stop, decided, no_more, timed_out, refused, exhausted, Phase, starting, replied as in_reply, serving, asked, ended, phase_after, is_served, Fails, Leaves, Step, Reaches}
 use Rattle.lsp_session.specs.declared.loops.handler.SessionEnd.TheVariants.{Closed, ShutDown}
-use Rattle.lsp_service.specs.Desk.{Act, Desk}
-use Rattle.lsp_service.specs.Law.{IsWhole, requests_in, is_request, is_refusal, IsUninvited, EndsAtResult, IsUnserved, TakesPart, GivesPayloads}
-use Rattle.lsp_service.specs.QueuedServer.{seen, desk_of}
+use Rattle.lsp_service.specs.Desk.{Desk}
+use Rattle.lsp_service.specs.Law.{IsWhole, requests_in, IsUninvited, IsUnserved, TakesPart, GivesPayloads}
+use Rattle.lsp_service.specs.QueuedServer.{at_desk}
+use Rattle.lsp_service.specs.View.{desk_of}
 use Rattle.lsp_service.specs.declared.desk.QueuedServer.{QueuedServer}
-use Rattle.lsp_service.proofs.Keeping.{working, Unasked, silent_opened}
+use Rattle.lsp_service.proofs.Keeping.{Unasked}
 use Rattle.lsp_service.proofs.Returning.{requests-append, GivesAll, part_whole}
+use Rattle.lsp_service.specs.declared.acts.Server.{Ghosts as Stated}
 
 whole_sent : (stop : Stop) → IsWhole stop → IsSent stop
 whole_sent decided whole = tt
@@ -28,24 +30,18 @@ whole_sent timed_out whole = tt
 whole_sent (refused fault) whole = whole
 whole_sent exhausted whole = tt
 
-module _ {S P : Type 0}
-    (requested : S → Id → List ℕ → Data → List (Act P) → S → Type 0)
-    (notified : S → List ℕ → Data → List (Act P) → S → Type 0)
-    (replied : S → P → Result Data ErrorObject → List (Act P) → S → Type 0)
-    (takes_back : S → P → S → Type 0)
-    (begins : S → List (Act P) → S → Type 0)
-    (initializes : S → Data → Result Data ErrorObject → S → Type 0) (stop : Stop) where
+module _ {S P : Type 0} (may : Stated S P) (stop : Stop) where
   abbrev Runs_from : Phase → QueuedServer S P → List Exchange → Phase → QueuedServer S P → Type 0
-  Runs_from = Ran (working requested notified replied takes_back begins initializes) stop
+  Runs_from = Ran (at_desk may) stop
 
   abbrev Part : List Message → Stop → List Message → Type 0
-  Part = TakesPart requested notified replied takes_back begins
+  Part = TakesPart may
 
   abbrev Payloads : List Message → Stop → List Message → Type 0
-  Payloads = GivesPayloads requested notified replied takes_back begins
+  Payloads = GivesPayloads may
 
   abbrev Gives_all : QueuedServer S P → List Exchange → QueuedServer S P → Type 0
-  Gives_all = GivesAll requested notified replied takes_back begins
+  Gives_all = GivesAll may
 
   -- ---- from `initialized` on
 
@@ -110,7 +106,7 @@ module _ {S P : Type 0}
 
   -- one more message comes first
   serve_more : (w mid : QueuedServer S P) (x : Exchange) (xs : List Exchange) (full more : List Message) → is_served x.letter ≡ true → x.said ++ more ≡ full
-      → (working requested notified replied takes_back begins initializes).gives w x.letter full mid → (more ≡ []) ⊎ ((xs ≡ []) × (IsSent stop → ⊥)) → Served mid xs → Served w (x ∷ xs)
+      → (at_desk may).gives w x.letter full mid → (more ≡ []) ⊎ ((xs ≡ []) × (IsSent stop → ⊥)) → Served mid xs → Served w (x ∷ xs)
   serve_more w mid x xs full more served cut gives (inl none) later = record {
     served = record { letter = x.letter; said = full } ∷ later.served;
     rest = later.rest;
@@ -156,7 +152,7 @@ module _ {S P : Type 0}
   serve_all (x ∷ xs) q w w' run = at (λ rest. serve_all xs q run.5 w' rest) (is_served x.letter) refl run.6
     where
       at : (Runs_from serving run.5 xs q w' → Served run.5 xs) → (b : Bool) → is_served x.letter ≡ b
-          → MatchBool b ((working requested notified replied takes_back begins initializes).gives w x.letter run.0 run.5 × (run.4 ≡ serving)) (Leaves x.letter run.0 run.4 × (run.5 ≡ w))
+          → MatchBool b ((at_desk may).gives w x.letter run.0 run.5 × (run.4 ≡ serving)) (Leaves x.letter run.0 run.4 × (run.5 ≡ w))
           → Served w (x ∷ xs)
       at later true e step = serve_more w run.5 x xs run.0 run.1 e run.2 step.0 run.7 (later (rw step.1 at run.8))
       at later false e step = serve_left w x xs e (left_silent run.5 w' q run.4 x.letter run.0 x.said run.1 xs step.0 run.2 run.3 run.8)
@@ -169,29 +165,29 @@ module _ {S P : Type 0}
       (IsUninvited (letters_of xs) × (sends_of xs ≡ []))
       ⊎ ((m : Message) × (rest : List Message) × (letters_of xs ≡ m ∷ rest) × (is_initialized m ≡ true) × Part rest stop (requests_in (sends_of xs)))
 
-  part_opened : (w mid : QueuedServer S P) (x : Exchange) (xs : List Exchange) (full more : List Message) → (desk_of w.client).said ≡ [] → Unasked requested notified replied takes_back begins initializes w
-      → x.said ++ more ≡ full → (more ≡ []) ⊎ ((xs ≡ []) × (IsSent stop → ⊥)) → (working requested notified replied takes_back begins initializes).opens w full mid
+  part_opened : (w mid : QueuedServer S P) (x : Exchange) (xs : List Exchange) (full more : List Message) → (desk_of w.client).said ≡ [] → Unasked may w
+      → x.said ++ more ≡ full → (more ≡ []) ⊎ ((xs ≡ []) × (IsSent stop → ⊥)) → (at_desk may).opens w full mid
       → Served mid xs → Part (letters_of xs) stop (requests_in (x.said ++ sends_of xs))
   part_opened w mid x xs full more silent unasked cut (inl none) opened s =
       subst (λ (l : List Message). Part l stop (requests_in (x.said ++ sends_of xs))) (sym s.cut)
-      (part_whole requested notified replied takes_back begins w mid s.after full s.served s.rest stop (requests_in (x.said ++ sends_of xs)) s.more silent unasked opened s.given s.all_served s.unserved
+      (part_whole may w mid s.after full s.served s.rest stop (requests_in (x.said ++ sends_of xs)) s.more silent unasked opened s.given s.all_served s.unserved
       ((λ i. requests_in (same i) ++ s.sent i) ∙ sym (append_assoc (requests_in x.said) (requests_in (sends_of xs)) s.more)
       ∙ ap (λ (l : List Message). l ++ s.more) (sym (requests-append x.said (sends_of xs)))) s.whole)
     where
       same : full ≡ x.said
       same = sym cut ∙ ap (λ (l : List Message). x.said ++ l) none ∙ append-nil x.said
   part_opened w mid x xs full more silent unasked cut (inr last) opened s =
-      rw last.0 (part_whole requested notified replied takes_back begins w mid mid full [] [] stop (requests_in (x.said ++ [])) (requests_in more) silent unasked opened refl refl tt
+      rw last.0 (part_whole may w mid mid full [] [] stop (requests_in (x.said ++ [])) (requests_in more) silent unasked opened refl refl tt
       (append-nil (requests_in full) ∙ ap requests_in (sym cut) ∙ requests-append x.said more ∙ ap (λ (l : List Message). requests_in l ++ requests_in more) (sym (append-nil x.said)))
       (λ is. absurd (last.1 (whole_sent stop is))))
 
-  after_result : (xs : List Exchange) (q : Phase) (w w' : QueuedServer S P) → (desk_of w.client).said ≡ [] → Unasked requested notified replied takes_back begins initializes w
+  after_result : (xs : List Exchange) (q : Phase) (w w' : QueuedServer S P) → (desk_of w.client).said ≡ [] → Unasked may w
       → Runs_from in_reply w xs q w' → After xs
   after_result [] q w w' silent unasked run = inl (tt, refl)
   after_result (x ∷ xs) q w w' silent unasked run = at (is_initialized x.letter) refl run.6
     where
       at : (b : Bool) → is_initialized x.letter ≡ b
-          → MatchBool b ((working requested notified replied takes_back begins initializes).opens w run.0 run.5 × (run.4 ≡ serving)) (Fails expected_initialized in_reply run.0 run.4 × (run.5 ≡ w))
+          → MatchBool b ((at_desk may).opens w run.0 run.5 × (run.4 ≡ serving)) (Fails expected_initialized in_reply run.0 run.4 × (run.5 ≡ w))
           → After (x ∷ xs)
       at true e step = inr (
         x.letter,
@@ -270,14 +266,14 @@ module _ {S P : Type 0}
     | inr opened ↦ inr (inr ([], request i method params, opened.0, opened.1, ap (λ (l : List Message). request i method params ∷ l) opened.2, asks, opened.3, opened.4))
   ]
 
-  payloads_from : (xs : List Exchange) (q : Phase) (w w' : QueuedServer S P) → (desk_of w.client).said ≡ [] → Unasked requested notified replied takes_back begins initializes w
+  payloads_from : (xs : List Exchange) (q : Phase) (w w' : QueuedServer S P) → (desk_of w.client).said ≡ [] → Unasked may w
       → Runs_from starting w xs q w' → Payloads (letters_of xs) stop (sends_of xs)
   payloads_from [] q w w' silent unasked run = inl refl
   payloads_from (x ∷ xs) q w w' silent unasked run =
       at (λ silent unasked rest. payloads_from xs q run.5 w' silent unasked rest) x.letter refl run.6
     where
-      at : ((desk_of run.5.client).said ≡ [] → Unasked requested notified replied takes_back begins initializes run.5 → Runs_from starting run.5 xs q w' → Payloads (letters_of xs) stop (sends_of xs))
-          → (m : Message) → x.letter ≡ m → Step (working requested notified replied takes_back begins initializes) starting w m run.0 run.4 run.5
+      at : ((desk_of run.5.client).said ≡ [] → Unasked may run.5 → Runs_from starting run.5 xs q w' → Payloads (letters_of xs) stop (sends_of xs))
+          → (m : Message) → x.letter ≡ m → Step (at_desk may) starting w m run.0 run.4 run.5
           → Payloads (x.letter ∷ letters_of xs) stop (x.said ++ sends_of xs)
       at later (request i method params) is step = by (is_initialize (request i method params)) refl step
         where
@@ -293,7 +289,7 @@ module _ {S P : Type 0}
 
           by : (b : Bool) → is_initialize (request i method params) ≡ b
               → MatchBool b
-              ((outcome : Result Data ErrorObject) × (working requested notified replied takes_back begins initializes).initializes w params outcome run.5 × (run.0 ≡ response i outcome ∷ []) × (run.4 ≡ phase_after outcome))
+              ((outcome : Result Data ErrorObject) × (at_desk may).initializes w params outcome run.5 × (run.0 ≡ response i outcome ∷ []) × (run.4 ≡ phase_after outcome))
               ((reply : Message) × IsEarlyReply i reply × (run.0 ≡ reply ∷ []) × (run.4 ≡ starting) × (run.5 ≡ w))
               → Payloads (x.letter ∷ letters_of xs) stop (x.said ++ sends_of xs)
           by true e step = rw (is, one (response i step.0) step.2) (after step.0 e step.1.1 step.3)
@@ -309,7 +305,7 @@ module _ {S P : Type 0}
       at later (response i outcome) is step =
           inl (rw (part_none x.said run.1 run.0 run.2 step.0.1, over xs None (Err (expected_initialize step.0.0)) q run.5 w' (rw step.0.2 at run.8)) refl)
 
-  pub keeps_payloads : (w w' : QueuedServer S P) (xs : List Exchange) (q : Phase) → (desk_of w.client).said ≡ [] → Unasked requested notified replied takes_back begins initializes w
-      → Reaches (working requested notified replied takes_back begins initializes) stop starting w xs q w' → Payloads (letters_of xs) stop (sends_of xs)
+  pub keeps_payloads : (w w' : QueuedServer S P) (xs : List Exchange) (q : Phase) → (desk_of w.client).said ≡ [] → Unasked may w
+      → Reaches (at_desk may) stop starting w xs q w' → Payloads (letters_of xs) stop (sends_of xs)
   keeps_payloads w w' xs q silent unasked reached =
-      payloads_from xs q w w' silent unasked (reaches_ran (working requested notified replied takes_back begins initializes) stop starting q w w' xs reached)
+      payloads_from xs q w w' silent unasked (reaches_ran (at_desk may) stop starting q w w' xs reached)

@@ -3,16 +3,18 @@
 use Rattle.serde_json.specs.Data.{Data}
 use Rattle.std.specs.FinMap as map
 use Rattle.std.specs.Ordering.{eq_by_cmp}
-use Rattle.std.specs.Prelude.{◌≡◌, ◌≤◌, ◌⊎◌, ◌+◌, ◌||◌, ◌&&◌, ℕ, pos, Bool, true, false, List, [], ◌∷◌, ◌++◌, map as map_list, fold, length, Option, Some, None, is_some, Result, Ok, Err, IsErrAnd, if◌then◌else◌}
+use Rattle.std.specs.Prelude.{◌≡◌, ◌≤◌, ◌⊎◌, ◌+◌, ◌||◌, ◌&&◌, ℕ, pos, Bool, true, false, List, [], ◌∷◌, ◌++◌, map as map_list, fold, length, Option, Some, None, is_some, Ok, Err, IsErrAnd, if◌then◌else◌}
 use Rattle.std.specs.List.{list_all}
 use Rattle.lsp_message.specs.Id.{Id, id_cmp, number}
-use Rattle.lsp_message.specs.Message.{Message, ErrorObject, request, notification, response}
+use Rattle.lsp_message.specs.Message.{Message, request, notification, response}
 use Rattle.lsp_queue.specs.Queue.{Pending}
 use Rattle.lsp_session.specs.Finish.{is_initialized}
 use Rattle.lsp_session.specs.ProtocolError.{ShowsUnallowed}
-use Rattle.lsp_session.specs.Session.{Exchange, letters_of, sends_of, SessionAnswer, Stop, decided, no_more, timed_out, refused, exhausted, is_initialize, is_served}
+use Rattle.lsp_session.specs.Session.{Exchange, letters_of, sends_of, SessionAnswer, SessionPart, Stop, decided, no_more, timed_out, refused, exhausted, is_initialize, is_served}
 use Rattle.lsp_session.specs.SessionLaws.{KeepsOrder}
 use Rattle.lsp_service.specs.Desk.{Act, tells, asks, replies, cancels, is_spent, ids_after, unsent, TakesBack}
+use Rattle.lsp_service.specs.QueuedServer.{ServerSession, held_by}
+use Rattle.lsp_service.specs.declared.acts.Server.{Ghosts as Stated}
 
 abbrev pub one_if : Bool → ℕ
 one_if true = 1
@@ -173,24 +175,19 @@ abbrev pub IsUnserved : List Message → Type 0
 IsUnserved [] = Unit {0}
 IsUnserved (m ∷ rest) = is_served m ≡ false
 
-module _ {S P : Type 0}
-    (requested : S → Id → List ℕ → Data → List (Act P) → S → Type 0)
-    (notified : S → List ℕ → Data → List (Act P) → S → Type 0)
-    (replied : S → P → Result Data ErrorObject → List (Act P) → S → Type 0)
-    (takes_back : S → P → S → Type 0)
-    (begins : S → List (Act P) → S → Type 0) where
+module _ {S P : Type 0} (may : Stated S P) where
   -- the server is handed a letter, a reply with a payload, and does this
   abbrev pub Handed : S → Message → Option P → List (Act P) → S → Type 0
-  Handed old (request id method params) payload acts new = requested old id method params acts new × (payload ≡ None)
-  Handed old (notification method params) payload acts new = notified old method params acts new × (payload ≡ None)
-  Handed old (response id outcome) (Some payload) acts new = replied old payload outcome acts new
+  Handed old (request id method params) payload acts new = may.requested old id method params acts new × (payload ≡ None)
+  Handed old (notification method params) payload acts new = may.notified old method params acts new × (payload ≡ None)
+  Handed old (response id outcome) (Some payload) acts new = may.replied old payload outcome acts new
   Handed old (response id outcome) None acts new = (new ≡ old) × (acts ≡ [])
 
   -- turns take the server from old to new, where so many ids were given out before
   abbrev pub TakesTurns : ℕ → S → List (Turn P) → S → Type 0
   TakesTurns count old [] new = new ≡ old
   TakesTurns count old (turn ∷ turns) new =
-      (did : S) × (mid : S) × Handed old turn.letter turn.payload turn.acts did × TakesBack takes_back did (unsent count turn.acts) mid
+      (did : S) × (mid : S) × Handed old turn.letter turn.payload turn.acts did × TakesBack may.takes_back did (unsent count turn.acts) mid
       × TakesTurns (ids_after_all count turn.acts) mid turns new
 
   -- The server's part of a session from `initialized` on: it did this, then took these turns at the letters up to `shutdown` or
@@ -206,8 +203,8 @@ module _ {S P : Type 0}
     pub did : S
     pub first : S
     pub last : S
-    pub began : begins start begun did
-    pub took_back : TakesBack takes_back did (unsent 0 begun) first
+    pub began : may.begins start begun did
+    pub took_back : TakesBack may.takes_back did (unsent 0 begun) first
     pub took_turns : TakesTurns (ids_after_all 0 begun) first turns last
     pub unsaid : List Message
     pub sent : map_list request_of (all_sent 0 (begun ++ acts_of turns)) ≡ requests ++ unsaid
@@ -232,3 +229,8 @@ module _ {S P : Type 0}
     pub order : KeepsOrder exchanges stop null answer
     -- each reply of the client comes to the server with the payload of its own request, once
     pub payloads : GivesPayloads (letters_of exchanges) stop (sends_of exchanges)
+
+  -- a session of a server, which keeps the laws
+  abbrev pub LawfulSession : S → S → SessionPart
+  LawfulSession first last exchanges stop null answer =
+      (session : ServerSession may first last exchanges stop null answer) × KeepsLaws (held_by may session) exchanges stop null answer
