@@ -17,9 +17,8 @@ ghost use Rattle.lsp_service.specs.QueuedServer.{ServerSession, WorksGiving, hel
 use crate::acts::Server;
 use lsp_session::{Inbox, Outbox};
 
-/// What a session says of its exchanges implies the laws: a fact of each session of a server that was run by `session_with` or
-/// `serve_with`, over its exchanges, over boxes, and from bytes to bytes with a limit or without one. `lsp_server::laws` has the same
-/// in threads.
+/// What a session of a server says of its exchanges implies the laws: a fact of each session that was run by `session_with`, with a
+/// limit or without one. `server_over_boxes_keeps_laws` has the same over boxes, and `lsp_server::laws` in threads.
 ///
 /// In each beginning of the session the replies under an id are no more than the client's requests under it: no reply goes to
 /// anything else, and none comes twice. A request whose id the client used once has exactly one reply. Or it has none: it is still
@@ -29,16 +28,20 @@ use lsp_session::{Inbox, Outbox};
 ///
 /// Each reply of the client comes to the server with the payload of its own request, once: what was kept with the request that
 /// was sent under its id. A reply under an id that is not pending reaches nobody.
-pub fn server_keeps_laws<I: Inbox, O: Outbox, S: Server>()
+pub fn server_keeps_laws<S: Server>()
     ensures exchanges { (first last : S) (exchanges : List Exchange) (stop : Stop) (null : Option Message) (answer : SessionAnswer)
         → (session : ServerSession S.Server first last exchanges stop null answer)
         → KeepsLaws S.Server (held_by S.Server session) exchanges stop null answer }
-    ensures boxes { (first last : S) (before after : I × O) (answer : SessionAnswer)
-        → Runs I.receives O.sends (ServerSession S.Server first last) before answer after
-        → Runs I.receives O.sends (LawfulSession S.Server first last) before answer after }
     ensures bytes { (limit : ℕ) (first last : S) (text : List ℕ) (left before after : Option (List ℕ)) (answer : Result EndOfSession FaultOfSession)
         → Gives limit (ServerSession S.Server first last) text left before after answer
         → Gives limit (LawfulSession S.Server first last) text left before after answer }
+{}
+
+/// `server_keeps_laws` of a session over boxes: a fact of each session that was run by `serve_with`.
+pub fn server_over_boxes_keeps_laws<I: Inbox, O: Outbox, S: Server>()
+    ensures { (first last : S) (before after : I × O) (answer : SessionAnswer)
+        → Runs I.receives O.sends (ServerSession S.Server first last) before answer after
+        → Runs I.receives O.sends (LawfulSession S.Server first last) before answer after }
 {}
 
 /// What a server stated of a message is what it did, and what its acts send is all that is sent, in their order: each notification,
