@@ -9,7 +9,7 @@ use Rattle.lsp_service.specs.Desk.{Act, tells, asks, replies, cancels, settles, 
 use Rattle.lsp_service.specs.Law.{Handed}
 use Rattle.lsp_service.specs.Turning.{sends_by, all_sends, desk_at, settled_by, settled_at, ActsAt}
 use Rattle.lsp_service.specs.QueuedServer.{WorksGiving}
-use Rattle.lsp_service.specs.declared.acts.Server.{Ghosts as Stated}
+use Rattle.lsp_service.specs.declared.server.Server.{Ghosts as Stated}
 
 module _ {P : Type 0} where
   said_one : (d : Desk P) (act : Act P) → (does d act).said ≡ d.said ++ sends_by d act

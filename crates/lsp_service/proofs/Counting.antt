@@ -18,7 +18,7 @@ use Rattle.lsp_service.specs.View.{desk_of}
 use Rattle.lsp_service.specs.declared.desk.QueuedServer.{QueuedServer}
 use Rattle.lsp_service.proofs.Keeping.{Clear, clear_same, silent_opened, due_opened, no_request}
 use Rattle.lsp_service.proofs.Owing.{how_many-append, due_one}
-use Rattle.lsp_service.specs.declared.acts.Server.{Ghosts as Stated}
+use Rattle.lsp_service.specs.declared.server.Server.{Ghosts as Stated}
 
 module _ {S P : Type 0} (may : Stated S P) where
   abbrev Goes : Phase → QueuedServer S P → Message → List Message → Phase → QueuedServer S P → Type 0

@@ -12,7 +12,7 @@ use Rattle.lsp_service.specs.QueuedServer.{at_desk}
 use Rattle.lsp_service.specs.View.{desk_of}
 use Rattle.lsp_service.specs.declared.desk.QueuedServer.{QueuedServer}
 use Rattle.lsp_service.proofs.Owing.{due, due_acts}
-use Rattle.lsp_service.specs.declared.acts.Server.{Ghosts as Stated}
+use Rattle.lsp_service.specs.declared.server.Server.{Ghosts as Stated}
 
 pub no_request : (id : Id) (m : Message) → is_initialized m ≡ true → is_request_under id m ≡ false
 no_request id (request i method params) e = absurd (cc (e))

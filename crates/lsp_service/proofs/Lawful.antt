@@ -8,7 +8,7 @@ use Rattle.lsp_service.specs.Law.{KeepsLaws, LawfulSession}
 use Rattle.lsp_service.specs.QueuedServer.{at_desk, held_by, ServerSession}
 use Rattle.lsp_service.specs.View.{desk_of, seen}
 use Rattle.lsp_service.specs.declared.desk.QueuedServer.{QueuedServer}
-use Rattle.lsp_service.specs.declared.acts.Server.{Ghosts as Stated}
+use Rattle.lsp_service.specs.declared.server.Server.{Ghosts as Stated}
 use Rattle.lsp_service.proofs.Counting.{never_more, answered_once}
 use Rattle.lsp_service.proofs.Keeping.{clear_fresh}
 use Rattle.lsp_service.proofs.Taking.{keeps_payloads}

@@ -13,7 +13,7 @@ use Rattle.lsp_service.specs.Law.{one_if, is_request_under, is_reply_under, how_
 use Rattle.lsp_service.specs.QueuedServer.{Works, WorksGiving}
 use Rattle.lsp_service.specs.View.{seen, desk_of}
 use Rattle.lsp_service.specs.declared.desk.QueuedServer.{QueuedServer}
-use Rattle.lsp_service.specs.declared.acts.Server.{Ghosts as Stated}
+use Rattle.lsp_service.specs.declared.server.Server.{Ghosts as Stated}
 
 pub how_many-append : (p : Message → Bool) (xs ys : List Message) → how_many p (xs ++ ys) ≡ how_many p xs + how_many p ys
 how_many-append p [] ys = omega arith

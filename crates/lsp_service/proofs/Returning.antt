@@ -19,7 +19,7 @@ use Rattle.lsp_service.specs.QueuedServer.{Works, WorksGiving, OpensSaying}
 use Rattle.lsp_service.specs.View.{seen, desk_of}
 use Rattle.lsp_service.specs.declared.desk.QueuedServer.{QueuedServer}
 use Rattle.lsp_service.proofs.Desking.{ids_counted}
-use Rattle.lsp_service.specs.declared.acts.Server.{Ghosts as Stated}
+use Rattle.lsp_service.specs.declared.server.Server.{Ghosts as Stated}
 
 pub requests-append : (xs ys : List Message) → requests_in (xs ++ ys) ≡ requests_in xs ++ requests_in ys
 requests-append [] ys = refl

@@ -21,7 +21,7 @@ use Rattle.lsp_service.specs.View.{desk_of}
 use Rattle.lsp_service.specs.declared.desk.QueuedServer.{QueuedServer}
 use Rattle.lsp_service.proofs.Keeping.{Unasked}
 use Rattle.lsp_service.proofs.Returning.{requests-append, GivesAll, part_whole}
-use Rattle.lsp_service.specs.declared.acts.Server.{Ghosts as Stated}
+use Rattle.lsp_service.specs.declared.server.Server.{Ghosts as Stated}
 
 whole_sent : (stop : Stop) → IsWhole stop → IsSent stop
 whole_sent decided whole = tt

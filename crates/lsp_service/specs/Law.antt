@@ -14,7 +14,7 @@ use Rattle.lsp_session.specs.Session.{Exchange, letters_of, sends_of, SessionAns
 use Rattle.lsp_session.specs.SessionLaws.{KeepsOrder}
 use Rattle.lsp_service.specs.Desk.{Act, tells, asks, replies, cancels, is_spent, ids_after, unsent, TakesBack}
 use Rattle.lsp_service.specs.QueuedServer.{ServerSession, held_by}
-use Rattle.lsp_service.specs.declared.acts.Server.{Ghosts as Stated}
+use Rattle.lsp_service.specs.declared.server.Server.{Ghosts as Stated}
 
 abbrev pub one_if : Bool → ℕ
 one_if true = 1

@@ -3,8 +3,8 @@ use Rattle.std.specs.Prelude.{map, List, [], ◌∷◌, Option, Some, None, stri
 use Rattle.serde_json.specs.View.{view}
 use Rattle.lsp_message.specs.View.{message_view, outcome_view}
 use Rattle.lsp_service.specs.Desk.{Desk, Act, tells, asks, replies, cancels}
-use Rattle.lsp_service.specs.declared.acts.Act as rust
-use Rattle.lsp_service.specs.declared.acts.Act.TheVariants.{Tell, Ask, Reply, Cancel}
+use Rattle.lsp_service.specs.declared.server.Act as rust
+use Rattle.lsp_service.specs.declared.server.Act.TheVariants.{Tell, Ask, Reply, Cancel}
 use Rattle.lsp_service.specs.declared.desk.Client.{Client}
 use Rattle.lsp_service.specs.declared.desk.QueuedServer.{QueuedServer}
 

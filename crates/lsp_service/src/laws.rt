@@ -14,7 +14,7 @@ ghost use Rattle.lsp_service.specs.Law.{is_reply_under, how_many, held_under, On
 ghost use Rattle.lsp_service.specs.Turning.{ActsAt};
 ghost use Rattle.lsp_service.specs.QueuedServer.{ServerSession, WorksGiving, held_by};
 
-use crate::acts::Server;
+use crate::server::Server;
 use lsp_session::{Inbox, Outbox};
 
 /// What a session of a server says of its exchanges implies the laws: a fact of each session that was run by `session_with`, with a

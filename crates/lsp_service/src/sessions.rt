@@ -5,7 +5,7 @@ ghost use Rattle.lsp_session.specs.SessionBytes.{Gives};
 ghost use Rattle.lsp_session.specs.SessionRun.{Runs};
 ghost use Rattle.lsp_service.specs.QueuedServer.{ServerSession};
 
-use crate::acts::Server;
+use crate::server::Server;
 use crate::desk::QueuedServer;
 use lsp_session::{
     Inbox, Outbox, ProtocolError, SessionEnd, SessionFault, serve_service,
