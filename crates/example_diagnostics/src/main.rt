@@ -1,16 +1,21 @@
 //! A language server that speaks, over standard input and output: it marks the lines of a document that are too long, as the
 //! user types. How long a line may be it asks its client for, once at the start (`workspace/configuration`, section
 //! `lines`, a number; 80 where there is none). A hover is answered at the next change of a document, so it can be cancelled.
+//!
+//! With the word `threads` it reads in one thread, writes in another and works between them.
 #![tactic(auto)]
+
+mod sessions;
 
 use anyhow::{Result as Answer, bail};
 use lsp_server::{
-    Act, Notification, Request, RequestId, ResponseError, Server, SessionEnd, QueuedServer, session_of_service,
+    Act, Notification, Request, RequestId, ResponseError, Server, SessionEnd,
 };
 use serde_json::{Value, json};
+use sessions::{serve, serve_in_threads};
 use std::alloc::{AllocError, Global};
-use std::io::BufReader;
-use std::{io, mem};
+use std::io::{BufReader, Write};
+use std::{env, io, mem};
 
 /// What a document is checked against, and which hovers wait.
 #[derive(Drop)]
@@ -186,8 +191,23 @@ fn marks(alloc: Global, longest: u64, document: &Document) -> Result<Act<Asked>,
     }))
 }
 
+/// Standard output, for a thread that writes.
+#[derive(Drop)]
+struct Output<R>(R);
+
+impl<R: Print> Write for Output<R> {
+    fn write(&mut self, buf: &[u8]) -> io::Result<usize> {
+        io::writer(&self.0).write(buf)
+    }
+
+    fn flush(&mut self) -> io::Result<()> {
+        io::writer(&self.0).flush()
+    }
+}
+
 fn main(rt: HostRuntime) -> Answer<()> {
     let alloc: Global = rt.alloc();
+    let words: Vec<String> = env::args(&rt)?.skip(1).collect(alloc)?;
     let mut reader = BufReader::with_capacity(alloc, 65536, rt.reader())?;
     let checker = Checker {
         alloc,
@@ -195,8 +215,15 @@ fn main(rt: HostRuntime) -> Answer<()> {
         open: Vec::new(alloc),
         waiting: Vec::new(alloc),
     };
-    let mut working = QueuedServer::new(alloc, checker);
-    match session_of_service(alloc, &mut reader, &mut io::writer(&rt), &mut working)? {
+    let (_, ended) = match words.as_slice() {
+        [] => serve(alloc, &mut reader, &mut io::writer(&rt), checker),
+        [word] if word.as_str() == "threads" => {
+            let (checker, done) = serve_in_threads(&rt, alloc, reader, Output(rt), checker);
+            (checker, done?.answer)
+        }
+        _ => bail!("usage: example_diagnostics [threads]"),
+    };
+    match ended? {
         SessionEnd::ShutDown => Ok(()),
         SessionEnd::Closed => bail!("the client left without a shutdown"),
     }

@@ -14,7 +14,7 @@ mod server;
 mod sums;
 
 use anyhow::{Result, bail};
-use lsp_server::{SessionEnd, QueuedServer, session_of_service};
+use lsp_server::{SessionEnd, session_with};
 use server::Sums;
 use std::alloc::Global;
 use std::io;
@@ -26,8 +26,8 @@ const READ_AHEAD: usize = 65536;
 fn main(rt: HostRuntime) -> Result<()> {
     let alloc: Global = rt.alloc();
     let mut reader = BufReader::with_capacity(alloc, READ_AHEAD, rt.reader())?;
-    let mut working = QueuedServer::new(alloc, Sums::new(alloc));
-    match session_of_service(alloc, &mut reader, &mut io::writer(&rt), &mut working)? {
+    let (_, ended) = session_with(alloc, &mut reader, &mut io::writer(&rt), Sums::new(alloc));
+    match ended? {
         SessionEnd::ShutDown => Ok(()),
         SessionEnd::Closed => bail!("the client left without a shutdown"),
     }

@@ -32,8 +32,8 @@ pub use lsp_session::{
     start_within, wait_within, write_loop,
 };
 pub use lsp_threads::{
-    Builders, PumpFault, StartFault, Threaded, pump, pump_within, run_threads, run_threads_of_service,
-    run_threads_of_service_within, run_threads_within,
+    Builders, PumpFault, StartFault, Threaded, pump, pump_within, run_threads,
+    run_threads_of_service, run_threads_of_service_within, run_threads_within,
 };
 pub use memory::keep_freed_memory;
 pub use relays::{Parcel, RelayRx, RelayTx, relay};

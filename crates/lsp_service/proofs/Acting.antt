@@ -1,5 +1,5 @@
 -- What the server does at a message is all that is sent.
-use Rattle.std.proofs.Common.{◌≡◌, refl, sym, ◌∙◌, ap, Bool, true, false, List, [], ◌∷◌, ◌++◌, append_assoc, append-nil, Option, Some, None}
+use Rattle.std.proofs.Common.{◌≡◌, refl, sym, ◌∙◌, ap, Bool, true, false, List, [], ◌∷◌, ◌++◌, append_assoc, append-nil, arith, Option, Some, None}
 use Rattle.std.specs.FinMap as map
 use Rattle.std.specs.Prelude.{MatchOption, pos, if◌then◌else◌}
 use Rattle.lsp_message.specs.Id.{Id, number}
@@ -14,24 +14,9 @@ use Rattle.lsp_service.specs.declared.server.Server.{Ghosts as Stated}
 module _ {P : Type 0} where
   said_one : (d : Desk P) (act : Act P) → (does d act).said ≡ d.said ++ sends_by d act
   said_one d (tells method params) = refl
-  said_one d (asks method params payload) = at (is_spent (count_of d.asked))
-    where
-      at : (b : Bool) → (if b then d else sends_request d method params payload).said
-          ≡ d.said ++ (if b then [] else request (number (pos (count_of d.asked))) method params ∷ [])
-      at true = sym (append-nil d.said)
-      at false = refl
-  said_one d (replies id outcome) = at (map.contains_key d.held id)
-    where
-      at : (b : Bool) → (if b then (record { held = map.remove d.held id; asked = d.asked; said = d.said ++ response id outcome ∷ [] }) else d).said
-          ≡ d.said ++ (if b then response id outcome ∷ [] else [])
-      at true = refl
-      at false = sym (append-nil d.said)
-  said_one d (cancels z) = at (map.contains_key (pending_of d.asked) (number z))
-    where
-      at : (b : Bool) → (if b then says d (notification cancel_method (cancel_params z)) else d).said
-          ≡ d.said ++ (if b then notification cancel_method (cancel_params z) ∷ [] else [])
-      at true = refl
-      at false = sym (append-nil d.said)
+  said_one d (asks method params payload) = grind (arith, append-nil)
+  said_one d (replies id outcome) = grind (arith, append-nil)
+  said_one d (cancels z) = grind (arith, append-nil)
 
   said_all : (d : Desk P) (acts : List (Act P)) → (does_all d acts).said ≡ d.said ++ all_sends d acts
   said_all d [] = sym (append-nil d.said)

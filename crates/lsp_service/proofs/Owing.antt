@@ -47,25 +47,10 @@ module _ (id : Id) where
 module _ {P : Type 0} (id : Id) where
   -- an act neither adds nor loses what is due
   due_act : (d : Desk P) (act : Act P) → due id (does d act) ≡ due id d
-  due_act d (tells method params) = rw (how_many-append (is_reply_under id) d.said (notification method params ∷ [])) (omega arith)
-  due_act d (asks method params payload) = at (is_spent (count_of d.asked))
-    where
-      at : (b : Bool) → due id (if b then d else sends_request d method params payload) ≡ due id d
-      at true = refl
-      at false = rw (how_many-append (is_reply_under id) d.said _) (omega arith)
-  due_act d (replies i outcome) = at (map.contains_key d.held i) refl
-    where
-      at : (b : Bool) → map.contains_key d.held i ≡ b
-          → due id (if b then (record { held = map.remove d.held i; asked = d.asked; said = d.said ++ response i outcome ∷ [] }) else d) ≡ due id d
-      at true there =
-          let one = answered id d.held i (eq_by_cmp id_cmp id i) refl there in
-          rw (how_many-append (is_reply_under id) d.said (response i outcome ∷ []), held_remove id d.held i) (omega (arith, one))
-      at false there = refl
-  due_act d (cancels z) = at (map.contains_key (pending_of d.asked) (number z))
-    where
-      at : (b : Bool) → due id (if b then says d (notification cancel_method (cancel_params z)) else d) ≡ due id d
-      at true = rw (how_many-append (is_reply_under id) d.said (notification cancel_method (cancel_params z) ∷ [])) (omega arith)
-      at false = refl
+  due_act d (tells method params) = grind (arith, how_many-append)
+  due_act d (asks method params payload) = grind (arith, how_many-append)
+  due_act d (replies i outcome) = grind (arith, how_many-append, held_remove, answered)
+  due_act d (cancels z) = grind (arith, how_many-append)
 
   -- nor does the default answer
   due_settled : (d : Desk P) (cancelled : Option Id) → due id (settles d cancelled) ≡ due id d

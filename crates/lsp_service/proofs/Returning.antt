@@ -14,7 +14,7 @@ use Rattle.lsp_message.specs.Message.{Message, ErrorObject, request, notificatio
 use Rattle.lsp_queue.specs.Queue.{Asked, pending_of, count_of}
 use Rattle.lsp_session.specs.Session.{Exchange, letters_of, sends_of, Stop, is_served}
 use Rattle.lsp_service.specs.Desk.{Act, tells, asks, replies, cancels, settles, canceled, cancelled_by, cancel_method, cancel_params, Desk, is_spent, sends_request, does, does_all, ids_after, unsent, holds, given, says, TakesBack, Acts}
-use Rattle.lsp_service.specs.Law.{is_reply_under, Sent, Turn, requests_in, request_of, ids_after_all, sent_by, all_sent, kept_under, acts_of, was_given, GivesOwnPayloads, Handed, TakesTurns, IsUnserved, IsWhole, TakesPart}
+use Rattle.lsp_service.specs.Law.{is_reply_under, Sent, Turn, requests_in, request_of, ids_after_all, sent_by, all_sent, kept_under, acts_of, was_given, brings, GivesOwnPayloads, Handed, TakesTurns, IsUnserved, IsWhole, TakesPart}
 use Rattle.lsp_service.specs.QueuedServer.{Works, WorksGiving, OpensSaying}
 use Rattle.lsp_service.specs.View.{seen, desk_of}
 use Rattle.lsp_service.specs.declared.desk.QueuedServer.{QueuedServer}
@@ -57,22 +57,9 @@ module _ {P : Type 0} where
   -- what an act says of requests is what it sends
   said_one : (d : Desk P) (act : Act P) → requests_in (does d act).said ≡ requests_in d.said ++ map_list request_of (sent_by (count_of d.asked) act)
   said_one d (tells method params) = requests-append d.said (notification method params ∷ [])
-  said_one d (asks method params payload) = at (is_spent (count_of d.asked))
-    where
-      at : (b : Bool) → requests_in (if b then d else sends_request d method params payload).said
-          ≡ requests_in d.said ++ map_list request_of (if b then [] else record { id = number (pos (count_of d.asked)); method = method; params = params; payload = payload } ∷ [])
-      at true = sym (append-nil (requests_in d.said))
-      at false = requests-append d.said (request (number (pos (count_of d.asked))) method params ∷ [])
-  said_one d (replies id outcome) = at (map.contains_key d.held id)
-    where
-      at : (b : Bool) → requests_in (if b then (record { held = map.remove d.held id; asked = d.asked; said = d.said ++ response id outcome ∷ [] }) else d).said ≡ requests_in d.said ++ []
-      at true = requests-append d.said (response id outcome ∷ [])
-      at false = sym (append-nil (requests_in d.said))
-  said_one d (cancels z) = at (map.contains_key (pending_of d.asked) (number z))
-    where
-      at : (b : Bool) → requests_in (if b then says d (notification cancel_method (cancel_params z)) else d).said ≡ requests_in d.said ++ []
-      at true = requests-append d.said (notification cancel_method (cancel_params z) ∷ [])
-      at false = sym (append-nil (requests_in d.said))
+  said_one d (asks method params payload) = grind (arith, append-nil, requests-append)
+  said_one d (replies id outcome) = grind (arith, append-nil, requests-append)
+  said_one d (cancels z) = grind (arith, append-nil, requests-append)
 
   pub said_all : (d : Desk P) (acts : List (Act P)) → requests_in (does_all d acts).said ≡ requests_in d.said ++ map_list request_of (all_sent (count_of d.asked) acts)
   said_all d [] = sym (append-nil (requests_in d.said))
@@ -87,27 +74,15 @@ module _ {P : Type 0} where
 
   kept-append : (id : Id) (xs ys : List (Sent P)) → kept_under id (xs ++ ys) ≡ or_kept (kept_under id xs) (kept_under id ys)
   kept-append id [] ys = refl
-  kept-append id (x ∷ xs) ys = at (kept-append id xs ys) (eq_by_cmp id_cmp id x.id)
-    where
-      at : kept_under id (xs ++ ys) ≡ or_kept (kept_under id xs) (kept_under id ys) → (b : Bool) → (if b then Some x.payload else kept_under id (xs ++ ys)) ≡ or_kept (if b then Some x.payload else kept_under id xs) (kept_under id ys)
-      at more true = refl
-      at more false = more
+  kept-append id (x ∷ xs) ys = let more = kept-append id xs ys in grind (arith, more)
 
   given-push : (id : Id) (turns : List (Turn P)) (turn : Turn P) → was_given id (turns ++ turn ∷ []) ≡ (was_given id turns || (is_some turn.payload && is_reply_under id turn.letter))
-  given-push id [] turn = at (is_some turn.payload && is_reply_under id turn.letter)
-    where
-      at : (b : Bool) → (b || false) ≡ b
-      at true = refl
-      at false = refl
-  given-push id (t ∷ turns) turn = at (given-push id turns turn) (is_some t.payload && is_reply_under id t.letter)
-    where
-      at : was_given id (turns ++ turn ∷ []) ≡ (was_given id turns || (is_some turn.payload && is_reply_under id turn.letter)) → (b : Bool) → (b || was_given id (turns ++ turn ∷ [])) ≡ ((b || was_given id turns) || (is_some turn.payload && is_reply_under id turn.letter))
-      at more true = refl
-      at more false = more
+  given-push id [] turn = grind arith
+  given-push id (t ∷ turns) turn = let more = given-push id turns turn in grind (arith, more)
 
   -- the queue has what these requests kept, but for the replies that were given
   pub record Agrees (sent : List (Sent P)) (before : List (Turn P)) (asked : Asked P) : Type 0 where
-    pub pending : (id : Id) → map.get (pending_of asked) id ≡ (if was_given id before then None else kept_under id sent)
+    pub pending : (id : Id) → map.get (pending_of asked) id ≡ brings id sent before
     pub fresh : (n : ℕ) → count_of asked ≤ n → kept_under (number (pos n)) sent ≡ None
     pub ungiven : (n : ℕ) → count_of asked ≤ n → was_given (number (pos n)) before ≡ false
 
@@ -143,11 +118,10 @@ module _ {P : Type 0} where
           let none : kept_under id sent ≡ None = ap (λ i. kept_under i sent) same ∙ agrees.fresh (count_of asked) (omega arith) in
           rw (ungiven, kept-append id sent (one ∷ []), none, kept_one id true e) refl
       at id false e =
-          agrees.pending id ∙ ap (λ o. if was_given id before then None else o) (sym (kept-append id sent (one ∷ []) ∙ ap (or_kept (kept_under id sent)) (kept_one id false e) ∙ or_none (kept_under id sent)))
-        where
-          or_none : (o : Option P) → or_kept o None ≡ o
-          or_none None = refl
-          or_none (Some x) = refl
+          let kept = kept-append id sent (one ∷ []) in
+          let others : kept_under id (one ∷ []) ≡ None = kept_one id false e in
+          let before = agrees.pending id in
+          grind (arith, kept, others, before)
 
   agrees_act : (sent : List (Sent P)) (before : List (Turn P)) (d : Desk P) (act : Act P) → Agrees sent before d.asked
       → Agrees (sent ++ sent_by (count_of d.asked) act) before (does d act).asked
@@ -158,16 +132,14 @@ module _ {P : Type 0} where
           (if b then d else sends_request d method params payload).asked
       at true = agrees_none sent before d.asked agrees
       at false = agrees_asked sent before d.asked method params payload agrees
-  agrees_act sent before d (replies id outcome) agrees = at (map.contains_key d.held id)
+  agrees_act sent before d (replies id outcome) agrees = rw same_asked (agrees_none sent before d.asked agrees)
     where
-      at : (b : Bool) → Agrees (sent ++ []) before (if b then (record { held = map.remove d.held id; asked = d.asked; said = d.said ++ response id outcome ∷ [] }) else d).asked
-      at true = agrees_none sent before d.asked agrees
-      at false = agrees_none sent before d.asked agrees
-  agrees_act sent before d (cancels z) agrees = at (map.contains_key (pending_of d.asked) (number z))
+      same_asked : (does d (replies id outcome)).asked ≡ d.asked
+      same_asked = grind arith
+  agrees_act sent before d (cancels z) agrees = rw same_asked (agrees_none sent before d.asked agrees)
     where
-      at : (b : Bool) → Agrees (sent ++ []) before (if b then says d (notification cancel_method (cancel_params z)) else d).asked
-      at true = agrees_none sent before d.asked agrees
-      at false = agrees_none sent before d.asked agrees
+      same_asked : (does d (cancels z)).asked ≡ d.asked
+      same_asked = grind arith
 
   agrees_acts : (sent : List (Sent P)) (before : List (Turn P)) (d : Desk P) (acts : List (Act P)) → Agrees sent before d.asked
       → Agrees (sent ++ all_sent (count_of d.asked) acts) before (does_all d acts).asked
@@ -177,12 +149,8 @@ module _ {P : Type 0} where
       let more = agrees_acts (sent ++ one) before (does d act) acts (agrees_act sent before d act agrees) in
       rw (sym (append_assoc sent one (all_sent (ids_after (count_of d.asked) act) acts))) (rw (ids_counted d act) at more)
 
-  -- what a reply under an id that came next would bring
-  abbrev due_under : Id → List (Sent P) → List (Turn P) → Option P
-  due_under id sent before = if was_given id before then None else kept_under id sent
-
   abbrev FitsOne : List (Sent P) → List (Turn P) → Turn P → Type 0
-  FitsOne sent before turn = (id : Id) → is_reply_under id turn.letter ≡ true → turn.payload ≡ due_under id sent before
+  FitsOne sent before turn = (id : Id) → is_reply_under id turn.letter ≡ true → turn.payload ≡ brings id sent before
 
   abbrev Fits : ℕ → List (Sent P) → List (Turn P) → List (Turn P) → Type 0
   Fits count sent before [] = Unit {0}
@@ -202,28 +170,8 @@ module _ {P : Type 0} where
       ) more
 
   own_payloads : (begun : List (Act P)) (turns : List (Turn P)) → Fits (ids_after_all 0 begun) (all_sent 0 begun) [] turns → GivesOwnPayloads begun turns
-  own_payloads begun turns fits = record {
-    own = λ before after turn id payload cut under came. own_of (was_given id before) (kept_under id (all_sent 0 (begun ++ acts_of before))) payload (sym came ∙ at before after turn id cut under);
-    once = λ before after turn id payload cut under came. once_of (was_given id before) (kept_under id (all_sent 0 (begun ++ acts_of before))) payload (sym came ∙ at before after turn id cut under);
-    nobody = λ before after turn id cut under came. nobody_of (was_given id before) (kept_under id (all_sent 0 (begun ++ acts_of before))) (sym came ∙ at before after turn id cut under);
-  }
-    where
-      at : (before after : List (Turn P)) (turn : Turn P) (id : Id) → turns ≡ before ++ turn ∷ after → is_reply_under id turn.letter ≡ true
-          → turn.payload ≡ due_under id (all_sent 0 (begun ++ acts_of before)) before
-      at before after turn id cut under =
-          rw (sent-append 0 begun (acts_of before)) (fits_at (ids_after_all 0 begun) (all_sent 0 begun) [] before after turn (rw cut at fits) id under)
-
-      own_of : (b : Bool) (kept : Option P) (payload : P) → Some payload ≡ (if b then None else kept) → kept ≡ Some payload
-      own_of true kept payload e = absurd (cc (e))
-      own_of false kept payload e = sym e
-
-      once_of : (b : Bool) (kept : Option P) (payload : P) → Some payload ≡ (if b then None else kept) → b ≡ false
-      once_of true kept payload e = absurd (cc (e))
-      once_of false kept payload e = refl
-
-      nobody_of : (b : Bool) (kept : Option P) → None ≡ (if b then None else kept) → (kept ≡ None) ⊎ (b ≡ true)
-      nobody_of true kept e = inr refl
-      nobody_of false kept e = inl (sym e)
+  own_payloads begun turns fits before after turn id cut under =
+      rw (sent-append 0 begun (acts_of before)) (fits_at (ids_after_all 0 begun) (all_sent 0 begun) [] before after turn (rw cut at fits) id under)
 
   -- a turn in which nothing came
   agrees_other : (sent : List (Sent P)) (before : List (Turn P)) (asked : Asked P) (turn : Turn P) → turn.payload ≡ None → Agrees sent before asked
@@ -234,12 +182,8 @@ module _ {P : Type 0} where
     ungiven = λ n more. same (number (pos n)) ∙ agrees.ungiven n more;
   }
     where
-      plain : (b : Bool) → (b || false) ≡ b
-      plain true = refl
-      plain false = refl
-
       same : (id : Id) → was_given id (before ++ turn ∷ []) ≡ was_given id before
-      same id = given-push id before turn ∙ rw none (plain (was_given id before))
+      same id = let push = given-push id before turn in grind (arith, push, none)
 
   -- a turn in which a reply came
   agrees_given : (sent : List (Sent P)) (before : List (Turn P)) (asked : Asked P) (turn : Turn P) (i : Id) (outcome : Result Data ErrorObject) (payload : P)

@@ -124,19 +124,17 @@ module _ {P : Type 0} where
   was_given id [] = false
   was_given id (turn ∷ turns) = (is_some turn.payload && is_reply_under id turn.letter) || was_given id turns
 
+  -- What a reply under this id brings to the server, after these requests and turns: what was kept with the request that was sent
+  -- under its id. After a first reply it brings nothing, and reaches nobody.
+  abbrev pub brings : Id → List (Sent P) → List (Turn P) → Option P
+  brings id sent before = if was_given id before then None else kept_under id sent
+
   -- Of these turns, which follow what was done at `initialized`: each reply of the client comes to the server with the payload of
-  -- its own request, once.
-  pub record GivesOwnPayloads (begun : List (Act P)) (turns : List (Turn P)) : Type 0 where
-    -- a reply that came to the server brought what was kept with the request that was sent under its id before
-    pub own : (before after : List (Turn P)) (turn : Turn P) (id : Id) (payload : P) → turns ≡ before ++ turn ∷ after
-        → is_reply_under id turn.letter ≡ true → turn.payload ≡ Some payload → kept_under id (all_sent 0 (begun ++ acts_of before)) ≡ Some payload
-    -- and nothing had come under that id before
-    pub once : (before after : List (Turn P)) (turn : Turn P) (id : Id) (payload : P) → turns ≡ before ++ turn ∷ after
-        → is_reply_under id turn.letter ≡ true → turn.payload ≡ Some payload → was_given id before ≡ false
-    -- a reply that reached nobody was one to no such request, or not the first
-    pub nobody : (before after : List (Turn P)) (turn : Turn P) (id : Id) → turns ≡ before ++ turn ∷ after
-        → is_reply_under id turn.letter ≡ true → turn.payload ≡ None
-        → (kept_under id (all_sent 0 (begun ++ acts_of before)) ≡ None) ⊎ (was_given id before ≡ true)
+  -- its own request, once. One to no such request, or not the first, reaches nobody.
+  abbrev pub GivesOwnPayloads : List (Act P) → List (Turn P) → Type 0
+  GivesOwnPayloads begun turns =
+      (before after : List (Turn P)) (turn : Turn P) (id : Id) → turns ≡ before ++ turn ∷ after → is_reply_under id turn.letter ≡ true
+      → turn.payload ≡ brings id (all_sent 0 (begun ++ acts_of before)) before
 
 abbrev pub is_request : Message → Bool
 is_request (request i method params) = true
