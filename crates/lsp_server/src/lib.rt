@@ -17,7 +17,7 @@ mod stdio;
 pub use channels::Connection;
 pub use lsp_message::{
     ErrorCode, ExtractError, Front, Message, Notification, ReadFault, Request, RequestId, Response,
-    ResponseError, WriteFault, front, write_frames,
+    ResponseError, WriteFault, front, read_as, write_as, write_frames,
 };
 pub use lsp_peers::{Link, Outcome, Side, Step, World, WorldFault};
 pub use lsp_queue::{Incoming, Outgoing, RegisterFault, ReqQueue};
