@@ -5,14 +5,13 @@ use Rattle.std.proofs.lemmas.List.Elements.{filter_map-append}
 use Rattle.lsp_message.specs.Id.{Id}
 use Rattle.lsp_message.specs.Message.{Message, request, notification, response}
 use Rattle.lsp_session.proofs.Starting.{AllZip-append}
-use Rattle.lsp_session.specs.Answered.{RepliesTo, RepliesToEach, requests_of, AnswersAll, ReadsNoMore, AnswersRequests}
+use Rattle.lsp_session.specs.Answered.{RepliesTo, RepliesToEach, requests_of, AllReplied, AnswersRequests}
 use Rattle.lsp_session.specs.ProtocolError.{ProtocolFault, is_disconnected, ShowsUnallowed}
-use Rattle.lsp_session.specs.Service.{Behavior}
+use Rattle.lsp_session.specs.Session.{Behavior}
 use Rattle.lsp_session.specs.Session.{Exchange, letters_of, sends_of, request_id, SessionAnswer, Stop, Phase, starting, replied as in_reply, serving, asked, ended, null_of, Stops, SessionOut, refused}
-use Rattle.lsp_session.specs.SessionLaws.{AllReplied, EndsWithResult, IsInvited, IsUnopened, KeepsOrder, is_reply, OpenedBy}
+use Rattle.lsp_session.specs.SessionLaws.{EndsWithResult, IsInvited, IsUnopened, KeepsOrder, is_reply, OpenedBy}
 use Rattle.lsp_session.proofs.SessionSteps.{sends_both}
 use Rattle.lsp_session.specs.declared.lifecycle.SendFault.{SendFault}
-use Rattle.lsp_session.specs.declared.loops.stream_session.SessionFault.TheVariants.{Protocol}
 
 -- ---- a client that is gone
 
@@ -20,10 +19,10 @@ still_there : (fault : ProtocolFault) → is_disconnected fault ≡ true → Sho
 still_there fault lost (inl shows) = let e = (rw shows.1 at lost) in cc (e)
 still_there fault lost (inr shows) = let e = (rw shows.1 at lost) in cc (e)
 
-pub all_answered : (limit : ℕ) (text : List ℕ) (left old new : Option (List ℕ)) (fault : ProtocolFault) → is_disconnected fault ≡ true
-    → AnswersRequests limit text left old new (Err (Protocol fault)) → AnswersAll limit text left old new (ReadsNoMore limit text left old new)
-all_answered limit text left old new fault lost (inl all) = all
-all_answered limit text left old new fault lost (inr last) = absurd (still_there fault lost last.unallowed)
+pub all_answered : (xs : List Exchange) (stop : Stop) (null : Option Message) (fault : ProtocolFault) → is_disconnected fault ≡ true
+    → AnswersRequests xs stop null (Err fault) → AllReplied xs
+all_answered xs stop null fault lost (inl all) = all
+all_answered xs stop null fault lost (inr last) = absurd (still_there fault lost last.unallowed)
 
 -- ---- a message that was refused
 

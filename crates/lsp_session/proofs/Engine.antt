@@ -10,15 +10,15 @@ use Rattle.serde_json.specs.Data.{Data}
 use Rattle.lsp_message.specs.Id.{Id}
 use Rattle.lsp_message.specs.Letters.{is_exit}
 use Rattle.lsp_message.specs.Message.{Message, request, notification, response}
-use Rattle.lsp_session.proofs.SessionRuns.{letters_waited, open_waited, open_both, brings_after, runs_after, waited_exhausted, waited_closed, waited_decided}
-use Rattle.lsp_session.proofs.SessionSteps.{letters_both, sends_both, IsWhole, IsOpen, answer_at_end, open_null, stops_at_end, stops_refused, steps_both, one_step, reaches_whole, from_after}
+use Rattle.lsp_session.proofs.SessionRuns.{letters_waited, all_open, open_waited, open_both, brings_after, runs_after, gets_last, waited}
+use Rattle.lsp_session.proofs.SessionSteps.{letters_both, sends_both, IsWhole, IsOpen, answer_at_end, of_open, steps_both, one_step, reaches_whole, from_after}
 use Rattle.lsp_session.proofs.Waiting.{FoldsTo-append}
 use Rattle.lsp_session.specs.Boxes.{Offers, Takes, WaitsFor}
 use Rattle.lsp_session.specs.Event.{Event, message, timeout, closed}
 use Rattle.lsp_session.specs.Outputs.{RefusesOne}
 use Rattle.lsp_session.specs.ProtocolError.{ProtocolFault, out_of_memory}
 use Rattle.lsp_session.specs.Replies.{null_reply}
-use Rattle.lsp_session.specs.Service.{Behavior}
+use Rattle.lsp_session.specs.Session.{Behavior}
 use Rattle.lsp_session.specs.Session.{SessionAnswer, SessionPart, Exchange, letters_of, sends_of, Stop, decided, no_more, timed_out, refused, exhausted, Phase, starting, replied, serving, asked, ended, null_of, is_served, Step, Steps, Stops, SessionFrom}
 use Rattle.lsp_session.specs.SessionRun.{message_in, is_open, Brings, Gets, Runs}
 use Rattle.lsp_session.specs.Shutdown.{ShutdownAnswer, IsNoExit, EventShutsDown, OffersNull, ShutsDown, ShutsDownAt}
@@ -33,14 +33,6 @@ shut_answer (Err e) = Err e
 -- the answer of `shutdown` to another request
 abbrev passed_on : ShutdownAnswer
 passed_on = Ok false
-
-gets_null : {O : Type 0} (sends : O → Message → Result (Unit {0}) SendFault → O → Type 0) (old new : O) (null : Message) (stop : Stop)
-    → IsWhole stop → Offers sends null old new → Gets sends old [] (Some null) stop new
-gets_null sends old new null decided whole offers = (old, refl, offers)
-gets_null sends old new null no_more whole offers = (old, refl, offers)
-gets_null sends old new null timed_out whole offers = (old, refl, offers)
-gets_null sends old new null exhausted whole offers = (old, refl, offers)
-gets_null sends old new null (refused fault) whole offers = absurd whole
 
 module _ {S I O : Type 0} (may : Behavior S)
     (receives : I → Event → I → Type 0) (sends : O → Message → Result (Unit {0}) SendFault → O → Type 0) where
@@ -110,24 +102,29 @@ module _ {S I O : Type 0} (may : Behavior S)
     all = refl;
     awaited = tt;
     got = (new.1, all.taken, refl);
-    part = record { last = p'; after = s'; reached = all.steps; null_is = open_null p' is_open'; stopped = stops_at_end may p' s' is_open' };
+    part = record { last = p'; after = s'; reached = all.steps; null_is = (of_open may p' s' is_open').0; stopped = (of_open may p' s' is_open').1 };
   }
 
   -- the inbox is closed
   pub ends_closed : (p : Phase) (s : S) (i i' : I) (o : O) → IsOpen p → WaitsFor receives i closed i' → Runs receives sends (From p s s) (i, o) (answer_at_end p) (i', o)
-  ends_closed p s i i' o is_open' waits = waited_closed receives sends (From p s s) i i' o (answer_at_end p) waits
-      (record { last = p; after = s; reached = (refl, refl); null_is = open_null p is_open'; stopped = stops_at_end may p s is_open' })
+  ends_closed p s i i' o is_open' waits =
+      waited receives sends (From p s s) i i' o closed [] no_more (answer_at_end p) waits (λ passed all. (letters_waited passed closed all, inl (passed, refl, all_open passed all))) tt refl
+      (record { last = p; after = s; reached = (refl, refl); null_is = (of_open may p s is_open').0; stopped = (of_open may p s is_open').1 })
 
   -- an allocation fails at a message
   pub ends_exhausted : (p : Phase) (s s' : S) (i i' : I) (o : O) (m : Message) → IsOpen p → WaitsFor receives i (message m) i' → Stops may p s exhausted (Err out_of_memory) s'
       → Runs receives sends (From p s s') (i, o) (Err out_of_memory) (i', o)
-  ends_exhausted p s s' i i' o m is_open' waits stops = waited_exhausted receives sends (From p s s') i i' o m (Err out_of_memory) waits
-      (record { last = p; after = s; reached = (refl, refl); null_is = open_null p is_open'; stopped = stops })
+  ends_exhausted p s s' i i' o m is_open' waits stops =
+      waited receives sends (From p s s') i i' o (message m) [] exhausted (Err out_of_memory) waits
+      (λ passed all. (m, letters_waited passed (message m) all, open_waited passed m all)) tt refl
+      (record { last = p; after = s; reached = (refl, refl); null_is = (of_open may p s is_open').0; stopped = stops })
 
   -- a message ends the session
   pub ends_decided : (p : Phase) (s : S) (i i' : I) (o : O) (m : Message) (answer : SessionAnswer) → WaitsFor receives i (message m) i'
       → Step may p s m [] (ended None answer) s → Runs receives sends (From p s s) (i, o) answer (i', o)
-  ends_decided p s i i' o m answer waits step = waited_decided receives sends (From p s s) i i' o m answer waits
+  ends_decided p s i i' o m answer waits step =
+      waited receives sends (From p s s) i i' o (message m) (record { letter = m; said = [] } ∷ []) decided answer waits
+      (λ passed all. (letters_waited passed (message m) all, open_waited passed m all)) tt refl
       (record { last = ended None answer; after = s; reached = one_step may p (ended None answer) s s m [] step; null_is = refl; stopped = (refl, refl) })
 
   -- the outbox refuses one of the messages that are sent for it
@@ -160,8 +157,8 @@ module _ {S I O : Type 0} (may : Behavior S)
         steps = (refl, refl);
         step = rw lost.cut at step;
       };
-      null_is = open_null p' is_open';
-      stopped = stops_refused may p' s' lost.refusal fault is_open' lost.is;
+      null_is = (of_open may p' s' is_open').0;
+      stopped = rw lost.is ((of_open may p' s' is_open').2 lost.refusal);
     };
   }
 
@@ -188,7 +185,7 @@ module _ {S I O : Type 0} (may : Behavior S)
         null = Some (null_reply id);
         all = rw silent refl;
         awaited = (waits.passed, ask, event, rw append_assoc refl, asks);
-        got = gets_null sends o o' (null_reply id) stop whole offers;
+        got = gets_last receives sends o o' (Some (null_reply id)) stop whole offers;
         part = record {
           last = last;
           after = s;
@@ -230,13 +227,6 @@ module _ {S I O : Type 0} (may : Behavior S)
     ]
     ends_shut answer false e other shuts = absurd (other shuts.0)
 
-    ends_shut_down : ShutsDown receives sends id method (i1, o) (Ok true) (i', o') → Runs receives sends (From serving s s) (i, o) (Ok ShutDown) (i', o')
-    ends_shut_down shuts = ends_shut (Ok true) (bytes_eq method (codes "shutdown")) refl (λ e. cc) shuts
-
-    ends_shut_fault : (fault : ProtocolFault) → ShutsDown receives sends id method (i1, o) (Err fault) (i', o')
-        → Runs receives sends (From serving s s) (i, o) (Err fault) (i', o')
-    ends_shut_fault fault shuts = ends_shut (Err fault) (bytes_eq method (codes "shutdown")) refl (λ e. cc) shuts
-
     -- another request touches neither the inbox nor the outbox
     passes_other : (b : Bool) → bytes_eq method (codes "shutdown") ≡ b
         → MatchBool b (OffersNull receives sends id (i1, o) (Ok false) (i', o') ⊎ (◌≡◌ {A = ShutdownAnswer} (Ok false) (Err out_of_memory) × ◌≡◌ {A = I × O} (i', o') (i1, o)))
@@ -266,17 +256,12 @@ module _ {S I O : Type 0} (may : Behavior S)
 
   -- the same of any message
   module _ (s : S) (i i1 i' : I) (o o' : O) where
-    pub shuts_down : (m : Message) → WaitsFor receives i (message m) i1 → ShutsDownAt receives sends m (i1, o) (Ok true) (i', o')
-        → Runs receives sends (From serving s s) (i, o) (Ok ShutDown) (i', o')
-    shuts_down (request id method params) waits shuts = ends_shut_down s i i1 i' o o' id method params waits shuts
-    shuts_down (notification method params) waits shuts = absurd (cc (shuts.0))
-    shuts_down (response id outcome) waits shuts = absurd (cc (shuts.0))
-
-    pub shuts_fault : (m : Message) (fault : ProtocolFault) → WaitsFor receives i (message m) i1 → ShutsDownAt receives sends m (i1, o) (Err fault) (i', o')
-        → Runs receives sends (From serving s s) (i, o) (Err fault) (i', o')
-    shuts_fault (request id method params) fault waits shuts = ends_shut_fault s i i1 i' o o' id method params waits fault shuts
-    shuts_fault (notification method params) fault waits shuts = let e : ◌≡◌ {A = ShutdownAnswer} (Err fault) (Ok false) = shuts.0 in cc
-    shuts_fault (response id outcome) fault waits shuts = let e : ◌≡◌ {A = ShutdownAnswer} (Err fault) (Ok false) = shuts.0 in cc
+    pub shuts_down : (m : Message) (answer : ShutdownAnswer) → (answer ≡ Ok false → ⊥) → WaitsFor receives i (message m) i1
+        → ShutsDownAt receives sends m (i1, o) answer (i', o') → Runs receives sends (From serving s s) (i, o) (shut_answer answer) (i', o')
+    shuts_down (request id method params) answer other waits shuts =
+        ends_shut s i i1 i' o o' id method params waits answer (bytes_eq method (codes "shutdown")) refl other shuts
+    shuts_down (notification method params) answer other waits shuts = absurd (other shuts.0)
+    shuts_down (response id outcome) answer other waits shuts = absurd (other shuts.0)
 
     -- another message goes to the service
     pub is_served_by : (m : Message) → is_exit m ≡ false → WaitsFor receives i (message m) i1 → ShutsDownAt receives sends m (i1, o) (Ok false) (i', o')

@@ -26,56 +26,44 @@ module _ (limit : ℕ) where
     abbrev pub Handed : Option (List ℕ) → Option (List ℕ) → S → S → Type 0
     Handed a b old new = IfSome a (λ text. IsSomeAnd b (λ at. (ms : List Message) × PassesAll limit text ms at × FoldsTo (Takes sends) old ms new))
 
+    -- what follows where both are known
+    known : {R A : List ℕ → Type 0} (a b : Option (List ℕ)) (old new : S) → Handed a b old new → IfSome b A
+        → ((text left : List ℕ) (ms : List Message) → PassesAll limit text ms left → FoldsTo (Takes sends) old ms new → A left → R text) → IfSome a R
+    known None b old new so_far read then = tt
+    known (Some text) None old new so_far read then = absurd so_far
+    known (Some text) (Some left) old new so_far read then = then text left so_far.0 so_far.1 so_far.2 read
+
     module _ {X : Type 0} (view : X → Message) (a b c : Option (List ℕ)) (old mid new : S) (x : X) (so_far : Handed a b old mid)
         (read : IfSome b (λ at. Answers view (Ok (Some x)) c (reading_within limit at))) where
       pub Handed-more : sends mid (view x) (Ok tt) new → is_exit (view x) ≡ false → Handed a c old new
-      Handed-more sent goes = at a b so_far read
-        where
-          at : (a b : Option (List ℕ)) → Handed a b old mid → IfSome b (λ at. Answers view (Ok (Some x)) c (reading_within limit at)) → Handed a c old new
-          at None b so_far read = tt
-          at (Some text) None so_far read = absurd so_far
-          at (Some text) (Some left) so_far read =
-              let passed = FoldsTo-push (Passes limit) text so_far.0 left (view x) (reading_within limit left).rest so_far.1 (begins left (view x) read.0, goes) in
-              let taken = FoldsTo-push (Takes sends) old so_far.0 mid (view x) new so_far.2 sent in
-              rw read.1 (so_far.0 ++ view x ∷ [], passed, taken)
+      Handed-more sent goes = known a b old mid so_far read (λ text left ms passed taken answers.
+          let all = FoldsTo-push (Passes limit) text ms left (view x) (reading_within limit left).rest passed (begins left (view x) answers.0, goes) in
+          rw answers.1 (ms ++ view x ∷ [], all, FoldsTo-push (Takes sends) old ms mid (view x) new taken sent))
 
       pub hands_exit : sends mid (view x) (Ok tt) new → is_exit (view x) ≡ true → IfSome a (λ text. Hands limit sends text old new c Exit)
-      hands_exit sent last = at a b so_far read
-        where
-          at : (a b : Option (List ℕ)) → Handed a b old mid → IfSome b (λ at. Answers view (Ok (Some x)) c (reading_within limit at)) → IfSome a (λ text. Hands limit sends text old new c Exit)
-          at None b so_far read = tt
-          at (Some text) None so_far read = absurd so_far
-          at (Some text) (Some left) so_far read =
-              let taken = FoldsTo-push (Takes sends) old so_far.0 mid (view x) new so_far.2 sent in
-              record {
-                messages = so_far.0 ++ view x ∷ [];
-                rest = (reading_within limit left).rest;
-                letters = (so_far.0, view x, left, refl, so_far.1, begins left (view x) read.0, last);
-                taken = taken;
-                unread = read.1;
-              }
+      hands_exit sent last = known a b old mid so_far read (λ text left ms passed taken answers. record {
+        messages = ms ++ view x ∷ [];
+        rest = (reading_within limit left).rest;
+        letters = (ms, view x, left, refl, passed, begins left (view x) answers.0, last);
+        taken = FoldsTo-push (Takes sends) old ms mid (view x) new taken sent;
+        unread = answers.1;
+      })
 
       refuses : (refusal : msg.Message → SendFault) (back : msg.Message) → sends mid (view x) (Err (refusal back)) new
           → IfSome a (λ text. Refuses limit sends text old new c refusal)
-      refuses refusal back refused = at a b so_far read
-        where
-          at : (a b : Option (List ℕ)) → Handed a b old mid → IfSome b (λ at. Answers view (Ok (Some x)) c (reading_within limit at)) → IfSome a (λ text. Refuses limit sends text old new c refusal)
-          at None b so_far read = tt
-          at (Some text) None so_far read = absurd so_far
-          at (Some text) (Some left) so_far read =
-              record {
-                messages = so_far.0;
-                at = left;
-                passed = so_far.1;
-                next = view x;
-                rest = (reading_within limit left).rest;
-                begins = begins left (view x) read.0;
-                mid = mid;
-                taken = so_far.2;
-                back = back;
-                refused = refused;
-                unread = read.1;
-              }
+      refuses refusal back refused = known a b old mid so_far read (λ text left ms passed taken answers. record {
+        messages = ms;
+        at = left;
+        passed = passed;
+        next = view x;
+        rest = (reading_within limit left).rest;
+        begins = begins left (view x) answers.0;
+        mid = mid;
+        taken = taken;
+        back = back;
+        refused = refused;
+        unread = answers.1;
+      })
 
       pub hands_refused : (fault : SendFault) → sends mid (view x) (Err fault) new → IfSome a (λ text. Hands limit sends text old new c (refused_end fault))
       hands_refused (IsClosed back) refused = refuses IsClosed back refused
@@ -83,36 +71,27 @@ module _ (limit : ℕ) where
 
     module _ {X : Type 0} (view : X → Message) (c : Option (List ℕ)) (old new : S) where
       pub hands_end : (a b : Option (List ℕ)) → Handed a b old new → IfSome b (λ at. Answers view (Ok None) c (reading_within limit at)) → IfSome a (λ text. Hands limit sends text old new c End)
-      hands_end None b so_far read = tt
-      hands_end (Some text) None so_far read = absurd so_far
-      hands_end (Some text) (Some left) so_far read =
-          let end = ap (λ o. record { outcome = o; rest = (reading_within limit left).rest }) read.0 in
-          record {
-            messages = so_far.0;
-            rest = (reading_within limit left).rest;
-            letters = (left, so_far.1, end);
-            taken = so_far.2;
-            unread = read.1;
-          }
-
-      hands_before : (text left : List ℕ) → Handed (Some text) (Some left) old new → StopsWithin c (reading_within limit left) → HandsBefore limit sends text old new c
-      hands_before text left so_far stops = record { messages = so_far.0; at = left; passed = so_far.1; taken = so_far.2; unread = stops }
+      hands_end a b so_far read = known a b old new so_far read (λ text left ms passed taken answers. record {
+        messages = ms;
+        rest = (reading_within limit left).rest;
+        letters = (left, passed, ap (λ o. record { outcome = o; rest = (reading_within limit left).rest }) answers.0);
+        taken = taken;
+        unread = answers.1;
+      })
 
       pub hands_fault : (fault : ReadFault) (a b : Option (List ℕ)) → Handed a b old new → IfSome b (λ at. Answers view (Err fault) c (reading_within limit at))
           → IfSome a (λ text. Hands limit sends text old new c (Fault fault))
-      hands_fault fault None b so_far read = tt
-      hands_fault fault (Some text) None so_far read = absurd so_far
-      hands_fault (Input kind) (Some text) (Some left) so_far read = hands_before text left so_far read
-      hands_fault NoMemory (Some text) (Some left) so_far read = hands_before text left so_far read
-      hands_fault fault (Some text) (Some left) so_far read =
-          let end = ap (λ o. record { outcome = o; rest = (reading_within limit left).rest }) read.0 in
-          record {
-            messages = so_far.0;
-            rest = (reading_within limit left).rest;
-            letters = (left, so_far.1, end);
-            taken = so_far.2;
-            unread = read.1;
-          }
+      hands_fault (Input kind) a b so_far read =
+          known a b old new so_far read (λ text left ms passed taken stops. record { messages = ms; at = left; passed = passed; taken = taken; unread = stops })
+      hands_fault NoMemory a b so_far read =
+          known a b old new so_far read (λ text left ms passed taken stops. record { messages = ms; at = left; passed = passed; taken = taken; unread = stops })
+      hands_fault fault a b so_far read = known a b old new so_far read (λ text left ms passed taken answers. record {
+        messages = ms;
+        rest = (reading_within limit left).rest;
+        letters = (left, passed, ap (λ o. record { outcome = o; rest = (reading_within limit left).rest }) answers.0);
+        taken = taken;
+        unread = answers.1;
+      })
 
     -- and where no more messages are read
     pub hands_on : (old new : S) (a b : Option (List ℕ)) → Handed a b old new → IfSome a (λ text. HandsBefore limit sends text old new b)

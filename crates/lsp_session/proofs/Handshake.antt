@@ -14,7 +14,7 @@ use Rattle.lsp_session.specs.Event.{Event, message, timeout, closed}
 use Rattle.lsp_session.specs.Finish.{FinishAnswer, IsUninvited, EventFinishes, FinishesAt, is_initialized}
 use Rattle.lsp_session.specs.Outputs.{RefusesOne}
 use Rattle.lsp_session.specs.ProtocolError.{ProtocolFault, disconnected, out_of_memory}
-use Rattle.lsp_session.specs.Service.{Behavior}
+use Rattle.lsp_session.specs.Session.{Behavior}
 use Rattle.lsp_session.proofs.SessionSteps.{open_after}
 use Rattle.lsp_session.specs.Session.{SessionAnswer, Exchange, letters_of, sends_of, starting, replied, serving, ended, phase_after, request_id, is_initialize, Step, Steps}
 use Rattle.lsp_session.specs.SessionRun.{message_in, is_open, Runs}
@@ -23,20 +23,8 @@ use Rattle.lsp_session.specs.Turns.{Turn, stopped, got, TakesTurn}
 use Rattle.lsp_session.specs.declared.lifecycle.SendFault.{SendFault}
 use Rattle.lsp_session.specs.declared.loops.handler.SessionEnd.TheVariants.{Closed}
 
--- the answer of a session that `finish` ends
-abbrev as_answer : FinishAnswer → SessionAnswer
-as_answer (Ok u) = Ok Closed
-as_answer (Err e) = Err e
-
--- the answer of a session that the handshake ends
-abbrev answer_of : StartAnswer → SessionAnswer
-answer_of (Ok u) = Ok Closed
-answer_of (Err e) = Err e
-
--- what `initialize` asked
-abbrev found_by : StartAnswer → Option (Id × Data)
-found_by (Ok found) = Some found
-found_by (Err e) = None
+same_fault : {A : Type 0} (e f : ProtocolFault) → ◌≡◌ {A = Result A ProtocolFault} (Err e) (Err f) → e ≡ f
+same_fault e f same = cc
 
 -- the event of a turn
 abbrev event_of : Turn → Option Event
@@ -51,21 +39,16 @@ turn_letters turns = filter_map message_in (filter_map event_of turns)
 abbrev AlwaysYes : {G : Type 0} → G → Bool → G → Type 0
 AlwaysYes old answer new = answer ≡ true
 
--- what is undecided are early letters
-letters_early : (turns : List Turn) → list_all is_undecided turns ≡ true → list_all is_early (turn_letters turns) ≡ true
-letters_early [] all = refl
-letters_early (stopped ∷ turns) all = cc
-letters_early (got closed ∷ turns) all = cc
-letters_early (got timeout ∷ turns) all = letters_early turns all
-letters_early (got (message m) ∷ turns) all = let both = and-true (is_early m) (list_all is_undecided turns) all in rw (both.0, letters_early turns both.1) refl
-
--- and end nothing
-turns_open : (turns : List Turn) → list_all is_undecided turns ≡ true → list_all is_open (filter_map event_of turns) ≡ true
-turns_open [] all = refl
-turns_open (stopped ∷ turns) all = cc
-turns_open (got closed ∷ turns) all = cc
-turns_open (got timeout ∷ turns) all = turns_open turns all
-turns_open (got (message m) ∷ turns) all = let both = and-true (is_early m) (list_all is_undecided turns) all in turns_open turns both.1
+-- what is undecided are early letters, and ends nothing
+early_turns : (turns : List Turn) → list_all is_undecided turns ≡ true → (list_all is_early (turn_letters turns) ≡ true) × (list_all is_open (filter_map event_of turns) ≡ true)
+early_turns [] all = (refl, refl)
+early_turns (stopped ∷ turns) all = cc
+early_turns (got closed ∷ turns) all = cc
+early_turns (got timeout ∷ turns) all = early_turns turns all
+early_turns (got (message m) ∷ turns) all =
+    let both = and-true (is_early m) (list_all is_undecided turns) all in
+    let rest = early_turns turns both.1 in
+    (rw (both.0, rest.0) refl, rest.1)
 
 -- the requests of some turns are those of their letters
 requests_same : (turns : List Turn) → filter_map request_of turns ≡ filter_map request_id (turn_letters turns)
@@ -79,15 +62,13 @@ requests_same (got (message (notification method params)) ∷ turns) = requests_
 
 module _ {G I : Type 0} (receives : I → Event → I → Type 0) where
   -- with an open gate each turn receives an event
-  turns_receive : (turns : List Turn) (g g' : G) (i i' : I) → FoldsTo (TakesTurn (AlwaysYes {G = G}) receives) (g, i) turns (g', i') → FoldsTo receives i (filter_map event_of turns) i'
-  turns_receive [] g g' i i' run = ap (λ (p : G × I). p.1) run
+  turns_receive : (turns : List Turn) (g g' : G) (i i' : I) → FoldsTo (TakesTurn (AlwaysYes {G = G}) receives) (g, i) turns (g', i')
+      → FoldsTo receives i (filter_map event_of turns) i' × (length (filter_map event_of turns) ≡ length turns)
+  turns_receive [] g g' i i' run = (ap (λ (p : G × I). p.1) run, refl)
   turns_receive (stopped ∷ turns) g g' i i' run = cc (run.1.0)
-  turns_receive (got e ∷ turns) g g' i i' run = (run.0.1, run.1.1, turns_receive turns run.0.0 g' run.0.1 i' run.2)
-
-  turns_events : (turns : List Turn) (g g' : G) (i i' : I) → FoldsTo (TakesTurn (AlwaysYes {G = G}) receives) (g, i) turns (g', i') → length (filter_map event_of turns) ≡ length turns
-  turns_events [] g g' i i' run = refl
-  turns_events (stopped ∷ turns) g g' i i' run = cc (run.1.0)
-  turns_events (got e ∷ turns) g g' i i' run = ap (λ n. suc n) (turns_events turns run.0.0 g' run.0.1 i' run.2)
+  turns_receive (got e ∷ turns) g g' i i' run =
+      let rest = turns_receive turns run.0.0 g' run.0.1 i' run.2 in
+      ((run.0.1, run.1.1, rest.0), ap (λ n. suc n) rest.1)
 
 module _ {S : Type 0} (may : Behavior S) where
   -- exchanges, of which these are the messages, and what is sent for them
@@ -133,14 +114,11 @@ decided_turn (got timeout) id params decides = absurd decides
 decided_turn (got (message (response i1 outcome))) id params decides = absurd decides
 decided_turn (got (message (notification method params1))) id params decides = absurd decides.1
 decided_turn (got (message (request id1 method params1))) id params decides =
-    let same : ◌≡◌ {A = Id × Data} (id, params) (id1, params1) = id_same id id1 params params1 decides.1 in
+    let same : ◌≡◌ {A = Id × Data} (id, params) (id1, params1) = same_found (id, params) (id1, params1) decides.1 in
     (method, rw (ap (λ (p : Id × Data). p.0) same, ap (λ (p : Id × Data). p.1) same) refl, decides.0)
   where
-    id_same : (a b : Id) (p q : Data) → ◌≡◌ {A = StartAnswer} (Ok (a, p)) (Ok (b, q)) → ◌≡◌ {A = Id × Data} (a, p) (b, q)
-    id_same a b p q same = some_same (a, p) (b, q) (ap (λ (x : StartAnswer). found_by x) same)
-      where
-        some_same : (x y : Id × Data) → ◌≡◌ {A = Option (Id × Data)} (Some x) (Some y) → x ≡ y
-        some_same x y same = cc
+    same_found : (x y : Id × Data) → ◌≡◌ {A = StartAnswer} (Ok x) (Ok y) → x ≡ y
+    same_found x y same = cc
 
 module _ {S I O : Type 0} (may : Behavior S)
     (receives : I → Event → I → Type 0) (sends : O → Message → Result (Unit {0}) SendFault → O → Type 0) where
@@ -172,12 +150,12 @@ module _ {S I O : Type 0} (may : Behavior S)
     early_goes : (s : S) (count : ℕ) (turns : List Turn) (g g' : G) (i i' : I) (o o' : O) (replies : List Message) → count ≤ length turns
         → Takes_turns (g, i) turns (g', i') → PassesOver sends o turns replies o' → Goes may receives sends count starting s (i, o) starting s (i', o')
     early_goes s count turns g g' i i' o o' replies few taken passed =
-        let early = early_steps may s (turn_letters turns) replies (letters_early turns passed.undecided) (rw (requests_same turns) at passed.each_replied) in
+        let early = early_steps may s (turn_letters turns) replies (early_turns turns passed.undecided).0 (rw (requests_same turns) at passed.each_replied) in
         record {
           events = filter_map event_of turns;
-          many = rw (turns_events receives turns g g' i i' taken) few;
-          still_open = turns_open turns passed.undecided;
-          received = turns_receive receives turns g g' i i' taken;
+          many = rw ((turns_receive receives turns g g' i i' taken).1) few;
+          still_open = (early_turns turns passed.undecided).1;
+          received = (turns_receive receives turns g g' i i' taken).0;
           exchanges = early.exchanges;
           came = early.came;
           taken = rw early.sent at passed.taken;
@@ -233,7 +211,7 @@ module _ {S I O : Type 0} (may : Behavior S)
     ends_run s g g' i i' o stopped fault turn decides = cc (turn.0)
     ends_run s g g' i i' o (got timeout) fault turn decides = absurd decides
     ends_run s g g' i i' o (got closed) fault turn decides =
-        rw (ap (λ (a : StartAnswer). answer_of a) decides) (ends_closed may receives sends starting s i i' o tt (waits_none receives i i' closed turn.1))
+        rw (same_fault fault disconnected decides) (ends_closed may receives sends starting s i i' o tt (waits_none receives i i' closed turn.1))
     ends_run s g g' i i' o (got (message m)) fault turn decides = unexpected s i i' o m fault turn.1 decides
 
     -- the handshake failed
@@ -248,18 +226,15 @@ module _ {S I O : Type 0} (may : Behavior S)
           | inl d ↦ rw d.1 (last_then s s g g' i i' i' o mid mid starts.turns before end.0 starts.replies (Err fault) starts.taken end.1 starts.starts.passed
               (λ g1 i1 turn. ends_run s g1 g' i1 i' mid end.0 fault turn d.0))
           | inr f ↦ elim f [
-            | inl r ↦ rw (fault_same fault (fault_of_refusal r.0) r.2)
+            | inl r ↦ rw (same_fault fault (fault_of_refusal r.0) r.2)
                 (last_then s s g g' i i' i' o mid o' starts.turns before end.0 starts.replies (Err (fault_of_refusal r.0)) starts.taken end.1 starts.starts.passed
                 (λ g1 i1 turn. refused_run s g1 g' i1 i' mid o' end.0 r.0 turn r.1))
-            | inr r ↦ rw (fault_same fault out_of_memory r.3, r.4)
+            | inr r ↦ rw (same_fault fault out_of_memory r.3, r.4)
                 (last_then s s g g' i i' i' o mid mid starts.turns before end.0 starts.replies (Err out_of_memory) starts.taken end.1 starts.starts.passed
                 (λ g1 i1 turn. exhausted_run g1 g' i1 i' mid r.0 (rw r.1 at turn)))
           ]
         ]
       where
-        fault_same : (e f : ProtocolFault) → ◌≡◌ {A = StartAnswer} (Err e) (Err f) → e ≡ f
-        fault_same e f same = cc
-
         exhausted_run : (g g' : G) (i i' : I) (o : O) (m : Message) → TakesTurn (AlwaysYes {G = G}) receives (g, i) (got (message m)) (g', i')
             → Runs receives sends (From may receives sends starting s s) (i, o) (Err out_of_memory) (i', o)
         exhausted_run g g' i i' o m turn = ends_exhausted may receives sends starting s s i i' o m tt (waits_none receives i i' (message m) turn.1) (refl, inl refl)
@@ -332,14 +307,14 @@ module _ {S I O : Type 0} (may : Behavior S)
       finish_run i'' o (message m) fault waits decides = uninvited i'' o m fault (is_initialized m) refl waits decides
       finish_run i'' o timeout fault waits decides = absurd decides
       finish_run i'' o closed fault waits decides =
-          rw (ap (λ (a : FinishAnswer). as_answer a) decides) (ends_closed may receives sends replied s' i' i'' o tt waits)
+          rw (same_fault fault disconnected decides) (ends_closed may receives sends replied s' i' i'' o tt waits)
 
       -- `finish` fails
       pub finish_failed : (i'' : I) (o'' : O) (fault : ProtocolFault) → FinishesAt receives sends (response id (Ok result)) (i', o') (Err fault) (i'', o'')
           → Runs receives sends (From may receives sends starting s s') (i, o) (Err fault) (i'', o'')
       finish_failed i'' o'' fault finishes = elim finishes [
         | inl f ↦ goes_run may receives sends 1 starting replied s s' s' (i, o) (i', o'') (i'', o'') (Err fault) (result_goes o'' f.0) (finish_run i'' o'' f.1 fault f.2 f.3)
-        | inr f ↦ rw (f.3, ap (λ (a : FinishAnswer). as_answer a) f.2) (unanswered (Ok result) o'' f.0 answered f.1)
+        | inr f ↦ rw (f.3, same_fault fault (fault_of_refusal f.0) f.2) (unanswered (Ok result) o'' f.0 answered f.1)
       ]
 
       module _ (i'' : I) (o'' : O) (finishes : FinishesAt receives sends (response id (Ok result)) (i', o') (Ok tt) (i'', o'')) where

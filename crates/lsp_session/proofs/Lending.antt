@@ -7,20 +7,21 @@ use Rattle.serde_json.specs.View.{view}
 use Rattle.lsp_message.specs.Id.{Id}
 use Rattle.lsp_message.specs.Methods.{is_initialized, is_exit}
 use Rattle.lsp_message.specs.Message.{Message, ErrorObject, request, notification, response}
+use Rattle.lsp_session.proofs.Rows.{Row, row, at_initialize, at_initialized, at_served, idle, Idle, early_request, early_note, unasked, uninvited, shuts, leaves, exits, stays}
 use Rattle.lsp_session.specs.HandlerService.{KeepsHandler, lent_handler}
 use Rattle.lsp_session.specs.HandlerSession.{Handles, initialize_result, of_handler}
 use Rattle.lsp_session.specs.ProtocolError.{expected_initialize, expected_initialized, unexpected_in_shutdown}
 use Rattle.lsp_session.specs.Replies.{null_reply}
-use Rattle.lsp_session.specs.Session.{SessionAnswer, Exchange, Stop, decided, no_more, timed_out, refused, exhausted, Phase, starting, replied, serving, asked, ended, phase_after, is_initialize, is_served, Fails, Leaves, Step, Steps, Reaches, Stops, SessionFrom, SessionOut}
+use Rattle.lsp_session.specs.Session.{Behavior, SessionAnswer, Exchange, Stop, decided, no_more, timed_out, refused, exhausted, Phase, starting, replied, serving, asked, ended, phase_after, is_initialize, is_served, Fails, Leaves, Step, Steps, Reaches, Stops, SessionFrom, SessionOut}
 use Rattle.lsp_session.specs.Start.{IsEarlyReply, is_early}
 use Rattle.lsp_session.specs.declared.loops.handler.SessionEnd.TheVariants.{ShutDown}
 use Rattle.lsp_session.specs.declared.loops.handler_service.HandlerService.{HandlerService}
 
 module _ {H : Type 0} (answers : H → Id → List ℕ → Data → Result Data ErrorObject → H → Type 0) (notes : H → List ℕ → Data → H → Type 0) (capabilities : Data) where
-  abbrev lent : Rattle.lsp_session.specs.Service.Behavior (HandlerService H)
+  abbrev lent : Behavior (HandlerService H)
   lent = lent_handler answers notes
 
-  abbrev plain : Rattle.lsp_session.specs.Service.Behavior H
+  abbrev plain : Behavior H
   plain = of_handler answers notes capabilities
 
   -- the capabilities are there until `initialize` is answered
@@ -29,73 +30,33 @@ module _ {H : Type 0} (answers : H → Id → List ℕ → Data → Result Data 
   Has phase s = Unit {0}
 
   -- one letter, and the handler that was lent is still that one
+  has_idle : (p p' : Phase) (s s' : HandlerService H) (m : Message) (sent : List Message) → Has p s → s' ≡ s → Idle p m sent p' → Has p' s'
+  has_idle p p' s s' m sent has same (early_request i method params reply here is early said next) = rw (next, same) (rw here at has)
+  has_idle p p' s s' m sent has same (early_note here mute early said next) = rw (next, same) (rw here at has)
+  has_idle p p' s s' m sent has same (unasked shown here mute said next) = rw next tt
+  has_idle p p' s s' m sent has same (uninvited shown here other said next) = rw next tt
+  has_idle p p' s s' m sent has same (shuts i method params here is asks said next) = rw next tt
+  has_idle p p' s s' m sent has same (leaves here is said next) = rw next tt
+  has_idle p p' s s' m sent has same (exits i here is said next) = rw next tt
+  has_idle p p' s s' m sent has same (stays i shown here other said next) = rw next tt
+
+  row_as : (p p' : Phase) (s s' : HandlerService H) (m : Message) (sent : List Message) → Has p s → Row lent p s m sent p' s'
+      → Step plain p s.handler.now m sent p' s'.handler.now × Has p' s' × (s'.handler.ghost_name ≡ s.handler.ghost_name)
+  row_as p p' s s' m sent has (at_initialize i method params outcome here is asks given said next) =
+      let last : p' ≡ replied = next ∙ ap (λ (x : Result Data ErrorObject). phase_after x) given.0 in
+      let outcome_is = given.0 ∙ ap (λ (x : Data). Ok (initialize_result x)) (rw here at has) in
+      (rw (here, is, asks) (outcome, (outcome_is, given.1.0), said, next), rw last tt, given.1.1)
+  row_as p p' s s' m sent has (at_initialized here is given next) = (rw (here, is) ((given.0, given.1.0), next), rw next tt, given.1.1)
+  row_as p p' s s' m sent has (at_served here is given next) = (rw (here, is) (given.0, next), rw next tt, given.1)
+  row_as p p' s s' m sent has (idle same step row) = (
+    rw (ap (λ (x : HandlerService H). x.handler.now) same) (step H plain s.handler.now),
+    has_idle p p' s s' m sent has same row,
+    ap (λ (x : HandlerService H). x.handler.ghost_name) same,
+  )
+
   step_as : (p p' : Phase) (s s' : HandlerService H) (m : Message) (sent : List Message) → Has p s → Step lent p s m sent p' s'
       → Step plain p s.handler.now m sent p' s'.handler.now × Has p' s' × (s'.handler.ghost_name ≡ s.handler.ghost_name)
-  step_as starting p' s s' (request i method params) sent has step = at (is_initialize (request i method params)) refl step
-    where
-      at : (b : Bool) → is_initialize (request i method params) ≡ b
-          → MatchBool b
-          ((outcome : Result Data ErrorObject) × ((outcome ≡ Ok (initialize_result (view s.capabilities.now))) × KeepsHandler s s')
-          × (sent ≡ response i outcome ∷ []) × (p' ≡ phase_after outcome))
-          ((reply : Message) × IsEarlyReply i reply × (sent ≡ reply ∷ []) × (p' ≡ starting) × (s' ≡ s))
-          → Step plain starting s.handler.now (request i method params) sent p' s'.handler.now × Has p' s' × (s'.handler.ghost_name ≡ s.handler.ghost_name)
-      at true e a =
-          let last : p' ≡ replied = a.3 ∙ ap (λ (x : Result Data ErrorObject). phase_after x) a.1.0 in
-          (rw e (a.0, (a.1.0 ∙ ap (λ (x : Data). Ok (initialize_result x)) has, a.1.1.0), a.2, a.3), rw last tt, a.1.1.1)
-      at false e a = (
-        rw e (a.0, a.1, a.2, a.3, ap (λ (x : HandlerService H). x.handler.now) a.4),
-        rw (a.3, a.4) has,
-        ap (λ (x : HandlerService H). x.handler.ghost_name) a.4,
-      )
-  step_as starting p' s s' (notification method params) sent has step = at p' step.0 step.1
-    where
-      handler_same : s' ≡ s → s'.handler.now ≡ s.handler.now
-      handler_same e = ap (λ (x : HandlerService H). x.handler.now) e
-
-      at : (q : Phase) → MatchBool (is_early (notification method params)) ((sent ≡ []) × (q ≡ starting)) (Fails expected_initialize starting sent q) → s' ≡ s
-          → Step plain starting s.handler.now (notification method params) sent q s'.handler.now × Has q s' × (s'.handler.ghost_name ≡ s.handler.ghost_name)
-      at q first e = ((first, handler_same e), still q, ap (λ (x : HandlerService H). x.handler.ghost_name) e)
-        where
-          still : (q : Phase) → Has q s'
-          still starting = rw e has
-          still replied = tt
-          still serving = tt
-          still (asked i) = tt
-          still (ended null answer) = tt
-  step_as starting p' s s' (response i outcome) sent has step = rw step.0.2 (
-    (
-      (step.0.0, step.0.1, refl),
-      ap (λ (x : HandlerService H). x.handler.now) step.1,
-    ),
-    tt,
-    ap (λ (x : HandlerService H). x.handler.ghost_name) step.1,
-  )
-  step_as replied p' s s' m sent has step = at (is_initialized m) refl step
-    where
-      at : (b : Bool) → is_initialized m ≡ b
-          → MatchBool b (((sent ≡ []) × KeepsHandler s s') × (p' ≡ serving)) (Fails expected_initialized replied sent p' × (s' ≡ s))
-          → Step plain replied s.handler.now m sent p' s'.handler.now × Has p' s' × (s'.handler.ghost_name ≡ s.handler.ghost_name)
-      at true e a = (rw e ((a.0.0, a.0.1.0), a.1), rw a.1 tt, a.0.1.1)
-      at false e a = (rw e (a.0, ap (λ (x : HandlerService H). x.handler.now) a.1), rw a.0.2 tt, ap (λ (x : HandlerService H). x.handler.ghost_name) a.1)
-  step_as serving p' s s' m sent has step = at (is_served m) refl step
-    where
-      leaves : (m : Message) → Leaves m sent p' → Has p' s'
-      leaves (request i method params) a = rw a.1 tt
-      leaves (notification method params) a = rw a.1 tt
-      leaves (response i outcome) a = rw a.1 tt
-
-      at : (b : Bool) → is_served m ≡ b
-          → MatchBool b ((Handles answers notes s.handler.now m sent s'.handler.now × (s'.handler.ghost_name ≡ s.handler.ghost_name)) × (p' ≡ serving)) (Leaves m sent p' × (s' ≡ s))
-          → Step plain serving s.handler.now m sent p' s'.handler.now × Has p' s' × (s'.handler.ghost_name ≡ s.handler.ghost_name)
-      at true e a = (rw e (a.0.0, a.1), rw a.1 tt, a.0.1)
-      at false e a = (rw e (a.0, ap (λ (x : HandlerService H). x.handler.now) a.1), leaves m a.0, ap (λ (x : HandlerService H). x.handler.ghost_name) a.1)
-  step_as (asked id) p' s s' m sent has step =
-      ((step.0, ap (λ (x : HandlerService H). x.handler.now) step.1), at (is_exit m) step.0, ap (λ (x : HandlerService H). x.handler.ghost_name) step.1)
-    where
-      at : (b : Bool) → MatchBool b ((sent ≡ []) × (p' ≡ ended (Some (null_reply id)) (Ok ShutDown))) (Fails unexpected_in_shutdown (asked id) sent p') → Has p' s'
-      at true a = rw a.1 tt
-      at false a = rw a.2 tt
-  step_as (ended null answer) p' s s' m sent has step = absurd step
+  step_as p p' s s' m sent has step = row_as p p' s s' m sent has (row lent p p' s s' m sent step)
 
   steps_as : (p p' : Phase) (s s' : HandlerService H) (xs : List Exchange) → Has p s → Steps lent p s xs p' s'
       → Steps plain p s.handler.now xs p' s'.handler.now × Has p' s' × (s'.handler.ghost_name ≡ s.handler.ghost_name)

@@ -13,6 +13,7 @@ pub mod ListSteps
 pub mod SameTexts
 pub mod Ordering
 pub mod Ran
+pub mod Rows
 pub mod Sending
 pub mod SessionFacts
 pub mod SessionGives

@@ -7,13 +7,13 @@ use Rattle.serde_json.specs.Data.{Data}
 use Rattle.lsp_message.specs.Id.{Id}
 use Rattle.lsp_message.specs.Message.{Message, ErrorObject, request, notification, response}
 use Rattle.lsp_message.specs.Methods.{is_early, is_initialize, is_initialized, is_shutdown, is_exit}
-use Rattle.lsp_session.proofs.Ran.{no_one, part_none, part_one, Ran, reaches_ran}
-use Rattle.lsp_session.specs.Answered.{RepliesToEach, requests_of}
+use Rattle.lsp_session.proofs.Ran.{part_none, part_one, Ran, reaches_ran, stops_by}
+use Rattle.lsp_session.proofs.Rows.{Row, row, at_initialize, at_initialized, at_served, idle, Idle, early_request, early_note, unasked, uninvited, shuts, leaves, exits, stays, IsNoRequest, initialized_no_request, exit_no_request, silent, one_reply}
+use Rattle.lsp_session.specs.Answered.{IsReplied}
 use Rattle.lsp_session.specs.ProtocolError.{ProtocolFault, disconnected, out_of_memory, fault_of_refusal, Shows, ShowsUnallowed, expected_initialize, expected_initialized, unexpected_in_shutdown}
 use Rattle.lsp_session.specs.Replies.{null_reply, IsEarlyReply}
-use Rattle.lsp_session.specs.Service.{Behavior}
-use Rattle.lsp_session.specs.Session.{Exchange, letters_of, sends_of, SessionAnswer, Stop, decided, no_more, timed_out, refused, exhausted, Phase, starting, replied as in_reply, serving, asked, ended, null_of, phase_after, is_served, Fails, Leaves, Step, Stops, SessionOut}
-use Rattle.lsp_session.specs.SessionLaws.{AllReplied, EndsWithResult, IsInvited, IsUnopened, AfterNull, is_no_shutdown, EndsWithNull, HasNoShutdown, KeepsOrder}
+use Rattle.lsp_session.specs.Session.{Behavior, Exchange, letters_of, sends_of, SessionAnswer, Stop, decided, no_more, timed_out, refused, exhausted, Phase, starting, replied as in_reply, serving, asked, ended, null_of, phase_after, is_served, Stops, SessionOut}
+use Rattle.lsp_session.specs.SessionLaws.{EndsWithResult, IsInvited, IsUnopened, AfterNull, is_no_shutdown, EndsWithNull, HasNoShutdown, KeepsOrder}
 use Rattle.lsp_session.specs.declared.lifecycle.SendFault.{SendFault}
 use Rattle.lsp_session.specs.declared.lifecycle.SendFault.TheVariants.{Closed as Shut, Memory as Full}
 use Rattle.lsp_session.specs.declared.loops.handler.SessionEnd.TheVariants.{Closed, ShutDown}
@@ -23,10 +23,10 @@ served_no_shutdown (request i method params) served = (Rattle.lsp_session.proofs
 served_no_shutdown (notification method params) served = refl
 served_no_shutdown (response i outcome) served = refl
 
-initialized_no_shutdown : (m : Message) → is_initialized m ≡ true → is_no_shutdown m ≡ true
-initialized_no_shutdown (request i method params) is = absurd (cc (is))
-initialized_no_shutdown (notification method params) is = refl
-initialized_no_shutdown (response i outcome) is = refl
+no_request_no_shutdown : (m : Message) → IsNoRequest m → is_no_shutdown m ≡ true
+no_request_no_shutdown (request i method params) mute = absurd mute
+no_request_no_shutdown (notification method params) mute = refl
+no_request_no_shutdown (response i outcome) mute = refl
 
 refusal_allowed : (fault : SendFault) → ShowsUnallowed (fault_of_refusal fault) → ⊥
 refusal_allowed (Shut m) (inl shows) = let e : disconnected ≡ expected_initialized shows.0 = shows.1 in cc (e)
@@ -58,22 +58,15 @@ module _ {S : Type 0} (may : Behavior S) (stop : Stop) (null : Option Message) (
   none_serving s s' (refused fault) stops shows = refusal_allowed fault (rw stops.0 at shows)
   none_serving s s' exhausted stops shows = memory_allowed (rw stops at shows)
 
-  ended_decided : (n : Option Message) (by : SessionAnswer) (s s' : S) (stop : Stop) → Stops may (ended n by) s stop answer s' → (stop ≡ decided) × (answer ≡ by)
-  ended_decided n by s s' decided stops = (refl, stops.0)
-  ended_decided n by s s' no_more stops = absurd stops
-  ended_decided n by s s' timed_out stops = absurd stops
-  ended_decided n by s s' (refused fault) stops = absurd stops
-  ended_decided n by s s' exhausted stops = absurd stops
-
   order_end : (p : Phase) (s s' : S) → Stops may p s stop answer s' → null ≡ null_of p → Order p []
   order_end starting s s' stops none = record { early = []; rest = []; cut = refl; replied = tt; opened = inr (tt, none) }
   order_end in_reply s s' stops none = inr (tt, none)
   order_end serving s s' stops none = inl (refl, none, none_serving s s' stop stops)
   order_end (asked i) s s' stops none = (tt, none)
-  order_end (ended n by) s s' stops none = let so = ended_decided n by s s' stop stops in (refl, none, so.0, so.1)
+  order_end (ended n by) s s' stops none = let so = stops_by may (ended n by) s s' stop answer stops in (refl, none, so.0, so.1)
 
   -- one more exchange comes first
-  early_before : (x : Exchange) (xs : List Exchange) → RepliesToEach (requests_of (x.letter ∷ [])) x.said → KeepsOrder xs stop null answer → KeepsOrder (x ∷ xs) stop null answer
+  early_before : (x : Exchange) (xs : List Exchange) → IsReplied x → KeepsOrder xs stop null answer → KeepsOrder (x ∷ xs) stop null answer
   early_before x xs one rest = record {
     early = x ∷ rest.early;
     rest = rest.rest;
@@ -99,18 +92,18 @@ module _ {S : Type 0} (may : Behavior S) (stop : Stop) (null : Option Message) (
   }
 
   -- the message that decided is the last
-  early_ended : (x : Exchange) (xs : List Exchange) → RepliesToEach (requests_of (x.letter ∷ [])) x.said → xs ≡ [] → null ≡ None → KeepsOrder (x ∷ xs) stop null answer
+  early_ended : (x : Exchange) (xs : List Exchange) → IsReplied x → xs ≡ [] → null ≡ None → KeepsOrder (x ∷ xs) stop null answer
   early_ended x xs one over none =
       rw over (early_before x [] one (record { early = []; rest = []; cut = refl; replied = tt; opened = inr (tt, none) }))
 
   -- the result of `initialize`, and what follows it
-  result_before : (i : Id) (method : List ℕ) (params result : Data) (said : List Message) (xs : List Exchange) → is_initialize (request i method params) ≡ true
-      → said ≡ response i (Ok result) ∷ [] → Order in_reply xs → KeepsOrder (record { letter = request i method params; said = said } ∷ xs) stop null answer
-  result_before i method params result said xs e is rest = record {
-    early = record { letter = request i method params; said = said } ∷ [];
+  result_before : (x : Exchange) (xs : List Exchange) (i : Id) (method : List ℕ) (params result : Data) → x.letter ≡ request i method params
+      → is_initialize (request i method params) ≡ true → x.said ≡ response i (Ok result) ∷ [] → Order in_reply xs → KeepsOrder (x ∷ xs) stop null answer
+  result_before x xs i method params result is asks said rest = record {
+    early = x ∷ [];
     rest = xs;
     cut = refl;
-    replied = (rw is ((_, refl), tt), tt);
+    replied = one_reply x i method params _ is said (_, refl);
     opened = elim rest [
       | inl invited ↦ inl ((
         record {
@@ -119,8 +112,8 @@ module _ {S : Type 0} (may : Behavior S) (stop : Stop) (null : Option Message) (
           method = method;
           params = params;
           result = result;
-          asks = e;
-          cut = rw is refl;
+          asks = asks;
+          cut = λ j. record { letter = is j; said = said j } ∷ [];
         },
         invited.0,
         invited.1,
@@ -129,30 +122,6 @@ module _ {S : Type 0} (may : Behavior S) (stop : Stop) (null : Option Message) (
       | inr unopened ↦ inr unopened
     ];
   }
-
-  order_init : (s s' : S) (i : Id) (method : List ℕ) (params : Data) (said full : List Message) (q : Phase) (xs : List Exchange) → (b : Bool)
-      → is_initialize (request i method params) ≡ b → ((r : Message) → full ≡ r ∷ [] → said ≡ r ∷ [])
-      → MatchBool b
-      ((outcome : Result Data ErrorObject) × may.initializes s params outcome s' × (full ≡ response i outcome ∷ []) × (q ≡ phase_after outcome))
-      ((reply : Message) × IsEarlyReply i reply × (full ≡ reply ∷ []) × (q ≡ starting) × (s' ≡ s))
-      → Order q xs → KeepsOrder (record { letter = request i method params; said = said } ∷ xs) stop null answer
-  order_init s s' i method params said full q xs true e one step rest = at step.0 (one (response i step.0) step.2) (rw step.3 at rest)
-    where
-      at : (outcome : Result Data ErrorObject) → said ≡ response i outcome ∷ [] → Order (phase_after outcome) xs
-          → KeepsOrder (record { letter = request i method params; said = said } ∷ xs) stop null answer
-      at (Ok result) is rest = result_before i method params result said xs e is rest
-      at (Err error) is rest = early_before (record { letter = request i method params; said = said }) xs (rw is ((_, refl), tt)) rest
-  order_init s s' i method params said full q xs false e one step rest =
-      early_before (record { letter = request i method params; said = said }) xs (rw (one step.0 step.2) ((_, step.1.is), tt)) (rw step.3 at rest)
-
-  order_note : (method : List ℕ) (params : Data) (said full : List Message) (q : Phase) (xs : List Exchange) → (b : Bool) → (full ≡ [] → said ≡ [])
-      → MatchBool b ((full ≡ []) × (q ≡ starting)) (Fails expected_initialize starting full q)
-      → Order q xs → KeepsOrder (record { letter = notification method params; said = said } ∷ xs) stop null answer
-  order_note method params said full q xs true none step rest =
-      early_before (record { letter = notification method params; said = said }) xs (rw (none step.0) tt) (rw step.1 at rest)
-  order_note method params said full q xs false none step rest =
-      let over : Order (ended None (Err (expected_initialize step.0))) xs = rw step.2 at rest in
-      early_ended (record { letter = notification method params; said = said }) xs (rw (none step.1) tt) over.0 over.1
 
   -- one more exchange from `initialized` on, in which no `shutdown` comes
   later_before : (x : Exchange) (xs : List Exchange) → is_no_shutdown x.letter ≡ true → Later xs → Later (x ∷ xs)
@@ -170,78 +139,59 @@ module _ {S : Type 0} (may : Behavior S) (stop : Stop) (null : Option Message) (
     after_null = last.after_null;
   })
 
-  order_open : (s s' : S) (m : Message) (said full : List Message) (q : Phase) (xs : List Exchange) → (b : Bool) → is_initialized m ≡ b → (full ≡ [] → said ≡ [])
-      → MatchBool b (may.opens s full s' × (q ≡ serving)) (Fails expected_initialized in_reply full q × (s' ≡ s))
-      → Order q xs → Order in_reply (record { letter = m; said = said } ∷ xs)
-  order_open s s' m said full q xs true e none step rest =
-      inl (e, later_before (record { letter = m; said = said }) xs (initialized_no_shutdown m e) (rw step.1 at rest))
-  order_open s s' m said full q xs false e none step rest =
-      let over : Order (ended None (Err (expected_initialized step.0.0))) xs = rw step.0.2 at rest in
-      inr ((over.0, none step.0.1, over.2, rw over.3 (step.0.0, refl)), over.1)
+  module _ (p q : Phase) (s s' : S) (x : Exchange) (full : List Message) (xs : List Exchange)
+      (one : (r : Message) → full ≡ r ∷ [] → x.said ≡ r ∷ []) (none : full ≡ [] → x.said ≡ []) (rest : Order q xs) where
+    order_idle : Idle p x.letter full q → Order p (x ∷ xs)
+    order_idle (early_request i method params reply here is early said next) =
+        rw here (early_before x xs (one_reply x i method params reply is (one reply said) (_, early.is)).0 (rw next at rest))
+    order_idle (early_note here mute early said next) = rw here (early_before x xs (silent x mute (none said)).0 (rw next at rest))
+    order_idle (unasked shown here mute said next) =
+        let over : Order (ended None (Err (expected_initialize shown))) xs = rw next at rest in
+        rw here (early_ended x xs (silent x mute (none said)).0 over.0 over.1)
+    order_idle (uninvited shown here other said next) =
+        let over : Order (ended None (Err (expected_initialized shown))) xs = rw next at rest in
+        rw here (inr ((over.0, none said, over.2, rw over.3 (shown, refl)), over.1))
+    order_idle (shuts i method params here is asks said next) =
+        let after : Order (asked i) xs = rw next at rest in
+        let sent : x.said ≡ null_reply i ∷ [] = one (null_reply i) said in
+        rw here (inr (record {
+          before = [];
+          id = i;
+          method = method;
+          params = params;
+          after = xs;
+          cut = λ j. record { letter = is j; said = sent j } ∷ xs;
+          none_before = refl;
+          asks = asks;
+          is_null = after.1;
+          after_null = after.0;
+        }))
+    order_idle (leaves here is said next) =
+        let over : Order (ended None (Ok Closed)) xs = rw next at rest in
+        rw here (inl (rw (over.0, no_request_no_shutdown x.letter (exit_no_request x.letter is)) refl, over.1, λ shows. (rw over.3 at shows)))
+    order_idle (exits i here is said next) =
+        let over : Order (ended (Some (null_reply i)) (Ok ShutDown)) xs = rw next at rest in
+        rw here ((over.0, none said, over.2, rw is over.3), over.1)
+    order_idle (stays i shown here other said next) =
+        let over : Order (ended (Some (null_reply i)) (Err (unexpected_in_shutdown shown))) xs = rw next at rest in
+        rw here ((over.0, none said, over.2, rw (other, over.3) (shown, refl)), over.1)
 
-  order_leave : (m : Message) (said full : List Message) (q : Phase) (xs : List Exchange) → is_served m ≡ false → ((r : Message) → full ≡ r ∷ [] → said ≡ r ∷ [])
-      → Leaves m full q → Order q xs → Later (record { letter = m; said = said } ∷ xs)
-  order_leave (request i method params) said full q xs other one leaves rest =
-      let after : Order (asked i) xs = rw leaves.1 at rest in
-      let is : said ≡ null_reply i ∷ [] = one (null_reply i) leaves.0 in
-      inr (record {
-        before = [];
-        id = i;
-        method = method;
-        params = params;
-        after = xs;
-        cut = rw is refl;
-        none_before = refl;
-        asks = shuts (is_shutdown (request i method params)) refl other;
-        is_null = after.1;
-        after_null = after.0;
-      })
-    where
-      shuts : (b : Bool) → is_shutdown (request i method params) ≡ b → is_served (request i method params) ≡ false → is_shutdown (request i method params) ≡ true
-      shuts true e other = e
-      shuts false e other = absurd (true≢false (rw e at other))
-  order_leave (notification method params) said full q xs other one leaves rest =
-      let over : Order (ended None (Ok Closed)) xs = rw leaves.1 at rest in
-      inl (rw over.0 refl, over.1, λ shows. (rw over.3 at shows))
-  order_leave (response i outcome) said full q xs other one leaves rest =
-      let over : Order (ended None (Ok Closed)) xs = rw leaves.1 at rest in
-      inl (rw over.0 refl, over.1, λ shows. (rw over.3 at shows))
-
-  order_serve : (s s' : S) (m : Message) (said full : List Message) (q : Phase) (xs : List Exchange) → (b : Bool) → is_served m ≡ b → ((r : Message) → full ≡ r ∷ [] → said ≡ r ∷ [])
-      → MatchBool b (may.gives s m full s' × (q ≡ serving)) (Leaves m full q × (s' ≡ s)) → Order q xs → Later (record { letter = m; said = said } ∷ xs)
-  order_serve s s' m said full q xs true e one step rest =
-      later_before (record { letter = m; said = said }) xs (served_no_shutdown m e) (rw step.1 at rest)
-  order_serve s s' m said full q xs false e one step rest = order_leave m said full q xs e one step.0 rest
-
-  order_exit : (i : Id) (m : Message) (said full : List Message) (q : Phase) (xs : List Exchange) → (b : Bool) → is_exit m ≡ b → (full ≡ [] → said ≡ [])
-      → MatchBool b ((full ≡ []) × (q ≡ ended (Some (null_reply i)) (Ok ShutDown))) (Fails unexpected_in_shutdown (asked i) full q)
-      → Order q xs → Order (asked i) (record { letter = m; said = said } ∷ xs)
-  order_exit i m said full q xs true e none step rest =
-      let over : Order (ended (Some (null_reply i)) (Ok ShutDown)) xs = rw step.1 at rest in
-      ((over.0, none step.0, over.2, rw e over.3), over.1)
-  order_exit i m said full q xs false e none step rest =
-      let over : Order (ended (Some (null_reply i)) (Err (unexpected_in_shutdown step.0))) xs = rw step.2 at rest in
-      ((over.0, none step.1, over.2, rw (e, over.3) (step.0, refl)), over.1)
-
-  order_one : (p q : Phase) (s s' : S) (m : Message) (said full : List Message) (xs : List Exchange) → ((r : Message) → full ≡ r ∷ [] → said ≡ r ∷ []) → (full ≡ [] → said ≡ [])
-      → Step may p s m full q s' → Order q xs → Order p (record { letter = m; said = said } ∷ xs)
-  order_one starting q s s' (request i method params) said full xs one none step rest =
-      order_init s s' i method params said full q xs (is_initialize (request i method params)) refl one step rest
-  order_one starting q s s' (notification method params) said full xs one none step rest =
-      order_note method params said full q xs (is_early (notification method params)) none step.0 rest
-  order_one starting q s s' (response i outcome) said full xs one none step rest =
-      let over : Order (ended None (Err (expected_initialize step.0.0))) xs = rw step.0.2 at rest in
-      early_ended (record { letter = response i outcome; said = said }) xs (rw (none step.0.1) tt) over.0 over.1
-  order_one in_reply q s s' m said full xs one none step rest = order_open s s' m said full q xs (is_initialized m) refl none step rest
-  order_one serving q s s' m said full xs one none step rest = order_serve s s' m said full q xs (is_served m) refl one step rest
-  order_one (asked i) q s s' m said full xs one none step rest = order_exit i m said full q xs (is_exit m) refl none step.0 rest
-  order_one (ended n by) q s s' m said full xs one none step rest = absurd step
+    order_row : Row may p s x.letter full q s' → Order p (x ∷ xs)
+    order_row (at_initialize i method params outcome here is asks given said next) = rw here (first outcome (one _ said) (rw next at rest))
+      where
+        first : (outcome : Result Data ErrorObject) → x.said ≡ response i outcome ∷ [] → Order (phase_after outcome) xs → KeepsOrder (x ∷ xs) stop null answer
+        first (Ok result) said rest = result_before x xs i method params result is asks said rest
+        first (Err error) said rest = early_before x xs (one_reply x i method params _ is said (_, refl)).0 rest
+    order_row (at_initialized here is given next) =
+        rw here (inl (is, later_before x xs (no_request_no_shutdown x.letter (initialized_no_request x.letter is)) (rw next at rest)))
+    order_row (at_served here is given next) = rw here (later_before x xs (served_no_shutdown x.letter is) (rw next at rest))
+    order_row (idle same step row) = order_idle row
 
   order : (p q : Phase) (s after s' : S) (xs : List Exchange) → Ran may stop p s xs q after → Stops may q after stop answer s' → null ≡ null_of q → Order p xs
   order p q s after s' [] run stops kept = order_end p s s' (rw (run.0, run.1) at stops) (rw run.0 at kept)
   order p q s after s' (x ∷ xs) run stops kept =
-      order_one p run.4 s run.5 x.letter x.said run.0 xs (λ r e. part_one x.said run.1 run.0 r run.2 run.3 e) (λ e. part_none x.said run.1 run.0 run.2 e) run.6
-      (order run.4 q run.5 after s' xs run.8 stops kept)
+      order_row p run.4 s run.5 x run.0 xs (λ r e. part_one x.said run.1 run.0 r run.2 run.3 e) (λ e. part_none x.said run.1 run.0 run.2 e)
+      (order run.4 q run.5 after s' xs run.8 stops kept) (row may p run.4 s run.5 x.letter run.0 run.6)
 
 -- a session keeps its order
 pub keeps_order : {S : Type 0} (may : Behavior S) (s s' : S) (xs : List Exchange) (stop : Stop) (null : Option Message) (answer : SessionAnswer)

@@ -22,7 +22,7 @@ use Rattle.lsp_session.specs.Event.{Event, closed}
 use Rattle.lsp_session.specs.FrameBoxes.{FrameOutboxSends}
 use Rattle.lsp_session.specs.ProtocolError.{out_of_memory}
 use Rattle.lsp_session.specs.Session.{Exchange, letters_of, sends_of, SessionAnswer, SessionPart, Stop, decided, no_more, timed_out, refused, exhausted}
-use Rattle.lsp_session.specs.SessionBytes.{BeginsWith, BreaksOffLast, GetsFirst, IsUnsent, LeftAfter, FailedAfter, LeftUnwritten, Gives}
+use Rattle.lsp_session.specs.SessionBytes.{BeginsWith, GetsFirst, IsUnsent, LeftAfter, Ends, Gives}
 use Rattle.lsp_session.specs.SessionFault.{ran_out, came_to_no_more, plain_answer, read_fault, read_answer, session_answer}
 use Rattle.lsp_session.specs.SessionRun.{message_in, is_open, all_of, Brings, Runs}
 use Rattle.lsp_session.specs.StreamBoxes.{stream_of, StreamInboxGives}
@@ -58,7 +58,7 @@ module _ (limit : ℕ) where
 
     -- a write failed
     write_fails : (left : Option (List ℕ)) (stop : Stop) (answer : SessionAnswer) (kind : ErrorKind) → P xs stop null answer
-        → (at : List ℕ) × BeginsWith limit text (letters_of xs) at × LeftUnwritten limit null at left → IsUnsent stop null → BreaksOffLast (sends_of xs) a b
+        → (at : List ℕ) × BeginsWith limit text (letters_of xs) at × Ends limit left (Err (Write (Output kind))) answer stop null at → IsUnsent stop null → GetsPart (Output kind) (sends_of xs) a b
         → Gives limit P text left a b (Err (Write (Output kind)))
     write_fails left stop answer kind part read unsent wrote = record {
       exchanges = xs;
@@ -69,7 +69,7 @@ module _ (limit : ℕ) where
       answer = answer;
       part = part;
       ends = read.2;
-      wrote = (tt, unsent, wrote);
+      wrote = (tt, unsent, wrote.0, wrote.1, wrote.2, wrote.3);
     }
 
     module _ (wrote : GetsFrames (sends_of xs) a b) (new : Stream) where
@@ -111,14 +111,14 @@ module _ (limit : ℕ) where
           })
 
           module _ (at : List ℕ) (read : BeginsWith limit text (letters_of xs) at) where
-            fails : (fault : ReadFault) → FailedAfter limit fault at new.remaining → Gives limit P text new.remaining a b (Err (Read fault))
+            fails : (fault : ReadFault) → Ends limit new.remaining (Err (Read fault)) answer no_more null at → Gives limit P text new.remaining a b (Err (Read fault))
             fails fault rest =
-                record { exchanges = xs; at = at; read = read; stop = no_more; null = null; answer = answer; part = part; ends = (refl, rest); wrote = wrote }
+                record { exchanges = xs; at = at; read = read; stop = no_more; null = null; answer = answer; part = part; ends = rest; wrote = wrote }
 
             fault_gives : (fault : ReadFault) → Answers (λ (m : Message). m) (Err fault) new.remaining (reading_within limit at) → Gives limit P text new.remaining a b (Err (read_fault fault))
-            fault_gives (Input kind) answers = fails (Input kind) answers
+            fault_gives (Input kind) answers = fails (Input kind) (refl, answers)
             fault_gives NoMemoryToRead answers = runs_out new.remaining no_more answer part (at, read, answers) (whole_first (sends_of xs) a b wrote)
-            fault_gives fault answers = fails fault ((reading_within limit at).rest, unread_at fault at answers.0, answers.1)
+            fault_gives fault answers = fails fault (refl, (reading_within limit at).rest, unread_at fault at answers.0, answers.1)
 
             -- no more came
             end_gives : (end : Option ReadEnd) → StreamReads limit (Some at) closed end new.remaining → Gives limit P text new.remaining a b (read_answer answer end)
@@ -182,12 +182,12 @@ module _ (limit : ℕ) where
         (parts.0, parts.1, ([], rw after all.left))
 
     -- where a message was not sent, nothing after the last one was taken, but for what is awaited after the null
-    left_unsent : (letters : List Message) (stop : Stop) (null : Option Message) (answer : SessionAnswer) → Brings events letters stop → Facts stop letters answer → IsUnsent stop null
-        → (at : List ℕ) × BeginsWith limit text letters at × LeftUnwritten limit null at new.remaining
-    left_unsent letters stop (Some null) answer brought facts unsent = left_within letters stop answer brought facts
-    left_unsent letters (refused fault) None answer brought facts unsent =
+    left_unsent : (kind : ErrorKind) (letters : List Message) (stop : Stop) (null : Option Message) (answer : SessionAnswer) → Brings events letters stop → Facts stop letters answer → IsUnsent stop null
+        → (at : List ℕ) × BeginsWith limit text letters at × Ends limit new.remaining (Err (Write (Output kind))) answer stop null at
+    left_unsent kind letters stop (Some null) answer brought facts unsent = left_within letters stop answer brought facts
+    left_unsent kind letters (refused fault) None answer brought facts unsent =
         let all = rw brought.0 at (brought_open limit events text old new unended known run brought.1) in (all.at, all.read, all.left)
-    left_unsent letters stop None answer brought facts unsent = absurd unsent
+    left_unsent kind letters stop None answer brought facts unsent = absurd unsent
 
   module _ (P : SessionPart)
       (knows : (xs : List Exchange) (stop : Stop) (null : Option Message) (answer : SessionAnswer) → P xs stop null answer → Facts stop (letters_of xs) answer)
@@ -251,7 +251,7 @@ module _ (limit : ℕ) where
             (contents outbox.writer.now) (contents outbox'.writer.now) written.1 runs.stop runs.brought written.0 runs.part
         at (Some (Output kind)) unwritten =
             write_fails P text (contents outbox.writer.now) (contents outbox'.writer.now) runs.exchanges runs.null (remaining inbox'.reader.now) runs.stop answer kind runs.part
-            (left_unsent text (stream_of remaining inbox) (stream_of remaining inbox') unended known runs.events run (letters_of runs.exchanges) runs.stop runs.null answer runs.brought facts unwritten.0)
+            (left_unsent text (stream_of remaining inbox) (stream_of remaining inbox') unended known runs.events run kind (letters_of runs.exchanges) runs.stop runs.null answer runs.brought facts unwritten.0)
             unwritten.0 unwritten.1
         at (Some NoMemory) unwritten =
             runs_out P text (contents outbox.writer.now) (contents outbox'.writer.now) runs.exchanges runs.null (remaining inbox'.reader.now) runs.stop answer runs.part

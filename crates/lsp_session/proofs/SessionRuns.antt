@@ -8,9 +8,9 @@ use Rattle.lsp_message.specs.Message.{Message}
 use Rattle.lsp_session.proofs.Waiting.{FoldsTo-append, list_all-push}
 use Rattle.lsp_session.specs.Boxes.{Takes, WaitsFor, is_timeout}
 use Rattle.lsp_session.specs.Event.{Event, message, timeout, closed}
-use Rattle.lsp_session.proofs.SessionSteps.{letters_both, sends_both, all_after}
+use Rattle.lsp_session.proofs.SessionSteps.{letters_both, sends_both, all_after, IsWhole}
 use Rattle.lsp_session.specs.Session.{SessionAnswer, SessionPart, Exchange, letters_of, sends_of, Stop, decided, no_more, timed_out, refused, exhausted}
-use Rattle.lsp_session.specs.SessionRun.{message_in, is_open, all_of, Brings, Gets, AwaitsExit, Runs}
+use Rattle.lsp_session.specs.SessionRun.{message_in, is_open, all_of, Brings, OffersLast, Gets, AwaitsExit, Runs}
 use Rattle.lsp_session.specs.declared.lifecycle.SendFault.{SendFault}
 
 -- timeouts hold no message
@@ -21,7 +21,7 @@ no_messages (timeout ∷ events) all = no_messages events all
 no_messages (closed ∷ events) all = cc
 
 -- timeouts end nothing
-all_open : (passed : List Event) → list_all is_timeout passed ≡ true → list_all is_open passed ≡ true
+pub all_open : (passed : List Event) → list_all is_timeout passed ≡ true → list_all is_open passed ≡ true
 all_open [] all = refl
 all_open (message m ∷ events) all = cc
 all_open (timeout ∷ events) all = all_open events all
@@ -98,53 +98,28 @@ module _ {I O : Type 0} (receives : I → Event → I → Type 0) (sends : O →
     part = goes_on run.exchanges run.stop run.null run.part;
   }
 
-  -- an allocation fails at a message that was waited for
-  pub waited_exhausted : (P : SessionPart) (i i' : I) (o : O) (m : Message) (answer : SessionAnswer)
-      → WaitsFor receives i (message m) i' → P [] exhausted None answer → Runs receives sends P (i, o) answer (i', o)
-  waited_exhausted P i i' o m answer waits part = record {
-    events = waits.passed ++ message m ∷ [];
-    received = waits.received;
-    exchanges = [];
-    stop = exhausted;
-    brought = (m, letters_waited waits.passed (message m) waits.only_timeouts, open_waited waits.passed m waits.only_timeouts);
-    output = [];
-    null = None;
-    all = refl;
-    awaited = tt;
-    got = (o, refl, refl);
-    part = part;
-  }
+  -- the outbox is offered nothing but the null, or not even that
+  pub gets_last : (old new : O) (null : Option Message) (stop : Stop) → IsWhole stop → OffersLast sends old null new → Gets sends old [] null stop new
+  gets_last old new null decided whole offers = (old, refl, offers)
+  gets_last old new null no_more whole offers = (old, refl, offers)
+  gets_last old new null timed_out whole offers = (old, refl, offers)
+  gets_last old new null exhausted whole offers = (old, refl, offers)
+  gets_last old new null (refused fault) whole offers = absurd whole
 
-  -- the inbox is closed
-  pub waited_closed : (P : SessionPart) (i i' : I) (o : O) (answer : SessionAnswer)
-      → WaitsFor receives i closed i' → P [] no_more None answer → Runs receives sends P (i, o) answer (i', o)
-  waited_closed P i i' o answer waits part = record {
-    events = waits.passed ++ closed ∷ [];
+  -- an event was waited for, and nothing is sent
+  pub waited : (P : SessionPart) (i i' : I) (o : O) (event : Event) (xs : List Exchange) (stop : Stop) (answer : SessionAnswer) → WaitsFor receives i event i'
+      → ((passed : List Event) → list_all is_timeout passed ≡ true → Brings (passed ++ event ∷ []) (letters_of xs) stop) → IsWhole stop → sends_of xs ≡ []
+      → P xs stop None answer → Runs receives sends P (i, o) answer (i', o)
+  waited P i i' o event xs stop answer waits brings whole silent part = record {
+    events = waits.passed ++ event ∷ [];
     received = waits.received;
-    exchanges = [];
-    stop = no_more;
-    brought = (letters_waited waits.passed closed waits.only_timeouts, inl (waits.passed, refl, all_open waits.passed waits.only_timeouts));
+    exchanges = xs;
+    stop = stop;
+    brought = brings waits.passed waits.only_timeouts;
     output = [];
     null = None;
-    all = refl;
+    all = rw silent refl;
     awaited = tt;
-    got = (o, refl, refl);
-    part = part;
-  }
-
-  -- a message that was waited for decides
-  pub waited_decided : (P : SessionPart) (i i' : I) (o : O) (m : Message) (answer : SessionAnswer)
-      → WaitsFor receives i (message m) i' → P (record { letter = m; said = [] } ∷ []) decided None answer → Runs receives sends P (i, o) answer (i', o)
-  waited_decided P i i' o m answer waits part = record {
-    events = waits.passed ++ message m ∷ [];
-    received = waits.received;
-    exchanges = record { letter = m; said = [] } ∷ [];
-    stop = decided;
-    brought = (letters_waited waits.passed (message m) waits.only_timeouts, open_waited waits.passed m waits.only_timeouts);
-    output = [];
-    null = None;
-    all = refl;
-    awaited = tt;
-    got = (o, refl, refl);
+    got = gets_last o o None stop whole refl;
     part = part;
   }

@@ -4,7 +4,7 @@ use Rattle.std.specs.Prelude.{Result, Ok, Err}
 use Rattle.serde_json.specs.Data.{Data}
 use Rattle.lsp_message.specs.Message.{Message, ErrorObject}
 use Rattle.lsp_session.specs.ProtocolError.{ProtocolFault, disconnected, shutdown_disconnected, fault_of_refusal}
-use Rattle.lsp_session.specs.Service.{Behavior}
+use Rattle.lsp_session.specs.Session.{Behavior}
 use Rattle.lsp_session.specs.Session.{Exchange, letters_of, sends_of, SessionAnswer, Stop, decided, no_more, timed_out, refused, exhausted, Phase, starting, replied, serving, asked, ended, null_of, phase_after, Step, Steps, CutsOff, Reaches, Stops, SessionFrom}
 use Rattle.lsp_session.specs.SessionRun.{all_of}
 use Rattle.lsp_session.specs.declared.lifecycle.SendFault.{SendFault}
@@ -33,11 +33,6 @@ IsOpen (asked i) = ⊥
 IsOpen (ended null answer) = ⊥
 IsOpen phase = Unit {0}
 
--- no message decided
-abbrev pub GoesOn : Phase → Type 0
-GoesOn (ended null answer) = ⊥
-GoesOn phase = Unit {0}
-
 -- the answer where no further message comes
 abbrev pub answer_at_end : Phase → SessionAnswer
 answer_at_end starting = Err disconnected
@@ -46,32 +41,19 @@ answer_at_end serving = Ok Closed
 answer_at_end (asked i) = Err shutdown_disconnected
 answer_at_end (ended null answer) = answer
 
-pub open_null : (p : Phase) → IsOpen p → None ≡ null_of p
-open_null starting is = refl
-open_null replied is = refl
-open_null serving is = refl
-open_null (asked i) is = absurd is
-open_null (ended null answer) is = absurd is
-
 pub open_after : (outcome : Result Data ErrorObject) → IsOpen (phase_after outcome)
 open_after (Ok result) = tt
 open_after (Err error) = tt
 
 module _ {S : Type 0} (may : Behavior S) where
-  pub stops_at_end : (p : Phase) (s : S) → IsOpen p → Stops may p s no_more (answer_at_end p) s
-  stops_at_end starting s is = (refl, refl)
-  stops_at_end replied s is = (refl, refl)
-  stops_at_end serving s is = (refl, refl)
-  stops_at_end (asked i) s is = absurd is
-  stops_at_end (ended null answer) s is = absurd is
-
-  pub stops_refused : (p : Phase) (s : S) (refusal : SendFault) (fault : ProtocolFault) → IsOpen p → fault ≡ fault_of_refusal refusal
-      → Stops may p s (refused refusal) (Err fault) s
-  stops_refused starting s refusal fault is same = (ap (λ (x : ProtocolFault). Err x) same, refl)
-  stops_refused replied s refusal fault is same = (ap (λ (x : ProtocolFault). Err x) same, refl)
-  stops_refused serving s refusal fault is same = (ap (λ (x : ProtocolFault). Err x) same, refl)
-  stops_refused (asked i) s refusal fault is same = absurd is
-  stops_refused (ended null answer) s refusal fault is same = absurd is
+  -- what is known of an open phase: no null, the answer where no more comes, and the answer where a message is refused
+  pub of_open : (p : Phase) (s : S) → IsOpen p
+      → (None ≡ null_of p) × Stops may p s no_more (answer_at_end p) s × ((refusal : SendFault) → Stops may p s (refused refusal) (Err (fault_of_refusal refusal)) s)
+  of_open starting s is = (refl, (refl, refl), λ refusal. (refl, refl))
+  of_open replied s is = (refl, (refl, refl), λ refusal. (refl, refl))
+  of_open serving s is = (refl, (refl, refl), λ refusal. (refl, refl))
+  of_open (asked i) s is = absurd is
+  of_open (ended null answer) s is = absurd is
 
   -- steps, one after another
   pub steps_both : (p p' p'' : Phase) (s s' s'' : S) (xs ys : List Exchange)
@@ -91,13 +73,6 @@ module _ {S : Type 0} (may : Behavior S) where
   reaches_whole timed_out p p' s s' xs whole steps = steps
   reaches_whole exhausted p p' s s' xs whole steps = steps
   reaches_whole (refused fault) p p' s s' xs whole steps = absurd whole
-
-  pub whole_steps : (stop : Stop) (p p' : Phase) (s s' : S) (xs : List Exchange) → IsWhole stop → Reaches may stop p s xs p' s' → Steps may p s xs p' s'
-  whole_steps decided p p' s s' xs whole steps = steps
-  whole_steps no_more p p' s s' xs whole steps = steps
-  whole_steps timed_out p p' s s' xs whole steps = steps
-  whole_steps exhausted p p' s s' xs whole steps = steps
-  whole_steps (refused fault) p p' s s' xs whole steps = absurd whole
 
   -- the same, up to what ended the session
   reaches_both : (stop : Stop) (p p' p'' : Phase) (s s' s'' : S) (xs ys : List Exchange)
@@ -129,26 +104,3 @@ module _ {S : Type 0} (may : Behavior S) where
     null_is = later.null_is;
     stopped = later.stopped;
   }
-
--- What holds of a session as long as it goes on, or when a message decided.
-module _ {S : Type 0} (may : Behavior S) (Holds : Phase → List Exchange → Type 0)
-    (none : (p : Phase) → GoesOn p → Holds p [])
-    (one : (p q : Phase) (s s' : S) (x : Exchange) → Step may p s x.letter x.said q s' → Holds q (x ∷ []))
-    (more : (p q : Phase) (x : Exchange) (xs : List Exchange) → GoesOn p → Holds p (x ∷ []) → Holds q xs → Holds q (x ∷ xs)) where
-  hold_last : (q : Phase) (null : Option Message) (answer : SessionAnswer) (mid s' : S) (x : Exchange) (xs : List Exchange) → Holds (ended null answer) (x ∷ [])
-      → Steps may (ended null answer) mid xs q s' → Holds q (x ∷ xs)
-  hold_last q null answer mid s' x [] first rest = rw rest.0 first
-  hold_last q null answer mid s' x (y ∷ ys) first rest = absurd rest.2
-
-  hold_then : (q next : Phase) (mid s' : S) (x : Exchange) (xs : List Exchange) → Holds next (x ∷ []) → Steps may next mid xs q s'
-      → ((next : Phase) → GoesOn next → Steps may next mid xs q s' → Holds q xs) → Holds q (x ∷ xs)
-  hold_then q starting mid s' x xs first rest later = more starting q x xs tt first (later starting tt rest)
-  hold_then q replied mid s' x xs first rest later = more replied q x xs tt first (later replied tt rest)
-  hold_then q serving mid s' x xs first rest later = more serving q x xs tt first (later serving tt rest)
-  hold_then q (asked i) mid s' x xs first rest later = more (asked i) q x xs tt first (later (asked i) tt rest)
-  hold_then q (ended null answer) mid s' x xs first rest later = hold_last q null answer mid s' x xs first rest
-
-  pub steps_hold : (p q : Phase) (s s' : S) (xs : List Exchange) → GoesOn p → Steps may p s xs q s' → Holds q xs
-  steps_hold p q s s' [] on steps = rw steps.0 (none p on)
-  steps_hold p q s s' (x ∷ xs) on steps =
-      hold_then q steps.0 steps.1 s' x xs (one p steps.0 s steps.1 x steps.2) steps.3 (λ next still rest. steps_hold next q steps.1 s' xs still rest)

@@ -7,7 +7,7 @@ use Rattle.std.specs.Prelude.{Result, Ok, Err, MatchOption, if◌then◌else◌}
 use Rattle.lsp_message.specs.Frame.{reading_within}
 use Rattle.lsp_message.specs.Letters.{is_exit}
 use Rattle.lsp_message.specs.Message.{Message}
-use Rattle.lsp_message.specs.Written.{GetsFrames, Writes}
+use Rattle.lsp_message.specs.Written.{GetsFrames, GetsFramesAndPart, Writes}
 use Rattle.lsp_message.specs.declared.frame.WriteFault.{WriteFault}
 use Rattle.lsp_message.specs.declared.frame.WriteFault.TheVariants.{Output, Memory as NoMemory}
 use Rattle.lsp_session.proofs.Carrying.{AreFramesOf-push}
@@ -18,7 +18,7 @@ use Rattle.lsp_session.specs.Boxes.{Takes}
 use Rattle.lsp_session.specs.Event.{Event, message, timeout, closed}
 use Rattle.lsp_session.specs.FrameBoxes.{FrameOutboxSends, Told, kept_write}
 use Rattle.lsp_session.specs.Session.{Stop, decided, no_more, timed_out, refused, exhausted}
-use Rattle.lsp_session.specs.SessionBytes.{BeginsWith, BreaksOffLast, GetsFirst, IsUnsent}
+use Rattle.lsp_session.specs.SessionBytes.{BeginsWith, GetsFirst, IsUnsent}
 use Rattle.lsp_session.specs.SessionRun.{message_in, is_open, all_of, OffersLast, RefusesLast, Gets}
 use Rattle.lsp_session.specs.Streams.{Stream, StreamGives, StreamReads, Reads}
 use Rattle.lsp_session.specs.declared.lifecycle.SendFault.{SendFault}
@@ -39,33 +39,6 @@ module _ (limit : ℕ) where
   ended_closes : (events : List Event) (end : ReadEnd) (old new : Stream) → old.end ≡ Some end → FoldsTo (StreamGives limit) old events new → list_all is_open events ≡ true → old ≡ new
   ended_closes [] end old new is run still_open = run
   ended_closes (event ∷ events) end old new is run still_open = let step = rw is at run.1 in absurd (cc (rw step.0 at still_open))
-
-  -- the letters that an inbox brought are the first messages of the text
-  module _ (m : Message) (text : List ℕ) (mid new : Stream) (events : List Event) (run : FoldsTo (StreamGives limit) mid events new) where
-    -- one more letter before them
-    letter_then : (b : Bool) → mid.end ≡ (if b then Some Exit else None)
-        → Reads limit (Some text) (Ok (Some m)) mid.remaining
-        → ((rest : List ℕ) → mid.end ≡ None → mid.remaining ≡ Some rest → (at : List ℕ) × BeginsWith limit rest (filter_map message_in events) at)
-        → (at : List ℕ) × BeginsWith limit text (m ∷ filter_map message_in events) at
-    letter_then true is reads later =
-        rw (ended_brings events Exit mid new is run) ((reading_within limit text).rest, ((reading_within limit text).rest, begins limit text m reads.0.0, refl))
-    letter_then false is reads later =
-        let more = later (reading_within limit text).rest is reads.0.1 in
-        (more.0, ((reading_within limit text).rest, begins limit text m reads.0.0, more.1))
-
-  pub brought_begins : (events : List Event) (text : List ℕ) (old new : Stream) → old.end ≡ None → old.remaining ≡ Some text → FoldsTo (StreamGives limit) old events new
-      → (at : List ℕ) × BeginsWith limit text (filter_map message_in events) at
-  brought_begins [] text old new unended known run = (text, refl)
-  brought_begins (timeout ∷ events) text old new unended known run = absurd (rw unended at run.1)
-  brought_begins (closed ∷ events) text old new unended known run = at run.0.end refl (rw (unended, known) at run.1)
-    where
-      at : (end : Option ReadEnd) → run.0.end ≡ end → StreamReads limit (Some text) closed end run.0.remaining → (at : List ℕ) × BeginsWith limit text (filter_map message_in events) at
-      at None is reads = absurd reads
-      at (Some end) is reads = rw (ended_brings events end run.0 new is run.2) (text, refl)
-  brought_begins (message m ∷ events) text old new unended known run =
-      let step = rw (unended, known) at run.1 in
-      letter_then m text run.0 new events run.2 (is_exit m) step.0 step.1
-      (λ rest still left. brought_begins events rest run.0 new still left run.2)
 
   -- what an inbox brought that may bring more, what it has left, and whether an `exit` came
   pub record Brought (text : List ℕ) (letters : List Message) (new : Stream) : Type 0 where
@@ -114,7 +87,7 @@ whole_first ms old new got = (ms, [], rw append-nil refl, got)
 
 -- what is written of messages where the write of the last one failed
 abbrev pub GetsPart : WriteFault → List Message → Option (List ℕ) → Option (List ℕ) → Type 0
-GetsPart (Output kind) ms old new = BreaksOffLast ms old new
+GetsPart (Output kind) ms old new = (whole : List Message) × (last : Message) × (ms ≡ whole ++ last ∷ []) × GetsFramesAndPart whole last old new
 GetsPart NoMemory ms old new = GetsFirst ms old new
 
 -- the outbox refused no reply
@@ -134,7 +107,7 @@ module _ {W : Type 0} (contents : W → Option (List ℕ)) where
       (refl, (got.0 ++ writes.0, AreFramesOf-push ms got.0 m writes.0 got.1 writes.1, Appends-trans a b c got.0 writes.0 got.2 writes.2))
   offered ms m a b c (Err (Shut back)) None got writes told = absurd told
   offered ms m a b c (Err (Full back)) None got writes told = absurd told
-  offered ms m a b c outcome (Some (Output kind)) got writes told = record { whole = ms; last = m; cut = refl; got = breaks_off ms m (Output kind) a b c got writes }
+  offered ms m a b c outcome (Some (Output kind)) got writes told = (ms, m, refl, breaks_off ms m (Output kind) a b c got writes)
   offered ms m a b c outcome (Some NoMemory) got writes told = (ms, m ∷ [], refl, (got.0, got.1, Appends-Keeps a b c got.0 got.2 writes))
 
   -- the same, of an outbox that no write has failed in

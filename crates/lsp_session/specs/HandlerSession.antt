@@ -3,7 +3,7 @@ use Rattle.serde_json.specs.Data.{Data, object, member, no_members}
 use Rattle.std.specs.Prelude.{◌≡◌, ℕ, List, [], ◌∷◌, Result, Ok, codes}
 use Rattle.lsp_message.specs.Id.{Id}
 use Rattle.lsp_message.specs.Message.{Message, ErrorObject, request, notification, response}
-use Rattle.lsp_session.specs.Service.{Behavior}
+use Rattle.lsp_session.specs.Session.{Behavior}
 
 -- the result of `initialize`
 abbrev pub initialize_result : Data → Data

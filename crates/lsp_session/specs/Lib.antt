@@ -12,7 +12,6 @@ pub mod ProtocolError
 pub mod ProtocolErrorLaws
 pub mod ReadLoop
 pub mod Replies
-pub mod Service
 pub mod Session
 pub mod SessionBytes
 pub mod SessionFault

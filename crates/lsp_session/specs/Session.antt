@@ -8,10 +8,20 @@ use Rattle.lsp_message.specs.Methods.{is_early, is_initialized, is_exit}
 pub use Rattle.lsp_message.specs.Methods.{request_id, is_initialize, is_shutdown}
 use Rattle.lsp_session.specs.ProtocolError.{ProtocolFault, disconnected, expected_initialize, expected_initialized, unexpected_in_shutdown, shutdown_timeout, shutdown_disconnected, out_of_memory, fault_of_refusal}
 use Rattle.lsp_session.specs.Replies.{null_reply, IsEarlyReply}
-use Rattle.lsp_session.specs.Service.{Behavior}
 use Rattle.lsp_session.specs.declared.lifecycle.SendFault.{SendFault}
 use Rattle.lsp_session.specs.declared.loops.handler.SessionEnd.{SessionEnd}
 use Rattle.lsp_session.specs.declared.loops.handler.SessionEnd.TheVariants.{ShutDown, Closed}
+
+-- what a service of a session may do
+pub record Behavior (S : Type 0) : Type 1 where
+  -- for these params of `initialize` it may give this outcome, and change so
+  pub initializes : S → Data → Result Data ErrorObject → S → Type 0
+  -- at `initialized` it may give these messages, in order, and change so
+  pub opens : S → List Message → S → Type 0
+  -- at a message it may give these, in order, and change so
+  pub gives : S → Message → List Message → S → Type 0
+  -- what it may be where an allocation failed in `initialize` or at `initialized`
+  pub starves : S → S → Type 0
 
 -- A message that came, and what the outbox was offered for it, in order. It took all of that, unless the session stopped there
 -- since the outbox refused the last one, or that one is the null of `shutdown`, which may get lost.

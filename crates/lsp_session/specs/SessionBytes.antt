@@ -6,7 +6,6 @@ use Rattle.lsp_message.specs.Frame.{Begins, reading_within}
 use Rattle.lsp_message.specs.Message.{Message}
 use Rattle.lsp_message.specs.Reading.{StopsWithin}
 use Rattle.lsp_message.specs.Written.{GetsFrames, GetsFramesAndPart, IsOutput}
-use Rattle.lsp_message.specs.declared.frame.ReadFault.{ReadFault}
 use Rattle.lsp_message.specs.declared.frame.ReadFault.TheVariants.{Input, Memory as NoMemoryToRead}
 use Rattle.lsp_session.specs.ProtocolError.{fault_text}
 use Rattle.lsp_session.specs.Session.{SessionAnswer, SessionPart, Exchange, letters_of, sends_of, Stop, decided, no_more, refused}
@@ -17,13 +16,6 @@ use Rattle.lsp_session.specs.declared.loops.stream_session.SessionFault.TheVaria
 -- these are the first messages of the text, whose content parts have at most so many bytes, and the rest follows them
 abbrev pub BeginsWith : ℕ → List ℕ → List Message → List ℕ → Type 0
 BeginsWith limit = FoldsTo (Begins limit)
-
--- the writer got frames of all but the last of these messages, and a beginning of a frame of that one
-pub record BreaksOffLast (ms : List Message) (old new : Option (List ℕ)) : Type 0 where
-  pub whole : List Message
-  pub last : Message
-  pub cut : ms ≡ whole ++ last ∷ []
-  pub got : GetsFramesAndPart whole last old new
 
 -- the writer got frames of the first of these messages, and nothing of the others
 abbrev pub GetsFirst : List Message → Option (List ℕ) → Option (List ℕ) → Type 0
@@ -56,30 +48,24 @@ LeftAfter limit decided at left = left ≡ Some at
 LeftAfter limit no_more at left = (rest : List ℕ) × (reading_within limit at ≡ record { outcome = Ok None; rest = rest }) × (left ≡ Some rest)
 LeftAfter limit stop at left = ⊥
 
--- Reading failed after the last message.
-abbrev pub FailedAfter : ℕ → ReadFault → List ℕ → Option (List ℕ) → Type 0
-FailedAfter limit (Input kind) at left = StopsWithin left (reading_within limit at)
-FailedAfter limit NoMemoryToRead at left = ⊥
-FailedAfter limit fault at left = (rest : List ℕ) × (reading_within limit at ≡ record { outcome = Err fault; rest = rest }) × (left ≡ Some rest)
-
--- A write failed. No byte after the last message was taken, but perhaps after the null, which is not waited for.
-abbrev pub LeftUnwritten : ℕ → Option Message → List ℕ → Option (List ℕ) → Type 0
-LeftUnwritten limit None at left = left ≡ Some at
-LeftUnwritten limit (Some null) at left = StopsWithin left (reading_within limit at)
-
 -- For what a session over bytes answers: the answer by the lifecycle, and what is left of the text, of which `at` follows the last
--- message that was used.
+-- message that was used. Where a write failed, no byte after that message was taken, but perhaps after the null, which is not waited for.
 abbrev pub Ends : ℕ → Option (List ℕ) → Result SessionEnd SessionFault → SessionAnswer → Stop → Option Message → List ℕ → Type 0
 Ends limit left (Ok end) answer stop null at = (answer ≡ Ok end) × LeftAfter limit stop at left
 Ends limit left (Err (Protocol fault)) answer stop null at = (answer ≡ Err fault) × LeftAfter limit stop at left
-Ends limit left (Err (Read fault)) answer stop null at = (stop ≡ no_more) × FailedAfter limit fault at left
-Ends limit left (Err (Write fault)) answer stop null at = LeftUnwritten limit null at left
+Ends limit left (Err (Read (Input kind))) answer stop null at = (stop ≡ no_more) × StopsWithin left (reading_within limit at)
+Ends limit left (Err (Read NoMemoryToRead)) answer stop null at = ⊥
+Ends limit left (Err (Read fault)) answer stop null at =
+    (stop ≡ no_more) × (rest : List ℕ) × (reading_within limit at ≡ record { outcome = Err fault; rest = rest }) × (left ≡ Some rest)
+Ends limit left (Err (Write fault)) answer stop None at = left ≡ Some at
+Ends limit left (Err (Write fault)) answer stop (Some null) at = StopsWithin left (reading_within limit at)
 Ends limit left (Err Memory) answer stop null at = StopsWithin left (reading_within limit at)
 
 -- What the writer got of all that was sent: frames of it; or, where a write failed, frames of all but the last message, which was
 -- not sent, and a beginning of a frame of that one; or, where an allocation failed, frames of the first messages.
 abbrev pub Wrote : Option (List ℕ) → Option (List ℕ) → Result SessionEnd SessionFault → Stop → Option Message → List Message → Type 0
-Wrote old new (Err (Write fault)) stop null sends = IsOutput fault × IsUnsent stop null × BreaksOffLast sends old new
+Wrote old new (Err (Write fault)) stop null sends =
+    IsOutput fault × IsUnsent stop null × (whole : List Message) × (last : Message) × (sends ≡ whole ++ last ∷ []) × GetsFramesAndPart whole last old new
 Wrote old new (Err Memory) stop null sends = GetsFirst sends old new
 Wrote old new result stop null sends = GetsFrames sends old new
 

@@ -6,7 +6,7 @@ use Rattle.std.specs.Prelude.{◌≡◌, ◌⊎◌, ℕ, Bool, true, false, not,
 use Rattle.lsp_message.specs.Id.{Id}
 use Rattle.lsp_message.specs.Message.{Message, request, notification, response}
 use Rattle.lsp_message.specs.Methods.{is_initialize, is_initialized, is_shutdown, is_exit}
-use Rattle.lsp_session.specs.Answered.{RepliesToEach, requests_of}
+use Rattle.lsp_session.specs.Answered.{AllReplied}
 use Rattle.lsp_session.specs.ProtocolError.{Shows, ShowsUnallowed, expected_initialized, unexpected_in_shutdown}
 use Rattle.lsp_session.specs.Replies.{null_reply}
 use Rattle.lsp_session.specs.Session.{Exchange, letters_of, sends_of, SessionAnswer, SessionPart, Stop, decided}
@@ -15,11 +15,6 @@ use Rattle.lsp_session.specs.declared.loops.handler.SessionEnd.TheVariants.{Shut
 -- of one session, both hold, and of the same exchanges
 abbrev pub Both : SessionPart → SessionPart → SessionPart
 Both P Q exchanges stop null answer = P exchanges stop null answer × Q exchanges stop null answer
-
--- for each of these messages, where it is a request, one reply is sent, and nothing else
-abbrev pub AllReplied : List Exchange → Type 0
-AllReplied [] = Unit {0}
-AllReplied (x ∷ xs) = RepliesToEach (requests_of (x.letter ∷ [])) x.said × AllReplied xs
 
 -- the last of these messages is `initialize`, and it gets its result
 pub record EndsWithResult (exchanges : List Exchange) : Type 0 where

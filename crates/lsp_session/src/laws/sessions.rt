@@ -1,9 +1,8 @@
 //! What a session does with the requests of its client.
 ghost use Rattle.serde_json.specs.Data.{Data};
-ghost use Rattle.std.specs.Prelude.{◌≡◌, true, false, ℕ, List, ◌∷◌, ◌++◌, Option, None, Result, Err, IfSome};
-ghost use Rattle.lsp_message.specs.Frame.{no_limit};
+ghost use Rattle.std.specs.Prelude.{◌≡◌, true, false, ℕ, List, ◌∷◌, ◌++◌, Option, None, Result, Err};
 ghost use Rattle.lsp_message.specs.Message.{Message};
-ghost use Rattle.lsp_session.specs.Answered.{AnswersAll, ReadsNoMore, AnswersRequests};
+ghost use Rattle.lsp_session.specs.Answered.{AllReplied, AnswersRequests};
 ghost use Rattle.lsp_session.specs.HandlerSession.{of_handler};
 ghost use Rattle.lsp_session.specs.ProtocolError.{ProtocolFault, is_disconnected};
 ghost use Rattle.lsp_session.specs.Session.{Exchange, SessionAnswer, Stop, sends_of, refused, SessionOut};
@@ -15,25 +14,25 @@ ghost use Rattle.lsp_session.specs.declared.loops.handler.SessionEnd.{SessionEnd
 ghost use Rattle.lsp_session.specs.declared.loops.stream_session.SessionFault.{SessionFault as FaultOfSession};
 
 use crate::lifecycle::{Inbox, Outbox};
-use crate::loops::{Handler, Service, SessionEnd, SessionFault, session};
-use serde_json::Value;
-use std::alloc::Global;
-use std::io::{BufRead, Write};
+use crate::loops::{Handler, Service};
 
-/// What `session` and `session_within` say of the bytes that they read and wrote implies that each request got exactly one
-/// reply, under its id, in order: a fact of each session that was run.
+/// Each request of a handler's session gets exactly one reply, under its id and in order, and no reply goes to anything else
+/// (JSON-RPC 2.0, section 5): those that came too early, `initialize`, those that the handler answered, and `shutdown`. Only a
+/// last request that the lifecycle does not allow has none. A fact of each session that was run, over its exchanges, and from
+/// bytes to bytes with a limit or without one.
 pub fn session_answers_requests<H: Handler>()
-    ensures { (limit : ℕ) (capabilities : Data) (before after : H) (text : List ℕ) (left old new : Option (List ℕ)) (answer : Result EndOfSession FaultOfSession)
-        → Gives limit (SessionOut (of_handler H.answers H.notes capabilities) before after) text left old new answer
-        → AnswersRequests limit text left old new answer }
+    ensures exchanges { (capabilities : Data) (old new : H) (exchanges : List Exchange) (stop : Stop) (null : Option Message) (answer : SessionAnswer)
+        → SessionOut (of_handler H.answers H.notes capabilities) old new exchanges stop null answer → AnswersRequests exchanges stop null answer }
+    ensures bytes { (limit : ℕ) (capabilities : Data) (old new : H) (text : List ℕ) (left before after : Option (List ℕ)) (answer : Result EndOfSession FaultOfSession)
+        → Gives limit (SessionOut (of_handler H.answers H.notes capabilities) old new) text left before after answer
+        → Gives limit (Both (SessionOut (of_handler H.answers H.notes capabilities) old new) AnswersRequests) text left before after answer }
 {}
 
 /// Where the answer is that the client is gone, each request that the session read has its reply: a request is left without
 /// one only where the fault shows it.
 pub fn lost_client_was_answered()
-    ensures { (limit : ℕ) (text : List ℕ) (left old new : Option (List ℕ)) (fault : ProtocolFault) → is_disconnected fault ≡ true
-        → AnswersRequests limit text left old new (Err (FaultOfSession.Protocol fault))
-        → AnswersAll limit text left old new (ReadsNoMore limit text left old new) }
+    ensures { (exchanges : List Exchange) (stop : Stop) (null : Option Message) (fault : ProtocolFault)
+        → is_disconnected fault ≡ true → AnswersRequests exchanges stop null (Err fault) → AllReplied exchanges }
 {}
 
 /// After a message that the outbox refused nothing more is sent, the null of `shutdown` neither: a fact of each session.
@@ -63,23 +62,3 @@ pub fn session_keeps_order<I: Inbox, O: Outbox, S: Service>()
         → Gives limit (SessionOut S.behavior old new) text left before after answer
         → Gives limit (Both (SessionOut S.behavior old new) KeepsOrder) text left before after answer }
 {}
-
-/// Each request of a session gets exactly one reply, under its id, in order, and no reply goes to anything else (JSON-RPC
-/// 2.0, section 5).
-///
-/// It is `session` with a contract of its own, which speaks of all requests that the session read: those that came too
-/// early, `initialize`, those that the handler answered, and `shutdown`. Where the message that ended the session was a
-/// request that the lifecycle does not allow, this one has no reply. Where a write failed or memory ran out, the contract
-/// says nothing.
-pub fn each_request_is_answered_once<R: BufRead, W: Write, H: Handler>(
-    alloc: Global,
-    reader: &mut R,
-    writer: &mut W,
-    capabilities: Value,
-    handler: &mut H,
-) -> Result<SessionEnd, SessionFault>
-    ensures { IfSome (R.remaining reader.old) (λ text.
-        AnswersRequests no_limit text (R.remaining reader.new) (W.contents writer.old) (W.contents writer.new) result) }
-{
-    session(alloc, reader, writer, capabilities, handler)
-}

@@ -22,7 +22,7 @@ pub enum Output {
 /// What a session runs: it answers `initialize`, speaks first after `initialized`, and gives messages to send for each message
 /// after that. An outer `Err` is a failed allocation, and ends the session; nothing is sent for that message.
 pub trait Service {
-    ghost use Rattle.lsp_session.specs.Service.{Behavior};
+    ghost use Rattle.lsp_session.specs.Session.{Behavior};
 
     /// What it may give, and how it may change.
     ghost behavior: { Behavior Self };

@@ -1,4 +1,4 @@
-use Rattle.std.proofs.Common.{◌∙◌, ap, sym}
+use Rattle.std.proofs.Common.{◌∙◌, ap, refl, sym}
 use Rattle.lsp_message.specs.declared.msg.Message.{Message}
 use Rattle.lsp_session.proofs.SessionFacts.{session_facts}
 use Rattle.lsp_session.specs.Session.{starting, SessionOut}
@@ -29,7 +29,7 @@ returns g c =
     let ended = c.session_end.ensures ∙ (λ i. session_end (c.is_closed-closed.ensures i) (c.gave_exit-exited.ensures i) c.join-tx.result.1) in
     let answer = c.session_answer-answer.ensures ∙ (λ i. session_answer c.serve_service-answer.result (ended i) (c.fault_of.ensures i)) in
     rw answer (threads_give c.args.workers.reading.promise.limit (SessionOut g.S.Service.behavior old new)
-    (session_facts g.S.Service.behavior starting old new tt)
+    (session_facts g.S.Service.behavior starting old new refl)
     _ _ c.new-inbox.result c.serve_service-answer.new.inbox c.new-outbox.result c.serve_service-answer.new.outbox c.serve_service-answer.result c.serve_service-answer.ensures
     (ap (λ (t : Receiving Message). t.taken) c.new-inbox.ensures ∙ c.requires.reading.0) (ap (λ (t : Receiving Message). t.exited) c.new-inbox.ensures)
     (ap (λ (s : Sending Message). s.sent) c.new-outbox.ensures ∙ c.requires.writing.0)

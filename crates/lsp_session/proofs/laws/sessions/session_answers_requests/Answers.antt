@@ -1,12 +1,16 @@
+use Rattle.lsp_session.proofs.Describing.{over_as}
+use Rattle.lsp_session.proofs.EachAnswered.{session_answers}
+use Rattle.lsp_session.specs.Answered.{AnswersRequests}
 use Rattle.lsp_session.specs.HandlerSession.{of_handler}
 use Rattle.lsp_session.specs.Session.{SessionOut}
-use Rattle.lsp_session.proofs.EachAnswered.{session_replied, answers_requests}
+use Rattle.lsp_session.specs.SessionLaws.{Both}
 use Rattle.lsp_session.proofs.laws.sessions.session_answers_requests.Goals as goal
 
-pub returns : goal.returns
-returns g c = λ limit capabilities before after text left old new answer gives.
-    let answers = g.H.Handler.answers in
-    let notes = g.H.Handler.notes in
-    answers_requests answers notes capabilities limit (SessionOut (of_handler answers notes capabilities) before after)
-    (session_replied answers notes capabilities before after)
-    text left old new answer gives
+pub returns-clause-exchanges : goal.returns-clause-exchanges
+returns-clause-exchanges g c = λ capabilities old new xs stop null answer out.
+    session_answers stop g.H.Handler.answers g.H.Handler.notes capabilities old new xs null answer out
+
+pub returns-clause-bytes : goal.returns-clause-bytes
+returns-clause-bytes g c = λ limit capabilities old new text left before after answer gives.
+    let P = SessionOut (of_handler g.H.Handler.answers g.H.Handler.notes capabilities) old new in
+    over_as P (Both P AnswersRequests) (λ xs stop null answer out. (out, session_answers stop g.H.Handler.answers g.H.Handler.notes capabilities old new xs null answer out)) limit text _ _ gives

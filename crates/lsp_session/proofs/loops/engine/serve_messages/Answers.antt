@@ -1,8 +1,9 @@
 use Rattle.std.proofs.Common.{arith, refl, rules, ◌≡◌, ◌-◌, ◌^◌, true, false}
+use Rattle.std.specs.Prelude.{Ok, Err}
 use Rattle.std.proofs.lemmas.Result.{err_from_is_err_and}
 use Rattle.lsp_message.specs.Letters.{is_exit}
 use Rattle.lsp_message.specs.View.{message_view}
-use Rattle.lsp_session.proofs.Engine.{goes_none, goes_step, goes_both, goes_run, goes_count, ends_closed, ends_exhausted, ends_refused, shuts_down, shuts_fault, is_served_by, ends_at_exit}
+use Rattle.lsp_session.proofs.Engine.{goes_none, goes_step, goes_both, goes_run, goes_count, ends_closed, ends_exhausted, ends_refused, shuts_down, is_served_by, ends_at_exit}
 use Rattle.lsp_session.specs.Session.{serving}
 use Rattle.lsp_session.proofs.loops.engine.serve_messages.Goals as goal
 
@@ -21,11 +22,11 @@ pub returns-in_err-shut_down : goal.returns-in_err-shut_down
 returns-in_err-shut_down g c =
     let p = err_from_is_err_and c.from_residual.result c.from_residual.ensures.1 in
     rw (p.1, p.2) (goes_run _ _ _ _ _ _ _ _ _ _ _ _ _ c.loop-turn.invariant
-    (shuts_fault g.S.Service.behavior g.I.Inbox.receives g.O.Outbox.sends _ _ _ _ _ _ (message_view c.in-Message.message) _ c.in-Message.ensures.receives c.in_err-shut_down.ensures))
+    (shuts_down g.S.Service.behavior g.I.Inbox.receives g.O.Outbox.sends _ _ _ _ _ _ (message_view c.in-Message.message) (Err _) (λ e. cc (e)) c.in-Message.ensures.receives c.in_err-shut_down.ensures))
 
 pub returns-then-branch : goal.returns-then-branch
 returns-then-branch g c = goes_run _ _ _ _ _ _ _ _ _ _ _ _ _ c.loop-turn.invariant
-    (shuts_down g.S.Service.behavior g.I.Inbox.receives g.O.Outbox.sends _ _ _ _ _ _ (message_view c.in-Message.message) c.in-Message.ensures.receives (rw c.if-branch.true at c.in_ok-shut_down.ensures))
+    (shuts_down g.S.Service.behavior g.I.Inbox.receives g.O.Outbox.sends _ _ _ _ _ _ (message_view c.in-Message.message) (Ok true) (λ e. cc (e)) c.in-Message.ensures.receives (rw c.if-branch.true at c.in_ok-shut_down.ensures))
 
 pub returns-in_err-output : goal.returns-in_err-output
 returns-in_err-output g c =
