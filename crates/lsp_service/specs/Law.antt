@@ -3,15 +3,16 @@
 use Rattle.serde_json.specs.Data.{Data}
 use Rattle.std.specs.FinMap as map
 use Rattle.std.specs.Ordering.{eq_by_cmp}
-use Rattle.std.specs.Prelude.{◌≡◌, ◌≤◌, ◌⊎◌, ◌+◌, ◌||◌, ◌&&◌, ℕ, pos, Bool, true, false, List, [], ◌∷◌, ◌++◌, map as map_list, fold, length, Option, Some, None, is_some, Ok, Err, IsErrAnd, if◌then◌else◌}
+use Rattle.std.specs.Prelude.{◌≡◌, ◌≤◌, ◌⊎◌, ◌+◌, ◌||◌, ◌&&◌, ℕ, pos, Bool, true, false, List, [], ◌∷◌, ◌++◌, map as map_list, fold, Option, Some, None, is_some, Ok, Err, IsErrAnd, if◌then◌else◌}
+use Rattle.std.specs.Bool.{MatchBool}
 use Rattle.std.specs.List.{list_all}
 use Rattle.lsp_message.specs.Id.{Id, id_cmp, number}
 use Rattle.lsp_message.specs.Message.{Message, request, notification, response}
 use Rattle.lsp_queue.specs.Queue.{Pending}
 use Rattle.lsp_session.specs.Finish.{is_initialized}
 use Rattle.lsp_session.specs.ProtocolError.{ShowsUnallowed}
-use Rattle.lsp_session.specs.Session.{Exchange, letters_of, sends_of, SessionAnswer, SessionPart, Stop, decided, no_more, timed_out, refused, exhausted, is_initialize, is_served}
-use Rattle.lsp_session.specs.SessionLaws.{KeepsOrder}
+use Rattle.lsp_session.specs.Session.{Exchange, letters_of, sends_of, SessionAnswer, SessionPart, Stop, decided, no_more, timed_out, refused, exhausted, is_served}
+use Rattle.lsp_session.specs.SessionLaws.{EndsWithResult, KeepsOrder}
 use Rattle.lsp_service.specs.Desk.{Act, tells, asks, replies, cancels, is_spent, ids_after, unsent, TakesBack}
 use Rattle.lsp_service.specs.QueuedServer.{ServerSession, held_by}
 use Rattle.lsp_service.specs.declared.server.Server.{Ghosts as Stated}
@@ -136,37 +137,12 @@ module _ {P : Type 0} where
       (before after : List (Turn P)) (turn : Turn P) (id : Id) → turns ≡ before ++ turn ∷ after → is_reply_under id turn.letter ≡ true
       → turn.payload ≡ brings id (all_sent 0 (begun ++ acts_of before)) before
 
-abbrev pub is_request : Message → Bool
-is_request (request i method params) = true
-is_request (notification method params) = false
-is_request (response i outcome) = false
-
 -- a reply that is an error
 abbrev pub is_refusal : Message → Bool
 is_refusal (request i method params) = false
 is_refusal (notification method params) = false
 is_refusal (response i (Ok result)) = false
 is_refusal (response i (Err error)) = true
-
--- another message than `initialized` comes first, or nothing
-abbrev pub IsUninvited : List Message → Type 0
-IsUninvited [] = Unit {0}
-IsUninvited (m ∷ rest) = is_initialized m ≡ false
-
--- `initialize` got its result, after each earlier request got an error, and `initialized` did not follow.
-pub record EndsAtResult (letters output : List Message) : Type 0 where
-  pub early : List Message
-  pub ask : Message
-  pub rest : List Message
-  pub cut : letters ≡ early ++ ask ∷ rest
-  pub asks : is_initialize ask ≡ true
-  pub uninvited : IsUninvited rest
-  pub refusals : List Message
-  pub id : Id
-  pub result : Data
-  pub sent : output ≡ refusals ++ response id (Ok result) ∷ []
-  pub refused_all : list_all is_refusal refusals ≡ true
-  pub each : how_many is_request early ≡ length refusals
 
 -- `shutdown` or `exit` comes first, or nothing
 abbrev pub IsUnserved : List Message → Type 0
@@ -209,14 +185,18 @@ module _ {S P : Type 0} (may : Stated S P) where
     pub all : IsWhole stop → unsaid ≡ []
     pub payloads : GivesOwnPayloads begun turns
 
-  -- The session ended before it was opened: nothing but errors was sent, or then the result of `initialize`, and `initialized` did
-  -- not follow. Or the client sent `initialize`, then `initialized`, and the server took part from then on.
-  abbrev pub GivesPayloads : List Message → Stop → List Message → Type 0
-  GivesPayloads letters stop output =
-      (list_all is_refusal output ≡ true)
-      ⊎ EndsAtResult letters output
-      ⊎ ((early : List Message) × (first : Message) × (second : Message) × (later : List Message) × (letters ≡ early ++ first ∷ second ∷ later)
-      × (is_initialize first ≡ true) × (is_initialized second ≡ true) × TakesPart later stop (requests_in output))
+  -- What follows the result of `initialize`: `initialized`, and the server takes part from then on. Or nothing more is sent.
+  abbrev pub GoesOn : List Exchange → Stop → Type 0
+  GoesOn [] stop = Unit {0}
+  GoesOn (x ∷ later) stop =
+      MatchBool (is_initialized x.letter) (TakesPart (letters_of later) stop (requests_in (sends_of (x ∷ later)))) (sends_of (x ∷ later) ≡ [])
+
+  -- Nothing but errors is sent. Or errors first, then the result of `initialize`, and the session goes on from there.
+  abbrev pub GivesPayloads : List Exchange → Stop → Type 0
+  GivesPayloads exchanges stop =
+      (list_all is_refusal (sends_of exchanges) ≡ true)
+      ⊎ ((early : List Exchange) × (rest : List Exchange) × (exchanges ≡ early ++ rest)
+      × (ends : EndsWithResult early) × (list_all is_refusal (sends_of ends.before) ≡ true) × GoesOn rest stop)
 
   -- the laws of a session, in whose end these requests are held
   pub record KeepsLaws (held : Pending (Unit {0})) (exchanges : List Exchange) (stop : Stop) (null : Option Message) (answer : SessionAnswer) : Type 0 where
@@ -226,7 +206,7 @@ module _ {S P : Type 0} (may : Stated S P) where
     -- before `initialized` nothing is sent but one reply for each request, and nothing follows the null
     pub order : KeepsOrder exchanges stop null answer
     -- each reply of the client comes to the server with the payload of its own request, once
-    pub payloads : GivesPayloads (letters_of exchanges) stop (sends_of exchanges)
+    pub payloads : GivesPayloads exchanges stop
 
   -- a session of a server, which keeps the laws
   abbrev pub LawfulSession : S → S → SessionPart

@@ -7,7 +7,7 @@ use Rattle.lsp_message.specs.View.{error_view}
 use Rattle.lsp_message.specs.declared.msg.ResponseError.{ResponseError}
 use Rattle.lsp_service.specs.Desk.{Act}
 use Rattle.lsp_service.specs.View.{act_view}
-use Rattle.lsp_service.specs.declared.acts.Act as rust
+use Rattle.lsp_service.specs.declared.server.Act as rust
 
 -- the act with a tree that the value is written as, or the error -32603 and no act
 abbrev pub Carries : {P : Type 0} → (Option (List Event) → Option (List Event) → Type 0) → (Data → Act P)

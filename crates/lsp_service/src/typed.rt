@@ -8,7 +8,7 @@ ghost use Rattle.lsp_service.specs.Desk.{asks, replies, tells};
 ghost use Rattle.lsp_service.specs.Typed.{Carries};
 ghost use Rattle.lsp_service.specs.View.{act_view};
 
-use crate::acts::Act;
+use crate::server::Act;
 use lsp_message::{ErrorCode, Notification, RequestId, ResponseError, write_as};
 use serde::Serialize;
 use std::alloc::{AllocError, Global};
