@@ -25,18 +25,10 @@ due id d = how_many (is_reply_under id) d.said + held_under id d.held
 
 module _ (id : Id) where
   held_insert : (held : Pending (Unit {0})) (i : Id) → held_under id (map.insert held i tt) ≡ cond (eq_by_cmp id_cmp id i) 1 (held_under id held)
-  held_insert held i = ap (λ o. one_if (is_some o)) (get-insert id_total held i tt id) ∙ at (eq_by_cmp id_cmp id i)
-    where
-      at : (b : Bool) → one_if (is_some (cond b (Some tt) (map.get held id))) ≡ cond b 1 (held_under id held)
-      at true = refl
-      at false = refl
+  held_insert held i = let got = get-insert id_total held i tt id in grind (arith, got)
 
   held_remove : (held : Pending (Unit {0})) (i : Id) → held_under id (map.remove held i) ≡ cond (eq_by_cmp id_cmp id i) 0 (held_under id held)
-  held_remove held i = ap (λ o. one_if (is_some o)) (get-remove id_total held i id) ∙ at (eq_by_cmp id_cmp id i)
-    where
-      at : (b : Bool) → one_if (is_some (cond b None (map.get held id))) ≡ cond b 0 (held_under id held)
-      at true = refl
-      at false = refl
+  held_remove held i = let got = get-remove id_total held i id in grind (arith, got)
 
   -- a held request that is answered
   answered : (held : Pending (Unit {0})) (i : Id) (b : Bool) → eq_by_cmp id_cmp id i ≡ b → map.contains_key held i ≡ true

@@ -1,10 +1,10 @@
 -- Each reply of the client comes to the server with the payload of its own request.
-use Rattle.std.proofs.Common.{◌≡◌, refl, sym, ◌∙◌, ap, subst, inl, inr, ◌⊎◌, ℕ, ◌+◌, ◌≤◌, Bool, true, false, ◌||◌, ◌&&◌, cond, is_some, List, [], ◌∷◌, ◌++◌, append_assoc, append-nil, arith, Option, Some, None}
+use Rattle.std.proofs.Common.{◌≡◌, refl, sym, ◌∙◌, ap, subst, ℕ, ◌+◌, ◌≤◌, Bool, true, false, ◌||◌, ◌&&◌, cond, is_some, List, [], ◌∷◌, ◌++◌, append_assoc, append-nil, arith, Option, Some, None}
 use Rattle.std.proofs.lemmas.List.{map-append}
 use Rattle.std.specs.FinMap as map
 use Rattle.std.specs.FinMap.{get-insert, get-remove, get-empty}
 use Rattle.std.specs.Ordering.{eq_by_cmp}
-use Rattle.std.specs.Prelude.{Result, Err, MatchOption, pos, if◌then◌else◌}
+use Rattle.std.specs.Prelude.{Result, pos, if◌then◌else◌}
 use Rattle.std.specs.List.{list_all}
 use Rattle.std.specs.Prelude.{map as map_list}
 use Rattle.serde_json.specs.Data.{Data}
@@ -13,11 +13,13 @@ use Rattle.lsp_message.specs.IdLaws.{id_total, id_decides}
 use Rattle.lsp_message.specs.Message.{Message, ErrorObject, request, notification, response}
 use Rattle.lsp_queue.specs.Queue.{Asked, pending_of, count_of}
 use Rattle.lsp_session.specs.Session.{Exchange, letters_of, sends_of, Stop, is_served}
-use Rattle.lsp_service.specs.Desk.{Act, tells, asks, replies, cancels, settles, canceled, cancelled_by, cancel_method, cancel_params, Desk, is_spent, sends_request, does, does_all, ids_after, unsent, holds, given, says, TakesBack, Acts}
-use Rattle.lsp_service.specs.Law.{is_reply_under, Sent, Turn, requests_in, request_of, ids_after_all, sent_by, all_sent, kept_under, acts_of, was_given, brings, GivesOwnPayloads, Handed, TakesTurns, IsUnserved, IsWhole, TakesPart}
-use Rattle.lsp_service.specs.QueuedServer.{Works, WorksGiving, OpensSaying}
+use Rattle.lsp_service.specs.Desk.{Act, tells, asks, replies, cancels, cancelled_by, Desk, is_spent, sends_request, does, does_all, ids_after, unsent, given, says, TakesBack}
+use Rattle.lsp_service.specs.Law.{is_reply_under, Sent, Turn, requests_in, request_of, ids_after_all, sent_by, all_sent, kept_under, acts_of, was_given, brings, GivesOwnPayloads, TakesTurns, IsUnserved, IsWhole, TakesPart}
+use Rattle.lsp_service.specs.QueuedServer.{WorksGiving, OpensSaying}
 use Rattle.lsp_service.specs.View.{seen, desk_of}
 use Rattle.lsp_service.specs.declared.desk.QueuedServer.{QueuedServer}
+use Rattle.lsp_service.specs.Turning.{brought_by, all_sends, desk_at, settled_by, settled_at}
+use Rattle.lsp_service.proofs.Acting.{acts_at, at_count, at_said, said_all as all_said}
 use Rattle.lsp_service.proofs.Desking.{ids_counted}
 use Rattle.lsp_service.specs.declared.server.Server.{Ghosts as Stated}
 
@@ -216,93 +218,47 @@ module _ {P : Type 0} where
           nothing false o e = e
       other n more false e = refl
 
+  -- the answer of a cancelled request is no request
+  settled_ids : (count : ℕ) (m : Message) (acts : List (Act P)) → ids_after_all count (settled_at m acts) ≡ ids_after_all count acts
+  settled_ids count (request id method params) acts = refl
+  settled_ids count (notification method params) acts = of_both count acts (cancelled_by method params)
+    where
+      of_both : (count : ℕ) (acts : List (Act P)) (cancelled : Option Id) → ids_after_all count (acts ++ settled_by cancelled) ≡ ids_after_all count acts
+      of_both count [] None = refl
+      of_both count [] (Some id) = refl
+      of_both count (act ∷ acts) cancelled = of_both (ids_after count act) acts cancelled
+  settled_ids count (response id outcome) acts = refl
+
+  settled_sends : (count : ℕ) (m : Message) (acts : List (Act P)) → all_sent count (settled_at m acts) ≡ all_sent count acts
+  settled_sends count (request id method params) acts = refl
+  settled_sends count (notification method params) acts =
+      sent-append count acts (settled_by (cancelled_by method params)) ∙ ap (λ l. all_sent count acts ++ l) (none (cancelled_by method params))
+      ∙ append-nil (all_sent count acts)
+    where
+      none : (cancelled : Option Id) → all_sent {P = P} (ids_after_all count acts) (settled_by {P = P} cancelled) ≡ []
+      none None = refl
+      none (Some id) = refl
+  settled_sends count (response id outcome) acts = refl
+
+  -- a turn in which the server is handed a message
+  agrees_at : (sent : List (Sent P)) (before : List (Turn P)) (d : Desk P) (m : Message) (payload : Option P) (acts : List (Act P))
+      → payload ≡ brought_by d m → Agrees sent before d.asked
+      → Agrees sent (before ++ record { letter = m; payload = payload; acts = acts } ∷ []) (desk_at d m payload).asked
+  agrees_at sent before d (request id method params) payload acts is agrees = agrees_other sent before d.asked _ is agrees
+  agrees_at sent before d (notification method params) payload acts is agrees = agrees_other sent before d.asked _ is agrees
+  agrees_at sent before d (response i outcome) None acts is agrees = agrees_other sent before d.asked _ refl agrees
+  agrees_at sent before d (response i outcome) (Some payload) acts is agrees =
+      agrees_given sent before d.asked _ i outcome payload refl refl (sym is) agrees
+
+  fits_one : (sent : List (Sent P)) (before : List (Turn P)) (d : Desk P) (m : Message) (payload : Option P) (acts : List (Act P))
+      → payload ≡ brought_by d m → Agrees sent before d.asked → FitsOne sent before (record { letter = m; payload = payload; acts = acts })
+  fits_one sent before d (request i method params) payload acts is agrees id under = absurd (cc (under))
+  fits_one sent before d (notification method params) payload acts is agrees id under = absurd (cc (under))
+  fits_one sent before d (response i outcome) payload acts is agrees id under =
+      let same : id ≡ i = (id_decides id i).0 under in
+      is ∙ sym (ap (λ j. map.get (pending_of d.asked) j) same) ∙ agrees.pending id
+
 module _ {S P : Type 0} (may : Stated S P) where
-  abbrev answered : Desk P → Id → Bool → Desk P
-  answered d i b = if b then (record { held = map.remove d.held i; asked = d.asked; said = d.said ++ response i (Err canceled) ∷ [] }) else d
-
-  settled : (d : Desk P) (cancelled : Option Id) → (requests_in (settles d cancelled).said ≡ requests_in d.said) × ((settles d cancelled).asked ≡ d.asked)
-  settled d None = (refl, refl)
-  settled d (Some i) = at (map.contains_key d.held i)
-    where
-      at : (b : Bool) → (requests_in (answered d i b).said ≡ requests_in d.said) × ((answered d i b).asked ≡ d.asked)
-      at true = (requests-append d.said (response i (Err canceled) ∷ []) ∙ append-nil (requests_in d.said), refl)
-      at false = (refl, refl)
-
-  -- one letter is one turn
-  record OneTurn (s : S) (d : Desk P) (m : Message) (after : S × Desk P) (sent : List (Sent P)) (before : List (Turn P)) : Type 0 where
-    payload : Option P
-    acts : List (Act P)
-    did : S
-    handed : Handed may s m payload acts did
-    back : TakesBack may.takes_back did (unsent (count_of d.asked) acts) after.0
-    said : requests_in after.1.said ≡ requests_in d.said ++ map_list request_of (all_sent (count_of d.asked) acts)
-    count : count_of after.1.asked ≡ ids_after_all (count_of d.asked) acts
-    fits : FitsOne sent before (record { letter = m; payload = payload; acts = acts })
-    agrees : Agrees (sent ++ all_sent (count_of d.asked) acts) (before ++ record { letter = m; payload = payload; acts = acts } ∷ []) after.1.asked
-
-  one_turn : (s : S) (d : Desk P) (m : Message) (after : S × Desk P) (sent : List (Sent P)) (before : List (Turn P)) → Agrees sent before d.asked
-      → Works may (s, d) m after → OneTurn s d m after sent before
-  one_turn s d (request id method params) after sent before agrees works = record {
-    payload = None;
-    acts = works.0;
-    did = works.1;
-    handed = (works.2, refl);
-    back = works.3;
-    said = ap (λ (x : Desk P). requests_in x.said) works.4 ∙ said_all (holds d id) works.0;
-    count = ap (λ (x : Desk P). count_of x.asked) works.4 ∙ ids_all (holds d id) works.0;
-    fits = λ i under. absurd (cc (under));
-    agrees = rw works.4 (agrees_other _ before _ _ refl (agrees_acts sent before (holds d id) works.0 agrees));
-  }
-  one_turn s d (notification method params) after sent before agrees works =
-      let did = works.1 in
-      let cancelled = cancelled_by method params in
-      rw works.2 (record {
-        payload = None;
-        acts = did.0;
-        did = did.1;
-        handed = (did.2, refl);
-        back = did.3;
-        said = (settled works.0.1 cancelled).0 ∙ ap (λ (x : Desk P). requests_in x.said) did.4 ∙ said_all d did.0;
-        count = ap count_of (settled works.0.1 cancelled).1 ∙ ap (λ (x : Desk P). count_of x.asked) did.4 ∙ ids_all d did.0;
-        fits = λ i under. absurd (cc (under));
-        agrees = rw ((settled works.0.1 cancelled).1, did.4) (agrees_other _ before _ _ refl (agrees_acts sent before d did.0 agrees));
-      })
-  one_turn s d (response i outcome) after sent before agrees works = at (map.get (pending_of d.asked) i) refl works
-    where
-      fits_as : (payload : Option P) (acts : List (Act P)) → map.get (pending_of d.asked) i ≡ payload
-          → FitsOne sent before (record { letter = response i outcome; payload = payload; acts = acts })
-      fits_as payload acts kept id under =
-          let same : id ≡ i = (id_decides id i).0 under in
-          sym (ap (λ j. map.get (pending_of d.asked) j) same ∙ kept) ∙ agrees.pending id
-
-      at : (o : Option P) → map.get (pending_of d.asked) i ≡ o
-          → MatchOption o (after ≡ (s, d)) (λ payload. Acts may.takes_back (may.replied s payload outcome) (given d i) after)
-          → OneTurn s d (response i outcome) after sent before
-      at None kept same = rw same (record {
-        payload = None;
-        acts = [];
-        did = s;
-        handed = (refl, refl);
-        back = refl;
-        said = sym (append-nil (requests_in d.said));
-        count = refl;
-        fits = fits_as None [] kept;
-        agrees = agrees_none sent _ d.asked (agrees_other sent before d.asked _ refl agrees);
-      })
-      at (Some payload) kept did =
-          let now = agrees_given sent before d.asked (record { letter = response i outcome; payload = Some payload; acts = did.0 }) i outcome payload refl refl kept agrees in
-          record {
-            payload = Some payload;
-            acts = did.0;
-            did = did.1;
-            handed = did.2;
-            back = did.3;
-            said = ap (λ (x : Desk P). requests_in x.said) did.4 ∙ said_all (given d i) did.0;
-            count = ap (λ (x : Desk P). count_of x.asked) did.4 ∙ ids_all (given d i) did.0;
-            fits = fits_as (Some payload) did.0 kept;
-            agrees = rw did.4 (agrees_acts sent _ (given d i) did.0 now);
-          }
-
   -- the server is given these messages, and this is sent for each
   abbrev pub GivesAll : QueuedServer S P → List Exchange → QueuedServer S P → Type 0
   GivesAll w [] w' = w' ≡ w
@@ -327,33 +283,38 @@ module _ {S P : Type 0} (may : Stated S P) where
   }
   turn_all w w' (x ∷ xs) sent before silent agrees all =
       let mid = all.0 in
-      let step = all.1 in
-      let n = count_of (desk_of w.client).asked in
-      let one = one_turn w.server (desk_of w.client) x.letter step.0 sent before agrees step.1 in
-      let turn : Turn P = record { letter = x.letter; payload = one.payload; acts = one.acts } in
-      let asked : (desk_of mid.client).asked ≡ step.0.1.asked = ap (λ (x : S × Desk P). x.1.asked) step.3 in
-      let server : mid.server ≡ step.0.0 = ap (λ (x : S × Desk P). x.0) step.3 in
-      let count : count_of (desk_of mid.client).asked ≡ ids_after_all n one.acts = ap count_of asked ∙ one.count in
-      let rest = turn_all mid w' xs (sent ++ all_sent n one.acts) (before ++ turn ∷ []) (ap (λ (x : S × Desk P). x.1.said) step.3)
-      (subst (Agrees (sent ++ all_sent n one.acts) (before ++ turn ∷ [])) (sym asked) one.agrees) all.2 in
-      let now : requests_in x.said ≡ map_list request_of (all_sent n one.acts) =
-      ap requests_in step.2 ∙ one.said ∙ ap (λ l. requests_in l ++ map_list request_of (all_sent n one.acts)) silent in
-      let later : requests_in (sends_of xs) ≡ map_list request_of (all_sent (ids_after_all n one.acts) (acts_of rest.turns)) =
+      let d : Desk P = desk_of w.client in
+      let a = acts_at may (seen w) x.letter x.said (seen mid) all.1 in
+      let turn : Turn P = record { letter = x.letter; payload = a.payload; acts = a.acts } in
+      let start : Desk P = desk_at d x.letter a.payload in
+      let acts = settled_at x.letter a.acts in
+      let n = count_of d.asked in
+      let same : count_of start.asked ≡ n = at_count d x.letter a.payload in
+      let asked : (desk_of mid.client).asked ≡ (does_all start acts).asked = ap (λ (d : Desk P). d.asked) a.desk in
+      let count : count_of (desk_of mid.client).asked ≡ ids_after_all n a.acts =
+      ap count_of asked ∙ ids_all start acts ∙ ap (λ k. ids_after_all k acts) same ∙ settled_ids n x.letter a.acts in
+      let sends : all_sent (count_of start.asked) acts ≡ all_sent n a.acts = ap (λ k. all_sent k acts) same ∙ settled_sends n x.letter a.acts in
+      let agrees' : Agrees (sent ++ all_sent n a.acts) (before ++ turn ∷ []) (desk_of mid.client).asked =
+      subst (Agrees (sent ++ all_sent n a.acts) (before ++ turn ∷ [])) (sym asked)
+      (subst (λ l. Agrees (sent ++ l) (before ++ turn ∷ []) (does_all start acts).asked) sends
+      (agrees_acts sent (before ++ turn ∷ []) start acts (agrees_at sent before d x.letter a.payload a.acts a.brought agrees))) in
+      let rest = turn_all mid w' xs (sent ++ all_sent n a.acts) (before ++ turn ∷ []) (ap (λ (d : Desk P). d.said) a.desk) agrees' all.2 in
+      let now : requests_in x.said ≡ map_list request_of (all_sent n a.acts) =
+      ap requests_in (a.sent ∙ ap (λ l. l ++ all_sends start acts) (sym (at_said d x.letter a.payload)) ∙ sym (all_said start acts)) ∙ said_all start acts
+      ∙ (λ i. requests_in ((at_said d x.letter a.payload ∙ silent) i) ++ map_list request_of (sends i)) in
+      let later : requests_in (sends_of xs) ≡ map_list request_of (all_sent (ids_after_all n a.acts) (acts_of rest.turns)) =
       rest.said ∙ ap (λ k. map_list request_of (all_sent k (acts_of rest.turns))) count in
       record {
         turns = turn ∷ rest.turns;
         letters_are = ap (λ l. x.letter ∷ l) rest.letters_are;
-        took = (
-          one.did,
-          mid.server,
-          one.handed,
-          subst (TakesBack may.takes_back one.did (unsent n one.acts)) (sym server) one.back,
-          subst (λ k. TakesTurns may k mid.server rest.turns w'.server) count rest.took,
-        );
+        took = (a.did, mid.server, a.handed, a.back, subst (λ k. TakesTurns may k mid.server rest.turns w'.server) count rest.took);
         said = requests-append x.said (sends_of xs) ∙ (λ i. now i ++ later i)
-            ∙ sym (ap (λ l. map_list request_of l) (sent-append n one.acts (acts_of rest.turns))
-            ∙ map-append request_of (all_sent n one.acts) (all_sent (ids_after_all n one.acts) (acts_of rest.turns)));
-        fits = (one.fits, subst (λ k. Fits k (sent ++ all_sent n one.acts) (before ++ turn ∷ []) rest.turns) count rest.fits);
+            ∙ sym (ap (λ l. map_list request_of l) (sent-append n a.acts (acts_of rest.turns))
+            ∙ map-append request_of (all_sent n a.acts) (all_sent (ids_after_all n a.acts) (acts_of rest.turns)));
+        fits = (
+          fits_one sent before d x.letter a.payload a.acts a.brought agrees,
+          subst (λ k. Fits k (sent ++ all_sent n a.acts) (before ++ turn ∷ []) rest.turns) count rest.fits,
+        );
       }
 
   -- what was done at `initialized`

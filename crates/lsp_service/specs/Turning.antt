@@ -22,6 +22,12 @@ module _ {P : Type 0} where
   all_sends d [] = []
   all_sends d (act ∷ acts) = sends_by d act ++ all_sends (does d act) acts
 
+  -- what a reply of the client brings: what is kept with the request that waits under its id
+  abbrev pub brought_by : Desk P → Message → Option P
+  brought_by d (request id method params) = None
+  brought_by d (notification method params) = None
+  brought_by d (response id outcome) = map.get (pending_of d.asked) id
+
   -- The desk when the server acts at a message: a request that came is held, and the payload of a reply was given out.
   abbrev pub desk_at : Desk P → Message → Option P → Desk P
   desk_at d (request id method params) payload = holds d id
@@ -47,6 +53,7 @@ module _ {S P : Type 0} (may : Stated S P) where
     pub payload : Option P
     pub acts : List (Act P)
     pub did : S
+    pub brought : payload ≡ brought_by old.1 m
     pub handed : Handed may old.0 m payload acts did
     pub back : TakesBack may.takes_back did (unsent (count_of old.1.asked) acts) new.0
     pub sent : said ≡ old.1.said ++ all_sends (desk_at old.1 m payload) (settled_at m acts)
