@@ -39,11 +39,7 @@ same_number : (n m : ℕ) → eq_by_cmp id_cmp (number (pos n)) (number (pos m))
 same_number n m e = let same : number (pos n) ≡ number (pos m) = (id_decides (number (pos n)) (number (pos m))).0 e in cc (same)
 
 other_number : (n m : ℕ) → m + 1 ≤ n → eq_by_cmp id_cmp (number (pos n)) (number (pos m)) ≡ false
-other_number n m more = at (eq_by_cmp id_cmp (number (pos n)) (number (pos m))) refl
-  where
-    at : (b : Bool) → eq_by_cmp id_cmp (number (pos n)) (number (pos m)) ≡ b → b ≡ false
-    at true e = absurd (let same = same_number n m e in omega (arith, more, same))
-    at false e = refl
+other_number n m more = let same = same_number n m in grind (arith, same, more)
 
 module _ {P : Type 0} where
   ids_all : (d : Desk P) (acts : List (Act P)) → count_of (does_all d acts).asked ≡ ids_after_all (count_of d.asked) acts
@@ -192,8 +188,7 @@ module _ {P : Type 0} where
       → turn.letter ≡ response i outcome → turn.payload ≡ Some payload → map.get (pending_of asked) i ≡ Some payload → Agrees sent before asked
       → Agrees sent (before ++ turn ∷ []) (map.remove (pending_of asked) i, count_of asked)
   agrees_given sent before asked turn i outcome payload letter came kept agrees = record {
-    pending = λ id. get-remove id_total (pending_of asked) i id ∙ (at (kept_under id sent) (eq_by_cmp id_cmp id i) (was_given id before) (map.get (pending_of asked) id) (agrees.pending id)
-        ∙ ap (λ (b : Bool). if b then None else kept_under id sent) (sym (now id)));
+    pending = λ id. let got = get-remove id_total (pending_of asked) i id in let had = agrees.pending id in let now = now id in grind (arith, got, had, now);
     fresh = agrees.fresh;
     ungiven = λ n more. now (number (pos n)) ∙ rw (agrees.ungiven n more) (other n more (eq_by_cmp id_cmp (number (pos n)) i) refl);
   }
@@ -201,21 +196,12 @@ module _ {P : Type 0} where
       now : (id : Id) → was_given id (before ++ turn ∷ []) ≡ (was_given id before || eq_by_cmp id_cmp id i)
       now id = given-push id before turn ∙ rw (came, letter) refl
 
-      at : (kept' : Option P) (b given' : Bool) (o : Option P) → o ≡ (if given' then None else kept') → cond b None o ≡ (if (given' || b) then None else kept')
-      at kept' true true o e = refl
-      at kept' true false o e = refl
-      at kept' false true o e = e
-      at kept' false false o e = e
-
       other : (n : ℕ) → count_of asked ≤ n → (b : Bool) → eq_by_cmp id_cmp (number (pos n)) i ≡ b → b ≡ false
       other n more true e =
-          let same : number (pos n) ≡ i = (id_decides (number (pos n)) i).0 e in
-          let none : map.get (pending_of asked) i ≡ None = rw same at (agrees.pending (number (pos n)) ∙ nothing (was_given (number (pos n)) before) (kept_under (number (pos n)) sent) (agrees.fresh n more)) in
-          absurd (let clash = sym kept ∙ none in cc (clash))
-        where
-          nothing : (b : Bool) (o : Option P) → o ≡ None → (if b then None else o) ≡ None
-          nothing true o e = refl
-          nothing false o e = e
+          let same = (id_decides (number (pos n)) i).0 e in
+          let none : map.get (pending_of asked) (number (pos n)) ≡ None =
+          agrees.pending (number (pos n)) ∙ rw (agrees.ungiven n more, agrees.fresh n more) refl in
+          absurd (cc (same, none, kept))
       other n more false e = refl
 
   -- the answer of a cancelled request is no request
@@ -318,39 +304,6 @@ module _ {S P : Type 0} (may : Stated S P) where
       }
 
   -- what was done at `initialized`
-  record Began (w w' : QueuedServer S P) (said : List Message) : Type 0 where
-    begun : List (Act P)
-    did : S
-    began : may.begins w.server begun did
-    back : TakesBack may.takes_back did (unsent 0 begun) w'.server
-    requests : requests_in said ≡ map_list request_of (all_sent 0 begun)
-    count : count_of (desk_of w'.client).asked ≡ ids_after_all 0 begun
-    agrees : Agrees (all_sent 0 begun) [] (desk_of w'.client).asked
-    silent : (desk_of w'.client).said ≡ []
-
-  began_at : (w w' : QueuedServer S P) (said : List Message) → (desk_of w.client).said ≡ [] → (desk_of w.client).asked ≡ (map.empty, 0)
-      → OpensSaying may (seen w) said (seen w') → Began w w' said
-  began_at w w' said silent unasked opened =
-      let after = opened.0 in
-      let acts = opened.1.0 in
-      let none : count_of (desk_of w.client).asked ≡ 0 = ap count_of unasked in
-      let asked : (desk_of w'.client).asked ≡ (does_all (desk_of w.client) acts).asked =
-      ap (λ (x : S × Desk P). x.1.asked) opened.3 ∙ ap (λ (x : Desk P). x.asked) opened.1.4 in
-      let empty : Agrees [] [] (desk_of w.client).asked = subst (Agrees [] []) (sym unasked) agrees_start in
-      record {
-        begun = acts;
-        did = opened.1.1;
-        began = opened.1.2;
-        back = subst (λ (s : S). TakesBack may.takes_back opened.1.1 (unsent 0 acts) s) (sym (ap (λ (x : S × Desk P). x.0) opened.3))
-            (subst (λ n. TakesBack may.takes_back opened.1.1 (unsent n acts) after.0) none opened.1.3);
-        requests = ap requests_in opened.2 ∙ ap (λ (x : Desk P). requests_in x.said) opened.1.4 ∙ said_all (desk_of w.client) acts
-            ∙ (λ i. requests_in (silent i) ++ map_list request_of (all_sent (none i) acts));
-        count = ap count_of asked ∙ ids_all (desk_of w.client) acts ∙ ap (λ n. ids_after_all n acts) none;
-        agrees = subst (Agrees (all_sent 0 acts) []) (sym asked)
-            (subst (λ n. Agrees (all_sent n acts) [] (does_all (desk_of w.client) acts).asked) none (agrees_acts [] [] (desk_of w.client) acts empty));
-        silent = ap (λ (x : S × Desk P). x.1.said) opened.3;
-      }
-
   abbrev Part : List Message → Stop → List Message → Type 0
   Part = TakesPart may
 
@@ -360,28 +313,40 @@ module _ {S P : Type 0} (may : Stated S P) where
       → GivesAll mid xs after → list_all is_served (letters_of xs) ≡ true → IsUnserved (letters_of rest)
       → requests_in said ++ requests_in (sends_of xs) ≡ requests ++ more → (IsWhole stop → more ≡ []) → Part (letters_of xs ++ letters_of rest) stop requests
   part_whole w mid after said xs rest stop requests more silent unasked opened given served unserved sent whole =
-      let b = began_at w mid said silent unasked opened in
-      let t = turn_all mid after xs (all_sent 0 b.begun) [] b.silent b.agrees given in
-      let later : map_list request_of (all_sent (ids_after_all 0 b.begun) (acts_of t.turns)) ≡ requests_in (sends_of xs) =
-      sym (t.said ∙ ap (λ k. map_list request_of (all_sent k (acts_of t.turns))) b.count) in
+      let d : Desk P = desk_of w.client in
+      let begun = opened.1.0 in
+      let none : count_of d.asked ≡ 0 = ap count_of unasked in
+      let asked : (desk_of mid.client).asked ≡ (does_all d begun).asked =
+      ap (λ (x : S × Desk P). x.1.asked) opened.3 ∙ ap (λ (x : Desk P). x.asked) opened.1.4 in
+      let count : count_of (desk_of mid.client).asked ≡ ids_after_all 0 begun = ap count_of asked ∙ ids_all d begun ∙ ap (λ n. ids_after_all n begun) none in
+      let agrees : Agrees (all_sent 0 begun) [] (desk_of mid.client).asked =
+      subst (Agrees (all_sent 0 begun) []) (sym asked) (subst (λ n. Agrees (all_sent n begun) [] (does_all d begun).asked) none
+      (agrees_acts [] [] d begun (subst (Agrees [] []) (sym unasked) agrees_start))) in
+      let first : requests_in said ≡ map_list request_of (all_sent 0 begun) =
+      ap requests_in opened.2 ∙ ap (λ (x : Desk P). requests_in x.said) opened.1.4 ∙ said_all d begun
+      ∙ (λ i. requests_in (silent i) ++ map_list request_of (all_sent (none i) begun)) in
+      let t = turn_all mid after xs (all_sent 0 begun) [] (ap (λ (x : S × Desk P). x.1.said) opened.3) agrees given in
+      let later : map_list request_of (all_sent (ids_after_all 0 begun) (acts_of t.turns)) ≡ requests_in (sends_of xs) =
+      sym (t.said ∙ ap (λ k. map_list request_of (all_sent k (acts_of t.turns))) count) in
       record {
-        begun = b.begun;
+        begun = begun;
         turns = t.turns;
         rest = letters_of rest;
         cut = ap (λ l. l ++ letters_of rest) (sym t.letters_are);
         served = rw t.letters_are served;
         ended = unserved;
         start = w.server;
-        did = b.did;
+        did = opened.1.1;
         first = mid.server;
         last = after.server;
-        began = b.began;
-        took_back = b.back;
-        took_turns = subst (λ k. TakesTurns may k mid.server t.turns after.server) b.count t.took;
+        began = opened.1.2;
+        took_back = subst (λ (s : S). TakesBack may.takes_back opened.1.1 (unsent 0 begun) s) (sym (ap (λ (x : S × Desk P). x.0) opened.3))
+            (subst (λ n. TakesBack may.takes_back opened.1.1 (unsent n begun) opened.0.0) none opened.1.3);
+        took_turns = subst (λ k. TakesTurns may k mid.server t.turns after.server) count t.took;
         unsaid = more;
-        sent = ap (λ l. map_list request_of l) (sent-append 0 b.begun (acts_of t.turns))
-            ∙ map-append request_of (all_sent 0 b.begun) (all_sent (ids_after_all 0 b.begun) (acts_of t.turns))
-            ∙ (λ i. sym b.requests i ++ later i) ∙ sent;
+        sent = ap (λ l. map_list request_of l) (sent-append 0 begun (acts_of t.turns))
+            ∙ map-append request_of (all_sent 0 begun) (all_sent (ids_after_all 0 begun) (acts_of t.turns))
+            ∙ (λ i. sym first i ++ later i) ∙ sent;
         all = whole;
-        payloads = own_payloads b.begun t.turns (subst (λ k. Fits k (all_sent 0 b.begun) [] t.turns) b.count t.fits);
+        payloads = own_payloads begun t.turns (subst (λ k. Fits k (all_sent 0 begun) [] t.turns) count t.fits);
       }

@@ -79,29 +79,15 @@ module _ {S P : Type 0} (may : Stated S P) (stop : Stop) where
     sent : requests_in (sends_of served) ≡ requests_in (sends_of xs) ++ more
     whole : IsWhole stop → more ≡ []
 
-  serve_none : (w : QueuedServer S P) → Served w []
-  serve_none w = record {
+  -- `shutdown` or `exit` comes, or nothing
+  serve_left : (w : QueuedServer S P) (xs : List Exchange) → IsUnserved (letters_of xs) → requests_in (sends_of xs) ≡ [] → Served w xs
+  serve_left w xs unserved silent = record {
     served = [];
-    rest = [];
+    rest = xs;
     after = w;
     given = refl;
     all_served = refl;
-    unserved = tt;
-    cut = refl;
-    more = [];
-    sent = refl;
-    whole = λ is. refl;
-  }
-
-  -- `shutdown` or `exit` comes
-  serve_left : (w : QueuedServer S P) (x : Exchange) (xs : List Exchange) → is_served x.letter ≡ false → requests_in (sends_of (x ∷ xs)) ≡ [] → Served w (x ∷ xs)
-  serve_left w x xs other silent = record {
-    served = [];
-    rest = x ∷ xs;
-    after = w;
-    given = refl;
-    all_served = refl;
-    unserved = other;
+    unserved = unserved;
     cut = refl;
     more = [];
     sent = rw silent refl;
@@ -152,14 +138,14 @@ module _ {S P : Type 0} (may : Stated S P) (stop : Stop) where
       rw (part_none said more full cut leaves.0, over xs None (Ok Closed) q w w' (rw leaves.1 at run)) refl
 
   serve_all : (xs : List Exchange) (q : Phase) (w w' : QueuedServer S P) → Runs_from serving w xs q w' → Served w xs
-  serve_all [] q w w' run = serve_none w
+  serve_all [] q w w' run = serve_left w [] tt refl
   serve_all (x ∷ xs) q w w' run = at (λ rest. serve_all xs q run.5 w' rest) (is_served x.letter) refl run.6
     where
       at : (Runs_from serving run.5 xs q w' → Served run.5 xs) → (b : Bool) → is_served x.letter ≡ b
           → MatchBool b ((at_desk may).gives w x.letter run.0 run.5 × (run.4 ≡ serving)) (Leaves x.letter run.0 run.4 × (run.5 ≡ w))
           → Served w (x ∷ xs)
       at later true e step = serve_more w run.5 x xs run.0 run.1 e run.2 step.0 run.7 (later (rw step.1 at run.8))
-      at later false e step = serve_left w x xs e (left_silent run.5 w' q run.4 x.letter run.0 x.said run.1 xs step.0 run.2 run.3 run.8)
+      at later false e step = serve_left w (x ∷ xs) e (left_silent run.5 w' q run.4 x.letter run.0 x.said run.1 xs step.0 run.2 run.3 run.8)
 
   -- ---- from the result of `initialize` on
 
