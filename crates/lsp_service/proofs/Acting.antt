@@ -18,7 +18,7 @@ module _ {P : Type 0} where
   said_one d (replies id outcome) = grind (arith, append-nil)
   said_one d (cancels z) = grind (arith, append-nil)
 
-  pub said_all : (d : Desk P) (acts : List (Act P)) → (does_all d acts).said ≡ d.said ++ all_sends d acts
+  said_all : (d : Desk P) (acts : List (Act P)) → (does_all d acts).said ≡ d.said ++ all_sends d acts
   said_all d [] = sym (append-nil d.said)
   said_all d (act ∷ acts) =
       said_all (does d act) acts ∙ ap (λ (l : List Message). l ++ all_sends (does d act) acts) (said_one d act) ∙ append_assoc d.said (sends_by d act) (all_sends (does d act) acts)
@@ -59,6 +59,13 @@ module _ {S P : Type 0} (may : Stated S P) where
         ∙ ap (λ (l : List Message). l ++ all_sends (desk_at old.1 m payload) (settled_at m acts)) (at_said old.1 m payload);
     desk = left ∙ ap (λ (d : Desk P). cleared d) same;
   }
+
+  -- all that was sent, as the desk had it
+  pub said_so : (old : S × Desk P) (m : Message) (said : List Message) (new : S × Desk P) (a : ActsAt may old m said new)
+      → said ≡ (does_all (desk_at old.1 m a.payload) (settled_at m a.acts)).said
+  said_so old m said new a =
+      a.sent ∙ ap (λ (l : List Message). l ++ all_sends (desk_at old.1 m a.payload) (settled_at m a.acts)) (sym (at_said old.1 m a.payload))
+      ∙ sym (said_all (desk_at old.1 m a.payload) (settled_at m a.acts))
 
   pub acts_at : (old : S × Desk P) (m : Message) (said : List Message) (new : S × Desk P) → WorksGiving may old m said new
       → ActsAt may old m said new

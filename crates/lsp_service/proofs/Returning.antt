@@ -18,8 +18,8 @@ use Rattle.lsp_service.specs.Law.{is_reply_under, Sent, Turn, requests_in, reque
 use Rattle.lsp_service.specs.QueuedServer.{WorksGiving, OpensSaying}
 use Rattle.lsp_service.specs.View.{seen, desk_of}
 use Rattle.lsp_service.specs.declared.desk.QueuedServer.{QueuedServer}
-use Rattle.lsp_service.specs.Turning.{brought_by, all_sends, desk_at, settled_by, settled_at}
-use Rattle.lsp_service.proofs.Acting.{acts_at, at_count, at_said, said_all as all_said}
+use Rattle.lsp_service.specs.Turning.{brought_by, desk_at, settled_by, settled_at}
+use Rattle.lsp_service.proofs.Acting.{acts_at, at_count, at_said, said_so}
 use Rattle.lsp_service.proofs.Desking.{ids_counted}
 use Rattle.lsp_service.specs.declared.server.Server.{Ghosts as Stated}
 
@@ -286,7 +286,7 @@ module _ {S P : Type 0} (may : Stated S P) where
       (agrees_acts sent (before ++ turn ∷ []) start acts (agrees_at sent before d x.letter a.payload a.acts a.brought agrees))) in
       let rest = turn_all mid w' xs (sent ++ all_sent n a.acts) (before ++ turn ∷ []) (ap (λ (d : Desk P). d.said) a.desk) agrees' all.2 in
       let now : requests_in x.said ≡ map_list request_of (all_sent n a.acts) =
-      ap requests_in (a.sent ∙ ap (λ l. l ++ all_sends start acts) (sym (at_said d x.letter a.payload)) ∙ sym (all_said start acts)) ∙ said_all start acts
+      ap requests_in (said_so may (seen w) x.letter x.said (seen mid) a) ∙ said_all start acts
       ∙ (λ i. requests_in ((at_said d x.letter a.payload ∙ silent) i) ++ map_list request_of (sends i)) in
       let later : requests_in (sends_of xs) ≡ map_list request_of (all_sent (ids_after_all n a.acts) (acts_of rest.turns)) =
       rest.said ∙ ap (λ k. map_list request_of (all_sent k (acts_of rest.turns))) count in
