@@ -1,15 +1,15 @@
 -- Each request of a handler's session is answered once, under its id, in order.
 use Rattle.std.proofs.Common.{◌≡◌, refl, inl, inr, ◌⊎◌, ℕ, List, [], ◌∷◌, Some, None, Option}
-use Rattle.std.specs.Prelude.{Result, Ok, Err, MatchOption}
+use Rattle.std.specs.Prelude.{Result, Err, MatchOption}
 use Rattle.serde_json.specs.Data.{Data}
 use Rattle.lsp_message.specs.Id.{Id}
 use Rattle.lsp_message.specs.Message.{Message, ErrorObject, request, notification, response}
 use Rattle.lsp_session.proofs.Ran.{reaches_ran, ended_by, Holds, after_outcome, holds, stops_by}
-use Rattle.lsp_session.proofs.Rows.{Row, at_initialize, at_initialized, at_served, idle, Idle, early_request, early_note, unasked, uninvited, shuts, leaves, exits, stays, IsNoRequest, initialized_no_request, exit_no_request, silent, one_reply}
-use Rattle.lsp_session.specs.Answered.{RepliesTo, RepliesToEach, requests_of, AllReplied, LastUnanswered, AnswersRequests}
+use Rattle.lsp_session.proofs.Rows.{Row, at_initialize, at_initialized, at_served, idle, Idle, early_request, early_note, unasked, uninvited, shuts, leaves, exits, stays, initialized_no_request, exit_no_request, silent, one_reply}
+use Rattle.lsp_session.specs.Answered.{AllReplied, LastUnanswered, AnswersRequests}
 use Rattle.lsp_session.specs.HandlerSession.{Handles, of_handler}
 use Rattle.lsp_session.specs.ProtocolError.{ProtocolFault, ShowsUnallowed}
-use Rattle.lsp_session.specs.Session.{Behavior, Exchange, SessionAnswer, Stop, decided, Phase, starting, phase_after, SessionOut}
+use Rattle.lsp_session.specs.Session.{Behavior, Exchange, SessionAnswer, Stop, decided, Phase, starting, SessionOut}
 
 module _ (stop : Stop) where
   -- a message decided

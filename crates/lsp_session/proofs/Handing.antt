@@ -5,7 +5,7 @@ use Rattle.std.specs.List.{FoldsTo}
 use Rattle.lsp_message.specs.Frame.{body_means, reading_within}
 use Rattle.lsp_message.specs.Letters.{Begins, Passes, PassesAll, is_exit}
 use Rattle.lsp_message.specs.Message.{Message}
-use Rattle.lsp_message.specs.Reading.{Answers, StopsWithin}
+use Rattle.lsp_message.specs.Reading.{Answers}
 use Rattle.lsp_message.specs.declared.frame.ReadFault.{ReadFault}
 use Rattle.lsp_message.specs.declared.frame.ReadFault.TheVariants.{Input, Memory as NoMemory}
 use Rattle.lsp_message.specs.declared.msg.Message as msg

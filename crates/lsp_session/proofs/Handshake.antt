@@ -1,5 +1,5 @@
 -- The handshake as the beginning of a session.
-use Rattle.std.proofs.Common.{◌≡◌, refl, sym, ap, inl, inr, ℕ, ◌-◌, ◌^◌, ◌≤◌, Bool, true, false, not, ◌&&◌, List, [], ◌∷◌, ◌++◌, length, suc, arith, Some, None, Option, codes}
+use Rattle.std.proofs.Common.{◌≡◌, refl, sym, ap, inl, inr, ℕ, ◌-◌, ◌^◌, ◌≤◌, Bool, true, false, not, List, [], ◌∷◌, ◌++◌, length, suc, arith, Some, None, Option, codes}
 use Rattle.std.specs.Bool.{MatchBool}
 use Rattle.std.specs.List.{FoldsTo, AllZip, list_all, filter_map}
 use Rattle.std.specs.Prelude.{Result, Ok, Err}
@@ -7,7 +7,7 @@ use Rattle.std.specs.Str.{bytes_eq}
 use Rattle.serde_json.specs.Data.{Data}
 use Rattle.lsp_message.specs.Id.{Id}
 use Rattle.lsp_message.specs.Message.{Message, ErrorObject, request, notification, response}
-use Rattle.lsp_session.proofs.Engine.{From, Goes, goes_none, goes_step, goes_both, goes_run, goes_count, ends_closed, ends_exhausted, ends_decided, ends_refused}
+use Rattle.lsp_session.proofs.Engine.{From, Goes, goes_step, goes_both, goes_run, goes_count, ends_closed, ends_exhausted, ends_decided, ends_refused}
 use Rattle.lsp_session.proofs.Waiting.{FoldsTo-split, and-true, waits_none}
 use Rattle.lsp_session.specs.Boxes.{Takes, WaitsFor}
 use Rattle.lsp_session.specs.Event.{Event, message, timeout, closed}
@@ -21,7 +21,6 @@ use Rattle.lsp_session.specs.SessionRun.{message_in, is_open, Runs}
 use Rattle.lsp_session.specs.Start.{StartAnswer, is_early, is_undecided, request_of, IsEarlyReply, fault_of_refusal, PassesOver, RefusesReply, Decides, MessageDecides, StartsWithin}
 use Rattle.lsp_session.specs.Turns.{Turn, stopped, got, TakesTurn}
 use Rattle.lsp_session.specs.declared.lifecycle.SendFault.{SendFault}
-use Rattle.lsp_session.specs.declared.loops.handler.SessionEnd.TheVariants.{Closed}
 
 same_fault : {A : Type 0} (e f : ProtocolFault) → ◌≡◌ {A = Result A ProtocolFault} (Err e) (Err f) → e ≡ f
 same_fault e f same = cc
@@ -71,25 +70,18 @@ module _ {G I : Type 0} (receives : I → Event → I → Type 0) where
       ((run.0.1, run.1.1, rest.0), ap (λ n. suc n) rest.1)
 
 module _ {S : Type 0} (may : Behavior S) where
-  -- exchanges, of which these are the messages, and what is sent for them
-  record Early (s : S) (before replies : List Message) : Type 0 where
-    exchanges : List Exchange
-    came : before ≡ letters_of exchanges
-    sent : replies ≡ sends_of exchanges
-    steps : Steps may starting s exchanges starting s
+  -- these messages and what is sent for them are steps before `initialize`
+  abbrev Early : S → List Message → List Message → Type 0
+  Early s before replies = (xs : List Exchange) × (before ≡ letters_of xs) × (replies ≡ sends_of xs) × Steps may starting s xs starting s
 
   -- one more message before them
   early_then : (s : S) (m : Message) (said before replies : List Message) → Step may starting s m said starting s → Early s before replies → Early s (m ∷ before) (said ++ replies)
-  early_then s m said before replies step more = record {
-    exchanges = record { letter = m; said = said } ∷ more.exchanges;
-    came = ap (λ ms. m ∷ ms) more.came;
-    sent = ap (λ ms. said ++ ms) more.sent;
-    steps = (starting, s, step, more.steps);
-  }
+  early_then s m said before replies step more =
+      (record { letter = m; said = said } ∷ more.0, ap (λ ms. m ∷ ms) more.1, ap (λ ms. said ++ ms) more.2, (starting, s, step, more.3))
 
   -- early messages are steps, for which their replies are sent
   early_steps : (s : S) (before replies : List Message) → list_all is_early before ≡ true → AllZip IsEarlyReply (filter_map request_id before) replies → Early s before replies
-  early_steps s [] [] early each = record { exchanges = []; came = refl; sent = refl; steps = (refl, refl) }
+  early_steps s [] [] early each = ([], refl, refl, (refl, refl))
   early_steps s [] (r ∷ rs) early each = absurd each
   early_steps s (request i method params ∷ before) [] early each = absurd each
   early_steps s (request i method params ∷ before) (r ∷ rs) early each =
@@ -156,10 +148,10 @@ module _ {S I O : Type 0} (may : Behavior S)
           many = rw ((turns_receive receives turns g g' i i' taken).1) few;
           still_open = (early_turns turns passed.undecided).1;
           received = (turns_receive receives turns g g' i i' taken).0;
-          exchanges = early.exchanges;
-          came = early.came;
-          taken = rw early.sent at passed.taken;
-          steps = early.steps;
+          exchanges = early.0;
+          came = early.1;
+          taken = rw early.2 at passed.taken;
+          steps = early.3;
         }
 
     -- the greatest number of turns left the handshake undecided

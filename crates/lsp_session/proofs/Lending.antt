@@ -1,20 +1,14 @@
 -- A session of a handler, from that of the service that lends it.
-use Rattle.std.proofs.Common.{◌≡◌, refl, ◌∙◌, ap, inl, inr, ◌⊎◌, ℕ, Bool, true, false, List, [], ◌∷◌, ◌++◌, Option, Some, None}
-use Rattle.std.specs.Bool.{MatchBool}
-use Rattle.std.specs.Prelude.{Result, Ok, Err}
+use Rattle.std.proofs.Common.{◌≡◌, ◌∙◌, ap, inl, inr, ◌⊎◌, ℕ, List, [], ◌∷◌, ◌++◌, Option}
+use Rattle.std.specs.Prelude.{Result, Ok}
 use Rattle.serde_json.specs.Data.{Data}
 use Rattle.serde_json.specs.View.{view}
 use Rattle.lsp_message.specs.Id.{Id}
-use Rattle.lsp_message.specs.Methods.{is_initialized, is_exit}
-use Rattle.lsp_message.specs.Message.{Message, ErrorObject, request, notification, response}
+use Rattle.lsp_message.specs.Message.{Message, ErrorObject}
 use Rattle.lsp_session.proofs.Rows.{Row, row, at_initialize, at_initialized, at_served, idle, Idle, early_request, early_note, unasked, uninvited, shuts, leaves, exits, stays}
 use Rattle.lsp_session.specs.HandlerService.{KeepsHandler, lent_handler}
-use Rattle.lsp_session.specs.HandlerSession.{Handles, initialize_result, of_handler}
-use Rattle.lsp_session.specs.ProtocolError.{expected_initialize, expected_initialized, unexpected_in_shutdown}
-use Rattle.lsp_session.specs.Replies.{null_reply}
-use Rattle.lsp_session.specs.Session.{Behavior, SessionAnswer, Exchange, Stop, decided, no_more, timed_out, refused, exhausted, Phase, starting, replied, serving, asked, ended, phase_after, is_initialize, is_served, Fails, Leaves, Step, Steps, Reaches, Stops, SessionFrom, SessionOut}
-use Rattle.lsp_session.specs.Start.{IsEarlyReply, is_early}
-use Rattle.lsp_session.specs.declared.loops.handler.SessionEnd.TheVariants.{ShutDown}
+use Rattle.lsp_session.specs.HandlerSession.{initialize_result, of_handler}
+use Rattle.lsp_session.specs.Session.{Behavior, SessionAnswer, Exchange, Stop, decided, no_more, timed_out, refused, exhausted, Phase, starting, replied, serving, asked, ended, phase_after, Step, Steps, Reaches, Stops, SessionOut}
 use Rattle.lsp_session.specs.declared.loops.handler_service.HandlerService.{HandlerService}
 
 module _ {H : Type 0} (answers : H → Id → List ℕ → Data → Result Data ErrorObject → H → Type 0) (notes : H → List ℕ → Data → H → Type 0) (capabilities : Data) where

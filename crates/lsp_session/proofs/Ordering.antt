@@ -1,22 +1,23 @@
--- A session keeps the order of the lifecycle.
-use Rattle.std.proofs.Common.{◌≡◌, refl, sym, ◌∙◌, ap, inl, inr, ◌⊎◌, ℕ, Bool, true, false, true≢false, not, List, [], ◌∷◌, ◌++◌, append-nil, Option, Some, None}
-use Rattle.std.specs.Bool.{MatchBool}
-use Rattle.std.specs.List.{list_all}
+-- What the laws of a session say: it keeps the order of the lifecycle, and what follows for its beginning and its end.
+use Rattle.std.proofs.Common.{◌≡◌, refl, sym, ◌∙◌, ap, inl, inr, ◌⊎◌, ℕ, true, false, List, [], ◌∷◌, ◌++◌, Option, Some, None}
 use Rattle.std.specs.Prelude.{Result, Ok, Err, IsErrAnd}
 use Rattle.serde_json.specs.Data.{Data}
 use Rattle.lsp_message.specs.Id.{Id}
 use Rattle.lsp_message.specs.Message.{Message, ErrorObject, request, notification, response}
-use Rattle.lsp_message.specs.Methods.{is_early, is_initialize, is_initialized, is_shutdown, is_exit}
+use Rattle.lsp_message.specs.Methods.{is_initialize}
 use Rattle.lsp_session.proofs.Ran.{part_none, part_one, Ran, reaches_ran, stops_by}
 use Rattle.lsp_session.proofs.Rows.{Row, row, at_initialize, at_initialized, at_served, idle, Idle, early_request, early_note, unasked, uninvited, shuts, leaves, exits, stays, IsNoRequest, initialized_no_request, exit_no_request, silent, one_reply}
-use Rattle.lsp_session.specs.Answered.{IsReplied}
-use Rattle.lsp_session.specs.ProtocolError.{ProtocolFault, disconnected, out_of_memory, fault_of_refusal, Shows, ShowsUnallowed, expected_initialize, expected_initialized, unexpected_in_shutdown}
-use Rattle.lsp_session.specs.Replies.{null_reply, IsEarlyReply}
-use Rattle.lsp_session.specs.Session.{Behavior, Exchange, letters_of, sends_of, SessionAnswer, Stop, decided, no_more, timed_out, refused, exhausted, Phase, starting, replied as in_reply, serving, asked, ended, null_of, phase_after, is_served, Stops, SessionOut}
-use Rattle.lsp_session.specs.SessionLaws.{EndsWithResult, IsInvited, IsUnopened, AfterNull, is_no_shutdown, EndsWithNull, HasNoShutdown, KeepsOrder}
+use Rattle.lsp_session.specs.Answered.{IsReplied, RepliesTo, RepliesToEach, requests_of, AllReplied, AnswersRequests}
+use Rattle.lsp_session.specs.ProtocolError.{ProtocolFault, disconnected, out_of_memory, fault_of_refusal, ShowsUnallowed, expected_initialize, expected_initialized, unexpected_in_shutdown, is_disconnected}
+use Rattle.lsp_session.specs.Replies.{null_reply}
+use Rattle.lsp_session.specs.Session.{Behavior, Exchange, letters_of, sends_of, SessionAnswer, Stop, decided, no_more, timed_out, refused, exhausted, Phase, starting, replied as in_reply, serving, asked, ended, null_of, phase_after, is_served, Stops, SessionOut, request_id}
+use Rattle.lsp_session.specs.SessionLaws.{IsInvited, IsUnopened, AfterNull, is_no_shutdown, EndsWithNull, HasNoShutdown, KeepsOrder, is_reply, OpenedBy}
 use Rattle.lsp_session.specs.declared.lifecycle.SendFault.{SendFault}
 use Rattle.lsp_session.specs.declared.lifecycle.SendFault.TheVariants.{Closed as Shut, Memory as Full}
 use Rattle.lsp_session.specs.declared.loops.handler.SessionEnd.TheVariants.{Closed, ShutDown}
+use Rattle.std.proofs.lemmas.List.Elements.{filter_map-append}
+use Rattle.lsp_session.proofs.Starting.{AllZip-append}
+use Rattle.lsp_session.proofs.SessionSteps.{sends_both}
 
 served_no_shutdown : (m : Message) → is_served m ≡ true → is_no_shutdown m ≡ true
 served_no_shutdown (request i method params) served = (Rattle.lsp_session.proofs.Waiting.and-true (is_no_shutdown (request i method params)) true served).0
@@ -106,15 +107,7 @@ module _ {S : Type 0} (may : Behavior S) (stop : Stop) (null : Option Message) (
     replied = one_reply x i method params _ is said (_, refl);
     opened = elim rest [
       | inl invited ↦ inl ((
-        record {
-          before = [];
-          id = i;
-          method = method;
-          params = params;
-          result = result;
-          asks = asks;
-          cut = λ j. record { letter = is j; said = said j } ∷ [];
-        },
+        record { before = []; id = i; method = method; params = params; result = result; asks = asks; cut = λ j. record { letter = is j; said = said j } ∷ [] },
         invited.0,
         invited.1,
       )
@@ -198,3 +191,71 @@ pub keeps_order : {S : Type 0} (may : Behavior S) (s s' : S) (xs : List Exchange
     → SessionOut may s s' xs stop null answer → KeepsOrder xs stop null answer
 keeps_order may s s' xs stop null answer out =
     order may stop null answer starting out.last s out.after s' xs (reaches_ran may stop starting out.last s out.after xs out.reached) out.stopped out.null_is
+
+-- ---- a client that is gone
+
+still_there : (fault : ProtocolFault) → is_disconnected fault ≡ true → ShowsUnallowed fault → ⊥
+still_there fault lost (inl shows) = let e = (rw shows.1 at lost) in cc (e)
+still_there fault lost (inr shows) = let e = (rw shows.1 at lost) in cc (e)
+
+pub all_answered : (xs : List Exchange) (stop : Stop) (null : Option Message) (fault : ProtocolFault) → is_disconnected fault ≡ true
+    → AnswersRequests xs stop null (Err fault) → AllReplied xs
+all_answered xs stop null fault lost (inl all) = all
+all_answered xs stop null fault lost (inr last) = absurd (still_there fault lost last.unallowed)
+
+-- ---- a message that was refused
+
+no_null_at : {S : Type 0} (may : Behavior S) (p : Phase) (s s' : S) (fault : SendFault) (answer : SessionAnswer) → Stops may p s (refused fault) answer s' → null_of p ≡ None
+no_null_at may starting s s' fault answer stops = refl
+no_null_at may in_reply s s' fault answer stops = refl
+no_null_at may serving s s' fault answer stops = refl
+no_null_at may (asked i) s s' fault answer stops = absurd stops
+no_null_at may (ended null by) s s' fault answer stops = absurd stops
+
+pub no_null : {S : Type 0} (may : Behavior S) (s s' : S) (xs : List Exchange) (fault : SendFault) (null : Option Message) (answer : SessionAnswer)
+    → SessionOut may s s' xs (refused fault) null answer → null ≡ None
+no_null may s s' xs fault null answer out = out.null_is ∙ no_null_at may out.last out.after s' fault answer out.stopped
+
+-- ---- before `initialized`
+
+each_replied : (xs : List Exchange) → AllReplied xs → RepliesToEach (requests_of (letters_of xs)) (sends_of xs)
+each_replied [] all = tt
+each_replied (x ∷ xs) all =
+    rw (filter_map-append request_id (x.letter ∷ []) (letters_of xs))
+    (AllZip-append RepliesTo (requests_of (x.letter ∷ [])) (requests_of (letters_of xs)) x.said (sends_of xs) all.0 (each_replied xs all.1))
+
+no_reply : (id : Id) (m : Message) → RepliesTo id m → is_reply m ≡ false → ⊥
+no_reply id m replies other = let e = (rw replies.1 at other) in cc (e)
+
+-- a message that is no reply comes after the replies
+after_replies : (ids : List Id) (first before later more : List Message) (m : Message) → RepliesToEach ids first → is_reply m ≡ false
+    → before ++ m ∷ more ≡ first ++ later → (rest : List Message) × (before ≡ first ++ rest) × (later ≡ rest ++ m ∷ more)
+after_replies [] [] before later more m each other e = (before, refl, sym e)
+after_replies [] (r ∷ first) before later more m each other e = absurd each
+after_replies (id ∷ ids) [] before later more m each other e = absurd each
+after_replies (id ∷ ids) (r ∷ first) [] later more m each other e =
+    let same : m ≡ r = cc (e) in
+    absurd (no_reply id r each.0 (rw same at other))
+after_replies (id ∷ ids) (r ∷ first) (b ∷ before) later more m each other e =
+    let same : b ≡ r = cc (e) in
+    let tails : before ++ m ∷ more ≡ first ++ later = cc (e) in
+    let rest = after_replies ids first before later more m each.1 other tails in
+    (rest.0, rw same (ap (λ ms. r ∷ ms) rest.1), rest.2)
+
+never_none : (rest more : List Message) (m : Message) → ◌≡◌ {A = List Message} [] (rest ++ m ∷ more) → ⊥
+never_none [] more m e = cc (e)
+never_none (r ∷ rest) more m e = cc (e)
+
+unopened_silent : (rest : List Exchange) (stop : Stop) (answer : SessionAnswer) → IsUnopened rest stop answer → sends_of rest ≡ []
+unopened_silent [] stop answer is = refl
+unopened_silent (x ∷ rest) stop answer is = rw (is.0, is.1) refl
+
+pub opened_before : (xs : List Exchange) (stop : Stop) (null : Option Message) (answer : SessionAnswer) (before more : List Message) (m : Message)
+    → KeepsOrder xs stop null answer → sends_of xs ≡ before ++ m ∷ more → is_reply m ≡ false → OpenedBy xs before
+opened_before xs stop null answer before more m order sent other =
+    let parts : before ++ m ∷ more ≡ sends_of order.early ++ sends_of order.rest = sym sent ∙ ap sends_of order.cut ∙ sends_both order.early order.rest in
+    let after = after_replies (requests_of (letters_of order.early)) (sends_of order.early) before (sends_of order.rest) more m (each_replied order.early order.replied) other parts in
+    elim order.opened [
+      | inl opened ↦ (order.early, order.rest, after.0, order.cut, after.1, opened.0, opened.1)
+      | inr none ↦ absurd (never_none after.0 more m (sym (unopened_silent order.rest stop answer none.0) ∙ after.2))
+    ]

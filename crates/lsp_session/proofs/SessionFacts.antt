@@ -1,21 +1,17 @@
 -- What the definition of a session says of its answer, and of an `exit` among its messages.
-use Rattle.std.proofs.Common.{◌≡◌, refl, sym, ◌∙◌, ℕ, Bool, true, false, true≢false, not, List, [], ◌∷◌, Option, Some, None, codes}
-use Rattle.std.specs.Bool.{MatchBool}
+use Rattle.std.proofs.Common.{◌≡◌, refl, Bool, true, false, not, List, [], ◌∷◌, Option, Some, None, codes}
 use Rattle.std.specs.List.{list_all}
-use Rattle.std.specs.Prelude.{Result, Ok, Err, MatchOption}
+use Rattle.std.specs.Prelude.{MatchOption}
 use Rattle.std.proofs.lemmas.Slice.Eq.{bytes_eq-Decides}
-use Rattle.serde_json.specs.Data.{Data}
 use Rattle.lsp_message.specs.Letters.{is_exit}
-use Rattle.lsp_message.specs.Message.{Message, ErrorObject, request, notification, response}
+use Rattle.lsp_message.specs.Message.{Message, request, notification, response}
 use Rattle.lsp_session.proofs.Ran.{reaches_ran, ended_by, Holds, after_outcome, holds, stops_by}
 use Rattle.lsp_session.proofs.Rows.{Row, at_initialize, at_initialized, at_served, idle, Idle, early_request, early_note, unasked, uninvited, shuts, leaves, exits, stays, IsNoRequest}
 use Rattle.lsp_session.proofs.Waiting.{and-true}
 use Rattle.lsp_session.specs.Finish.{is_initialized}
-use Rattle.lsp_session.specs.ProtocolError.{ProtocolFault, expected_initialize, expected_initialized, unexpected_in_shutdown, is_disconnected, is_memory}
 use Rattle.lsp_session.specs.Session.{Behavior, Exchange, letters_of, SessionAnswer, Stop, decided, no_more, timed_out, refused, exhausted, Phase, starting, replied, serving, asked, ended, is_served, is_shutdown, Reaches, Stops, SessionFrom}
 use Rattle.lsp_session.specs.SessionFault.{ran_out, came_to_no_more}
-use Rattle.lsp_session.specs.Start.{is_early, IsEarlyReply}
-use Rattle.lsp_session.specs.declared.loops.handler.SessionEnd.TheVariants.{ShutDown, Closed}
+use Rattle.lsp_session.specs.Start.{is_early}
 
 abbrev pub is_no_exit : Message → Bool
 is_no_exit m = not (is_exit m)

@@ -15,23 +15,24 @@ use Rattle.lsp_message.specs.declared.frame.ReadFault.TheVariants.{Input, Memory
 use Rattle.lsp_message.specs.declared.frame.WriteFault.{WriteFault}
 use Rattle.lsp_message.specs.declared.frame.WriteFault.TheVariants.{Output, Memory as NoMemory}
 use Rattle.lsp_session.proofs.SessionFacts.{is_no_exit, Facts}
-use Rattle.lsp_session.proofs.SessionStreams.{Brought, brought_open, no_timeout, whole_first, GetsPart, NotRefused, gets_written, gets_keeps}
-use Rattle.lsp_session.proofs.Streaming.{streams_of}
+use Rattle.lsp_session.proofs.SessionStreams.{Brought, brought_open, no_timeout, whole_first, GetsPart, NotRefused, gets_written, gets_keeps, streams_of}
 use Rattle.lsp_session.proofs.Waiting.{FoldsTo-split}
 use Rattle.lsp_session.specs.Event.{Event, closed}
 use Rattle.lsp_session.specs.FrameBoxes.{FrameOutboxSends}
 use Rattle.lsp_session.specs.ProtocolError.{out_of_memory}
 use Rattle.lsp_session.specs.Session.{Exchange, letters_of, sends_of, SessionAnswer, SessionPart, Stop, decided, no_more, timed_out, refused, exhausted}
-use Rattle.lsp_session.specs.SessionBytes.{BeginsWith, GetsFirst, IsUnsent, LeftAfter, Ends, Gives}
+use Rattle.lsp_session.specs.SessionBytes.{BeginsWith, IsUnsent, LeftAfter, Ends, Wrote, Gives}
 use Rattle.lsp_session.specs.SessionFault.{ran_out, came_to_no_more, plain_answer, read_fault, read_answer, session_answer}
-use Rattle.lsp_session.specs.SessionRun.{message_in, is_open, all_of, Brings, Runs}
+use Rattle.lsp_session.specs.SessionRun.{message_in, is_open, Brings, Runs}
 use Rattle.lsp_session.specs.StreamBoxes.{stream_of, StreamInboxGives}
 use Rattle.lsp_session.specs.Streams.{Stream, StreamGives, StreamReads}
 use Rattle.lsp_session.specs.declared.loops.ReadEnd.{ReadEnd}
 use Rattle.lsp_session.specs.declared.loops.ReadEnd.TheVariants.{End, Fault}
 use Rattle.lsp_session.specs.declared.loops.frame_outbox.FrameOutbox.{FrameOutbox}
 use Rattle.lsp_session.specs.declared.loops.stream_inbox.StreamInbox.{StreamInbox}
-use Rattle.lsp_session.specs.declared.loops.stream_session.SessionFault.TheVariants.{Protocol, Read, Write, Memory}
+use Rattle.lsp_session.specs.declared.loops.handler.SessionEnd.{SessionEnd}
+use Rattle.lsp_session.specs.declared.loops.stream_session.SessionFault.{SessionFault}
+use Rattle.lsp_session.specs.declared.loops.stream_session.SessionFault.TheVariants.{Write, Memory}
 
 -- the answer of a session in which an allocation failed
 pub ran_out_answer : (answer : SessionAnswer) → ran_out answer ≡ true → answer ≡ Err out_of_memory
@@ -49,84 +50,52 @@ module _ (limit : ℕ) where
   unread_at : (fault : ReadFault) (at : List ℕ) → (reading_within limit at).outcome ≡ Err fault → reading_within limit at ≡ record { outcome = Err fault; rest = (reading_within limit at).rest }
   unread_at fault at is = ap (λ o. record { outcome = o; rest = (reading_within limit at).rest }) is
 
-  module _ (P : SessionPart) (text : List ℕ) (a b : Option (List ℕ)) (xs : List Exchange) (null : Option Message) where
-    -- an allocation failed
-    runs_out : (left : Option (List ℕ)) (stop : Stop) (answer : SessionAnswer) → P xs stop null answer
-        → (at : List ℕ) × BeginsWith limit text (letters_of xs) at × StopsWithin left (reading_within limit at) → GetsFirst (sends_of xs) a b → Gives limit P text left a b (Err Memory)
-    runs_out left stop answer part read wrote =
-        record { exchanges = xs; at = read.0; read = read.1; stop = stop; null = null; answer = answer; part = part; ends = read.2; wrote = wrote }
+  -- what is left, and what was written
+  module _ (null : Option Message) (sends : List Message) (a b : Option (List ℕ)) where
+    abbrev Ended : Option (List ℕ) → Result SessionEnd SessionFault → SessionAnswer → Stop → List ℕ → Type 0
+    Ended left result answer stop at = Ends limit left result answer stop null at × Wrote a b result stop null sends
 
-    -- a write failed
-    write_fails : (left : Option (List ℕ)) (stop : Stop) (answer : SessionAnswer) (kind : ErrorKind) → P xs stop null answer
-        → (at : List ℕ) × BeginsWith limit text (letters_of xs) at × Ends limit left (Err (Write (Output kind))) answer stop null at → IsUnsent stop null → GetsPart (Output kind) (sends_of xs) a b
-        → Gives limit P text left a b (Err (Write (Output kind)))
-    write_fails left stop answer kind part read unsent wrote = record {
-      exchanges = xs;
-      at = read.0;
-      read = read.1;
-      stop = stop;
-      null = null;
-      answer = answer;
-      part = part;
-      ends = read.2;
-      wrote = (tt, unsent, wrote.0, wrote.1, wrote.2, wrote.3);
-    }
-
-    module _ (wrote : GetsFrames (sends_of xs) a b) (new : Stream) where
+    module _ (wrote : GetsFrames sends a b) where
       -- a session that came to its end
-      plain_gives : (answer : SessionAnswer) (stop : Stop) (at : List ℕ) → ran_out answer ≡ false → P xs stop null answer → BeginsWith limit text (letters_of xs) at
-          → LeftAfter limit stop at new.remaining → Gives limit P text new.remaining a b (plain_answer answer)
-      plain_gives (Ok end) stop at enough part read left =
-          record { exchanges = xs; at = at; read = read; stop = stop; null = null; answer = Ok end; part = part; ends = (refl, left); wrote = wrote }
-      plain_gives (Err fault) stop at enough part read left =
-          rw enough (record { exchanges = xs; at = at; read = read; stop = stop; null = null; answer = Err fault; part = part; ends = (refl, left); wrote = wrote })
+      plain_ends : (answer : SessionAnswer) (left : Option (List ℕ)) (stop : Stop) (at : List ℕ) → ran_out answer ≡ false → LeftAfter limit stop at left
+          → Ended left (plain_answer answer) answer stop at
+      plain_ends (Ok end) left stop at enough after = ((refl, after), wrote)
+      plain_ends (Err fault) left stop at enough after = rw enough ((refl, after), wrote)
 
-      module _ (answer : SessionAnswer) where
-        module _ (part : P xs decided null answer) (facts : Facts decided (letters_of xs) answer) (brought : Brought limit text (letters_of xs) new) where
-          decided_plain : Gives limit P text new.remaining a b (plain_answer answer)
-          decided_plain = plain_gives answer decided brought.at facts.0 part brought.read brought.left
+      -- an allocation failed
+      exhausted_ends : (answer : SessionAnswer) → ran_out answer ≡ true → (end : Option ReadEnd) (left : Option (List ℕ)) (at : List ℕ) → StopsWithin left (reading_within limit at)
+          → Ended left (read_answer answer end) answer exhausted at
+      exhausted_ends answer ran end left at stops = rw (ran_out_answer answer ran, ran_out_gives end) (stops, whole_first sends a b wrote)
 
+      module _ (answer : SessionAnswer) (letters : List Message) where
+        module _ (text : List ℕ) (new : Stream) (brought : Brought limit text letters new) where
           -- a message decided
-          decided_gives : (goes : Bool) → list_all is_no_exit (letters_of xs) ≡ goes → Gives limit P text new.remaining a b (read_answer answer new.end)
-          decided_gives false exits = rw (brought.end, exits) decided_plain
-          decided_gives true none = at (came_to_no_more answer) refl
+          decided_ends : Facts decided letters answer → (goes : Bool) → list_all is_no_exit letters ≡ goes → Ended new.remaining (read_answer answer new.end) answer decided brought.at
+          decided_ends facts false exits = rw (brought.end, exits) (plain_ends answer new.remaining decided brought.at facts.0 brought.left)
+          decided_ends facts true none = at (came_to_no_more answer) refl
             where
-              at : (c : Bool) → came_to_no_more answer ≡ c → Gives limit P text new.remaining a b (read_answer answer new.end)
-              at false is = rw (brought.end, none, is) decided_plain
+              at : (c : Bool) → came_to_no_more answer ≡ c → Ended new.remaining (read_answer answer new.end) answer decided brought.at
+              at false is = rw (brought.end, none, is) (plain_ends answer new.remaining decided brought.at facts.0 brought.left)
               at true is = absurd (true≢false (sym none ∙ facts.1 is))
 
-        module _ (part : P xs no_more null answer) (facts : Facts no_more (letters_of xs) answer) where
           -- as many were taken as can be counted
-          many_gives : Brought limit text (letters_of xs) new → Gives limit P text new.remaining a b (read_answer answer new.end)
-          many_gives brought = rw (brought.end, facts.2, facts.1) (record {
-            exchanges = xs;
-            at = brought.at;
-            read = brought.read;
-            stop = no_more;
-            null = null;
-            answer = answer;
-            part = part;
-            ends = (refl, rw brought.left (frame_unread body_means limit brought.at));
-            wrote = wrote;
-          })
+          many_ends : Facts no_more letters answer → Ended new.remaining (read_answer answer new.end) answer no_more brought.at
+          many_ends facts = rw (brought.end, facts.2, facts.1) ((refl, rw brought.left (frame_unread body_means limit brought.at)), wrote)
 
-          module _ (at : List ℕ) (read : BeginsWith limit text (letters_of xs) at) where
-            fails : (fault : ReadFault) → Ends limit new.remaining (Err (Read fault)) answer no_more null at → Gives limit P text new.remaining a b (Err (Read fault))
-            fails fault rest =
-                record { exchanges = xs; at = at; read = read; stop = no_more; null = null; answer = answer; part = part; ends = rest; wrote = wrote }
+        fault_ends : (fault : ReadFault) (left : Option (List ℕ)) (at : List ℕ) → Answers (λ (m : Message). m) (Err fault) left (reading_within limit at)
+            → Ended left (Err (read_fault fault)) answer no_more at
+        fault_ends (Input kind) left at answers = ((refl, answers), wrote)
+        fault_ends NoMemoryToRead left at answers = (answers, whole_first sends a b wrote)
+        fault_ends fault left at answers = ((refl, (reading_within limit at).rest, unread_at fault at answers.0, answers.1), wrote)
 
-            fault_gives : (fault : ReadFault) → Answers (λ (m : Message). m) (Err fault) new.remaining (reading_within limit at) → Gives limit P text new.remaining a b (Err (read_fault fault))
-            fault_gives (Input kind) answers = fails (Input kind) (refl, answers)
-            fault_gives NoMemoryToRead answers = runs_out new.remaining no_more answer part (at, read, answers) (whole_first (sends_of xs) a b wrote)
-            fault_gives fault answers = fails fault (refl, (reading_within limit at).rest, unread_at fault at answers.0, answers.1)
-
-            -- no more came
-            end_gives : (end : Option ReadEnd) → StreamReads limit (Some at) closed end new.remaining → Gives limit P text new.remaining a b (read_answer answer end)
-            end_gives None reads = absurd reads
-            end_gives (Some End) reads = plain_gives answer no_more at facts.0 part read
-                ((reading_within limit at).rest, ap (λ o. record { outcome = o; rest = (reading_within limit at).rest }) reads.0.0, reads.0.1)
-            end_gives (Some (Fault fault)) reads = rw facts.0 (fault_gives fault reads.0)
-            end_gives (Some end) reads = absurd reads
+        -- no more came
+        closed_ends : Facts no_more letters answer → (end : Option ReadEnd) (left : Option (List ℕ)) (at : List ℕ) → StreamReads limit (Some at) closed end left
+            → Ended left (read_answer answer end) answer no_more at
+        closed_ends facts None left at reads = absurd reads
+        closed_ends facts (Some End) left at reads = plain_ends answer left no_more at facts.0
+            ((reading_within limit at).rest, ap (λ o. record { outcome = o; rest = (reading_within limit at).rest }) reads.0.0, reads.0.1)
+        closed_ends facts (Some (Fault fault)) left at reads = rw facts.0 (fault_ends fault left at reads.0)
+        closed_ends facts (Some end) left at reads = absurd reads
 
   -- the last of several events
   last_event : (earlier : List Event) (event : Event) (old new : Stream) → FoldsTo (StreamGives limit) old (earlier ++ event ∷ []) new
@@ -181,44 +150,33 @@ module _ (limit : ℕ) where
         let after : (reading_within limit parts.0).rest ≡ all.at = ap (λ (r : Reading Message). r.rest) parts.2.1 ∙ parts.2.2 in
         (parts.0, parts.1, ([], rw after all.left))
 
-    -- where a message was not sent, nothing after the last one was taken, but for what is awaited after the null
-    left_unsent : (kind : ErrorKind) (letters : List Message) (stop : Stop) (null : Option Message) (answer : SessionAnswer) → Brings events letters stop → Facts stop letters answer → IsUnsent stop null
-        → (at : List ℕ) × BeginsWith limit text letters at × Ends limit new.remaining (Err (Write (Output kind))) answer stop null at
-    left_unsent kind letters stop (Some null) answer brought facts unsent = left_within letters stop answer brought facts
-    left_unsent kind letters (refused fault) None answer brought facts unsent =
-        let all = rw brought.0 at (brought_open limit events text old new unended known run brought.1) in (all.at, all.read, all.left)
-    left_unsent kind letters stop None answer brought facts unsent = absurd unsent
+    open_brought : (letters : List Message) → filter_map message_in events ≡ letters → list_all is_open events ≡ true → Brought limit text letters new
+    open_brought letters brings still_open = rw brings at (brought_open limit events text old new unended known run still_open)
 
-  module _ (P : SessionPart)
-      (knows : (xs : List Exchange) (stop : Stop) (null : Option Message) (answer : SessionAnswer) → P xs stop null answer → Facts stop (letters_of xs) answer)
-      (text : List ℕ) (old new : Stream) (unended : old.end ≡ None) (known : old.remaining ≡ Some text)
-      (events : List Event) (run : FoldsTo (StreamGives limit) old events new) (xs : List Exchange)
-      (null : Option Message) (answer : SessionAnswer) (a b : Option (List ℕ)) (wrote : GetsFrames (sends_of xs) a b) where
-    closed_gives : (earlier : List Event) → events ≡ earlier ++ closed ∷ [] → list_all is_open earlier ≡ true → filter_map message_in events ≡ letters_of xs → P xs no_more null answer
-        → Gives limit P text new.remaining a b (read_answer answer new.end)
-    closed_gives earlier cut still_open brings part =
-        let facts = knows xs no_more null answer part in
-        let last = closed_at text old new unended known events run earlier (letters_of xs) cut still_open brings facts.2 in
-        end_gives P text a b xs null wrote new answer part facts last.at last.read new.end last.reads
+    module _ (letters : List Message) (null : Option Message) (answer : SessionAnswer) where
+      -- where a message was not sent, nothing after the last one was taken, but for what is awaited after the null
+      left_unsent : (kind : ErrorKind) (null : Option Message) (stop : Stop) → Brings events letters stop → Facts stop letters answer → IsUnsent stop null
+          → (at : List ℕ) × BeginsWith limit text letters at × Ends limit new.remaining (Err (Write (Output kind))) answer stop null at
+      left_unsent kind (Some null) stop brought facts unsent = left_within letters stop answer brought facts
+      left_unsent kind None (refused fault) brought facts unsent = let all = open_brought letters brought.0 brought.1 in (all.at, all.read, all.left)
+      left_unsent kind None stop brought facts unsent = absurd unsent
 
-    open_brought : filter_map message_in events ≡ letters_of xs → list_all is_open events ≡ true → Brought limit text (letters_of xs) new
-    open_brought brings still_open = rw brings at (brought_open limit events text old new unended known run still_open)
-
-    -- no write failed
-    pub stop_gives : (stop : Stop) → Brings events (letters_of xs) stop → NotRefused stop → P xs stop null answer → Gives limit P text new.remaining a b (read_answer answer new.end)
-    stop_gives decided brought taken part =
-        decided_gives P text a b xs null wrote new answer part (knows xs decided null answer part) (open_brought brought.0 brought.1) (list_all is_no_exit (letters_of xs)) refl
-    stop_gives no_more brought taken part = elim brought.1 [
-      | inl last ↦ closed_gives last.0 last.1 last.2 brought.0 part
-      | inr many ↦ many_gives P text a b xs null wrote new answer part (knows xs no_more null answer part) (open_brought brought.0 many.1)
-    ]
-    stop_gives timed_out brought taken part = absurd (no_timeout limit brought.1.0 old new (rw brought.1.1 at run))
-    stop_gives (refused fault) brought taken part = absurd taken
-    stop_gives exhausted brought taken part =
-        let facts = knows xs exhausted null answer part in
-        rw (ran_out_answer answer facts, ran_out_gives new.end)
-        (runs_out P text a b xs null new.remaining exhausted answer part
-        (left_within text old new unended known events run (letters_of xs) exhausted answer brought facts) (whole_first (sends_of xs) a b wrote))
+      -- no write failed
+      stop_ends : (sends : List Message) (a b : Option (List ℕ)) → GetsFrames sends a b → (stop : Stop) → Brings events letters stop → NotRefused stop → Facts stop letters answer
+          → (at : List ℕ) × BeginsWith limit text letters at × Ended null sends a b new.remaining (read_answer answer new.end) answer stop at
+      stop_ends sends a b wrote decided brought taken facts =
+          let all = open_brought letters brought.0 brought.1 in
+          (all.at, all.read, decided_ends null sends a b wrote answer letters text new all facts (list_all is_no_exit letters) refl)
+      stop_ends sends a b wrote no_more brought taken facts = elim brought.1 [
+        | inl last ↦ let closed' = closed_at last.0 letters last.1 last.2 brought.0 facts.2 in
+            (closed'.at, closed'.read, closed_ends null sends a b wrote answer letters facts new.end new.remaining closed'.at closed'.reads)
+        | inr many ↦ let all = open_brought letters brought.0 many.1 in (all.at, all.read, many_ends null sends a b wrote answer letters text new all facts)
+      ]
+      stop_ends sends a b wrote timed_out brought taken facts = absurd (no_timeout limit brought.1.0 old new (rw brought.1.1 at run))
+      stop_ends sends a b wrote (refused fault) brought taken facts = absurd taken
+      stop_ends sends a b wrote exhausted brought taken facts =
+          let left = left_within letters exhausted answer brought facts in
+          (left.0, left.1, exhausted_ends null sends a b wrote answer facts new.end new.remaining left.0 left.2)
 
   module _ {R W : Type 0} (remaining : R → Option (List ℕ)) (contents : W → Option (List ℕ))
       (P : SessionPart)
@@ -238,24 +196,36 @@ module _ (limit : ℕ) where
         facts : Facts runs.stop (letters_of runs.exchanges) answer
         facts = knows runs.exchanges runs.stop runs.null answer runs.part
 
-        within : (at : List ℕ) × BeginsWith limit text (letters_of runs.exchanges) at × StopsWithin (remaining inbox'.reader.now) (reading_within limit at)
-        within =
-            left_within text (stream_of remaining inbox) (stream_of remaining inbox') unended known runs.events run (letters_of runs.exchanges) runs.stop answer runs.brought facts
+        gives : (result : Result SessionEnd SessionFault) (at : List ℕ) → BeginsWith limit text (letters_of runs.exchanges) at
+            → Ended runs.null (sends_of runs.exchanges) (contents outbox.writer.now) (contents outbox'.writer.now) (remaining inbox'.reader.now) result answer runs.stop at
+            → Gives limit P text (remaining inbox'.reader.now) (contents outbox.writer.now) (contents outbox'.writer.now) result
+        gives result at read ended = record {
+          exchanges = runs.exchanges;
+          at = at;
+          read = read;
+          stop = runs.stop;
+          null = runs.null;
+          answer = answer;
+          part = runs.part;
+          ends = ended.0;
+          wrote = ended.1;
+        }
 
         at : (fault : Option WriteFault)
             → MatchOption fault (NotRefused runs.stop × GetsFrames (sends_of runs.exchanges) (contents outbox.writer.now) (contents outbox'.writer.now))
             (λ f. IsUnsent runs.stop runs.null × GetsPart f (sends_of runs.exchanges) (contents outbox.writer.now) (contents outbox'.writer.now))
             → Gives limit P text (remaining inbox'.reader.now) (contents outbox.writer.now) (contents outbox'.writer.now) (session_answer answer inbox'.end fault)
         at None written =
-            stop_gives P knows text (stream_of remaining inbox) (stream_of remaining inbox') unended known runs.events run runs.exchanges runs.null answer
-            (contents outbox.writer.now) (contents outbox'.writer.now) written.1 runs.stop runs.brought written.0 runs.part
+            let all = stop_ends text (stream_of remaining inbox) (stream_of remaining inbox') unended known runs.events run (letters_of runs.exchanges) runs.null answer
+            (sends_of runs.exchanges) (contents outbox.writer.now) (contents outbox'.writer.now) written.1 runs.stop runs.brought written.0 facts in
+            gives (read_answer answer inbox'.end) all.0 all.1 all.2
         at (Some (Output kind)) unwritten =
-            write_fails P text (contents outbox.writer.now) (contents outbox'.writer.now) runs.exchanges runs.null (remaining inbox'.reader.now) runs.stop answer kind runs.part
-            (left_unsent text (stream_of remaining inbox) (stream_of remaining inbox') unended known runs.events run kind (letters_of runs.exchanges) runs.stop runs.null answer runs.brought facts unwritten.0)
-            unwritten.0 unwritten.1
+            let all = left_unsent text (stream_of remaining inbox) (stream_of remaining inbox') unended known runs.events run (letters_of runs.exchanges) runs.null answer
+            kind runs.null runs.stop runs.brought facts unwritten.0 in
+            gives (Err (Write (Output kind))) all.0 all.1 (all.2, (tt, unwritten.0, unwritten.1.0, unwritten.1.1, unwritten.1.2, unwritten.1.3))
         at (Some NoMemory) unwritten =
-            runs_out P text (contents outbox.writer.now) (contents outbox'.writer.now) runs.exchanges runs.null (remaining inbox'.reader.now) runs.stop answer runs.part
-            within unwritten.1
+            let all = left_within text (stream_of remaining inbox) (stream_of remaining inbox') unended known runs.events run (letters_of runs.exchanges) runs.stop answer runs.brought facts in
+            gives (Err Memory) all.0 all.1 (all.2, unwritten.1)
 
     -- the same of the reader and the writer that were lent
     pub session_gives : (first last : R) (first' last' : W) → inbox.reader.now ≡ first → outbox.writer.now ≡ first'

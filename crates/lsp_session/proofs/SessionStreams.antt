@@ -1,31 +1,55 @@
 -- A session over an inbox that reads and an outbox that writes, in bytes.
-use Rattle.std.proofs.Common.{◌≡◌, refl, sym, ◌∙◌, ap, ℕ, Bool, true, false, List, [], ◌∷◌, ◌++◌, append-nil, Some, None, Option}
+use Rattle.std.proofs.Common.{◌≡◌, ◌∙◌, ap, refl, inl, inr, ℕ, List, [], ◌∷◌, ◌++◌, Option, sym, Bool, true, false, append-nil, Some, None}
+use Rattle.std.specs.List.{FoldsTo, list_all, filter_map}
+use Rattle.lsp_message.specs.Message.{Message}
+use Rattle.lsp_session.specs.Boxes.{Sends, Takes}
+use Rattle.lsp_session.specs.Event.{Event, message, timeout, closed}
+use Rattle.lsp_session.specs.Finish.{FinishAnswer, FinishesAt}
+use Rattle.lsp_session.specs.StreamBoxes.{stream_of, StreamInboxGives}
+use Rattle.lsp_session.specs.Streams.{StreamGives, Stream, StreamReads, Reads}
+use Rattle.lsp_session.specs.declared.loops.ReadEnd.{ReadEnd}
+use Rattle.lsp_session.specs.declared.loops.stream_inbox.StreamInbox.{StreamInbox}
 use Rattle.std.proofs.KnownBytes.{Appends-trans}
 use Rattle.std.specs.Io.KnownBytes.{Keeps}
-use Rattle.std.specs.List.{FoldsTo, list_all, filter_map}
 use Rattle.std.specs.Prelude.{Result, Ok, Err, MatchOption, if◌then◌else◌}
 use Rattle.lsp_message.specs.Frame.{reading_within}
 use Rattle.lsp_message.specs.Letters.{is_exit}
-use Rattle.lsp_message.specs.Message.{Message}
 use Rattle.lsp_message.specs.Written.{GetsFrames, GetsFramesAndPart, Writes}
 use Rattle.lsp_message.specs.declared.frame.WriteFault.{WriteFault}
 use Rattle.lsp_message.specs.declared.frame.WriteFault.TheVariants.{Output, Memory as NoMemory}
-use Rattle.lsp_session.proofs.Carrying.{AreFramesOf-push}
+use Rattle.lsp_session.proofs.Writing.{AreFramesOf-push, breaks_off, taken_frames, taken_keeps, Appends-Keeps}
 use Rattle.lsp_session.proofs.Handing.{begins}
-use Rattle.lsp_session.proofs.FrameSteps.{breaks_off, taken_frames, taken_keeps, Appends-Keeps}
 use Rattle.lsp_session.proofs.SessionFacts.{is_no_exit}
-use Rattle.lsp_session.specs.Boxes.{Takes}
-use Rattle.lsp_session.specs.Event.{Event, message, timeout, closed}
 use Rattle.lsp_session.specs.FrameBoxes.{FrameOutboxSends, Told, kept_write}
 use Rattle.lsp_session.specs.Session.{Stop, decided, no_more, timed_out, refused, exhausted}
 use Rattle.lsp_session.specs.SessionBytes.{BeginsWith, GetsFirst, IsUnsent}
 use Rattle.lsp_session.specs.SessionRun.{message_in, is_open, all_of, OffersLast, RefusesLast, Gets}
-use Rattle.lsp_session.specs.Streams.{Stream, StreamGives, StreamReads, Reads}
 use Rattle.lsp_session.specs.declared.lifecycle.SendFault.{SendFault}
 use Rattle.lsp_session.specs.declared.lifecycle.SendFault.TheVariants.{Closed as Shut, Memory as Full}
-use Rattle.lsp_session.specs.declared.loops.ReadEnd.{ReadEnd}
 use Rattle.lsp_session.specs.declared.loops.ReadEnd.TheVariants.{Exit}
 use Rattle.lsp_session.specs.declared.loops.frame_outbox.FrameOutbox.{FrameOutbox}
+
+module _ {R : Type 0} (remaining : R → Option (List ℕ)) (limit : ℕ) where
+  -- receives from an inbox over a reader, as they are seen, and the reader that it was lent
+  pub streams_of : (events : List Event) (old new : StreamInbox R) → old.limit ≡ limit → FoldsTo (StreamInboxGives remaining) old events new
+      → FoldsTo (StreamGives limit) (stream_of remaining old) events (stream_of remaining new) × (new.reader.ghost_name ≡ old.reader.ghost_name)
+  streams_of [] old new limited run = (ap (λ (s : StreamInbox R). stream_of remaining s) run, rw run refl)
+  streams_of (event ∷ events) old new limited run =
+      let rest = streams_of events run.0 new (run.1.2 ∙ limited) run.2 in
+      let first = rw limited at run.1.0 in
+      ((stream_of remaining run.0, first, rest.0), rest.1 ∙ run.1.1)
+
+  module _ {O : Type 0} (sends : Sends O) (first last : R) (old new : StreamInbox R) (before after : O)
+      (limited : old.limit ≡ limit) (same : old.reader.now ≡ first) (named : new.reader.ghost_name ≡ old.reader.ghost_name → last ≡ new.reader.now) where
+    pub finishes_over : (reply : Message) (answer : FinishAnswer) → FinishesAt (StreamInboxGives remaining) sends reply (old, before) answer (new, after)
+        → (end : Option ReadEnd) × FinishesAt (StreamGives limit) sends reply (record { remaining = remaining first; end = old.end }, before) answer (record { remaining = remaining last; end = end }, after)
+    finishes_over reply answer (inl sent) =
+        let waits = sent.2 in
+        let run = streams_of (waits.passed ++ sent.1 ∷ []) old new limited waits.received in
+        rw (named run.1, ← same) (new.end, inl (sent.0, sent.1, record { passed = waits.passed; only_timeouts = waits.only_timeouts; received = run.0 }, sent.3))
+    finishes_over reply answer (inr lost) =
+        rw (named (ap (λ (s : StreamInbox R). s.reader.ghost_name) lost.3), ← same)
+        (new.end, inr (lost.0, lost.1, lost.2, ap (λ (s : StreamInbox R). stream_of remaining s) lost.3))
 
 module _ (limit : ℕ) where
   -- an inbox that has ended brings nothing more
@@ -110,27 +134,18 @@ module _ {W : Type 0} (contents : W → Option (List ℕ)) where
   offered ms m a b c outcome (Some (Output kind)) got writes told = (ms, m, refl, breaks_off ms m (Output kind) a b c got writes)
   offered ms m a b c outcome (Some NoMemory) got writes told = (ms, m ∷ [], refl, (got.0, got.1, Appends-Keeps a b c got.0 got.2 writes))
 
-  -- the same, of an outbox that no write has failed in
-  sent_after : (ms : List Message) (m : Message) (a b : Option (List ℕ)) (mid new : FrameOutbox W) (outcome : Result (Unit {0}) SendFault) → mid.fault ≡ None
-      → b ≡ at mid → GetsFrames ms a b → FrameOutboxSends contents mid m outcome new
-      → MatchOption new.fault ((outcome ≡ Ok tt) × GetsFrames (ms ++ m ∷ []) a (at new)) (λ f. GetsPart f (ms ++ m ∷ []) a (at new))
-  sent_after ms m a b mid new outcome unfailed is got sends =
+  -- the same, of an outbox that no write has failed in, and what follows
+  sent_after : {A B : Type 0} (ms : List Message) (m : Message) (a b : Option (List ℕ)) (mid new : FrameOutbox W) (outcome : Result (Unit {0}) SendFault) → mid.fault ≡ None
+      → b ≡ at mid → GetsFrames ms a b → FrameOutboxSends contents mid m outcome new → (outcome ≡ Ok tt → A) → B
+      → MatchOption new.fault (A × GetsFrames (ms ++ m ∷ []) a (at new)) (λ f. B × GetsPart f (ms ++ m ∷ []) a (at new))
+  sent_after {A} {B} ms m a b mid new outcome unfailed is got sends took lost =
       let writes = rw unfailed at sends.0 in
-      offered ms m a (at mid) (at new) outcome new.fault (rw is at got) writes.0 writes.1
-
-  -- nothing is left to offer, or the null
-  last_written : (stop : Stop) (output : List Message) (null : Option Message) (a : Option (List ℕ)) (mid new : FrameOutbox W) → mid.fault ≡ None → GetsFrames output a (at mid)
-      → OffersLast (FrameOutboxSends contents) mid null new
-      → MatchOption new.fault (Unit {0} × GetsFrames (all_of output null) a (at new)) (λ f. IsUnsent stop null × GetsPart f (all_of output null) a (at new))
-  last_written stop output None a mid new unfailed got same = rw (same, unfailed) (tt, got)
-  last_written stop output (Some null) a mid new unfailed got offers =
-      pick new.fault (sent_after output null a (at mid) mid new offers.outcome unfailed refl got offers.sent)
+      pick new.fault (offered ms m a (at mid) (at new) outcome new.fault (rw is at got) writes.0 writes.1)
     where
-      pick : (fault : Option WriteFault)
-          → MatchOption fault ((offers.outcome ≡ Ok tt) × GetsFrames (output ++ null ∷ []) a (at new)) (λ f. GetsPart f (output ++ null ∷ []) a (at new))
-          → MatchOption fault (Unit {0} × GetsFrames (output ++ null ∷ []) a (at new)) (λ f. Unit {0} × GetsPart f (output ++ null ∷ []) a (at new))
-      pick None both = (tt, both.1)
-      pick (Some f) part = (tt, part)
+      pick : (fault : Option WriteFault) → MatchOption fault ((outcome ≡ Ok tt) × GetsFrames (ms ++ m ∷ []) a (at new)) (λ f. GetsPart f (ms ++ m ∷ []) a (at new))
+          → MatchOption fault (A × GetsFrames (ms ++ m ∷ []) a (at new)) (λ f. B × GetsPart f (ms ++ m ∷ []) a (at new))
+      pick None both = (took both.0, both.1)
+      pick (Some f) part = (lost, part)
 
   module _ (old new : FrameOutbox W) (output : List Message) (null : Option Message) (unfailed : old.fault ≡ None) where
     -- the output is written, or a part of it where a write failed
@@ -140,20 +155,20 @@ module _ {W : Type 0} (contents : W → Option (List ℕ)) where
 
     taken_written : (stop : Stop) (mid : FrameOutbox W) → FoldsTo (Takes (FrameOutboxSends contents)) old output mid → OffersLast (FrameOutboxSends contents) mid null new
         → MatchOption new.fault (Unit {0} × GetsFrames (all_of output null) (at old) (at new)) (λ f. IsUnsent stop null × GetsPart f (all_of output null) (at old) (at new))
-    taken_written stop mid taken offers =
-        let frames = taken_frames contents old output mid unfailed taken in
-        last_written stop output null (at old) mid new frames.0 frames.1 offers
+    taken_written stop mid taken offers = last null offers
+      where
+        frames : (mid.fault ≡ None) × GetsFrames output (at old) (at mid)
+        frames = taken_frames contents old output mid unfailed taken
+
+        last : (null : Option Message) → OffersLast (FrameOutboxSends contents) mid null new
+            → MatchOption new.fault (Unit {0} × GetsFrames (all_of output null) (at old) (at new)) (λ f. IsUnsent stop null × GetsPart f (all_of output null) (at old) (at new))
+        last None same = rw (same, frames.0) (tt, frames.1)
+        last (Some null) offers = sent_after output null (at old) (at mid) mid new offers.outcome frames.0 refl frames.1 offers.sent (λ e. tt) tt
 
     refused_written : (fault : SendFault) → RefusesLast (FrameOutboxSends contents) old output fault new → null ≡ None → IsWritten (refused fault)
     refused_written fault last none =
         let frames = taken_frames contents old last.0 last.2 unfailed last.4 in
-        rw (none, last.3) (pick new.fault (sent_after last.0 last.1 (at old) (at last.2) last.2 new (Err fault) frames.0 refl frames.1 last.5))
-      where
-        pick : (kept : Option WriteFault)
-            → MatchOption kept ((◌≡◌ {A = Result (Unit {0}) SendFault} (Err fault) (Ok tt)) × GetsFrames (last.0 ++ last.1 ∷ []) (at old) (at new)) (λ f. GetsPart f (last.0 ++ last.1 ∷ []) (at old) (at new))
-            → MatchOption kept (⊥ × GetsFrames (last.0 ++ last.1 ∷ []) (at old) (at new)) (λ f. Unit {0} × GetsPart f (last.0 ++ last.1 ∷ []) (at old) (at new))
-        pick None both = absurd (cc (both.0))
-        pick (Some f) part = (tt, part)
+        rw (none, last.3) (sent_after last.0 last.1 (at old) (at last.2) last.2 new (Err fault) frames.0 refl frames.1 last.5 (λ e. cc (e)) tt)
 
     pub gets_written : (stop : Stop) → Gets (FrameOutboxSends contents) old output null stop new → IsWritten stop
     gets_written decided got = taken_written decided got.0 got.1 got.2

@@ -1,7 +1,7 @@
--- Laws of the wait for `initialize`.
-use Rattle.std.proofs.Common.{◌≡◌, refl, inl, inr, ℕ, ◌+◌, ◌<◌, Bool, false, List, [], ◌∷◌, ◌++◌, length, length-append, arith, Some, codes}
+-- Laws of the waits for `initialize` and for `initialized`.
+use Rattle.std.proofs.Common.{◌≡◌, refl, inl, inr, ℕ, ◌+◌, ◌<◌, Bool, false, List, [], ◌∷◌, ◌++◌, length, length-append, arith, Some, codes, true}
 use Rattle.std.specs.Prelude.{Ok, Err}
-use Rattle.std.specs.List.{FoldsTo, AllZip}
+use Rattle.std.specs.List.{FoldsTo, AllZip, list_all}
 use Rattle.std.specs.Str.{bytes_eq}
 use Rattle.std.proofs.lemmas.Fn.{FoldsTo-push}
 use Rattle.std.proofs.lemmas.List.Folds.{list_all-append}
@@ -9,12 +9,13 @@ use Rattle.std.proofs.lemmas.List.Elements.{filter_map-append}
 use Rattle.serde_json.specs.Data.{Data}
 use Rattle.lsp_message.specs.Id.{Id}
 use Rattle.lsp_message.specs.Message.{Message, request}
-use Rattle.lsp_session.proofs.Waiting.{FoldsTo-append}
+use Rattle.lsp_session.proofs.Waiting.{FoldsTo-append, list_all-push}
 use Rattle.lsp_session.specs.Boxes.{Sends, Receives}
-use Rattle.lsp_session.specs.Event.{message}
+use Rattle.lsp_session.specs.Event.{message, timeout}
 use Rattle.lsp_session.specs.Start.{StartAnswer, is_undecided, request_of, IsEarlyReply, fault_of_refusal, PassesOver, Ends, StartsWithin}
 use Rattle.lsp_session.specs.Turns.{Turn, got, TakesTurn}
 use Rattle.lsp_session.specs.declared.lifecycle.SendFault.{SendFault}
+use Rattle.lsp_session.specs.Finish.{FinishAnswer, is_idle, Finishes, AwaitsWithin}
 
 -- a relation place by place, of two lists each
 pub AllZip-append : {A B : Type 0} (R : A → B → Type 0) (xs xs' : List A) (ys ys' : List B) → AllZip R xs ys → AllZip R xs' ys' → AllZip R (xs ++ xs') (ys ++ ys')
@@ -35,14 +36,7 @@ module _ {O : Type 0} (sends : Sends O) where
         → Ends sends old (got (message (request i method params))) (Err (fault_of_refusal fault)) new
     refuses_request fault refuses = inr (inl (
       fault,
-      record {
-        id = i;
-        brings = refl;
-        undecided = rw other refl;
-        reply = reply;
-        replies = answers;
-        refuses = refuses;
-      },
+      record { id = i; brings = refl; undecided = rw other refl; reply = reply; replies = answers; refuses = refuses },
       refl,
     ))
 
@@ -92,4 +86,31 @@ module _ {G I O : Type 0} (asks : G → Bool → G → Type 0) (receives : Recei
     none_after_all = λ n. cc;
     replies = so_far.replies;
     starts = record { before = so_far.turns; mid = mid.2; passed = so_far.passed; end = (turn, refl, ends) };
+  }
+
+module _ {G I : Type 0} (asks : G → Bool → G → Type 0) (receives : Receives I) where
+  -- so many turns were taken, and nothing came
+  pub record Idles (count : ℕ) (old new : G × I) : Type 0 where
+    pub turns : List Turn
+    pub count_is : length turns ≡ count
+    pub taken : FoldsTo (TakesTurn asks receives) old turns new
+    pub idle : list_all is_idle turns ≡ true
+
+  pub idles_more : (count : ℕ) (old mid new : G × I) → Idles count old mid → asks mid.0 true new.0 → receives mid.1 timeout new.1 → Idles (count + 1) old new
+  idles_more count old mid new so_far go_on nothing = record {
+    turns = so_far.turns ++ got timeout ∷ [];
+    count_is = rw (length-append so_far.turns (got timeout ∷ [])) (omega (arith, so_far.count_is));
+    taken = FoldsTo-push _ old so_far.turns mid (got timeout) new so_far.taken (go_on, nothing);
+    idle = list_all-push is_idle so_far.turns (got timeout) so_far.idle refl;
+  }
+
+  pub awaits_answered : (limit count : ℕ) (old mid new : G × I) (turn : Turn) (answer : FinishAnswer)
+      → Idles count old mid → count < limit → TakesTurn asks receives mid turn new → Finishes turn answer
+      → AwaitsWithin asks receives limit old (Some answer) new
+  awaits_answered limit count old mid new turn answer so_far within step finishes = record {
+    turns = so_far.turns ++ turn ∷ [];
+    taken = FoldsTo-push _ old so_far.turns mid turn new so_far.taken step;
+    few = rw (length-append so_far.turns (turn ∷ [])) (omega (arith, so_far.count_is));
+    none_after_all = λ n. cc;
+    awaits = record { before = so_far.turns; idle = so_far.idle; end = (turn, refl, finishes) };
   }

@@ -1,7 +1,7 @@
 -- Which requests of a session get which replies (JSON-RPC 2.0, section 5).
 use Rattle.serde_json.specs.Data.{Data}
 use Rattle.std.specs.List.{AllZip, filter_map}
-use Rattle.std.specs.Prelude.{◌≡◌, ◌⊎◌, ℕ, List, [], ◌∷◌, ◌++◌, Option, Result, IsErrAnd}
+use Rattle.std.specs.Prelude.{◌≡◌, ◌⊎◌, ℕ, List, [], ◌∷◌, ◌++◌, Result, IsErrAnd}
 use Rattle.lsp_message.specs.Id.{Id}
 use Rattle.lsp_message.specs.Message.{Message, ErrorObject, request, response}
 use Rattle.lsp_message.specs.Methods.{request_id}

@@ -31,14 +31,10 @@ fixed_text out_of_memory = codes "out of memory"
 
 -- how it ends
 abbrev pub open_text : ProtocolFault → List ℕ
-open_text disconnected = []
 open_text (expected_initialize shown) = shown
-open_text aborted = []
 open_text (expected_initialized shown) = shown
 open_text (unexpected_in_shutdown shown) = shown
-open_text shutdown_timeout = []
-open_text shutdown_disconnected = []
-open_text out_of_memory = []
+open_text fault = []
 
 abbrev pub fault_text : ProtocolFault → List ℕ
 fault_text fault = fixed_text fault ++ open_text fault

@@ -30,12 +30,14 @@ pub fn session_answers_requests<H: Handler>()
 
 /// Where the answer is that the client is gone, each request that the session read has its reply: a request is left without
 /// one only where the fault shows it.
+#[tactic(auto, using(crate::proofs::Ordering::all_answered))]
 pub fn lost_client_was_answered()
     ensures { (exchanges : List Exchange) (stop : Stop) (null : Option Message) (fault : ProtocolFault)
         → is_disconnected fault ≡ true → AnswersRequests exchanges stop null (Err fault) → AllReplied exchanges }
 {}
 
 /// After a message that the outbox refused nothing more is sent, the null of `shutdown` neither: a fact of each session.
+#[tactic(auto, using(crate::proofs::Ordering::no_null))]
 pub fn nothing_follows_a_refusal<S: Service>()
     ensures { (old new : S) (exchanges : List Exchange) (fault : RefusedSend) (null : Option Message) (answer : SessionAnswer)
         → SessionOut S.behavior old new exchanges (refused fault) null answer → null ≡ None }

@@ -88,6 +88,7 @@ impl<'a, R: BufRead> Inbox for StreamInbox<'a, R> {
         self.next_event()
     }
 
+    #[tactic(auto, using(crate::proofs::Waiting::waits_none))]
     fn receive(&mut self) -> Event {
         self.next_event()
     }

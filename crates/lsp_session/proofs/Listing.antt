@@ -1,16 +1,25 @@
--- A list of events decides a handshake before it is used up.
-use Rattle.std.proofs.Common.{◌≡◌, ℕ, ◌+◌, ◌≤◌, ◌<◌, Bool, true, false, ◌&&◌, List, [], ◌∷◌, map, length, arith, Some, None, Option, refl, inl, inr}
+-- What a list of events gives, and that it decides a handshake before it is used up.
+use Rattle.std.proofs.Common.{◌≡◌, refl, List, [], ◌∷◌, map, length, arith, ℕ, ◌+◌, ◌≤◌, ◌<◌, Bool, true, false, ◌&&◌, Some, None, Option, inl, inr}
+use Rattle.lsp_session.specs.Event.{closed, event_view, Event}
+use Rattle.lsp_session.specs.Lists.{GivesNext, ListGives}
 use Rattle.std.proofs.lemmas.List.{length-map}
 use Rattle.std.specs.List.{FoldsTo, list_all}
 use Rattle.std.specs.Prelude.{IsSome}
 use Rattle.lsp_message.specs.Message.{Message}
 use Rattle.lsp_session.specs.Boxes.{Sends}
-use Rattle.lsp_session.specs.Event.{Event, closed, event_view}
 use Rattle.lsp_session.specs.Finish.{FinishAnswer, is_idle, AwaitsWithin, FinishesWithin}
-use Rattle.lsp_session.specs.Lists.{GivesNext, ListGives}
 use Rattle.lsp_session.specs.Start.{StartAnswer, is_undecided, StartsWithin}
 use Rattle.lsp_session.specs.Turns.{Turn, stopped, got, TakesTurn}
 use Rattle.lsp_session.specs.declared.lifecycle.lists.ListInbox.{ListInbox}
+use Rattle.lsp_session.specs.declared.lifecycle.Event as event
+
+pub gives_next : (old new : List event.Event) (e : event.Event) → old ≡ e ∷ new → GivesNext (map event_view old) (event_view e) (map event_view new)
+gives_next old new e is = rw is (refl, refl)
+
+pub gives_closed : (old new : List event.Event) → length old ≡ 0 → length new ≡ 0 → GivesNext (map event_view old) closed (map event_view new)
+gives_closed [] [] none still = (refl, refl)
+gives_closed [] (x ∷ xs) none still = absurd (omega arith)
+gives_closed (x ∷ xs) new none still = absurd (omega arith)
 
 both : (a b : Bool) → (a && b) ≡ true → (a ≡ true) × (b ≡ true)
 both true b holds = (refl, holds)
