@@ -109,26 +109,23 @@ impl Server for Checker {
     }
 
     fn request(&mut self, request: Request) -> Result<Acts, AllocError> {
-        let mut acts = Vec::new(self.alloc);
         match request.method.as_str() {
             methods::HOVER => {
                 let (id, params) = request.params_as(self.alloc)?;
                 match params {
-                    Ok(params) if self.is_asking => self.waiting.push(Waiting { id, params })?,
-                    Ok(params) => acts.push(Act::reply(self.alloc, id, &self.hover(&params)?)?)?,
-                    Err(error) => acts.push(Act::Reply(id, Err(error)))?,
+                    Ok(params) => self.answer_hover(id, params),
+                    Err(error) => one(self.alloc, Act::Reply(id, Err(error))),
                 }
             }
             methods::DEFINITION => {
                 let (id, params) = request.params_as(self.alloc)?;
-                acts.push(match params {
-                    Ok(params) => Act::reply(self.alloc, id, &self.definition(&params)?)?,
-                    Err(error) => Act::Reply(id, Err(error)),
-                })?;
+                match params {
+                    Ok(params) => self.answer_definition(id, params),
+                    Err(error) => one(self.alloc, Act::Reply(id, Err(error))),
+                }
             }
-            _ => acts.push(Act::method_not_found(self.alloc, request.id)?)?,
+            _ => one(self.alloc, Act::method_not_found(self.alloc, request.id)?),
         }
-        Ok(acts)
     }
 
     fn notification(&mut self, notification: Notification) -> Result<Acts, AllocError> {
@@ -196,6 +193,28 @@ impl Checker {
             self.longest = *longest;
         }
         Ok(())
+    }
+
+    fn answer_hover(
+        &mut self,
+        id: RequestId,
+        params: TextDocumentPositionParams,
+    ) -> Result<Acts, AllocError> {
+        if self.is_asking {
+            self.waiting.push(Waiting { id, params })?;
+            return Ok(Vec::new(self.alloc));
+        }
+        let hover = self.hover(&params)?;
+        one(self.alloc, Act::reply(self.alloc, id, &hover)?)
+    }
+
+    fn answer_definition(
+        &self,
+        id: RequestId,
+        params: TextDocumentPositionParams,
+    ) -> Result<Acts, AllocError> {
+        let definition = self.definition(&params)?;
+        one(self.alloc, Act::reply(self.alloc, id, &definition)?)
     }
 
     fn did_open(&mut self, params: DidOpenTextDocumentParams) -> Result<Acts, AllocError> {
@@ -311,6 +330,11 @@ impl Checker {
             range: Range::new(start, start),
         }))
     }
+}
+
+/// A list of one act.
+fn one(alloc: Global, act: Act<Asked>) -> Result<Acts, AllocError> {
+    Ok(vec![in alloc; act]?)
 }
 
 /// A warning for each line with more characters than are allowed.

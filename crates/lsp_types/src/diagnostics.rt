@@ -51,8 +51,12 @@ pub struct Diagnostic {
 }
 
 impl Diagnostic {
+    ghost use Rattle.std.specs.Prelude.{◌≡◌, Some, None};
+
     /// A part of a document, how severe it is, and what is wrong there.
-    pub fn new(range: Range, severity: DiagnosticSeverity, message: String) -> Diagnostic {
+    pub fn new(range: Range, severity: DiagnosticSeverity, message: String) -> Diagnostic
+        ensures { result ≡ record { range = range; severity = Some severity; code = None; source = None; message = message; «data» = None } }
+    {
         Diagnostic {
             range,
             severity: Some(severity),

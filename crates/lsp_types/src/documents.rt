@@ -11,8 +11,12 @@ pub struct Position {
 }
 
 impl Position {
+    ghost use Rattle.std.specs.Prelude.{◌≡◌};
+
     /// A place in a line.
-    pub fn new(line: u32, character: u32) -> Position {
+    pub fn new(line: u32, character: u32) -> Position
+        ensures { result ≡ record { line = line; character = character } }
+    {
         Position { line, character }
     }
 }
@@ -27,8 +31,12 @@ pub struct Range {
 }
 
 impl Range {
+    ghost use Rattle.std.specs.Prelude.{◌≡◌};
+
     /// From one place up to another.
-    pub fn new(start: Position, end: Position) -> Range {
+    pub fn new(start: Position, end: Position) -> Range
+        ensures { result ≡ record { start = start; end = end } }
+    {
         Range { start, end }
     }
 }

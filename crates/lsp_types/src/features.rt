@@ -34,8 +34,12 @@ pub struct Hover {
 }
 
 impl Hover {
+    ghost use Rattle.std.specs.Prelude.{◌≡◌, None};
+
     /// A text, about the place that was asked for.
-    pub fn new(kind: MarkupKind, value: String) -> Hover {
+    pub fn new(kind: MarkupKind, value: String) -> Hover
+        ensures { result ≡ record { contents = record { kind = kind; value = value }; range = None } }
+    {
         Hover {
             contents: MarkupContent { kind, value },
             range: None,
@@ -69,6 +73,18 @@ impl CompletionItemKind {
     pub const SNIPPET: CompletionItemKind = CompletionItemKind(15);
 }
 
+/// How the text of a completion is meant (LSP 3.17, "InsertTextFormat").
+#[derive(Clone, Copy, Drop, Serialize)]
+#[serde(transparent)]
+pub struct InsertTextFormat(pub u32);
+
+impl InsertTextFormat {
+    /// Plain text.
+    pub const PLAIN_TEXT: InsertTextFormat = InsertTextFormat(1);
+    /// A snippet, with places to fill in.
+    pub const SNIPPET: InsertTextFormat = InsertTextFormat(2);
+}
+
 /// A completion (LSP 3.17, "CompletionItem").
 #[derive(Drop, Serialize)]
 #[serde(rename_all = "camelCase")]
@@ -87,9 +103,15 @@ pub struct CompletionItem {
     /// What it is sorted by, in place of its label.
     #[serde(skip_serializing_if = "Option::is_none")]
     pub sort_text: Option<String>,
+    /// What typed text is compared with, in place of its label.
+    #[serde(skip_serializing_if = "Option::is_none")]
+    pub filter_text: Option<String>,
     /// What is inserted, in place of its label.
     #[serde(skip_serializing_if = "Option::is_none")]
     pub insert_text: Option<String>,
+    /// How the inserted text is meant. `None` means plain text.
+    #[serde(skip_serializing_if = "Option::is_none")]
+    pub insert_text_format: Option<InsertTextFormat>,
     /// The edit that inserts it.
     #[serde(skip_serializing_if = "Option::is_none")]
     pub text_edit: Option<TextEdit>,
@@ -99,15 +121,32 @@ pub struct CompletionItem {
 }
 
 impl CompletionItem {
+    ghost use Rattle.std.specs.Prelude.{◌≡◌, Some, None};
+
     /// A label of some kind.
-    pub fn new(label: String, kind: CompletionItemKind) -> CompletionItem {
+    pub fn new(label: String, kind: CompletionItemKind) -> CompletionItem
+        ensures { result ≡ record {
+          label = label;
+          kind = Some kind;
+          detail = None;
+          documentation = None;
+          sort_text = None;
+          filter_text = None;
+          insert_text = None;
+          insert_text_format = None;
+          text_edit = None;
+          «data» = None;
+        } }
+    {
         CompletionItem {
             label,
             kind: Some(kind),
             detail: None,
             documentation: None,
             sort_text: None,
+            filter_text: None,
             insert_text: None,
+            insert_text_format: None,
             text_edit: None,
             data: None,
         }

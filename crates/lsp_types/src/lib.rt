@@ -20,8 +20,8 @@ pub use documents::{
     VersionedTextDocumentIdentifier,
 };
 pub use features::{
-    CompletionItem, CompletionItemKind, CompletionList, DocumentSymbol, Hover, MarkupContent,
-    MarkupKind, SymbolKind, TextEdit, WorkspaceEdit,
+    CompletionItem, CompletionItemKind, CompletionList, DocumentSymbol, Hover, InsertTextFormat,
+    MarkupContent, MarkupKind, SymbolKind, TextEdit, WorkspaceEdit,
 };
 pub use lifecycle::{
     CompletionOptions, InitializeParams, InitializeResult, ServerCapabilities, ServerInfo,

@@ -28,12 +28,18 @@ pub struct InitializeResult {
 }
 
 impl InitializeResult {
+    ghost use Rattle.std.specs.Prelude.{◌≡◌, None, IfOk, string_bytes};
+
     /// What the server can do, and its name. `Err` means that an allocation failed.
     pub fn new(
         alloc: Global,
         capabilities: ServerCapabilities,
         name: &str,
-    ) -> Result<InitializeResult, AllocError> {
+    ) -> Result<InitializeResult, AllocError>
+        ensures capabilities { IfOk result (λ r. r.«capabilities» ≡ «capabilities») }
+        ensures name { IfOk result (λ r. string_bytes r.server_info.«name» ≡ «name».now) }
+        ensures version { IfOk result (λ r. r.server_info.version ≡ None) }
+    {
         Ok(InitializeResult {
             capabilities,
             server_info: ServerInfo {
@@ -114,7 +120,22 @@ pub struct ServerCapabilities {
 }
 
 impl Default for ServerCapabilities {
-    fn default() -> ServerCapabilities {
+    ghost use Rattle.std.specs.Prelude.{◌≡◌, None};
+
+    /// A server that can do nothing.
+    fn default() -> ServerCapabilities
+        ensures { result ≡ record {
+          position_encoding = None;
+          text_document_sync = None;
+          completion_provider = None;
+          hover_provider = None;
+          definition_provider = None;
+          references_provider = None;
+          document_symbol_provider = None;
+          document_formatting_provider = None;
+          rename_provider = None;
+        } }
+    {
         ServerCapabilities {
             position_encoding: None,
             text_document_sync: None,

@@ -36,8 +36,14 @@ pub struct ConfigurationParams {
 }
 
 impl ConfigurationParams {
+    ghost use Rattle.std.specs.Prelude.{◌≡◌, ◌∷◌, [], Some, None, IfOk, option_map, string_bytes};
+    ghost use Rattle.lsp_types.specs.declared.window.ConfigurationItem.{ConfigurationItem as Item};
+
     /// One section, of no document. `Err` means that an allocation failed.
-    pub fn section(alloc: Global, section: &str) -> Result<ConfigurationParams, AllocError> {
+    pub fn section(alloc: Global, section: &str) -> Result<ConfigurationParams, AllocError>
+        ensures { IfOk result (λ params. (item : Item) × (params.items.items ≡ item ∷ [])
+            × (item.scope_uri ≡ None) × (option_map string_bytes item.«section» ≡ Some «section».now)) }
+    {
         let item = ConfigurationItem {
             scope_uri: None,
             section: Some(String::from_str(alloc, section)?),
