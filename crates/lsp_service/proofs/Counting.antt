@@ -20,9 +20,6 @@ use Rattle.lsp_service.specs.View.{desk_of}
 use Rattle.lsp_service.specs.declared.server.Server.{Ghosts as Stated}
 
 module _ {S P : Type 0} (may : Stated S P) where
-  abbrev Goes : Phase → QueuedServer S P → Message → List Message → Phase → QueuedServer S P → Type 0
-  Goes = Step (at_desk may)
-
   -- nothing is to be sent, and before `initialized` nothing is held
   abbrev Clean : Phase → QueuedServer S P → Type 0
   Clean starting w = Clear may w
@@ -93,7 +90,7 @@ module _ {S P : Type 0} (may : Stated S P) where
     clean_after (Ok result) w clear = clear
     clean_after (Err error) w clear = clear
 
-    count : (p q : Phase) (w w' : QueuedServer S P) (m : Message) (said : List Message) → Clean p w → Goes p w m said q w' → Count w w' q m said
+    count : (p q : Phase) (w w' : QueuedServer S P) (m : Message) (said : List Message) → Clean p w → Step (at_desk may) p w m said q w' → Count w w' q m said
     count p q w w' m said clean step = by (row (at_desk may) p q w w' m said step)
       where
         by : Row (at_desk may) p w m said q w' → Count w w' q m said

@@ -1,5 +1,5 @@
 -- A session of a server, and the laws that it keeps.
-use Rattle.std.proofs.Common.{◌≡◌, ◌∙◌, ap, List, Option}
+use Rattle.std.proofs.Common.{◌≡◌, ap, List, Option}
 use Rattle.lsp_message.specs.Message.{Message}
 use Rattle.lsp_session.proofs.Ordering.{keeps_order}
 use Rattle.lsp_session.specs.Session.{Exchange, SessionAnswer, Stop, SessionOut}

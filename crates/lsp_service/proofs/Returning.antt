@@ -13,7 +13,7 @@ use Rattle.lsp_message.specs.IdLaws.{id_total, id_decides}
 use Rattle.lsp_message.specs.Message.{Message, ErrorObject, request, notification, response}
 use Rattle.lsp_queue.specs.Queue.{Asked, pending_of, count_of}
 use Rattle.lsp_session.specs.Session.{Exchange, letters_of, sends_of, Stop, is_served}
-use Rattle.lsp_service.specs.Desk.{Act, tells, asks, replies, cancels, cancelled_by, Desk, is_spent, sends_request, does, does_all, ids_after, unsent, given, says, TakesBack}
+use Rattle.lsp_service.specs.Desk.{Act, tells, asks, replies, cancels, cancelled_by, Desk, is_spent, sends_request, does, does_all, ids_after, unsent, given, TakesBack}
 use Rattle.lsp_service.specs.Law.{is_reply_under, Sent, Turn, requests_in, request_of, ids_after_all, sent_by, all_sent, kept_under, acts_of, was_given, brings, GivesOwnPayloads, TakesTurns, IsUnserved, IsWhole, TakesPart}
 use Rattle.lsp_service.specs.QueuedServer.{WorksGiving, OpensSaying}
 use Rattle.lsp_service.specs.View.{seen, desk_of}
@@ -304,14 +304,11 @@ module _ {S P : Type 0} (may : Stated S P) where
       }
 
   -- what was done at `initialized`
-  abbrev Part : List Message → Stop → List Message → Type 0
-  Part = TakesPart may
-
   -- The server's part: what it said to `initialized`, the messages that it was given, and what came after these.
   pub part_whole : (w mid after : QueuedServer S P) (said : List Message) (xs rest : List Exchange) (stop : Stop) (requests more : List Message)
       → (desk_of w.client).said ≡ [] → (desk_of w.client).asked ≡ (map.empty, 0) → OpensSaying may (seen w) said (seen mid)
       → GivesAll mid xs after → list_all is_served (letters_of xs) ≡ true → IsUnserved (letters_of rest)
-      → requests_in said ++ requests_in (sends_of xs) ≡ requests ++ more → (IsWhole stop → more ≡ []) → Part (letters_of xs ++ letters_of rest) stop requests
+      → requests_in said ++ requests_in (sends_of xs) ≡ requests ++ more → (IsWhole stop → more ≡ []) → TakesPart may (letters_of xs ++ letters_of rest) stop requests
   part_whole w mid after said xs rest stop requests more silent unasked opened given served unserved sent whole =
       let d : Desk P = desk_of w.client in
       let begun = opened.1.0 in

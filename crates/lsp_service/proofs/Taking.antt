@@ -1,8 +1,7 @@
 -- A server takes part in its session, by its stated meaning.
-use Rattle.std.proofs.Common.{◌≡◌, refl, sym, ◌∙◌, ap, subst, inl, inr, ◌⊎◌, ◌+◌, Bool, true, false, List, [], ◌∷◌, ◌++◌, append_assoc, append-nil, Option, Some, None}
+use Rattle.std.proofs.Common.{◌≡◌, refl, sym, ◌∙◌, ap, subst, inl, inr, ◌⊎◌, Bool, true, false, List, [], ◌∷◌, ◌++◌, append_assoc, append-nil, Option, Some, None}
 use Rattle.std.proofs.lemmas.List.Folds.{list_all-append}
 use Rattle.std.specs.Bool.{MatchBool}
-use Rattle.std.specs.FinMap as map
 use Rattle.std.specs.List.{list_all}
 use Rattle.std.specs.Prelude.{Ok, Err}
 use Rattle.lsp_message.specs.Id.{Id}
@@ -44,9 +43,6 @@ module _ {S P : Type 0} (may : Stated S P) (stop : Stop) where
   abbrev Payloads : List Exchange → Stop → Type 0
   Payloads = GivesPayloads may
 
-  abbrev Gives_all : QueuedServer S P → List Exchange → QueuedServer S P → Type 0
-  Gives_all = GivesAll may
-
   -- ---- from `initialized` on
 
   over : (xs : List Exchange) (null : Option Message) (by : SessionAnswer) (q : Phase) (w w' : QueuedServer S P) → Runs_from (ended null by) w xs q w' → xs ≡ []
@@ -71,7 +67,7 @@ module _ {S P : Type 0} (may : Stated S P) (stop : Stop) where
     served : List Exchange
     rest : List Exchange
     after : QueuedServer S P
-    given : Gives_all w served after
+    given : GivesAll may w served after
     all_served : list_all is_served (letters_of served) ≡ true
     unserved : IsUnserved (letters_of rest)
     cut : letters_of xs ≡ letters_of served ++ letters_of rest

@@ -5,8 +5,8 @@ ghost use Rattle.lsp_session.specs.SessionBytes.{Gives};
 ghost use Rattle.lsp_session.specs.SessionRun.{Runs};
 ghost use Rattle.lsp_service.specs.QueuedServer.{ServerSession};
 
-use crate::server::Server;
 use crate::desk::QueuedServer;
+use crate::server::Server;
 use lsp_session::{
     Inbox, Outbox, ProtocolError, SessionEnd, SessionFault, serve_service,
     session_of_service_within,
