@@ -8,7 +8,7 @@
 //!     bench all                                   each of these on the same input, under its name
 //!
 //! All but `queues` and `texts` read frames from standard input, and write frames to standard output. `speaking` is a server that speaks
-//! (`session_of_service`), which gives the same replies.
+//! (`session_with`), which gives the same replies.
 #![tactic(auto)]
 
 mod json;

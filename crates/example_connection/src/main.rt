@@ -4,7 +4,7 @@
 #![tactic(auto)]
 
 use anyhow::{Result, bail};
-use lsp_server::{Connection, ErrorCode, Message, ReqQueue, Request, Response};
+use lsp_server::{Connection, Message, ReqQueue, Request, Response};
 use serde_json::{Value, json};
 use std::alloc::{AllocError, Global};
 use std::sync::Wait;
@@ -116,8 +116,7 @@ impl Paths {
     fn answer(&self, request: Request) -> Result<Response, AllocError> {
         let alloc = self.alloc;
         if request.method.as_str() != "textDocument/hover" {
-            let message = String::from_str(alloc, "method not found")?;
-            return Ok(Response::new_err(request.id, ErrorCode::MethodNotFound.number(), message));
+            return Response::method_not_found(alloc, request.id);
         }
         let name = self.name.as_str();
         let length = uri_of(&request.params).map_or(0, |uri| uri.len() as u64);

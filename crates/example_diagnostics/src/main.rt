@@ -1,31 +1,56 @@
-//! A language server that speaks, over standard input and output: it marks the lines of a document that are too long, as the
-//! user types. How long a line may be it asks its client for, once at the start (`workspace/configuration`, section
-//! `lines`, a number; 80 where there is none). A hover is answered at the next change of a document, so it can be cancelled.
+//! A language server by types: `example_diagnostics [ADDRESS]`, over standard input and output, or over a socket.
+//!
+//! It marks the lines of a document that are too long, as the user types. A hover says how long a line is, and a definition leads
+//! to the heading that a line stands under (`# ..`). How long a line may be it asks its client for, where the client can be
+//! asked (`workspace/configuration`, section `lines`, a number; 80 where there is none). Until the answer comes hovers wait, so
+//! they can be cancelled.
 #![tactic(auto)]
 
 use anyhow::{Result as Answer, bail};
 use lsp_server::{
-    Act, Notification, Request, RequestId, ResponseError, Server, SessionEnd, QueuedServer, session_of_service,
+    Act, Notification, Request, RequestId, ResponseError, Server, SessionEnd, SessionFault,
+    read_as, session_with, write_as,
 };
-use serde_json::{Value, json};
+use lsp_types::{
+    ConfigurationParams, Diagnostic, DiagnosticSeverity, DidChangeTextDocumentParams,
+    DidCloseTextDocumentParams, DidOpenTextDocumentParams, Hover, InitializeParams,
+    InitializeResult, Location, MarkupKind, MessageType, Position, PublishDiagnosticsParams, Range,
+    ServerCapabilities, ShowMessageParams, TextDocumentPositionParams, TextDocumentSyncKind,
+    methods,
+};
+use serde_json::Value;
 use std::alloc::{AllocError, Global};
 use std::io::BufReader;
-use std::{io, mem};
+use std::net::{Net, TcpListener, TcpStream};
+use std::{env, io, mem};
 
-/// What a document is checked against, and which hovers wait.
+/// What documents are checked against, and which hovers wait.
 #[derive(Drop)]
 struct Checker {
     alloc: Global,
-    longest: u64,
+    /// How many characters a line may have.
+    longest: u32,
+    /// Whether the client can be asked for its configuration.
+    configures: bool,
+    /// Whether it was asked, and has not answered yet.
+    is_asking: bool,
     open: Vec<Document>,
-    waiting: Vec<RequestId>,
+    waiting: Vec<Waiting>,
 }
 
 /// A document that the client opened.
 #[derive(Drop)]
 struct Document {
     uri: String,
+    version: i32,
     text: String,
+}
+
+/// A hover that waits for the configuration.
+#[derive(Drop)]
+struct Waiting {
+    id: RequestId,
+    params: TextDocumentPositionParams,
 }
 
 /// What a request of the server's own was for.
@@ -53,48 +78,72 @@ impl Server for Checker {
 
     ghost takes_back = { λ _ _ _. ⊤ };
 
-    fn initialize(&mut self, _params: Value) -> Result<Result<Value, ResponseError>, AllocError> {
-        Ok(Ok(json!(in self.alloc; {
-            "capabilities": { "textDocumentSync": 1, "hoverProvider": true },
-            "serverInfo": { "name": "lines" }
-        })?))
+    fn initialize(&mut self, params: Value) -> Result<Result<Value, ResponseError>, AllocError> {
+        let params = match read_as::<InitializeParams>(self.alloc, params)? {
+            Ok(params) => params,
+            Err(error) => return Ok(Err(error)),
+        };
+        let configuration = params.capabilities.pointer("/workspace/configuration");
+        self.configures = configuration.and_then(|can| can.as_bool()) == Some(true);
+        let capabilities = ServerCapabilities {
+            text_document_sync: Some(TextDocumentSyncKind::FULL),
+            hover_provider: Some(true),
+            definition_provider: Some(true),
+            ..ServerCapabilities::default()
+        };
+        let result = InitializeResult::new(self.alloc, capabilities, "lines")?;
+        write_as(self.alloc, &result)
     }
 
     fn initialized(&mut self) -> Result<Acts, AllocError> {
         let mut acts = Vec::new(self.alloc);
-        let params = json!(in self.alloc; { "items": [{ "section": "lines" }] })?;
-        let method = String::from_str(self.alloc, "workspace/configuration")?;
-        acts.push(Act::Ask(method, params, Asked::Configuration))?;
+        if self.configures {
+            let params = ConfigurationParams::section(self.alloc, "lines")?;
+            let method = methods::CONFIGURATION;
+            if let Ok(asks) = Act::ask(self.alloc, method, &params, Asked::Configuration)? {
+                acts.push(asks)?;
+                self.is_asking = true;
+            }
+        }
         Ok(acts)
     }
 
     fn request(&mut self, request: Request) -> Result<Acts, AllocError> {
-        let mut acts = Vec::new(self.alloc);
-        if request.method.as_str() == "textDocument/hover" {
-            self.waiting.push(request.id)?;
-            return Ok(acts);
+        match request.method.as_str() {
+            methods::HOVER => {
+                let (id, params) = request.params_as(self.alloc)?;
+                match params {
+                    Ok(params) => self.answer_hover(id, params),
+                    Err(error) => one(self.alloc, Act::Reply(id, Err(error))),
+                }
+            }
+            methods::DEFINITION => {
+                let (id, params) = request.params_as(self.alloc)?;
+                match params {
+                    Ok(params) => self.answer_definition(id, params),
+                    Err(error) => one(self.alloc, Act::Reply(id, Err(error))),
+                }
+            }
+            _ => one(self.alloc, Act::method_not_found(self.alloc, request.id)?),
         }
-        let message = String::from_str(self.alloc, "method not found")?;
-        let error = ResponseError {
-            code: -32601,
-            message,
-            data: None,
-        };
-        acts.push(Act::Reply(request.id, Err(error)))?;
-        Ok(acts)
     }
 
     fn notification(&mut self, notification: Notification) -> Result<Acts, AllocError> {
-        let mut acts = Vec::new(self.alloc);
-        let Some(document) = document_in(self.alloc, &notification)? else {
-            return Ok(acts);
-        };
-        acts.push(marks(self.alloc, self.longest, &document)?)?;
-        self.keep(document)?;
-        for id in mem::replace(&mut self.waiting, Vec::new(self.alloc)) {
-            acts.push(Act::Reply(id, Ok(Value::Null)))?;
+        match notification.method.as_str() {
+            methods::DID_OPEN => match notification.params_as(self.alloc)? {
+                Ok(params) => self.did_open(params),
+                Err(error) => self.complain(error),
+            },
+            methods::DID_CHANGE => match notification.params_as(self.alloc)? {
+                Ok(params) => self.did_change(params),
+                Err(error) => self.complain(error),
+            },
+            methods::DID_CLOSE => match notification.params_as(self.alloc)? {
+                Ok(params) => self.did_close(params),
+                Err(error) => self.complain(error),
+            },
+            _ => Ok(Vec::new(self.alloc)),
         }
-        Ok(acts)
     }
 
     fn response(
@@ -102,102 +151,250 @@ impl Server for Checker {
         asked: Asked,
         outcome: Result<Value, ResponseError>,
     ) -> Result<Acts, AllocError> {
-        let mut acts = Vec::new(self.alloc);
         let Asked::Configuration = asked;
-        let Ok(values) = outcome else {
-            return Ok(acts);
-        };
-        let Some(longest) = values.pointer("/0").and_then(|value| value.as_u64()) else {
-            return Ok(acts);
-        };
-        self.longest = longest;
+        self.is_asking = false;
+        if let Ok(values) = outcome {
+            self.configure(values)?;
+        }
+        let mut acts = Vec::new(self.alloc);
         for document in self.open.iter() {
-            acts.push(marks(self.alloc, longest, document)?)?;
+            self.mark(&mut acts, document)?;
+        }
+        for waiting in mem::replace(&mut self.waiting, Vec::new(self.alloc)) {
+            let hover = self.hover(&waiting.params)?;
+            acts.push(Act::reply(self.alloc, waiting.id, &hover)?)?;
         }
         Ok(acts)
     }
 
     fn unsent(&mut self, _asked: Asked) -> Result<(), AllocError> {
+        self.is_asking = false;
         Ok(())
     }
 }
 
 impl Checker {
-    /// Keeps the newest text of a document.
-    fn keep(&mut self, document: Document) -> Result<(), AllocError> {
-        for known in self.open.iter_mut() {
-            if known.uri == document.uri {
-                known.text = document.text;
-                return Ok(());
-            }
+    fn new(alloc: Global) -> Checker {
+        Checker {
+            alloc,
+            longest: 80,
+            configures: false,
+            is_asking: false,
+            open: Vec::new(alloc),
+            waiting: Vec::new(alloc),
         }
-        match self.open.push(document) {
-            Ok(()) => Ok(()),
-            Err(_) => Err(AllocError),
+    }
+
+    /// Takes the client's configuration: a list with one value, which is null where the user set none.
+    fn configure(&mut self, values: Value) -> Result<(), AllocError> {
+        if let Ok(values) = read_as::<Vec<Option<u32>>>(self.alloc, values)?
+            && let Some(Some(longest)) = values.first()
+        {
+            self.longest = *longest;
         }
+        Ok(())
+    }
+
+    fn answer_hover(
+        &mut self,
+        id: RequestId,
+        params: TextDocumentPositionParams,
+    ) -> Result<Acts, AllocError> {
+        if self.is_asking {
+            self.waiting.push(Waiting { id, params })?;
+            return Ok(Vec::new(self.alloc));
+        }
+        let hover = self.hover(&params)?;
+        one(self.alloc, Act::reply(self.alloc, id, &hover)?)
+    }
+
+    fn answer_definition(
+        &self,
+        id: RequestId,
+        params: TextDocumentPositionParams,
+    ) -> Result<Acts, AllocError> {
+        let definition = self.definition(&params)?;
+        one(self.alloc, Act::reply(self.alloc, id, &definition)?)
+    }
+
+    fn did_open(&mut self, params: DidOpenTextDocumentParams) -> Result<Acts, AllocError> {
+        let item = params.text_document;
+        self.check(Document {
+            uri: item.uri,
+            version: item.version,
+            text: item.text,
+        })
+    }
+
+    /// Each change is a whole text, since the server asked for these, so the last one counts.
+    fn did_change(&mut self, params: DidChangeTextDocumentParams) -> Result<Acts, AllocError> {
+        let item = params.text_document;
+        match params.content_changes.into_iter().last() {
+            Some(change) => self.check(Document {
+                uri: item.uri,
+                version: item.version,
+                text: change.text,
+            }),
+            None => Ok(Vec::new(self.alloc)),
+        }
+    }
+
+    /// Forgets a document, and has the client clear its marks.
+    fn did_close(&mut self, params: DidCloseTextDocumentParams) -> Result<Acts, AllocError> {
+        let uri = params.text_document.uri;
+        self.forget(uri.as_str());
+        let params = PublishDiagnosticsParams {
+            uri,
+            version: None,
+            diagnostics: Vec::new(self.alloc),
+        };
+        let mut acts = Vec::new(self.alloc);
+        if let Ok(tells) = Act::tell(self.alloc, methods::PUBLISH_DIAGNOSTICS, &params)? {
+            acts.push(tells)?;
+        }
+        Ok(acts)
+    }
+
+    /// Keeps a document in the place of its older text, and marks it.
+    fn check(&mut self, document: Document) -> Result<Acts, AllocError> {
+        let mut acts = Vec::new(self.alloc);
+        self.mark(&mut acts, &document)?;
+        self.forget(document.uri.as_str());
+        self.open.push(document)?;
+        Ok(acts)
+    }
+
+    fn forget(&mut self, uri: &str) {
+        self.open.retain(|document| document.uri.as_str() != uri);
+    }
+
+    fn find(&self, uri: &str) -> Option<&Document> {
+        self.open
+            .iter()
+            .find(|document| document.uri.as_str() == uri)
+    }
+
+    /// Tells the client which lines of a document are too long.
+    fn mark(&self, acts: &mut Acts, document: &Document) -> Result<(), AllocError> {
+        let params = PublishDiagnosticsParams {
+            uri: document.uri.clone()?,
+            version: Some(document.version),
+            diagnostics: long_lines(self.alloc, document.text.as_str(), self.longest)?,
+        };
+        if let Ok(tells) = Act::tell(self.alloc, methods::PUBLISH_DIAGNOSTICS, &params)? {
+            acts.push(tells)?;
+        }
+        Ok(())
+    }
+
+    /// Has the client log why a notification was not taken.
+    fn complain(&self, error: ResponseError) -> Result<Acts, AllocError> {
+        let params = ShowMessageParams {
+            typ: MessageType::ERROR,
+            message: error.message,
+        };
+        let mut acts = Vec::new(self.alloc);
+        if let Ok(tells) = Act::tell(self.alloc, methods::LOG_MESSAGE, &params)? {
+            acts.push(tells)?;
+        }
+        Ok(acts)
+    }
+
+    /// How long a line is (LSP 3.17, "Hover Request").
+    fn hover(&self, params: &TextDocumentPositionParams) -> Result<Option<Hover>, AllocError> {
+        let Some(document) = self.find(params.text_document.uri.as_str()) else {
+            return Ok(None);
+        };
+        let Some(line) = document.text.lines().nth(params.position.line as usize) else {
+            return Ok(None);
+        };
+        let length = line.chars().count();
+        let text = format!(in self.alloc; "{length} of {} characters", self.longest)?;
+        Ok(Some(Hover::new(MarkupKind::PlainText, text)))
+    }
+
+    /// The heading that a line stands under (LSP 3.17, "Goto Definition Request").
+    fn definition(
+        &self,
+        params: &TextDocumentPositionParams,
+    ) -> Result<Option<Location>, AllocError> {
+        let Some(document) = self.find(params.text_document.uri.as_str()) else {
+            return Ok(None);
+        };
+        let Some(line) = heading_above(document.text.as_str(), params.position.line) else {
+            return Ok(None);
+        };
+        let start = Position::new(line, 0);
+        Ok(Some(Location {
+            uri: document.uri.clone()?,
+            range: Range::new(start, start),
+        }))
     }
 }
 
-/// The document that was opened or changed, with its whole text (LSP 3.17, "Text Document Synchronization").
-fn document_in(alloc: Global, notification: &Notification) -> Result<Option<Document>, AllocError> {
-    let params = &notification.params;
-    let text = match notification.method.as_str() {
-        "textDocument/didOpen" => params.pointer("/textDocument/text"),
-        "textDocument/didChange" => params.pointer("/contentChanges/0/text"),
-        _ => None,
-    };
-    let Some(text) = text.and_then(|text| text.as_str()) else {
-        return Ok(None);
-    };
-    let Some(uri) = params
-        .pointer("/textDocument/uri")
-        .and_then(|uri| uri.as_str())
-    else {
-        return Ok(None);
-    };
-    Ok(Some(Document {
-        uri: String::from_str(alloc, uri)?,
-        text: String::from_str(alloc, text)?,
-    }))
+/// A list of one act.
+fn one(alloc: Global, act: Act<Asked>) -> Result<Acts, AllocError> {
+    Ok(vec![in alloc; act]?)
 }
 
-/// Tells the client which lines of the document are too long.
-fn marks(alloc: Global, longest: u64, document: &Document) -> Result<Act<Asked>, AllocError> {
-    let mut marks = Vec::new(alloc);
-    let mut number: u64 = 0;
-    for line in document.text.lines() {
+/// A warning for each line with more characters than are allowed.
+fn long_lines(alloc: Global, text: &str, longest: u32) -> Result<Vec<Diagnostic>, AllocError> {
+    let mut found = Vec::new(alloc);
+    let mut number: u32 = 0;
+    for line in text.lines() {
         let next = number.saturating_add(1);
-        if line.chars().count() as u64 > longest {
+        if line.chars().count() > longest as usize {
+            let range = Range::new(Position::new(number, 0), Position::new(next, 0));
             let message = format!(in alloc; "longer than {longest} characters")?;
-            let mark = json!(in alloc; {
-                "range": { "start": { "line": number, "character": 0 }, "end": { "line": next, "character": 0 } },
-                "severity": 2,
-                "message": message
-            })?;
-            marks.push(mark)?;
+            found.push(Diagnostic::new(range, DiagnosticSeverity::WARNING, message))?;
         }
         number = next;
     }
-    let uri = document.uri.clone()?;
-    let marks = Value::Array(marks);
-    Ok(Act::Tell(Notification {
-        method: String::from_str(alloc, "textDocument/publishDiagnostics")?,
-        params: json!(in alloc; { "uri": uri, "diagnostics": marks })?,
-    }))
+    Ok(found)
+}
+
+/// The last line that is a heading, up to this one.
+fn heading_above(text: &str, line: u32) -> Option<u32> {
+    let mut heading = None;
+    let mut number: u32 = 0;
+    for words in text.lines() {
+        if number > line {
+            break;
+        }
+        if words.starts_with("# ") {
+            heading = Some(number);
+        }
+        number = number.saturating_add(1);
+    }
+    heading
 }
 
 fn main(rt: HostRuntime) -> Answer<()> {
     let alloc: Global = rt.alloc();
-    let mut reader = BufReader::with_capacity(alloc, 65536, rt.reader())?;
-    let checker = Checker {
-        alloc,
-        longest: 80,
-        open: Vec::new(alloc),
-        waiting: Vec::new(alloc),
+    let answer = match env::args(&rt)?.nth(1) {
+        Some(address) => serve_socket(&rt, address.as_str())?,
+        None => {
+            let mut reader = BufReader::with_capacity(alloc, 65536, rt.reader())?;
+            let mut writer = io::writer(&rt);
+            session_with(alloc, &mut reader, &mut writer, Checker::new(alloc)).1
+        }
     };
-    let mut working = QueuedServer::new(alloc, checker);
-    match session_of_service(alloc, &mut reader, &mut io::writer(&rt), &mut working)? {
+    match answer? {
         SessionEnd::ShutDown => Ok(()),
         SessionEnd::Closed => bail!("the client left without a shutdown"),
     }
+}
+
+/// Serves the first client that connects to an address, as `127.0.0.1:9257`.
+fn serve_socket<R>(rt: &R, address: &str) -> Answer<Result<SessionEnd, SessionFault>>
+where
+    R: Net<Listener = TcpListener, Stream = TcpStream> + AllocGlobal,
+{
+    let alloc = rt.alloc();
+    let listener = TcpListener::bind(rt, address)?;
+    let (stream, _) = listener.accept()?;
+    let mut writer = stream.try_clone()?;
+    let mut reader = BufReader::with_capacity(alloc, 65536, stream)?;
+    let (_, answer) = session_with(alloc, &mut reader, &mut writer, Checker::new(alloc));
+    Ok(answer)
 }

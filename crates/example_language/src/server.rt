@@ -1,7 +1,7 @@
 // The server: the texts that are open, what the client is told, and what it asks.
 use crate::sums::{Named, Span, sheet_of, value_of, words_of};
 use lsp_documents::{DocumentFault, TextDocuments, position_encoding, position_in};
-use lsp_server::{Act, Notification, Request, RequestId, ResponseError, Server};
+use lsp_server::{Act, ErrorCode, Notification, Request, RequestId, ResponseError, Server};
 use lsp_text::{Position, PositionEncoding, Text};
 use serde_json::{Value, json};
 use std::alloc::{AllocError, Global};
@@ -79,7 +79,8 @@ impl Server for Sums {
             }
             "sums/solved" => {
                 let Some(uri) = uri_in(&request.params) else {
-                    acts.push(refuse(self.alloc, request.id, -32602, "which text?")?)?;
+                    let code = ErrorCode::InvalidParams;
+                    acts.push(Act::refuse(self.alloc, request.id, code, "which text?")?)?;
                     return Ok(acts);
                 };
                 let uri = String::from_str(self.alloc, uri)?;
@@ -88,7 +89,7 @@ impl Server for Sums {
                     uri,
                 })?;
             }
-            _ => acts.push(refuse(self.alloc, request.id, -32601, "method not found")?)?,
+            _ => acts.push(Act::method_not_found(self.alloc, request.id)?)?,
         }
         Ok(acts)
     }
@@ -299,20 +300,6 @@ fn shown(alloc: Global, names: &[Named], name: &str, range: Value) -> Result<Val
     };
     let contents = format!(in alloc; "{name} = {value}")?;
     Ok(json!(in alloc; { "contents": contents, "range": range })?)
-}
-
-fn refuse(
-    alloc: Global,
-    id: RequestId,
-    code: i32,
-    message: &str,
-) -> Result<Act<Asked>, AllocError> {
-    let error = ResponseError {
-        code,
-        message: String::from_str(alloc, message)?,
-        data: None,
-    };
-    Ok(Act::Reply(id, Err(error)))
 }
 
 fn uri_in(params: &Value) -> Option<&str> {

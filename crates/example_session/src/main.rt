@@ -2,7 +2,7 @@
 #![tactic(auto)]
 
 use anyhow::{Result, bail};
-use lsp_server::{ErrorCode, Handler, Notification, Request, ResponseError, SessionEnd, session};
+use lsp_server::{Handler, Notification, Request, ResponseError, SessionEnd, session};
 use serde_json::{Value, json};
 use std::alloc::{AllocError, Global};
 use std::io;
@@ -30,11 +30,7 @@ impl Handler for Documents {
         if request.method.as_str() == "demo/openDocuments" {
             return Ok(Ok(Value::from(self.open_count)));
         }
-        Ok(Err(ResponseError {
-            code: ErrorCode::MethodNotFound.number(),
-            message: String::from_str(self.alloc, "method not found")?,
-            data: None,
-        }))
+        Ok(Err(ResponseError::method_not_found(self.alloc)?))
     }
 
     fn note(&mut self, notification: &Notification) -> Result<(), AllocError> {

@@ -9,7 +9,7 @@ ghost use Rattle.lsp_server.specs.View.{outcome_view, request_view, message_view
 ghost use Rattle.lsp_demo.specs.Server.{begun, demo_outcome, is_kept, served};
 
 use lsp_server::dispatch::{Answer, DispatchFault, Dispatcher};
-use lsp_server::{ErrorCode, Message, Request, ResponseError};
+use lsp_server::{Message, Request, ResponseError};
 use serde_json::Value;
 use std::alloc::{AllocError, Global};
 use std::collections::BTreeMap;
@@ -118,9 +118,5 @@ fn outcome_of(
     if method == "demo/echo" {
         return Ok(Ok(params));
     }
-    Ok(Err(ResponseError {
-        code: ErrorCode::MethodNotFound.number(),
-        message: String::from_str(alloc, "method not found")?,
-        data: None,
-    }))
+    Ok(Err(ResponseError::method_not_found(alloc)?))
 }

@@ -12,7 +12,7 @@ ghost use Rattle.lsp_dispatch.specs.DispatchFaults.{handed_back, IsSpent};
 
 use crate::answer::{Answer, DispatchFault};
 use crate::params::{is_own, named_id};
-use lsp_message::{ErrorCode, Message, Notification, Request, RequestId, Response, ResponseError};
+use lsp_message::{Message, Notification, Request, RequestId, Response, ResponseError};
 use lsp_queue::ReqQueue;
 use serde_json::Value;
 use std::alloc::{AllocError, Global};
@@ -206,9 +206,7 @@ impl Dispatcher {
 fn not_found(alloc: Global, id: &RequestId) -> Result<Response, AllocError>
     ensures { IfOk result (λ reply. response_view reply ≡ not_found_reply id.now) }
 {
-    let id = id.clone()?;
-    let text = String::from_str(alloc, "method not found")?;
-    Ok(Response::new_err(id, ErrorCode::MethodNotFound.number(), text))
+    Response::method_not_found(alloc, id.clone()?)
 }
 
 #[cfg(test)]

@@ -12,4 +12,7 @@ pub use frame::extent::Front;
 pub use frame::scan::front;
 pub use frame::write::write_frames;
 pub use frame::{ReadFault, WriteFault};
-pub use msg::{ErrorCode, Message, Notification, Request, RequestId, Response, ResponseError};
+pub use msg::{
+    ErrorCode, Message, Notification, Request, RequestId, Response, ResponseError, read_as,
+    write_as,
+};

@@ -10,6 +10,7 @@ mod tree;
 mod value;
 
 pub use code::ErrorCode;
+pub use convert::{read_as, write_as};
 pub use id::RequestId;
 
 /// A message of JSON-RPC 2.0.

@@ -6,7 +6,7 @@ use crate::escapes::escape;
 use crate::table::{Call, Case, Device};
 use crate::talker::Talker;
 use lsp_message::{Front, Message, ReadFault, WriteFault, front};
-use lsp_service::{QueuedServer, session_of_service, session_of_service_within};
+use lsp_service::{session_with, session_with_within};
 use lsp_session::{SessionEnd, SessionFault, session, session_within};
 use lsp_threads::{PumpFault, StartFault, pump, pump_within, run_threads, run_threads_within};
 use serde_json::{Map, Value};
@@ -163,16 +163,10 @@ fn speaks_answer(
     mut writer: LimitedWriter,
     limit: Option<u64>,
 ) -> Result<Attempt, AllocError> {
-    let mut talker = QueuedServer::new(alloc, Talker::new(alloc));
-    let ended = match limit {
-        Some(limit) => session_of_service_within(
-            alloc,
-            &mut reader,
-            &mut writer,
-            &mut talker,
-            limit,
-        ),
-        None => session_of_service(alloc, &mut reader, &mut writer, &mut talker),
+    let talker = Talker::new(alloc);
+    let (_, ended) = match limit {
+        Some(limit) => session_with_within(alloc, &mut reader, &mut writer, talker, limit),
+        None => session_with(alloc, &mut reader, &mut writer, talker),
     };
     ended_answer(alloc, ended, writer.taken.as_slice())
 }

@@ -39,7 +39,7 @@ pub enum Call {
     Front,
     /// `session`, with no capabilities and an echo.
     Session,
-    /// `session_of_service`, with a server that speaks.
+    /// `session_with`.
     Speaks,
     /// `run_threads`, in the same way.
     Threads,

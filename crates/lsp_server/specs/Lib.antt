@@ -48,6 +48,8 @@ pub use Rattle.lsp_queue.specs.Queue
 pub use Rattle.lsp_queue.specs.QueueRun
 pub use Rattle.lsp_queue.specs.Registering
 pub use Rattle.lsp_relay.specs.Relay
+pub use Rattle.lsp_service.specs.Law
+pub use Rattle.lsp_service.specs.QueuedServer
 pub use Rattle.lsp_session.specs.Answered
 pub use Rattle.lsp_session.specs.Boxes
 pub use Rattle.lsp_session.specs.Event

@@ -1,14 +1,10 @@
 //! Laws of messages, ids, queues, sessions and the dispatcher. Each is the contract of a function, so the proofs of callers can
 //! use it.
-ghost use Rattle.std.specs.FinMap as fin;
-ghost use Rattle.std.specs.Prelude.{◌≡◌, ℕ, List, [], Option, Result};
-ghost use Rattle.lsp_session.specs.Session.{SessionOut};
-ghost use Rattle.lsp_session.specs.SessionLaws.{Both};
+ghost use Rattle.std.specs.Prelude.{ℕ, List, Option, Result};
 ghost use Rattle.lsp_session.specs.declared.loops.handler.SessionEnd.{SessionEnd as EndOfSession};
 ghost use Rattle.lsp_session.specs.declared.loops.stream_session.SessionFault.{SessionFault as FaultOfSession};
-ghost use Rattle.lsp_service.specs.Law.{KeepsLaws};
-ghost use Rattle.lsp_service.specs.QueuedServer.{at_desk, desk_of};
-ghost use Rattle.lsp_service.specs.declared.desk.QueuedServer.{QueuedServer as AtDesk};
+ghost use Rattle.lsp_service.specs.Law.{LawfulSession};
+ghost use Rattle.lsp_service.specs.QueuedServer.{ServerSession};
 ghost use Rattle.lsp_threads.specs.Threads.{ThreadsGive};
 
 pub use lsp_dispatch::laws::replies_once;
@@ -20,18 +16,16 @@ pub use lsp_peers::laws as peers;
 pub use lsp_queue::laws::pending_is_last_registered;
 use lsp_service::Server;
 pub use lsp_service::laws::{
-    lost_client_is_owed_what_is_held, server_keeps_laws, serving_keeps_laws, session_keeps_laws,
+    lost_client_is_owed_what_is_held, server_keeps_laws, server_over_boxes_keeps_laws,
     turn_sends_its_acts,
 };
 pub use lsp_session::laws::{sessions, streams, turns};
 pub use lsp_threads::laws::threads_keep_order;
 
 /// A session of a server in threads keeps the laws, as `server_keeps_laws` says it of one on one thread: a fact of each session that
-/// was run by `run_threads_of_service`, with a limit or without one.
+/// was run by `run_threads_with`, with a limit or without one.
 pub fn server_in_threads_keeps_laws<S: Server>()
-    ensures { (limit : ℕ) (old new : AtDesk S S.Payload) → desk_of old.client ≡ record { held = fin.empty; asked = (fin.empty, 0); said = [] }
-        → (text : List ℕ) (before after : Option (List ℕ)) (answer : Result EndOfSession FaultOfSession)
-        → ThreadsGive limit (SessionOut (at_desk S.requested S.notified S.replied S.takes_back S.begins S.initializes) old new) text before after answer
-        → ThreadsGive limit (Both (SessionOut (at_desk S.requested S.notified S.replied S.takes_back S.begins S.initializes) old new)
-        (KeepsLaws S.requested S.notified S.replied S.takes_back S.begins (desk_of new.client).held)) text before after answer }
+    ensures { (limit : ℕ) (first last : S) (text : List ℕ) (before after : Option (List ℕ)) (answer : Result EndOfSession FaultOfSession)
+        → ThreadsGive limit (ServerSession S.Server first last) text before after answer
+        → ThreadsGive limit (LawfulSession S.Server first last) text before after answer }
 {}

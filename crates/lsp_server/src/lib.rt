@@ -1,7 +1,7 @@
 //! The scaffold under language servers (LSP 3.17, JSON-RPC 2.0): it carries messages between an editor and a server, does the
 //! handshake and the shutdown, and keeps the requests that have no reply yet.
 //!
-//! Start with `session` for a server that answers, `session_of_service` for one that also speaks first, or `Connection` for a loop of
+//! Start with `session` for a server that answers, `session_with` for one that also speaks first, or `Connection` for a loop of
 //! your own. `docs/WRITING_A_SERVER.md` goes through all three.
 #![tactic(auto)]
 
@@ -10,19 +10,20 @@ pub mod dispatch;
 pub mod laws;
 mod memory;
 mod relays;
+mod servers;
 mod socket;
 mod stdio;
 
 pub use channels::Connection;
 pub use lsp_message::{
     ErrorCode, ExtractError, Front, Message, Notification, ReadFault, Request, RequestId, Response,
-    ResponseError, WriteFault, front, write_frames,
+    ResponseError, WriteFault, front, read_as, write_as, write_frames,
 };
 pub use lsp_peers::{Link, Outcome, Side, Step, World, WorldFault};
 pub use lsp_queue::{Incoming, Outgoing, RegisterFault, ReqQueue};
 pub use lsp_service::{
-    Act, Output, QueuedServer, Server, Service, serve_service, session_of_service,
-    session_of_service_within,
+    Act, Output, Server, Service, serve_service, serve_with, session_of_service,
+    session_of_service_within, session_with, session_with_within,
 };
 pub use lsp_session::{
     CallGate, Event, FrameOutbox, Gate, Handler, Inbox, ListGate, ListInbox, ListOutbox, OpenGate,
@@ -31,9 +32,10 @@ pub use lsp_session::{
     start_within, wait_within, write_loop,
 };
 pub use lsp_threads::{
-    PumpFault, StartFault, Threaded, pump, pump_within, run_threads, run_threads_of_service,
-    run_threads_of_service_within, run_threads_within,
+    Builders, PumpFault, StartFault, Threaded, pump, pump_within, run_threads,
+    run_threads_of_service, run_threads_of_service_within, run_threads_within,
 };
 pub use memory::keep_freed_memory;
 pub use relays::{Parcel, RelayRx, RelayTx, relay};
+pub use servers::{run_threads_with, run_threads_with_by, run_threads_with_within};
 pub use stdio::{CHANNEL_ROOM, IoFault, IoThreads};

@@ -1,34 +1,25 @@
 -- A desk before `initialized`, and at it.
-use Rattle.std.proofs.Common.{◌≡◌, refl, ◌∙◌, ap, ℕ, ◌+◌, Bool, true, false, List, [], arith, Option}
+use Rattle.std.proofs.Common.{◌≡◌, refl, ◌∙◌, ap, ◌+◌, true, false, List, [], arith}
 use Rattle.std.specs.FinMap as map
 use Rattle.std.specs.FinMap.{get-empty}
-use Rattle.std.specs.Prelude.{Result, is_some}
-use Rattle.serde_json.specs.Data.{Data}
+use Rattle.std.specs.Prelude.{is_some}
 use Rattle.lsp_message.specs.Id.{Id, id_cmp}
-use Rattle.lsp_message.specs.Message.{Message, ErrorObject, request, notification, response}
+use Rattle.lsp_message.specs.Message.{Message, request, notification, response}
 use Rattle.lsp_session.specs.Finish.{is_initialized}
-use Rattle.lsp_session.specs.Session.{Behavior}
-use Rattle.lsp_service.specs.Desk.{Act, Desk, OpensSaying}
+use Rattle.lsp_service.specs.Desk.{Desk}
 use Rattle.lsp_service.specs.Law.{one_if, is_request_under, is_reply_under, how_many, held_under}
-use Rattle.lsp_service.specs.QueuedServer.{seen, desk_of, at_desk}
+use Rattle.lsp_service.specs.QueuedServer.{at_desk}
+use Rattle.lsp_service.specs.View.{desk_of}
 use Rattle.lsp_service.specs.declared.desk.QueuedServer.{QueuedServer}
 use Rattle.lsp_service.proofs.Owing.{due, due_acts}
+use Rattle.lsp_service.specs.declared.server.Server.{Ghosts as Stated}
 
 pub no_request : (id : Id) (m : Message) → is_initialized m ≡ true → is_request_under id m ≡ false
 no_request id (request i method params) e = absurd (cc (e))
 no_request id (notification method params) e = refl
 no_request id (response i outcome) e = refl
 
-module _ {S P : Type 0}
-    (requested : S → Id → List ℕ → Data → List (Act P) → S → Type 0)
-    (notified : S → List ℕ → Data → List (Act P) → S → Type 0)
-    (replied : S → P → Result Data ErrorObject → List (Act P) → S → Type 0)
-    (takes_back : S → P → S → Type 0)
-    (begins : S → List (Act P) → S → Type 0)
-    (initializes : S → Data → Result Data ErrorObject → S → Type 0) where
-  abbrev pub working : Behavior (QueuedServer S P)
-  working = at_desk requested notified replied takes_back begins initializes
-
+module _ {S P : Type 0} (may : Stated S P) where
   -- nothing was asked
   abbrev pub Unasked : QueuedServer S P → Type 0
   Unasked w = (desk_of w.client).asked ≡ (map.empty, 0)
@@ -51,7 +42,7 @@ module _ {S P : Type 0}
   }
 
   -- what is said at `initialized` answers nothing
-  pub due_opened : (id : Id) (w w' : QueuedServer S P) (said : List Message) → Clear w → working.opens w said w'
+  pub due_opened : (id : Id) (w w' : QueuedServer S P) (said : List Message) → Clear w → (at_desk may).opens w said w'
       → how_many (is_reply_under id) said + held_under id (desk_of w'.client).held ≡ 0
   due_opened id w w' said clear opened =
       let after = opened.0 in
@@ -61,5 +52,5 @@ module _ {S P : Type 0}
       let sent : how_many (is_reply_under id) said ≡ how_many (is_reply_under id) after.1.said = ap (how_many (is_reply_under id)) opened.2 in
       omega (arith, kept, none, silent, sent, clear.none id)
 
-  pub silent_opened : (w w' : QueuedServer S P) (said : List Message) → working.opens w said w' → (desk_of w'.client).said ≡ []
+  pub silent_opened : (w w' : QueuedServer S P) (said : List Message) → (at_desk may).opens w said w' → (desk_of w'.client).said ≡ []
   silent_opened w w' said opened = ap (λ (x : S × Desk P). x.1.said) opened.3

@@ -1,18 +1,20 @@
 -- Each request of the client is answered once, or still held.
-use Rattle.std.proofs.Common.{◌≡◌, refl, ◌∙◌, ap, ℕ, zero, suc, ◌+◌, ◌≤◌, Bool, true, false, cond, is_some, List, [], ◌∷◌, ◌++◌, arith, Option, Some, None}
+use Rattle.std.proofs.Common.{◌≡◌, refl, ◌∙◌, ap, ℕ, ◌+◌, ◌≤◌, Bool, true, false, cond, List, [], ◌∷◌, ◌++◌, arith, Option, Some, None}
 use Rattle.std.specs.FinMap as map
-use Rattle.std.specs.FinMap.{get-insert, get-remove, get-empty}
+use Rattle.std.specs.FinMap.{get-insert, get-remove}
 use Rattle.std.specs.Ordering.{eq_by_cmp}
-use Rattle.std.specs.Prelude.{Result, Err, if◌then◌else◌}
-use Rattle.serde_json.specs.Data.{Data}
-use Rattle.lsp_message.specs.Id.{Id, id_cmp, number}
+use Rattle.lsp_message.specs.Id.{Id, id_cmp}
 use Rattle.lsp_message.specs.IdLaws.{id_total, id_decides}
-use Rattle.lsp_message.specs.Message.{Message, ErrorObject, request, notification, response}
-use Rattle.lsp_queue.specs.Queue.{Pending, pending_of, count_of}
-use Rattle.lsp_service.specs.Desk.{Act, tells, asks, replies, cancels, settles, canceled, cancelled_by, cancel_method, cancel_params, Desk, is_spent, sends_request, does, does_all, holds, given, cleared, says, Acts, Works, WorksGiving}
+use Rattle.lsp_message.specs.Message.{Message, request, notification, response}
+use Rattle.lsp_queue.specs.Queue.{Pending}
+use Rattle.lsp_service.specs.Desk.{Act, tells, asks, replies, cancels, Desk, does, does_all}
 use Rattle.lsp_service.specs.Law.{one_if, is_request_under, is_reply_under, how_many, held_under}
-use Rattle.lsp_service.specs.QueuedServer.{seen, desk_of}
+use Rattle.lsp_service.specs.QueuedServer.{WorksGiving}
+use Rattle.lsp_service.specs.View.{seen, desk_of}
 use Rattle.lsp_service.specs.declared.desk.QueuedServer.{QueuedServer}
+use Rattle.lsp_service.specs.Turning.{desk_at, settled_at}
+use Rattle.lsp_service.proofs.Acting.{acts_at, said_so}
+use Rattle.lsp_service.specs.declared.server.Server.{Ghosts as Stated}
 
 pub how_many-append : (p : Message → Bool) (xs ys : List Message) → how_many p (xs ++ ys) ≡ how_many p xs + how_many p ys
 how_many-append p [] ys = omega arith
@@ -24,18 +26,10 @@ due id d = how_many (is_reply_under id) d.said + held_under id d.held
 
 module _ (id : Id) where
   held_insert : (held : Pending (Unit {0})) (i : Id) → held_under id (map.insert held i tt) ≡ cond (eq_by_cmp id_cmp id i) 1 (held_under id held)
-  held_insert held i = ap (λ o. one_if (is_some o)) (get-insert id_total held i tt id) ∙ at (eq_by_cmp id_cmp id i)
-    where
-      at : (b : Bool) → one_if (is_some (cond b (Some tt) (map.get held id))) ≡ cond b 1 (held_under id held)
-      at true = refl
-      at false = refl
+  held_insert held i = let got = get-insert id_total held i tt id in grind (arith, got)
 
   held_remove : (held : Pending (Unit {0})) (i : Id) → held_under id (map.remove held i) ≡ cond (eq_by_cmp id_cmp id i) 0 (held_under id held)
-  held_remove held i = ap (λ o. one_if (is_some o)) (get-remove id_total held i id) ∙ at (eq_by_cmp id_cmp id i)
-    where
-      at : (b : Bool) → one_if (is_some (cond b None (map.get held id))) ≡ cond b 0 (held_under id held)
-      at true = refl
-      at false = refl
+  held_remove held i = let got = get-remove id_total held i id in grind (arith, got)
 
   -- a held request that is answered
   answered : (held : Pending (Unit {0})) (i : Id) (b : Bool) → eq_by_cmp id_cmp id i ≡ b → map.contains_key held i ≡ true
@@ -46,30 +40,10 @@ module _ (id : Id) where
 module _ {P : Type 0} (id : Id) where
   -- an act neither adds nor loses what is due
   due_act : (d : Desk P) (act : Act P) → due id (does d act) ≡ due id d
-  due_act d (tells method params) = rw (how_many-append (is_reply_under id) d.said (notification method params ∷ [])) (omega arith)
-  due_act d (asks method params payload) = at (is_spent (count_of d.asked))
-    where
-      at : (b : Bool) → due id (if b then d else sends_request d method params payload) ≡ due id d
-      at true = refl
-      at false = rw (how_many-append (is_reply_under id) d.said _) (omega arith)
-  due_act d (replies i outcome) = at (map.contains_key d.held i) refl
-    where
-      at : (b : Bool) → map.contains_key d.held i ≡ b
-          → due id (if b then (record { held = map.remove d.held i; asked = d.asked; said = d.said ++ response i outcome ∷ [] }) else d) ≡ due id d
-      at true there =
-          let one = answered id d.held i (eq_by_cmp id_cmp id i) refl there in
-          rw (how_many-append (is_reply_under id) d.said (response i outcome ∷ []), held_remove id d.held i) (omega (arith, one))
-      at false there = refl
-  due_act d (cancels z) = at (map.contains_key (pending_of d.asked) (number z))
-    where
-      at : (b : Bool) → due id (if b then says d (notification cancel_method (cancel_params z)) else d) ≡ due id d
-      at true = rw (how_many-append (is_reply_under id) d.said (notification cancel_method (cancel_params z) ∷ [])) (omega arith)
-      at false = refl
-
-  -- nor does the default answer
-  due_settled : (d : Desk P) (cancelled : Option Id) → due id (settles d cancelled) ≡ due id d
-  due_settled d None = refl
-  due_settled d (Some i) = due_act d (replies i (Err canceled))
+  due_act d (tells method params) = grind (arith, how_many-append)
+  due_act d (asks method params payload) = grind (arith, how_many-append)
+  due_act d (replies i outcome) = grind (arith, how_many-append, held_remove, answered)
+  due_act d (cancels z) = grind (arith, how_many-append)
 
   pub due_acts : (d : Desk P) (acts : List (Act P)) → due id (does_all d acts) ≡ due id d
   due_acts d [] = refl
@@ -80,43 +54,26 @@ pub record Due (id : Id) (m : Message) (said : List Message) (held held' : Pendi
   pub most : how_many (is_reply_under id) said + held_under id held' ≤ one_if (is_request_under id m) + held_under id held
   pub least : 1 ≤ one_if (is_request_under id m) + held_under id held → 1 ≤ how_many (is_reply_under id) said + held_under id held'
 
--- a server at its desk, as a service
-abbrev pub gives : {S P : Type 0} (requested : S → Id → List ℕ → Data → List (Act P) → S → Type 0)
-    (notified : S → List ℕ → Data → List (Act P) → S → Type 0)
-    (replied : S → P → Result Data ErrorObject → List (Act P) → S → Type 0)
-    (takes_back : S → P → S → Type 0) → QueuedServer S P → Message → List Message → QueuedServer S P → Type 0
-gives requested notified replied takes_back old m said new = WorksGiving requested notified replied takes_back (seen old) m said (seen new)
+module _ {S P : Type 0} (may : Stated S P) (id : Id) where
+  -- when the server acts at a message, one reply more is due where it is a request under the id
+  due_at : (d : Desk P) (m : Message) (payload : Option P)
+      → due id (desk_at d m payload) ≡ how_many (is_reply_under id) d.said + cond (is_request_under id m) 1 (held_under id d.held)
+  due_at d (request i method params) payload = ap (λ n. how_many (is_reply_under id) d.said + n) (held_insert id d.held i)
+  due_at d (notification method params) payload = refl
+  due_at d (response i outcome) None = refl
+  due_at d (response i outcome) (Some payload) = refl
 
-module _ {S P : Type 0}
-    (requested : S → Id → List ℕ → Data → List (Act P) → S → Type 0)
-    (notified : S → List ℕ → Data → List (Act P) → S → Type 0)
-    (replied : S → P → Result Data ErrorObject → List (Act P) → S → Type 0)
-    (takes_back : S → P → S → Type 0) (id : Id) where
-  -- a message makes one reply more due where it is a request under the id
-  due_work : (s : S) (d : Desk P) (m : Message) (after : S × Desk P) → Works requested notified replied takes_back (s, d) m after
-      → due id after.1 ≡ how_many (is_reply_under id) d.said + cond (is_request_under id m) 1 (held_under id d.held)
-  due_work s d (request i method params) after works =
-      ap (due id) works.4 ∙ due_acts id (holds d i) works.0 ∙ ap (λ n. how_many (is_reply_under id) d.said + n) (held_insert id d.held i)
-  due_work s d (notification method params) after works =
-      let did = works.1 in
-      ap (λ (x : S × Desk P). due id x.1) works.2 ∙ due_settled id works.0.1 (cancelled_by method params) ∙ ap (due id) did.4 ∙ due_acts id d did.0
-  due_work s d (response i outcome) after works = at (map.get (pending_of d.asked) i) works
-    where
-      at : (o : Option P)
-          → Rattle.std.specs.Prelude.MatchOption o (after ≡ (s, d)) (λ payload. Acts takes_back (replied s payload outcome) (given d i) after)
-          → due id after.1 ≡ due id d
-      at None same = ap (λ (x : S × Desk P). due id x.1) same
-      at (Some payload) did = ap (due id) did.4 ∙ due_acts id (given d i) did.0
-
-  pub due_one : (w w' : QueuedServer S P) (m : Message) (said : List Message) → (desk_of w.client).said ≡ [] → gives requested notified replied takes_back w m said w'
+  pub due_one : (w w' : QueuedServer S P) (m : Message) (said : List Message) → (desk_of w.client).said ≡ [] → WorksGiving may (seen w) m said (seen w')
       → Due id m said (desk_of w.client).held (desk_of w'.client).held
   due_one w w' m said silent step =
-      let desk : desk_of w'.client ≡ cleared step.0.1 = ap (λ (x : S × Desk P). x.1) step.3 in
-      let raw = due_work w.server (desk_of w.client) m step.0 step.1 in
+      let a = acts_at may (seen w) m said (seen w') step in
+      let start = desk_at (desk_of w.client) m a.payload in
+      let all = due_acts id start (settled_at m a.acts) ∙ due_at (desk_of w.client) m a.payload in
       let none : how_many (is_reply_under id) (desk_of w.client).said ≡ 0 = ap (how_many (is_reply_under id)) silent in
-      let kept : held_under id (desk_of w'.client).held ≡ held_under id step.0.1.held = ap (λ (d : Desk P). held_under id d.held) desk in
-      let sent : how_many (is_reply_under id) said ≡ how_many (is_reply_under id) step.0.1.said = ap (how_many (is_reply_under id)) step.2 in
-      let both = counted (is_request_under id m) (how_many (is_reply_under id) said) (held_under id (desk_of w'.client).held) (held_under id (desk_of w.client).held) (omega (arith, raw, none, kept, sent)) in
+      let kept = ap (λ (d : Desk P). held_under id d.held) a.desk in
+      let sent = ap (how_many (is_reply_under id)) (said_so may (seen w) m said (seen w') a) in
+      let both = counted (is_request_under id m) (how_many (is_reply_under id) said) (held_under id (desk_of w'.client).held)
+      (held_under id (desk_of w.client).held) (omega (arith, all, none, kept, sent)) in
       record { most = both.0; least = both.1 }
     where
       counted : (b : Bool) (r h' h : ℕ) → r + h' ≡ cond b 1 h → (r + h' ≤ one_if b + h) × (1 ≤ one_if b + h → 1 ≤ r + h')

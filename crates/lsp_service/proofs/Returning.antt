@@ -1,10 +1,10 @@
 -- Each reply of the client comes to the server with the payload of its own request.
-use Rattle.std.proofs.Common.{◌≡◌, refl, sym, ◌∙◌, ap, subst, inl, inr, ◌⊎◌, ℕ, ◌+◌, ◌≤◌, Bool, true, false, ◌||◌, ◌&&◌, cond, is_some, List, [], ◌∷◌, ◌++◌, append_assoc, append-nil, arith, Option, Some, None}
+use Rattle.std.proofs.Common.{◌≡◌, refl, sym, ◌∙◌, ap, subst, ℕ, ◌+◌, ◌≤◌, Bool, true, false, ◌||◌, ◌&&◌, cond, is_some, List, [], ◌∷◌, ◌++◌, append_assoc, append-nil, arith, Option, Some, None}
 use Rattle.std.proofs.lemmas.List.{map-append}
 use Rattle.std.specs.FinMap as map
 use Rattle.std.specs.FinMap.{get-insert, get-remove, get-empty}
 use Rattle.std.specs.Ordering.{eq_by_cmp}
-use Rattle.std.specs.Prelude.{Result, Err, MatchOption, pos, if◌then◌else◌}
+use Rattle.std.specs.Prelude.{Result, pos, if◌then◌else◌}
 use Rattle.std.specs.List.{list_all}
 use Rattle.std.specs.Prelude.{map as map_list}
 use Rattle.serde_json.specs.Data.{Data}
@@ -13,12 +13,15 @@ use Rattle.lsp_message.specs.IdLaws.{id_total, id_decides}
 use Rattle.lsp_message.specs.Message.{Message, ErrorObject, request, notification, response}
 use Rattle.lsp_queue.specs.Queue.{Asked, pending_of, count_of}
 use Rattle.lsp_session.specs.Session.{Exchange, letters_of, sends_of, Stop, is_served}
-use Rattle.lsp_service.specs.Desk.{Act, tells, asks, replies, cancels, settles, canceled, cancelled_by, cancel_method, cancel_params, Desk, is_spent, sends_request, does, does_all, ids_after, unsent, holds, given, says, TakesBack, Acts, Works, OpensSaying}
-use Rattle.lsp_service.specs.Law.{is_reply_under, Sent, Turn, requests_in, request_of, ids_after_all, sent_by, all_sent, kept_under, acts_of, was_given, GivesOwnPayloads, Handed, TakesTurns, IsUnserved, IsWhole, TakesPart}
-use Rattle.lsp_service.specs.QueuedServer.{seen, desk_of}
+use Rattle.lsp_service.specs.Desk.{Act, tells, asks, replies, cancels, cancelled_by, Desk, is_spent, sends_request, does, does_all, ids_after, unsent, given, TakesBack}
+use Rattle.lsp_service.specs.Law.{is_reply_under, Sent, Turn, requests_in, request_of, ids_after_all, sent_by, all_sent, kept_under, acts_of, was_given, brings, GivesOwnPayloads, TakesTurns, IsUnserved, IsWhole, TakesPart}
+use Rattle.lsp_service.specs.QueuedServer.{WorksGiving, OpensSaying}
+use Rattle.lsp_service.specs.View.{seen, desk_of}
 use Rattle.lsp_service.specs.declared.desk.QueuedServer.{QueuedServer}
+use Rattle.lsp_service.specs.Turning.{brought_by, desk_at, settled_by, settled_at}
+use Rattle.lsp_service.proofs.Acting.{acts_at, at_count, at_said, said_so}
 use Rattle.lsp_service.proofs.Desking.{ids_counted}
-use Rattle.lsp_service.proofs.Owing.{gives}
+use Rattle.lsp_service.specs.declared.server.Server.{Ghosts as Stated}
 
 pub requests-append : (xs ys : List Message) → requests_in (xs ++ ys) ≡ requests_in xs ++ requests_in ys
 requests-append [] ys = refl
@@ -36,11 +39,7 @@ same_number : (n m : ℕ) → eq_by_cmp id_cmp (number (pos n)) (number (pos m))
 same_number n m e = let same : number (pos n) ≡ number (pos m) = (id_decides (number (pos n)) (number (pos m))).0 e in cc (same)
 
 other_number : (n m : ℕ) → m + 1 ≤ n → eq_by_cmp id_cmp (number (pos n)) (number (pos m)) ≡ false
-other_number n m more = at (eq_by_cmp id_cmp (number (pos n)) (number (pos m))) refl
-  where
-    at : (b : Bool) → eq_by_cmp id_cmp (number (pos n)) (number (pos m)) ≡ b → b ≡ false
-    at true e = absurd (let same = same_number n m e in omega (arith, more, same))
-    at false e = refl
+other_number n m more = let same = same_number n m in grind (arith, same, more)
 
 module _ {P : Type 0} where
   ids_all : (d : Desk P) (acts : List (Act P)) → count_of (does_all d acts).asked ≡ ids_after_all (count_of d.asked) acts
@@ -56,22 +55,9 @@ module _ {P : Type 0} where
   -- what an act says of requests is what it sends
   said_one : (d : Desk P) (act : Act P) → requests_in (does d act).said ≡ requests_in d.said ++ map_list request_of (sent_by (count_of d.asked) act)
   said_one d (tells method params) = requests-append d.said (notification method params ∷ [])
-  said_one d (asks method params payload) = at (is_spent (count_of d.asked))
-    where
-      at : (b : Bool) → requests_in (if b then d else sends_request d method params payload).said
-          ≡ requests_in d.said ++ map_list request_of (if b then [] else record { id = number (pos (count_of d.asked)); method = method; params = params; payload = payload } ∷ [])
-      at true = sym (append-nil (requests_in d.said))
-      at false = requests-append d.said (request (number (pos (count_of d.asked))) method params ∷ [])
-  said_one d (replies id outcome) = at (map.contains_key d.held id)
-    where
-      at : (b : Bool) → requests_in (if b then (record { held = map.remove d.held id; asked = d.asked; said = d.said ++ response id outcome ∷ [] }) else d).said ≡ requests_in d.said ++ []
-      at true = requests-append d.said (response id outcome ∷ [])
-      at false = sym (append-nil (requests_in d.said))
-  said_one d (cancels z) = at (map.contains_key (pending_of d.asked) (number z))
-    where
-      at : (b : Bool) → requests_in (if b then says d (notification cancel_method (cancel_params z)) else d).said ≡ requests_in d.said ++ []
-      at true = requests-append d.said (notification cancel_method (cancel_params z) ∷ [])
-      at false = sym (append-nil (requests_in d.said))
+  said_one d (asks method params payload) = grind (arith, append-nil, requests-append)
+  said_one d (replies id outcome) = grind (arith, append-nil, requests-append)
+  said_one d (cancels z) = grind (arith, append-nil, requests-append)
 
   pub said_all : (d : Desk P) (acts : List (Act P)) → requests_in (does_all d acts).said ≡ requests_in d.said ++ map_list request_of (all_sent (count_of d.asked) acts)
   said_all d [] = sym (append-nil (requests_in d.said))
@@ -86,27 +72,15 @@ module _ {P : Type 0} where
 
   kept-append : (id : Id) (xs ys : List (Sent P)) → kept_under id (xs ++ ys) ≡ or_kept (kept_under id xs) (kept_under id ys)
   kept-append id [] ys = refl
-  kept-append id (x ∷ xs) ys = at (kept-append id xs ys) (eq_by_cmp id_cmp id x.id)
-    where
-      at : kept_under id (xs ++ ys) ≡ or_kept (kept_under id xs) (kept_under id ys) → (b : Bool) → (if b then Some x.payload else kept_under id (xs ++ ys)) ≡ or_kept (if b then Some x.payload else kept_under id xs) (kept_under id ys)
-      at more true = refl
-      at more false = more
+  kept-append id (x ∷ xs) ys = let more = kept-append id xs ys in grind (arith, more)
 
   given-push : (id : Id) (turns : List (Turn P)) (turn : Turn P) → was_given id (turns ++ turn ∷ []) ≡ (was_given id turns || (is_some turn.payload && is_reply_under id turn.letter))
-  given-push id [] turn = at (is_some turn.payload && is_reply_under id turn.letter)
-    where
-      at : (b : Bool) → (b || false) ≡ b
-      at true = refl
-      at false = refl
-  given-push id (t ∷ turns) turn = at (given-push id turns turn) (is_some t.payload && is_reply_under id t.letter)
-    where
-      at : was_given id (turns ++ turn ∷ []) ≡ (was_given id turns || (is_some turn.payload && is_reply_under id turn.letter)) → (b : Bool) → (b || was_given id (turns ++ turn ∷ [])) ≡ ((b || was_given id turns) || (is_some turn.payload && is_reply_under id turn.letter))
-      at more true = refl
-      at more false = more
+  given-push id [] turn = grind arith
+  given-push id (t ∷ turns) turn = let more = given-push id turns turn in grind (arith, more)
 
   -- the queue has what these requests kept, but for the replies that were given
   pub record Agrees (sent : List (Sent P)) (before : List (Turn P)) (asked : Asked P) : Type 0 where
-    pub pending : (id : Id) → map.get (pending_of asked) id ≡ (if was_given id before then None else kept_under id sent)
+    pub pending : (id : Id) → map.get (pending_of asked) id ≡ brings id sent before
     pub fresh : (n : ℕ) → count_of asked ≤ n → kept_under (number (pos n)) sent ≡ None
     pub ungiven : (n : ℕ) → count_of asked ≤ n → was_given (number (pos n)) before ≡ false
 
@@ -142,11 +116,10 @@ module _ {P : Type 0} where
           let none : kept_under id sent ≡ None = ap (λ i. kept_under i sent) same ∙ agrees.fresh (count_of asked) (omega arith) in
           rw (ungiven, kept-append id sent (one ∷ []), none, kept_one id true e) refl
       at id false e =
-          agrees.pending id ∙ ap (λ o. if was_given id before then None else o) (sym (kept-append id sent (one ∷ []) ∙ ap (or_kept (kept_under id sent)) (kept_one id false e) ∙ or_none (kept_under id sent)))
-        where
-          or_none : (o : Option P) → or_kept o None ≡ o
-          or_none None = refl
-          or_none (Some x) = refl
+          let kept = kept-append id sent (one ∷ []) in
+          let others : kept_under id (one ∷ []) ≡ None = kept_one id false e in
+          let before = agrees.pending id in
+          grind (arith, kept, others, before)
 
   agrees_act : (sent : List (Sent P)) (before : List (Turn P)) (d : Desk P) (act : Act P) → Agrees sent before d.asked
       → Agrees (sent ++ sent_by (count_of d.asked) act) before (does d act).asked
@@ -157,16 +130,14 @@ module _ {P : Type 0} where
           (if b then d else sends_request d method params payload).asked
       at true = agrees_none sent before d.asked agrees
       at false = agrees_asked sent before d.asked method params payload agrees
-  agrees_act sent before d (replies id outcome) agrees = at (map.contains_key d.held id)
+  agrees_act sent before d (replies id outcome) agrees = rw same_asked (agrees_none sent before d.asked agrees)
     where
-      at : (b : Bool) → Agrees (sent ++ []) before (if b then (record { held = map.remove d.held id; asked = d.asked; said = d.said ++ response id outcome ∷ [] }) else d).asked
-      at true = agrees_none sent before d.asked agrees
-      at false = agrees_none sent before d.asked agrees
-  agrees_act sent before d (cancels z) agrees = at (map.contains_key (pending_of d.asked) (number z))
+      same_asked : (does d (replies id outcome)).asked ≡ d.asked
+      same_asked = grind arith
+  agrees_act sent before d (cancels z) agrees = rw same_asked (agrees_none sent before d.asked agrees)
     where
-      at : (b : Bool) → Agrees (sent ++ []) before (if b then says d (notification cancel_method (cancel_params z)) else d).asked
-      at true = agrees_none sent before d.asked agrees
-      at false = agrees_none sent before d.asked agrees
+      same_asked : (does d (cancels z)).asked ≡ d.asked
+      same_asked = grind arith
 
   agrees_acts : (sent : List (Sent P)) (before : List (Turn P)) (d : Desk P) (acts : List (Act P)) → Agrees sent before d.asked
       → Agrees (sent ++ all_sent (count_of d.asked) acts) before (does_all d acts).asked
@@ -176,12 +147,8 @@ module _ {P : Type 0} where
       let more = agrees_acts (sent ++ one) before (does d act) acts (agrees_act sent before d act agrees) in
       rw (sym (append_assoc sent one (all_sent (ids_after (count_of d.asked) act) acts))) (rw (ids_counted d act) at more)
 
-  -- what a reply under an id that came next would bring
-  abbrev due_under : Id → List (Sent P) → List (Turn P) → Option P
-  due_under id sent before = if was_given id before then None else kept_under id sent
-
   abbrev FitsOne : List (Sent P) → List (Turn P) → Turn P → Type 0
-  FitsOne sent before turn = (id : Id) → is_reply_under id turn.letter ≡ true → turn.payload ≡ due_under id sent before
+  FitsOne sent before turn = (id : Id) → is_reply_under id turn.letter ≡ true → turn.payload ≡ brings id sent before
 
   abbrev Fits : ℕ → List (Sent P) → List (Turn P) → List (Turn P) → Type 0
   Fits count sent before [] = Unit {0}
@@ -201,28 +168,8 @@ module _ {P : Type 0} where
       ) more
 
   own_payloads : (begun : List (Act P)) (turns : List (Turn P)) → Fits (ids_after_all 0 begun) (all_sent 0 begun) [] turns → GivesOwnPayloads begun turns
-  own_payloads begun turns fits = record {
-    own = λ before after turn id payload cut under came. own_of (was_given id before) (kept_under id (all_sent 0 (begun ++ acts_of before))) payload (sym came ∙ at before after turn id cut under);
-    once = λ before after turn id payload cut under came. once_of (was_given id before) (kept_under id (all_sent 0 (begun ++ acts_of before))) payload (sym came ∙ at before after turn id cut under);
-    nobody = λ before after turn id cut under came. nobody_of (was_given id before) (kept_under id (all_sent 0 (begun ++ acts_of before))) (sym came ∙ at before after turn id cut under);
-  }
-    where
-      at : (before after : List (Turn P)) (turn : Turn P) (id : Id) → turns ≡ before ++ turn ∷ after → is_reply_under id turn.letter ≡ true
-          → turn.payload ≡ due_under id (all_sent 0 (begun ++ acts_of before)) before
-      at before after turn id cut under =
-          rw (sent-append 0 begun (acts_of before)) (fits_at (ids_after_all 0 begun) (all_sent 0 begun) [] before after turn (rw cut at fits) id under)
-
-      own_of : (b : Bool) (kept : Option P) (payload : P) → Some payload ≡ (if b then None else kept) → kept ≡ Some payload
-      own_of true kept payload e = absurd (cc (e))
-      own_of false kept payload e = sym e
-
-      once_of : (b : Bool) (kept : Option P) (payload : P) → Some payload ≡ (if b then None else kept) → b ≡ false
-      once_of true kept payload e = absurd (cc (e))
-      once_of false kept payload e = refl
-
-      nobody_of : (b : Bool) (kept : Option P) → None ≡ (if b then None else kept) → (kept ≡ None) ⊎ (b ≡ true)
-      nobody_of true kept e = inr refl
-      nobody_of false kept e = inl (sym e)
+  own_payloads begun turns fits before after turn id cut under =
+      rw (sent-append 0 begun (acts_of before)) (fits_at (ids_after_all 0 begun) (all_sent 0 begun) [] before after turn (rw cut at fits) id under)
 
   -- a turn in which nothing came
   agrees_other : (sent : List (Sent P)) (before : List (Turn P)) (asked : Asked P) (turn : Turn P) → turn.payload ≡ None → Agrees sent before asked
@@ -233,20 +180,15 @@ module _ {P : Type 0} where
     ungiven = λ n more. same (number (pos n)) ∙ agrees.ungiven n more;
   }
     where
-      plain : (b : Bool) → (b || false) ≡ b
-      plain true = refl
-      plain false = refl
-
       same : (id : Id) → was_given id (before ++ turn ∷ []) ≡ was_given id before
-      same id = given-push id before turn ∙ rw none (plain (was_given id before))
+      same id = let push = given-push id before turn in grind (arith, push, none)
 
   -- a turn in which a reply came
   agrees_given : (sent : List (Sent P)) (before : List (Turn P)) (asked : Asked P) (turn : Turn P) (i : Id) (outcome : Result Data ErrorObject) (payload : P)
       → turn.letter ≡ response i outcome → turn.payload ≡ Some payload → map.get (pending_of asked) i ≡ Some payload → Agrees sent before asked
       → Agrees sent (before ++ turn ∷ []) (map.remove (pending_of asked) i, count_of asked)
   agrees_given sent before asked turn i outcome payload letter came kept agrees = record {
-    pending = λ id. get-remove id_total (pending_of asked) i id ∙ (at (kept_under id sent) (eq_by_cmp id_cmp id i) (was_given id before) (map.get (pending_of asked) id) (agrees.pending id)
-        ∙ ap (λ (b : Bool). if b then None else kept_under id sent) (sym (now id)));
+    pending = λ id. let got = get-remove id_total (pending_of asked) i id in let had = agrees.pending id in let now = now id in grind (arith, got, had, now);
     fresh = agrees.fresh;
     ungiven = λ n more. now (number (pos n)) ∙ rw (agrees.ungiven n more) (other n more (eq_by_cmp id_cmp (number (pos n)) i) refl);
   }
@@ -254,128 +196,65 @@ module _ {P : Type 0} where
       now : (id : Id) → was_given id (before ++ turn ∷ []) ≡ (was_given id before || eq_by_cmp id_cmp id i)
       now id = given-push id before turn ∙ rw (came, letter) refl
 
-      at : (kept' : Option P) (b given' : Bool) (o : Option P) → o ≡ (if given' then None else kept') → cond b None o ≡ (if (given' || b) then None else kept')
-      at kept' true true o e = refl
-      at kept' true false o e = refl
-      at kept' false true o e = e
-      at kept' false false o e = e
-
       other : (n : ℕ) → count_of asked ≤ n → (b : Bool) → eq_by_cmp id_cmp (number (pos n)) i ≡ b → b ≡ false
       other n more true e =
-          let same : number (pos n) ≡ i = (id_decides (number (pos n)) i).0 e in
-          let none : map.get (pending_of asked) i ≡ None = rw same at (agrees.pending (number (pos n)) ∙ nothing (was_given (number (pos n)) before) (kept_under (number (pos n)) sent) (agrees.fresh n more)) in
-          absurd (let clash = sym kept ∙ none in cc (clash))
-        where
-          nothing : (b : Bool) (o : Option P) → o ≡ None → (if b then None else o) ≡ None
-          nothing true o e = refl
-          nothing false o e = e
+          let same = (id_decides (number (pos n)) i).0 e in
+          let none : map.get (pending_of asked) (number (pos n)) ≡ None =
+          agrees.pending (number (pos n)) ∙ rw (agrees.ungiven n more, agrees.fresh n more) refl in
+          absurd (cc (same, none, kept))
       other n more false e = refl
 
-module _ {S P : Type 0}
-    (requested : S → Id → List ℕ → Data → List (Act P) → S → Type 0)
-    (notified : S → List ℕ → Data → List (Act P) → S → Type 0)
-    (replied : S → P → Result Data ErrorObject → List (Act P) → S → Type 0)
-    (takes_back : S → P → S → Type 0)
-    (begins : S → List (Act P) → S → Type 0) where
-  abbrev gives_at : QueuedServer S P → Message → List Message → QueuedServer S P → Type 0
-  gives_at = gives requested notified replied takes_back
-
-  abbrev answered : Desk P → Id → Bool → Desk P
-  answered d i b = if b then (record { held = map.remove d.held i; asked = d.asked; said = d.said ++ response i (Err canceled) ∷ [] }) else d
-
-  settled : (d : Desk P) (cancelled : Option Id) → (requests_in (settles d cancelled).said ≡ requests_in d.said) × ((settles d cancelled).asked ≡ d.asked)
-  settled d None = (refl, refl)
-  settled d (Some i) = at (map.contains_key d.held i)
+  -- the answer of a cancelled request is no request
+  settled_ids : (count : ℕ) (m : Message) (acts : List (Act P)) → ids_after_all count (settled_at m acts) ≡ ids_after_all count acts
+  settled_ids count (request id method params) acts = refl
+  settled_ids count (notification method params) acts = of_both count acts (cancelled_by method params)
     where
-      at : (b : Bool) → (requests_in (answered d i b).said ≡ requests_in d.said) × ((answered d i b).asked ≡ d.asked)
-      at true = (requests-append d.said (response i (Err canceled) ∷ []) ∙ append-nil (requests_in d.said), refl)
-      at false = (refl, refl)
+      of_both : (count : ℕ) (acts : List (Act P)) (cancelled : Option Id) → ids_after_all count (acts ++ settled_by cancelled) ≡ ids_after_all count acts
+      of_both count [] None = refl
+      of_both count [] (Some id) = refl
+      of_both count (act ∷ acts) cancelled = of_both (ids_after count act) acts cancelled
+  settled_ids count (response id outcome) acts = refl
 
-  -- one letter is one turn
-  record OneTurn (s : S) (d : Desk P) (m : Message) (after : S × Desk P) (sent : List (Sent P)) (before : List (Turn P)) : Type 0 where
-    payload : Option P
-    acts : List (Act P)
-    did : S
-    handed : Handed requested notified replied takes_back begins s m payload acts did
-    back : TakesBack takes_back did (unsent (count_of d.asked) acts) after.0
-    said : requests_in after.1.said ≡ requests_in d.said ++ map_list request_of (all_sent (count_of d.asked) acts)
-    count : count_of after.1.asked ≡ ids_after_all (count_of d.asked) acts
-    fits : FitsOne sent before (record { letter = m; payload = payload; acts = acts })
-    agrees : Agrees (sent ++ all_sent (count_of d.asked) acts) (before ++ record { letter = m; payload = payload; acts = acts } ∷ []) after.1.asked
-
-  one_turn : (s : S) (d : Desk P) (m : Message) (after : S × Desk P) (sent : List (Sent P)) (before : List (Turn P)) → Agrees sent before d.asked
-      → Works requested notified replied takes_back (s, d) m after → OneTurn s d m after sent before
-  one_turn s d (request id method params) after sent before agrees works = record {
-    payload = None;
-    acts = works.0;
-    did = works.1;
-    handed = (works.2, refl);
-    back = works.3;
-    said = ap (λ (x : Desk P). requests_in x.said) works.4 ∙ said_all (holds d id) works.0;
-    count = ap (λ (x : Desk P). count_of x.asked) works.4 ∙ ids_all (holds d id) works.0;
-    fits = λ i under. absurd (cc (under));
-    agrees = rw works.4 (agrees_other _ before _ _ refl (agrees_acts sent before (holds d id) works.0 agrees));
-  }
-  one_turn s d (notification method params) after sent before agrees works =
-      let did = works.1 in
-      let cancelled = cancelled_by method params in
-      rw works.2 (record {
-        payload = None;
-        acts = did.0;
-        did = did.1;
-        handed = (did.2, refl);
-        back = did.3;
-        said = (settled works.0.1 cancelled).0 ∙ ap (λ (x : Desk P). requests_in x.said) did.4 ∙ said_all d did.0;
-        count = ap count_of (settled works.0.1 cancelled).1 ∙ ap (λ (x : Desk P). count_of x.asked) did.4 ∙ ids_all d did.0;
-        fits = λ i under. absurd (cc (under));
-        agrees = rw ((settled works.0.1 cancelled).1, did.4) (agrees_other _ before _ _ refl (agrees_acts sent before d did.0 agrees));
-      })
-  one_turn s d (response i outcome) after sent before agrees works = at (map.get (pending_of d.asked) i) refl works
+  settled_sends : (count : ℕ) (m : Message) (acts : List (Act P)) → all_sent count (settled_at m acts) ≡ all_sent count acts
+  settled_sends count (request id method params) acts = refl
+  settled_sends count (notification method params) acts =
+      sent-append count acts (settled_by (cancelled_by method params)) ∙ ap (λ l. all_sent count acts ++ l) (none (cancelled_by method params))
+      ∙ append-nil (all_sent count acts)
     where
-      fits_as : (payload : Option P) (acts : List (Act P)) → map.get (pending_of d.asked) i ≡ payload
-          → FitsOne sent before (record { letter = response i outcome; payload = payload; acts = acts })
-      fits_as payload acts kept id under =
-          let same : id ≡ i = (id_decides id i).0 under in
-          sym (ap (λ j. map.get (pending_of d.asked) j) same ∙ kept) ∙ agrees.pending id
+      none : (cancelled : Option Id) → all_sent {P = P} (ids_after_all count acts) (settled_by {P = P} cancelled) ≡ []
+      none None = refl
+      none (Some id) = refl
+  settled_sends count (response id outcome) acts = refl
 
-      at : (o : Option P) → map.get (pending_of d.asked) i ≡ o
-          → MatchOption o (after ≡ (s, d)) (λ payload. Acts takes_back (replied s payload outcome) (given d i) after)
-          → OneTurn s d (response i outcome) after sent before
-      at None kept same = rw same (record {
-        payload = None;
-        acts = [];
-        did = s;
-        handed = (refl, refl);
-        back = refl;
-        said = sym (append-nil (requests_in d.said));
-        count = refl;
-        fits = fits_as None [] kept;
-        agrees = agrees_none sent _ d.asked (agrees_other sent before d.asked _ refl agrees);
-      })
-      at (Some payload) kept did =
-          let now = agrees_given sent before d.asked (record { letter = response i outcome; payload = Some payload; acts = did.0 }) i outcome payload refl refl kept agrees in
-          record {
-            payload = Some payload;
-            acts = did.0;
-            did = did.1;
-            handed = did.2;
-            back = did.3;
-            said = ap (λ (x : Desk P). requests_in x.said) did.4 ∙ said_all (given d i) did.0;
-            count = ap (λ (x : Desk P). count_of x.asked) did.4 ∙ ids_all (given d i) did.0;
-            fits = fits_as (Some payload) did.0 kept;
-            agrees = rw did.4 (agrees_acts sent _ (given d i) did.0 now);
-          }
+  -- a turn in which the server is handed a message
+  agrees_at : (sent : List (Sent P)) (before : List (Turn P)) (d : Desk P) (m : Message) (payload : Option P) (acts : List (Act P))
+      → payload ≡ brought_by d m → Agrees sent before d.asked
+      → Agrees sent (before ++ record { letter = m; payload = payload; acts = acts } ∷ []) (desk_at d m payload).asked
+  agrees_at sent before d (request id method params) payload acts is agrees = agrees_other sent before d.asked _ is agrees
+  agrees_at sent before d (notification method params) payload acts is agrees = agrees_other sent before d.asked _ is agrees
+  agrees_at sent before d (response i outcome) None acts is agrees = agrees_other sent before d.asked _ refl agrees
+  agrees_at sent before d (response i outcome) (Some payload) acts is agrees =
+      agrees_given sent before d.asked _ i outcome payload refl refl (sym is) agrees
 
+  fits_one : (sent : List (Sent P)) (before : List (Turn P)) (d : Desk P) (m : Message) (payload : Option P) (acts : List (Act P))
+      → payload ≡ brought_by d m → Agrees sent before d.asked → FitsOne sent before (record { letter = m; payload = payload; acts = acts })
+  fits_one sent before d (request i method params) payload acts is agrees id under = absurd (cc (under))
+  fits_one sent before d (notification method params) payload acts is agrees id under = absurd (cc (under))
+  fits_one sent before d (response i outcome) payload acts is agrees id under =
+      let same : id ≡ i = (id_decides id i).0 under in
+      is ∙ sym (ap (λ j. map.get (pending_of d.asked) j) same) ∙ agrees.pending id
+
+module _ {S P : Type 0} (may : Stated S P) where
   -- the server is given these messages, and this is sent for each
   abbrev pub GivesAll : QueuedServer S P → List Exchange → QueuedServer S P → Type 0
   GivesAll w [] w' = w' ≡ w
-  GivesAll w (x ∷ xs) w' = (mid : QueuedServer S P) × gives_at w x.letter x.said mid × GivesAll mid xs w'
+  GivesAll w (x ∷ xs) w' = (mid : QueuedServer S P) × WorksGiving may (seen w) x.letter x.said (seen mid) × GivesAll mid xs w'
 
   -- exchanges are as many turns
   pub record Turned (w w' : QueuedServer S P) (xs : List Exchange) (sent : List (Sent P)) (before : List (Turn P)) : Type 0 where
     pub turns : List (Turn P)
     pub letters_are : map_list (λ (turn : Turn P). turn.letter) turns ≡ letters_of xs
-    pub took : TakesTurns requested notified replied takes_back begins (count_of (desk_of w.client).asked) w.server turns w'.server
+    pub took : TakesTurns may (count_of (desk_of w.client).asked) w.server turns w'.server
     pub said : requests_in (sends_of xs) ≡ map_list request_of (all_sent (count_of (desk_of w.client).asked) (acts_of turns))
     pub fits : Fits (count_of (desk_of w.client).asked) sent before turns
 
@@ -390,100 +269,81 @@ module _ {S P : Type 0}
   }
   turn_all w w' (x ∷ xs) sent before silent agrees all =
       let mid = all.0 in
-      let step = all.1 in
-      let n = count_of (desk_of w.client).asked in
-      let one = one_turn w.server (desk_of w.client) x.letter step.0 sent before agrees step.1 in
-      let turn : Turn P = record { letter = x.letter; payload = one.payload; acts = one.acts } in
-      let asked : (desk_of mid.client).asked ≡ step.0.1.asked = ap (λ (x : S × Desk P). x.1.asked) step.3 in
-      let server : mid.server ≡ step.0.0 = ap (λ (x : S × Desk P). x.0) step.3 in
-      let count : count_of (desk_of mid.client).asked ≡ ids_after_all n one.acts = ap count_of asked ∙ one.count in
-      let rest = turn_all mid w' xs (sent ++ all_sent n one.acts) (before ++ turn ∷ []) (ap (λ (x : S × Desk P). x.1.said) step.3)
-      (subst (Agrees (sent ++ all_sent n one.acts) (before ++ turn ∷ [])) (sym asked) one.agrees) all.2 in
-      let now : requests_in x.said ≡ map_list request_of (all_sent n one.acts) =
-      ap requests_in step.2 ∙ one.said ∙ ap (λ l. requests_in l ++ map_list request_of (all_sent n one.acts)) silent in
-      let later : requests_in (sends_of xs) ≡ map_list request_of (all_sent (ids_after_all n one.acts) (acts_of rest.turns)) =
+      let d : Desk P = desk_of w.client in
+      let a = acts_at may (seen w) x.letter x.said (seen mid) all.1 in
+      let turn : Turn P = record { letter = x.letter; payload = a.payload; acts = a.acts } in
+      let start : Desk P = desk_at d x.letter a.payload in
+      let acts = settled_at x.letter a.acts in
+      let n = count_of d.asked in
+      let same : count_of start.asked ≡ n = at_count d x.letter a.payload in
+      let asked : (desk_of mid.client).asked ≡ (does_all start acts).asked = ap (λ (d : Desk P). d.asked) a.desk in
+      let count : count_of (desk_of mid.client).asked ≡ ids_after_all n a.acts =
+      ap count_of asked ∙ ids_all start acts ∙ ap (λ k. ids_after_all k acts) same ∙ settled_ids n x.letter a.acts in
+      let sends : all_sent (count_of start.asked) acts ≡ all_sent n a.acts = ap (λ k. all_sent k acts) same ∙ settled_sends n x.letter a.acts in
+      let agrees' : Agrees (sent ++ all_sent n a.acts) (before ++ turn ∷ []) (desk_of mid.client).asked =
+      subst (Agrees (sent ++ all_sent n a.acts) (before ++ turn ∷ [])) (sym asked)
+      (subst (λ l. Agrees (sent ++ l) (before ++ turn ∷ []) (does_all start acts).asked) sends
+      (agrees_acts sent (before ++ turn ∷ []) start acts (agrees_at sent before d x.letter a.payload a.acts a.brought agrees))) in
+      let rest = turn_all mid w' xs (sent ++ all_sent n a.acts) (before ++ turn ∷ []) (ap (λ (d : Desk P). d.said) a.desk) agrees' all.2 in
+      let now : requests_in x.said ≡ map_list request_of (all_sent n a.acts) =
+      ap requests_in (said_so may (seen w) x.letter x.said (seen mid) a) ∙ said_all start acts
+      ∙ (λ i. requests_in ((at_said d x.letter a.payload ∙ silent) i) ++ map_list request_of (sends i)) in
+      let later : requests_in (sends_of xs) ≡ map_list request_of (all_sent (ids_after_all n a.acts) (acts_of rest.turns)) =
       rest.said ∙ ap (λ k. map_list request_of (all_sent k (acts_of rest.turns))) count in
       record {
         turns = turn ∷ rest.turns;
         letters_are = ap (λ l. x.letter ∷ l) rest.letters_are;
-        took = (
-          one.did,
-          mid.server,
-          one.handed,
-          subst (TakesBack takes_back one.did (unsent n one.acts)) (sym server) one.back,
-          subst (λ k. TakesTurns requested notified replied takes_back begins k mid.server rest.turns w'.server) count rest.took,
-        );
+        took = (a.did, mid.server, a.handed, a.back, subst (λ k. TakesTurns may k mid.server rest.turns w'.server) count rest.took);
         said = requests-append x.said (sends_of xs) ∙ (λ i. now i ++ later i)
-            ∙ sym (ap (λ l. map_list request_of l) (sent-append n one.acts (acts_of rest.turns))
-            ∙ map-append request_of (all_sent n one.acts) (all_sent (ids_after_all n one.acts) (acts_of rest.turns)));
-        fits = (one.fits, subst (λ k. Fits k (sent ++ all_sent n one.acts) (before ++ turn ∷ []) rest.turns) count rest.fits);
+            ∙ sym (ap (λ l. map_list request_of l) (sent-append n a.acts (acts_of rest.turns))
+            ∙ map-append request_of (all_sent n a.acts) (all_sent (ids_after_all n a.acts) (acts_of rest.turns)));
+        fits = (
+          fits_one sent before d x.letter a.payload a.acts a.brought agrees,
+          subst (λ k. Fits k (sent ++ all_sent n a.acts) (before ++ turn ∷ []) rest.turns) count rest.fits,
+        );
       }
 
   -- what was done at `initialized`
-  record Began (w w' : QueuedServer S P) (said : List Message) : Type 0 where
-    begun : List (Act P)
-    did : S
-    began : begins w.server begun did
-    back : TakesBack takes_back did (unsent 0 begun) w'.server
-    requests : requests_in said ≡ map_list request_of (all_sent 0 begun)
-    count : count_of (desk_of w'.client).asked ≡ ids_after_all 0 begun
-    agrees : Agrees (all_sent 0 begun) [] (desk_of w'.client).asked
-    silent : (desk_of w'.client).said ≡ []
-
-  began_at : (w w' : QueuedServer S P) (said : List Message) → (desk_of w.client).said ≡ [] → (desk_of w.client).asked ≡ (map.empty, 0)
-      → OpensSaying takes_back begins (seen w) said (seen w') → Began w w' said
-  began_at w w' said silent unasked opened =
-      let after = opened.0 in
-      let acts = opened.1.0 in
-      let none : count_of (desk_of w.client).asked ≡ 0 = ap count_of unasked in
-      let asked : (desk_of w'.client).asked ≡ (does_all (desk_of w.client) acts).asked =
-      ap (λ (x : S × Desk P). x.1.asked) opened.3 ∙ ap (λ (x : Desk P). x.asked) opened.1.4 in
-      let empty : Agrees [] [] (desk_of w.client).asked = subst (Agrees [] []) (sym unasked) agrees_start in
-      record {
-        begun = acts;
-        did = opened.1.1;
-        began = opened.1.2;
-        back = subst (λ (s : S). TakesBack takes_back opened.1.1 (unsent 0 acts) s) (sym (ap (λ (x : S × Desk P). x.0) opened.3))
-            (subst (λ n. TakesBack takes_back opened.1.1 (unsent n acts) after.0) none opened.1.3);
-        requests = ap requests_in opened.2 ∙ ap (λ (x : Desk P). requests_in x.said) opened.1.4 ∙ said_all (desk_of w.client) acts
-            ∙ (λ i. requests_in (silent i) ++ map_list request_of (all_sent (none i) acts));
-        count = ap count_of asked ∙ ids_all (desk_of w.client) acts ∙ ap (λ n. ids_after_all n acts) none;
-        agrees = subst (Agrees (all_sent 0 acts) []) (sym asked)
-            (subst (λ n. Agrees (all_sent n acts) [] (does_all (desk_of w.client) acts).asked) none (agrees_acts [] [] (desk_of w.client) acts empty));
-        silent = ap (λ (x : S × Desk P). x.1.said) opened.3;
-      }
-
-  abbrev Part : List Message → Stop → List Message → Type 0
-  Part = TakesPart requested notified replied takes_back begins
-
   -- The server's part: what it said to `initialized`, the messages that it was given, and what came after these.
   pub part_whole : (w mid after : QueuedServer S P) (said : List Message) (xs rest : List Exchange) (stop : Stop) (requests more : List Message)
-      → (desk_of w.client).said ≡ [] → (desk_of w.client).asked ≡ (map.empty, 0) → OpensSaying takes_back begins (seen w) said (seen mid)
+      → (desk_of w.client).said ≡ [] → (desk_of w.client).asked ≡ (map.empty, 0) → OpensSaying may (seen w) said (seen mid)
       → GivesAll mid xs after → list_all is_served (letters_of xs) ≡ true → IsUnserved (letters_of rest)
-      → requests_in said ++ requests_in (sends_of xs) ≡ requests ++ more → (IsWhole stop → more ≡ []) → Part (letters_of xs ++ letters_of rest) stop requests
+      → requests_in said ++ requests_in (sends_of xs) ≡ requests ++ more → (IsWhole stop → more ≡ []) → TakesPart may (letters_of xs ++ letters_of rest) stop requests
   part_whole w mid after said xs rest stop requests more silent unasked opened given served unserved sent whole =
-      let b = began_at w mid said silent unasked opened in
-      let t = turn_all mid after xs (all_sent 0 b.begun) [] b.silent b.agrees given in
-      let later : map_list request_of (all_sent (ids_after_all 0 b.begun) (acts_of t.turns)) ≡ requests_in (sends_of xs) =
-      sym (t.said ∙ ap (λ k. map_list request_of (all_sent k (acts_of t.turns))) b.count) in
+      let d : Desk P = desk_of w.client in
+      let begun = opened.1.0 in
+      let none : count_of d.asked ≡ 0 = ap count_of unasked in
+      let asked : (desk_of mid.client).asked ≡ (does_all d begun).asked =
+      ap (λ (x : S × Desk P). x.1.asked) opened.3 ∙ ap (λ (x : Desk P). x.asked) opened.1.4 in
+      let count : count_of (desk_of mid.client).asked ≡ ids_after_all 0 begun = ap count_of asked ∙ ids_all d begun ∙ ap (λ n. ids_after_all n begun) none in
+      let agrees : Agrees (all_sent 0 begun) [] (desk_of mid.client).asked =
+      subst (Agrees (all_sent 0 begun) []) (sym asked) (subst (λ n. Agrees (all_sent n begun) [] (does_all d begun).asked) none
+      (agrees_acts [] [] d begun (subst (Agrees [] []) (sym unasked) agrees_start))) in
+      let first : requests_in said ≡ map_list request_of (all_sent 0 begun) =
+      ap requests_in opened.2 ∙ ap (λ (x : Desk P). requests_in x.said) opened.1.4 ∙ said_all d begun
+      ∙ (λ i. requests_in (silent i) ++ map_list request_of (all_sent (none i) begun)) in
+      let t = turn_all mid after xs (all_sent 0 begun) [] (ap (λ (x : S × Desk P). x.1.said) opened.3) agrees given in
+      let later : map_list request_of (all_sent (ids_after_all 0 begun) (acts_of t.turns)) ≡ requests_in (sends_of xs) =
+      sym (t.said ∙ ap (λ k. map_list request_of (all_sent k (acts_of t.turns))) count) in
       record {
-        begun = b.begun;
+        begun = begun;
         turns = t.turns;
         rest = letters_of rest;
         cut = ap (λ l. l ++ letters_of rest) (sym t.letters_are);
         served = rw t.letters_are served;
         ended = unserved;
         start = w.server;
-        did = b.did;
+        did = opened.1.1;
         first = mid.server;
         last = after.server;
-        began = b.began;
-        took_back = b.back;
-        took_turns = subst (λ k. TakesTurns requested notified replied takes_back begins k mid.server t.turns after.server) b.count t.took;
+        began = opened.1.2;
+        took_back = subst (λ (s : S). TakesBack may.takes_back opened.1.1 (unsent 0 begun) s) (sym (ap (λ (x : S × Desk P). x.0) opened.3))
+            (subst (λ n. TakesBack may.takes_back opened.1.1 (unsent n begun) opened.0.0) none opened.1.3);
+        took_turns = subst (λ k. TakesTurns may k mid.server t.turns after.server) count t.took;
         unsaid = more;
-        sent = ap (λ l. map_list request_of l) (sent-append 0 b.begun (acts_of t.turns))
-            ∙ map-append request_of (all_sent 0 b.begun) (all_sent (ids_after_all 0 b.begun) (acts_of t.turns))
-            ∙ (λ i. sym b.requests i ++ later i) ∙ sent;
+        sent = ap (λ l. map_list request_of l) (sent-append 0 begun (acts_of t.turns))
+            ∙ map-append request_of (all_sent 0 begun) (all_sent (ids_after_all 0 begun) (acts_of t.turns))
+            ∙ (λ i. sym first i ++ later i) ∙ sent;
         all = whole;
-        payloads = own_payloads b.begun t.turns (subst (λ k. Fits k (all_sent 0 b.begun) [] t.turns) b.count t.fits);
+        payloads = own_payloads begun t.turns (subst (λ k. Fits k (all_sent 0 begun) [] t.turns) count t.fits);
       }

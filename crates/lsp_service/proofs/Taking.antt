@@ -1,25 +1,30 @@
 -- A server takes part in its session, by its stated meaning.
-use Rattle.std.proofs.Common.{◌≡◌, refl, sym, ◌∙◌, ap, subst, inl, inr, ◌⊎◌, ℕ, ◌+◌, Bool, true, false, List, [], ◌∷◌, ◌++◌, append_assoc, append-nil, length, arith, Option, Some, None}
+use Rattle.std.proofs.Common.{◌≡◌, refl, sym, ◌∙◌, ap, subst, inl, inr, ◌⊎◌, Bool, true, false, List, [], ◌∷◌, ◌++◌, append_assoc, append-nil, Option, Some, None}
+use Rattle.std.proofs.lemmas.List.Folds.{list_all-append}
 use Rattle.std.specs.Bool.{MatchBool}
-use Rattle.std.specs.FinMap as map
 use Rattle.std.specs.List.{list_all}
-use Rattle.std.specs.Prelude.{Result, Ok, Err}
-use Rattle.serde_json.specs.Data.{Data}
+use Rattle.std.specs.Prelude.{Ok, Err}
 use Rattle.lsp_message.specs.Id.{Id}
-use Rattle.lsp_message.specs.Message.{Message, ErrorObject, request, notification, response}
-use Rattle.lsp_message.specs.Methods.{is_early, is_initialize, is_initialized, is_exit}
+use Rattle.lsp_message.specs.Message.{Message, request, notification, response}
+use Rattle.lsp_message.specs.Methods.{is_initialized, is_exit}
 use Rattle.lsp_session.proofs.Ran.{part_none, part_one, Ran, reaches_ran}
+use Rattle.lsp_session.proofs.Rows.{early_request, early_note, unasked as unasked_for, uninvited, shuts, leaves as goes, exits, stays, Row, at_initialize, at_initialized, at_served, idle, row}
 use Rattle.lsp_session.proofs.SessionSteps.{IsWhole as IsSent}
 use Rattle.lsp_session.specs.ProtocolError.{expected_initialize, expected_initialized, unexpected_in_shutdown}
-use Rattle.lsp_session.specs.Replies.{null_reply, IsEarlyReply}
-use Rattle.lsp_session.specs.Session.{Exchange, letters_of, sends_of, SessionAnswer, Stop, decided, no_more, timed_out, refused, exhausted, Phase, starting, replied as in_reply, serving, asked, ended, phase_after, is_served, Fails, Leaves, Step, Reaches}
+use Rattle.lsp_session.specs.Replies.{null_reply}
+use Rattle.lsp_session.specs.Session.{Exchange, letters_of, sends_of, SessionAnswer, Stop, decided, no_more, timed_out, refused, exhausted, Phase, starting, replied as in_reply, serving, asked, ended, is_served, Fails, Leaves, Reaches}
 use Rattle.lsp_session.specs.declared.loops.handler.SessionEnd.TheVariants.{Closed, ShutDown}
-use Rattle.lsp_service.specs.Desk.{Act, Desk}
-use Rattle.lsp_service.specs.Law.{IsWhole, requests_in, is_request, is_refusal, IsUninvited, EndsAtResult, IsUnserved, TakesPart, GivesPayloads}
-use Rattle.lsp_service.specs.QueuedServer.{seen, desk_of}
+use Rattle.lsp_service.specs.Desk.{Desk}
+use Rattle.lsp_service.specs.Law.{IsWhole, requests_in, IsUnserved, TakesPart, GivesPayloads, is_refusal, GoesOn}
+use Rattle.lsp_service.specs.QueuedServer.{at_desk}
 use Rattle.lsp_service.specs.declared.desk.QueuedServer.{QueuedServer}
-use Rattle.lsp_service.proofs.Keeping.{working, Unasked, silent_opened}
+use Rattle.lsp_service.proofs.Keeping.{Unasked}
 use Rattle.lsp_service.proofs.Returning.{requests-append, GivesAll, part_whole}
+use Rattle.lsp_service.specs.View.{desk_of}
+use Rattle.lsp_service.specs.declared.server.Server.{Ghosts as Stated}
+
+all_both : (xs ys : List Message) → list_all is_refusal xs ≡ true → list_all is_refusal ys ≡ true → list_all is_refusal (xs ++ ys) ≡ true
+all_both xs ys first second = list_all-append is_refusal xs ys ∙ (rw (first, second) refl)
 
 whole_sent : (stop : Stop) → IsWhole stop → IsSent stop
 whole_sent decided whole = tt
@@ -28,24 +33,15 @@ whole_sent timed_out whole = tt
 whole_sent (refused fault) whole = whole
 whole_sent exhausted whole = tt
 
-module _ {S P : Type 0}
-    (requested : S → Id → List ℕ → Data → List (Act P) → S → Type 0)
-    (notified : S → List ℕ → Data → List (Act P) → S → Type 0)
-    (replied : S → P → Result Data ErrorObject → List (Act P) → S → Type 0)
-    (takes_back : S → P → S → Type 0)
-    (begins : S → List (Act P) → S → Type 0)
-    (initializes : S → Data → Result Data ErrorObject → S → Type 0) (stop : Stop) where
+module _ {S P : Type 0} (may : Stated S P) (stop : Stop) where
   abbrev Runs_from : Phase → QueuedServer S P → List Exchange → Phase → QueuedServer S P → Type 0
-  Runs_from = Ran (working requested notified replied takes_back begins initializes) stop
+  Runs_from = Ran (at_desk may) stop
 
   abbrev Part : List Message → Stop → List Message → Type 0
-  Part = TakesPart requested notified replied takes_back begins
+  Part = TakesPart may
 
-  abbrev Payloads : List Message → Stop → List Message → Type 0
-  Payloads = GivesPayloads requested notified replied takes_back begins
-
-  abbrev Gives_all : QueuedServer S P → List Exchange → QueuedServer S P → Type 0
-  Gives_all = GivesAll requested notified replied takes_back begins
+  abbrev Payloads : List Exchange → Stop → Type 0
+  Payloads = GivesPayloads may
 
   -- ---- from `initialized` on
 
@@ -71,7 +67,7 @@ module _ {S P : Type 0}
     served : List Exchange
     rest : List Exchange
     after : QueuedServer S P
-    given : Gives_all w served after
+    given : GivesAll may w served after
     all_served : list_all is_served (letters_of served) ≡ true
     unserved : IsUnserved (letters_of rest)
     cut : letters_of xs ≡ letters_of served ++ letters_of rest
@@ -79,29 +75,15 @@ module _ {S P : Type 0}
     sent : requests_in (sends_of served) ≡ requests_in (sends_of xs) ++ more
     whole : IsWhole stop → more ≡ []
 
-  serve_none : (w : QueuedServer S P) → Served w []
-  serve_none w = record {
+  -- `shutdown` or `exit` comes, or nothing
+  serve_left : (w : QueuedServer S P) (xs : List Exchange) → IsUnserved (letters_of xs) → requests_in (sends_of xs) ≡ [] → Served w xs
+  serve_left w xs unserved silent = record {
     served = [];
-    rest = [];
+    rest = xs;
     after = w;
     given = refl;
     all_served = refl;
-    unserved = tt;
-    cut = refl;
-    more = [];
-    sent = refl;
-    whole = λ is. refl;
-  }
-
-  -- `shutdown` or `exit` comes
-  serve_left : (w : QueuedServer S P) (x : Exchange) (xs : List Exchange) → is_served x.letter ≡ false → requests_in (sends_of (x ∷ xs)) ≡ [] → Served w (x ∷ xs)
-  serve_left w x xs other silent = record {
-    served = [];
-    rest = x ∷ xs;
-    after = w;
-    given = refl;
-    all_served = refl;
-    unserved = other;
+    unserved = unserved;
     cut = refl;
     more = [];
     sent = rw silent refl;
@@ -110,7 +92,7 @@ module _ {S P : Type 0}
 
   -- one more message comes first
   serve_more : (w mid : QueuedServer S P) (x : Exchange) (xs : List Exchange) (full more : List Message) → is_served x.letter ≡ true → x.said ++ more ≡ full
-      → (working requested notified replied takes_back begins initializes).gives w x.letter full mid → (more ≡ []) ⊎ ((xs ≡ []) × (IsSent stop → ⊥)) → Served mid xs → Served w (x ∷ xs)
+      → (at_desk may).gives w x.letter full mid → (more ≡ []) ⊎ ((xs ≡ []) × (IsSent stop → ⊥)) → Served mid xs → Served w (x ∷ xs)
   serve_more w mid x xs full more served cut gives (inl none) later = record {
     served = record { letter = x.letter; said = full } ∷ later.served;
     rest = later.rest;
@@ -152,164 +134,116 @@ module _ {S P : Type 0}
       rw (part_none said more full cut leaves.0, over xs None (Ok Closed) q w w' (rw leaves.1 at run)) refl
 
   serve_all : (xs : List Exchange) (q : Phase) (w w' : QueuedServer S P) → Runs_from serving w xs q w' → Served w xs
-  serve_all [] q w w' run = serve_none w
+  serve_all [] q w w' run = serve_left w [] tt refl
   serve_all (x ∷ xs) q w w' run = at (λ rest. serve_all xs q run.5 w' rest) (is_served x.letter) refl run.6
     where
       at : (Runs_from serving run.5 xs q w' → Served run.5 xs) → (b : Bool) → is_served x.letter ≡ b
-          → MatchBool b ((working requested notified replied takes_back begins initializes).gives w x.letter run.0 run.5 × (run.4 ≡ serving)) (Leaves x.letter run.0 run.4 × (run.5 ≡ w))
+          → MatchBool b ((at_desk may).gives w x.letter run.0 run.5 × (run.4 ≡ serving)) (Leaves x.letter run.0 run.4 × (run.5 ≡ w))
           → Served w (x ∷ xs)
       at later true e step = serve_more w run.5 x xs run.0 run.1 e run.2 step.0 run.7 (later (rw step.1 at run.8))
-      at later false e step = serve_left w x xs e (left_silent run.5 w' q run.4 x.letter run.0 x.said run.1 xs step.0 run.2 run.3 run.8)
+      at later false e step = serve_left w (x ∷ xs) e (left_silent run.5 w' q run.4 x.letter run.0 x.said run.1 xs step.0 run.2 run.3 run.8)
 
   -- ---- from the result of `initialize` on
 
-  -- what follows the result
-  abbrev After : List Exchange → Type 0
-  After xs =
-      (IsUninvited (letters_of xs) × (sends_of xs ≡ []))
-      ⊎ ((m : Message) × (rest : List Message) × (letters_of xs ≡ m ∷ rest) × (is_initialized m ≡ true) × Part rest stop (requests_in (sends_of xs)))
-
-  part_opened : (w mid : QueuedServer S P) (x : Exchange) (xs : List Exchange) (full more : List Message) → (desk_of w.client).said ≡ [] → Unasked requested notified replied takes_back begins initializes w
-      → x.said ++ more ≡ full → (more ≡ []) ⊎ ((xs ≡ []) × (IsSent stop → ⊥)) → (working requested notified replied takes_back begins initializes).opens w full mid
+  part_opened : (w mid : QueuedServer S P) (x : Exchange) (xs : List Exchange) (full more : List Message) → (desk_of w.client).said ≡ [] → Unasked may w
+      → x.said ++ more ≡ full → (more ≡ []) ⊎ ((xs ≡ []) × (IsSent stop → ⊥)) → (at_desk may).opens w full mid
       → Served mid xs → Part (letters_of xs) stop (requests_in (x.said ++ sends_of xs))
   part_opened w mid x xs full more silent unasked cut (inl none) opened s =
       subst (λ (l : List Message). Part l stop (requests_in (x.said ++ sends_of xs))) (sym s.cut)
-      (part_whole requested notified replied takes_back begins w mid s.after full s.served s.rest stop (requests_in (x.said ++ sends_of xs)) s.more silent unasked opened s.given s.all_served s.unserved
+      (part_whole may w mid s.after full s.served s.rest stop (requests_in (x.said ++ sends_of xs)) s.more silent unasked opened s.given s.all_served s.unserved
       ((λ i. requests_in (same i) ++ s.sent i) ∙ sym (append_assoc (requests_in x.said) (requests_in (sends_of xs)) s.more)
       ∙ ap (λ (l : List Message). l ++ s.more) (sym (requests-append x.said (sends_of xs)))) s.whole)
     where
       same : full ≡ x.said
       same = sym cut ∙ ap (λ (l : List Message). x.said ++ l) none ∙ append-nil x.said
   part_opened w mid x xs full more silent unasked cut (inr last) opened s =
-      rw last.0 (part_whole requested notified replied takes_back begins w mid mid full [] [] stop (requests_in (x.said ++ [])) (requests_in more) silent unasked opened refl refl tt
+      rw last.0 (part_whole may w mid mid full [] [] stop (requests_in (x.said ++ [])) (requests_in more) silent unasked opened refl refl tt
       (append-nil (requests_in full) ∙ ap requests_in (sym cut) ∙ requests-append x.said more ∙ ap (λ (l : List Message). requests_in l ++ requests_in more) (sym (append-nil x.said)))
       (λ is. absurd (last.1 (whole_sent stop is))))
 
-  after_result : (xs : List Exchange) (q : Phase) (w w' : QueuedServer S P) → (desk_of w.client).said ≡ [] → Unasked requested notified replied takes_back begins initializes w
-      → Runs_from in_reply w xs q w' → After xs
-  after_result [] q w w' silent unasked run = inl (tt, refl)
+  after_result : (xs : List Exchange) (q : Phase) (w w' : QueuedServer S P) → (desk_of w.client).said ≡ [] → Unasked may w
+      → Runs_from in_reply w xs q w' → GoesOn may xs stop
+  after_result [] q w w' silent unasked run = tt
   after_result (x ∷ xs) q w w' silent unasked run = at (is_initialized x.letter) refl run.6
     where
       at : (b : Bool) → is_initialized x.letter ≡ b
-          → MatchBool b ((working requested notified replied takes_back begins initializes).opens w run.0 run.5 × (run.4 ≡ serving)) (Fails expected_initialized in_reply run.0 run.4 × (run.5 ≡ w))
-          → After (x ∷ xs)
-      at true e step = inr (
-        x.letter,
-        letters_of xs,
-        refl,
-        e,
-        part_opened w run.5 x xs run.0 run.1 silent unasked run.2 run.7 step.0 (serve_all xs q run.5 w' (rw step.1 at run.8)),
-      )
-      at false e step = inl (e, rw (part_none x.said run.1 run.0 run.2 step.0.1, over xs None (Err (expected_initialized step.0.0)) q run.5 w' (rw step.0.2 at run.8)) refl)
+          → MatchBool b ((at_desk may).opens w run.0 run.5 × (run.4 ≡ serving)) (Fails expected_initialized in_reply run.0 run.4 × (run.5 ≡ w))
+          → GoesOn may (x ∷ xs) stop
+      at true e step = rw e (part_opened w run.5 x xs run.0 run.1 silent unasked run.2 run.7 step.0 (serve_all xs q run.5 w' (rw step.1 at run.8)))
+      at false e step =
+          rw e (rw (part_none x.said run.1 run.0 run.2 step.0.1, over xs None (Err (expected_initialized step.0.0)) q run.5 w' (rw step.0.2 at run.8)) refl)
 
   -- ---- from the beginning on
 
-  payloads_note : (method : List ℕ) (params : Data) (letters : List Message) (output : List Message)
-      → Payloads letters stop output → Payloads (notification method params ∷ letters) stop output
-  payloads_note method params letters output payloads = elim payloads [
-    | inl none ↦ inl none
-    | inr p ↦ inr (elim p [
-      | inl ends ↦ inl (record {
-        early = notification method params ∷ ends.early;
-        ask = ends.ask;
-        rest = ends.rest;
-        cut = ap (λ ms. notification method params ∷ ms) ends.cut;
-        asks = ends.asks;
-        uninvited = ends.uninvited;
-        refusals = ends.refusals;
-        id = ends.id;
-        result = ends.result;
-        sent = ends.sent;
-        refused_all = ends.refused_all;
-        each = omega (arith, ends.each);
-      })
-      | inr p ↦ inr (notification method params ∷ p.0, p.1, p.2, p.3, ap (λ ms. notification method params ∷ ms) p.4, p.5, p.6, p.7)
-    ])
+  -- one more error comes first, or a message without a reply
+  payloads_more : (x : Exchange) (xs : List Exchange) → list_all is_refusal x.said ≡ true → Payloads xs stop → Payloads (x ∷ xs) stop
+  payloads_more x xs errors payloads = elim payloads [
+    | inl none ↦ inl (all_both x.said (sends_of xs) errors none)
+    | inr p ↦ inr (
+      x ∷ p.0,
+      p.1,
+      ap (λ (l : List Exchange). x ∷ l) p.2,
+      record {
+        before = x ∷ p.3.before;
+        id = p.3.id;
+        method = p.3.method;
+        params = p.3.params;
+        result = p.3.result;
+        asks = p.3.asks;
+        cut = ap (λ (l : List Exchange). x ∷ l) p.3.cut;
+      },
+      all_both x.said (sends_of p.3.before) errors p.4,
+      p.5,
+    )
   ]
 
-  payloads_reply : (i : Id) (method : List ℕ) (params : Data) (error : ErrorObject) (letters : List Message) (output : List Message)
-      → Payloads letters stop output → Payloads (request i method params ∷ letters) stop (response i (Err error) ∷ output)
-  payloads_reply i method params error letters output payloads = elim payloads [
-    | inl none ↦ inl none
-    | inr p ↦ inr (elim p [
-      | inl ends ↦ inl (record {
-        early = request i method params ∷ ends.early;
-        ask = ends.ask;
-        rest = ends.rest;
-        cut = ap (λ ms. request i method params ∷ ms) ends.cut;
-        asks = ends.asks;
-        uninvited = ends.uninvited;
-        refusals = response i (Err error) ∷ ends.refusals;
-        id = ends.id;
-        result = ends.result;
-        sent = ap (λ ms. response i (Err error) ∷ ms) ends.sent;
-        refused_all = ends.refused_all;
-        each = omega (arith, ends.each);
-      })
-      | inr p ↦ inr (request i method params ∷ p.0, p.1, p.2, p.3, ap (λ ms. request i method params ∷ ms) p.4, p.5, p.6, p.7)
-    ])
-  ]
-
-  payloads_result : (i : Id) (method : List ℕ) (params result : Data) (xs : List Exchange) → is_initialize (request i method params) ≡ true → After xs
-      → Payloads (request i method params ∷ letters_of xs) stop (response i (Ok result) ∷ sends_of xs)
-  payloads_result i method params result xs asks after = elim after [
-    | inl unopened ↦ inr (inl (record {
-      early = [];
-      ask = request i method params;
-      rest = letters_of xs;
-      cut = refl;
-      asks = asks;
-      uninvited = unopened.0;
-      refusals = [];
-      id = i;
-      result = result;
-      sent = rw unopened.1 refl;
-      refused_all = refl;
-      each = refl;
-    }))
-    | inr opened ↦ inr (inr ([], request i method params, opened.0, opened.1, ap (λ (l : List Message). request i method params ∷ l) opened.2, asks, opened.3, opened.4))
-  ]
-
-  payloads_from : (xs : List Exchange) (q : Phase) (w w' : QueuedServer S P) → (desk_of w.client).said ≡ [] → Unasked requested notified replied takes_back begins initializes w
-      → Runs_from starting w xs q w' → Payloads (letters_of xs) stop (sends_of xs)
+  payloads_from : (xs : List Exchange) (q : Phase) (w w' : QueuedServer S P) → (desk_of w.client).said ≡ [] → Unasked may w
+      → Runs_from starting w xs q w' → Payloads xs stop
   payloads_from [] q w w' silent unasked run = inl refl
   payloads_from (x ∷ xs) q w w' silent unasked run =
-      at (λ silent unasked rest. payloads_from xs q run.5 w' silent unasked rest) x.letter refl run.6
+      by (λ silent unasked rest. payloads_from xs q run.5 w' silent unasked rest) (row (at_desk may) starting run.4 w run.5 x.letter run.0 run.6)
     where
-      at : ((desk_of run.5.client).said ≡ [] → Unasked requested notified replied takes_back begins initializes run.5 → Runs_from starting run.5 xs q w' → Payloads (letters_of xs) stop (sends_of xs))
-          → (m : Message) → x.letter ≡ m → Step (working requested notified replied takes_back begins initializes) starting w m run.0 run.4 run.5
-          → Payloads (x.letter ∷ letters_of xs) stop (x.said ++ sends_of xs)
-      at later (request i method params) is step = by (is_initialize (request i method params)) refl step
-        where
-          one : (r : Message) → run.0 ≡ r ∷ [] → x.said ≡ r ∷ []
-          one r e = part_one x.said run.1 run.0 r run.2 run.3 e
+      one : (r : Message) → run.0 ≡ r ∷ [] → x.said ≡ r ∷ []
+      one r e = part_one x.said run.1 run.0 r run.2 run.3 e
 
-          after : (outcome : Result Data ErrorObject) → is_initialize (request i method params) ≡ true → desk_of run.5.client ≡ desk_of w.client → run.4 ≡ phase_after outcome
-              → Payloads (request i method params ∷ letters_of xs) stop (response i outcome ∷ sends_of xs)
-          after (Ok result) e same next = payloads_result i method params result xs e
-              (after_result xs q run.5 w' (ap (λ (d : Desk P). d.said) same ∙ silent) (ap (λ (d : Desk P). d.asked) same ∙ unasked) (rw next at run.8))
-          after (Err error) e same next = payloads_reply i method params error (letters_of xs) (sends_of xs)
-              (later (ap (λ (d : Desk P). d.said) same ∙ silent) (ap (λ (d : Desk P). d.asked) same ∙ unasked) (rw next at run.8))
+      none : run.0 ≡ [] → x.said ≡ []
+      none e = part_none x.said run.1 run.0 run.2 e
 
-          by : (b : Bool) → is_initialize (request i method params) ≡ b
-              → MatchBool b
-              ((outcome : Result Data ErrorObject) × (working requested notified replied takes_back begins initializes).initializes w params outcome run.5 × (run.0 ≡ response i outcome ∷ []) × (run.4 ≡ phase_after outcome))
-              ((reply : Message) × IsEarlyReply i reply × (run.0 ≡ reply ∷ []) × (run.4 ≡ starting) × (run.5 ≡ w))
-              → Payloads (x.letter ∷ letters_of xs) stop (x.said ++ sends_of xs)
-          by true e step = rw (is, one (response i step.0) step.2) (after step.0 e step.1.1 step.3)
-          by false e step = rw (is, one step.0 step.2, step.1.is) (payloads_reply i method params _ (letters_of xs) (sends_of xs)
-              (later (ap (λ (v : QueuedServer S P). (desk_of v.client).said) step.4 ∙ silent) (ap (λ (v : QueuedServer S P). (desk_of v.client).asked) step.4 ∙ unasked) (rw step.3 at run.8)))
-      at later (notification method params) is step = by (is_early (notification method params)) step.0
-        where
-          by : (b : Bool) → MatchBool b ((run.0 ≡ []) × (run.4 ≡ starting)) (Fails expected_initialize starting run.0 run.4)
-              → Payloads (x.letter ∷ letters_of xs) stop (x.said ++ sends_of xs)
-          by true early = rw (is, part_none x.said run.1 run.0 run.2 early.0) (payloads_note method params (letters_of xs) (sends_of xs)
-              (later (ap (λ (v : QueuedServer S P). (desk_of v.client).said) step.1 ∙ silent) (ap (λ (v : QueuedServer S P). (desk_of v.client).asked) step.1 ∙ unasked) (rw early.1 at run.8)))
-          by false fails = inl (rw (part_none x.said run.1 run.0 run.2 fails.1, over xs None (Err (expected_initialize fails.0)) q run.5 w' (rw fails.2 at run.8)) refl)
-      at later (response i outcome) is step =
-          inl (rw (part_none x.said run.1 run.0 run.2 step.0.1, over xs None (Err (expected_initialize step.0.0)) q run.5 w' (rw step.0.2 at run.8)) refl)
+      by : ((desk_of run.5.client).said ≡ [] → Unasked may run.5 → Runs_from starting run.5 xs q w' → Payloads xs stop)
+          → Row (at_desk may) starting w x.letter run.0 run.4 run.5 → Payloads (x ∷ xs) stop
+      by later (at_initialize i method params (Ok result) begun is e init sent next) = inr (
+        x ∷ [],
+        xs,
+        refl,
+        record {
+          before = [];
+          id = i;
+          method = method;
+          params = params;
+          result = result;
+          asks = e;
+          cut = λ j. record { letter = is j; said = one (response i (Ok result)) sent j } ∷ [];
+        },
+        refl,
+        after_result xs q run.5 w' (ap (λ (d : Desk P). d.said) init.1 ∙ silent) (ap (λ (d : Desk P). d.asked) init.1 ∙ unasked) (rw next at run.8),
+      )
+      by later (at_initialize i method params (Err error) begun is e init sent next) =
+          payloads_more x xs (rw (one (response i (Err error)) sent) refl)
+          (later (ap (λ (d : Desk P). d.said) init.1 ∙ silent) (ap (λ (d : Desk P). d.asked) init.1 ∙ unasked) (rw next at run.8))
+      by later (at_initialized begun e opened next) = absurd (cc (begun))
+      by later (at_served begun e gives next) = absurd (cc (begun))
+      by later (idle same any (early_request i method params reply begun is replies sent next)) =
+          payloads_more x xs (rw (one reply sent, replies.is) refl) (later (rw same silent) (rw same unasked) (rw next at run.8))
+      by later (idle same any (early_note begun mute e sent next)) = payloads_more x xs (rw (none sent) refl) (later (rw same silent) (rw same unasked) (rw next at run.8))
+      by later (idle same any (unasked_for shown begun mute sent next)) =
+          inl (rw (none sent, over xs None (Err (expected_initialize shown)) q run.5 w' (rw next at run.8)) refl)
+      by later (idle same any (uninvited shown begun e sent next)) = absurd (cc (begun))
+      by later (idle same any (shuts i method params begun is e sent next)) = absurd (cc (begun))
+      by later (idle same any (goes begun e sent next)) = absurd (cc (begun))
+      by later (idle same any (exits i begun e sent next)) = absurd (cc (begun))
+      by later (idle same any (stays i shown begun e sent next)) = absurd (cc (begun))
 
-  pub keeps_payloads : (w w' : QueuedServer S P) (xs : List Exchange) (q : Phase) → (desk_of w.client).said ≡ [] → Unasked requested notified replied takes_back begins initializes w
-      → Reaches (working requested notified replied takes_back begins initializes) stop starting w xs q w' → Payloads (letters_of xs) stop (sends_of xs)
+  pub keeps_payloads : (w w' : QueuedServer S P) (xs : List Exchange) (q : Phase) → (desk_of w.client).said ≡ [] → Unasked may w
+      → Reaches (at_desk may) stop starting w xs q w' → Payloads xs stop
   keeps_payloads w w' xs q silent unasked reached =
-      payloads_from xs q w w' silent unasked (reaches_ran (working requested notified replied takes_back begins initializes) stop starting q w w' xs reached)
+      payloads_from xs q w w' silent unasked (reaches_ran (at_desk may) stop starting q w w' xs reached)

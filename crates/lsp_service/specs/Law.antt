@@ -3,16 +3,19 @@
 use Rattle.serde_json.specs.Data.{Data}
 use Rattle.std.specs.FinMap as map
 use Rattle.std.specs.Ordering.{eq_by_cmp}
-use Rattle.std.specs.Prelude.{◌≡◌, ◌≤◌, ◌⊎◌, ◌+◌, ◌||◌, ◌&&◌, ℕ, pos, Bool, true, false, List, [], ◌∷◌, ◌++◌, map as map_list, fold, length, Option, Some, None, is_some, Result, Ok, Err, IsErrAnd, if◌then◌else◌}
+use Rattle.std.specs.Prelude.{◌≡◌, ◌≤◌, ◌⊎◌, ◌+◌, ◌||◌, ◌&&◌, ℕ, pos, Bool, true, false, List, [], ◌∷◌, ◌++◌, map as map_list, fold, Option, Some, None, is_some, Ok, Err, IsErrAnd, if◌then◌else◌}
+use Rattle.std.specs.Bool.{MatchBool}
 use Rattle.std.specs.List.{list_all}
 use Rattle.lsp_message.specs.Id.{Id, id_cmp, number}
-use Rattle.lsp_message.specs.Message.{Message, ErrorObject, request, notification, response}
+use Rattle.lsp_message.specs.Message.{Message, request, notification, response}
 use Rattle.lsp_queue.specs.Queue.{Pending}
 use Rattle.lsp_session.specs.Finish.{is_initialized}
 use Rattle.lsp_session.specs.ProtocolError.{ShowsUnallowed}
-use Rattle.lsp_session.specs.Session.{Exchange, letters_of, sends_of, SessionAnswer, Stop, decided, no_more, timed_out, refused, exhausted, is_initialize, is_served}
-use Rattle.lsp_session.specs.SessionLaws.{KeepsOrder}
+use Rattle.lsp_session.specs.Session.{Exchange, letters_of, sends_of, SessionAnswer, SessionPart, Stop, decided, no_more, timed_out, refused, exhausted, is_served}
+use Rattle.lsp_session.specs.SessionLaws.{EndsWithResult, KeepsOrder}
 use Rattle.lsp_service.specs.Desk.{Act, tells, asks, replies, cancels, is_spent, ids_after, unsent, TakesBack}
+use Rattle.lsp_service.specs.QueuedServer.{ServerSession, held_by}
+use Rattle.lsp_service.specs.declared.server.Server.{Ghosts as Stated}
 
 abbrev pub one_if : Bool → ℕ
 one_if true = 1
@@ -122,24 +125,17 @@ module _ {P : Type 0} where
   was_given id [] = false
   was_given id (turn ∷ turns) = (is_some turn.payload && is_reply_under id turn.letter) || was_given id turns
 
-  -- Of these turns, which follow what was done at `initialized`: each reply of the client comes to the server with the payload of
-  -- its own request, once.
-  pub record GivesOwnPayloads (begun : List (Act P)) (turns : List (Turn P)) : Type 0 where
-    -- a reply that came to the server brought what was kept with the request that was sent under its id before
-    pub own : (before after : List (Turn P)) (turn : Turn P) (id : Id) (payload : P) → turns ≡ before ++ turn ∷ after
-        → is_reply_under id turn.letter ≡ true → turn.payload ≡ Some payload → kept_under id (all_sent 0 (begun ++ acts_of before)) ≡ Some payload
-    -- and nothing had come under that id before
-    pub once : (before after : List (Turn P)) (turn : Turn P) (id : Id) (payload : P) → turns ≡ before ++ turn ∷ after
-        → is_reply_under id turn.letter ≡ true → turn.payload ≡ Some payload → was_given id before ≡ false
-    -- a reply that reached nobody was one to no such request, or not the first
-    pub nobody : (before after : List (Turn P)) (turn : Turn P) (id : Id) → turns ≡ before ++ turn ∷ after
-        → is_reply_under id turn.letter ≡ true → turn.payload ≡ None
-        → (kept_under id (all_sent 0 (begun ++ acts_of before)) ≡ None) ⊎ (was_given id before ≡ true)
+  -- What a reply under this id brings to the server, after these requests and turns: what was kept with the request that was sent
+  -- under its id. After a first reply it brings nothing, and reaches nobody.
+  abbrev pub brings : Id → List (Sent P) → List (Turn P) → Option P
+  brings id sent before = if was_given id before then None else kept_under id sent
 
-abbrev pub is_request : Message → Bool
-is_request (request i method params) = true
-is_request (notification method params) = false
-is_request (response i outcome) = false
+  -- Of these turns, which follow what was done at `initialized`: each reply of the client comes to the server with the payload of
+  -- its own request, once. One to no such request, or not the first, reaches nobody.
+  abbrev pub GivesOwnPayloads : List (Act P) → List (Turn P) → Type 0
+  GivesOwnPayloads begun turns =
+      (before after : List (Turn P)) (turn : Turn P) (id : Id) → turns ≡ before ++ turn ∷ after → is_reply_under id turn.letter ≡ true
+      → turn.payload ≡ brings id (all_sent 0 (begun ++ acts_of before)) before
 
 -- a reply that is an error
 abbrev pub is_refusal : Message → Bool
@@ -148,49 +144,24 @@ is_refusal (notification method params) = false
 is_refusal (response i (Ok result)) = false
 is_refusal (response i (Err error)) = true
 
--- another message than `initialized` comes first, or nothing
-abbrev pub IsUninvited : List Message → Type 0
-IsUninvited [] = Unit {0}
-IsUninvited (m ∷ rest) = is_initialized m ≡ false
-
--- `initialize` got its result, after each earlier request got an error, and `initialized` did not follow.
-pub record EndsAtResult (letters output : List Message) : Type 0 where
-  pub early : List Message
-  pub ask : Message
-  pub rest : List Message
-  pub cut : letters ≡ early ++ ask ∷ rest
-  pub asks : is_initialize ask ≡ true
-  pub uninvited : IsUninvited rest
-  pub refusals : List Message
-  pub id : Id
-  pub result : Data
-  pub sent : output ≡ refusals ++ response id (Ok result) ∷ []
-  pub refused_all : list_all is_refusal refusals ≡ true
-  pub each : how_many is_request early ≡ length refusals
-
 -- `shutdown` or `exit` comes first, or nothing
 abbrev pub IsUnserved : List Message → Type 0
 IsUnserved [] = Unit {0}
 IsUnserved (m ∷ rest) = is_served m ≡ false
 
-module _ {S P : Type 0}
-    (requested : S → Id → List ℕ → Data → List (Act P) → S → Type 0)
-    (notified : S → List ℕ → Data → List (Act P) → S → Type 0)
-    (replied : S → P → Result Data ErrorObject → List (Act P) → S → Type 0)
-    (takes_back : S → P → S → Type 0)
-    (begins : S → List (Act P) → S → Type 0) where
+module _ {S P : Type 0} (may : Stated S P) where
   -- the server is handed a letter, a reply with a payload, and does this
   abbrev pub Handed : S → Message → Option P → List (Act P) → S → Type 0
-  Handed old (request id method params) payload acts new = requested old id method params acts new × (payload ≡ None)
-  Handed old (notification method params) payload acts new = notified old method params acts new × (payload ≡ None)
-  Handed old (response id outcome) (Some payload) acts new = replied old payload outcome acts new
+  Handed old (request id method params) payload acts new = may.requested old id method params acts new × (payload ≡ None)
+  Handed old (notification method params) payload acts new = may.notified old method params acts new × (payload ≡ None)
+  Handed old (response id outcome) (Some payload) acts new = may.replied old payload outcome acts new
   Handed old (response id outcome) None acts new = (new ≡ old) × (acts ≡ [])
 
   -- turns take the server from old to new, where so many ids were given out before
   abbrev pub TakesTurns : ℕ → S → List (Turn P) → S → Type 0
   TakesTurns count old [] new = new ≡ old
   TakesTurns count old (turn ∷ turns) new =
-      (did : S) × (mid : S) × Handed old turn.letter turn.payload turn.acts did × TakesBack takes_back did (unsent count turn.acts) mid
+      (did : S) × (mid : S) × Handed old turn.letter turn.payload turn.acts did × TakesBack may.takes_back did (unsent count turn.acts) mid
       × TakesTurns (ids_after_all count turn.acts) mid turns new
 
   -- The server's part of a session from `initialized` on: it did this, then took these turns at the letters up to `shutdown` or
@@ -206,22 +177,26 @@ module _ {S P : Type 0}
     pub did : S
     pub first : S
     pub last : S
-    pub began : begins start begun did
-    pub took_back : TakesBack takes_back did (unsent 0 begun) first
+    pub began : may.begins start begun did
+    pub took_back : TakesBack may.takes_back did (unsent 0 begun) first
     pub took_turns : TakesTurns (ids_after_all 0 begun) first turns last
     pub unsaid : List Message
     pub sent : map_list request_of (all_sent 0 (begun ++ acts_of turns)) ≡ requests ++ unsaid
     pub all : IsWhole stop → unsaid ≡ []
     pub payloads : GivesOwnPayloads begun turns
 
-  -- The session ended before it was opened: nothing but errors was sent, or then the result of `initialize`, and `initialized` did
-  -- not follow. Or the client sent `initialize`, then `initialized`, and the server took part from then on.
-  abbrev pub GivesPayloads : List Message → Stop → List Message → Type 0
-  GivesPayloads letters stop output =
-      (list_all is_refusal output ≡ true)
-      ⊎ EndsAtResult letters output
-      ⊎ ((early : List Message) × (first : Message) × (second : Message) × (later : List Message) × (letters ≡ early ++ first ∷ second ∷ later)
-      × (is_initialize first ≡ true) × (is_initialized second ≡ true) × TakesPart later stop (requests_in output))
+  -- What follows the result of `initialize`: `initialized`, and the server takes part from then on. Or nothing more is sent.
+  abbrev pub GoesOn : List Exchange → Stop → Type 0
+  GoesOn [] stop = Unit {0}
+  GoesOn (x ∷ later) stop =
+      MatchBool (is_initialized x.letter) (TakesPart (letters_of later) stop (requests_in (sends_of (x ∷ later)))) (sends_of (x ∷ later) ≡ [])
+
+  -- Nothing but errors is sent. Or errors first, then the result of `initialize`, and the session goes on from there.
+  abbrev pub GivesPayloads : List Exchange → Stop → Type 0
+  GivesPayloads exchanges stop =
+      (list_all is_refusal (sends_of exchanges) ≡ true)
+      ⊎ ((early : List Exchange) × (rest : List Exchange) × (exchanges ≡ early ++ rest)
+      × (ends : EndsWithResult early) × (list_all is_refusal (sends_of ends.before) ≡ true) × GoesOn rest stop)
 
   -- the laws of a session, in whose end these requests are held
   pub record KeepsLaws (held : Pending (Unit {0})) (exchanges : List Exchange) (stop : Stop) (null : Option Message) (answer : SessionAnswer) : Type 0 where
@@ -231,4 +206,9 @@ module _ {S P : Type 0}
     -- before `initialized` nothing is sent but one reply for each request, and nothing follows the null
     pub order : KeepsOrder exchanges stop null answer
     -- each reply of the client comes to the server with the payload of its own request, once
-    pub payloads : GivesPayloads (letters_of exchanges) stop (sends_of exchanges)
+    pub payloads : GivesPayloads exchanges stop
+
+  -- a session of a server, which keeps the laws
+  abbrev pub LawfulSession : S → S → SessionPart
+  LawfulSession first last exchanges stop null answer =
+      (session : ServerSession may first last exchanges stop null answer) × KeepsLaws (held_by may session) exchanges stop null answer

@@ -1,12 +1,12 @@
 -- What a server's acts at a message send, in order: at most one message each.
-use Rattle.serde_json.specs.Data.{Data}
 use Rattle.std.specs.FinMap as map
-use Rattle.std.specs.Prelude.{◌≡◌, ℕ, pos, List, [], ◌∷◌, ◌++◌, Option, Some, None, Result, Err, if◌then◌else◌}
+use Rattle.std.specs.Prelude.{◌≡◌, pos, List, [], ◌∷◌, ◌++◌, Option, Some, None, Err, if◌then◌else◌}
 use Rattle.lsp_message.specs.Id.{Id, number}
-use Rattle.lsp_message.specs.Message.{Message, ErrorObject, request, notification, response}
+use Rattle.lsp_message.specs.Message.{Message, request, notification, response}
 use Rattle.lsp_queue.specs.Queue.{pending_of, count_of}
 use Rattle.lsp_service.specs.Desk.{Act, tells, asks, replies, cancels, Desk, is_spent, does, does_all, unsent, holds, given, canceled, cancelled_by, cancel_method, cancel_params, cleared, TakesBack}
 use Rattle.lsp_service.specs.Law.{Handed}
+use Rattle.lsp_service.specs.declared.server.Server.{Ghosts as Stated}
 
 module _ {P : Type 0} where
   -- What an act sends: a notification; a request, where an id is left, under the next id; the answer of a request that is held; the
@@ -21,6 +21,12 @@ module _ {P : Type 0} where
   abbrev pub all_sends : Desk P → List (Act P) → List Message
   all_sends d [] = []
   all_sends d (act ∷ acts) = sends_by d act ++ all_sends (does d act) acts
+
+  -- what a reply of the client brings: what is kept with the request that waits under its id
+  abbrev pub brought_by : Desk P → Message → Option P
+  brought_by d (request id method params) = None
+  brought_by d (notification method params) = None
+  brought_by d (response id outcome) = map.get (pending_of d.asked) id
 
   -- The desk when the server acts at a message: a request that came is held, and the payload of a reply was given out.
   abbrev pub desk_at : Desk P → Message → Option P → Desk P
@@ -40,19 +46,15 @@ module _ {P : Type 0} where
   settled_at (notification method params) acts = acts ++ settled_by (cancelled_by method params)
   settled_at (response id outcome) acts = acts
 
-module _ {S P : Type 0}
-    (requested : S → Id → List ℕ → Data → List (Act P) → S → Type 0)
-    (notified : S → List ℕ → Data → List (Act P) → S → Type 0)
-    (replied : S → P → Result Data ErrorObject → List (Act P) → S → Type 0)
-    (takes_back : S → P → S → Type 0)
-    (begins : S → List (Act P) → S → Type 0) where
+module _ {S P : Type 0} (may : Stated S P) where
   -- At a message the server, which stated what it may do, did this, and what these acts send is all that is sent. That is the desk
   -- afterwards, and the server, which took back what found no id.
   pub record ActsAt (old : S × Desk P) (m : Message) (said : List Message) (new : S × Desk P) : Type 0 where
     pub payload : Option P
     pub acts : List (Act P)
     pub did : S
-    pub handed : Handed requested notified replied takes_back begins old.0 m payload acts did
-    pub back : TakesBack takes_back did (unsent (count_of old.1.asked) acts) new.0
+    pub brought : payload ≡ brought_by old.1 m
+    pub handed : Handed may old.0 m payload acts did
+    pub back : TakesBack may.takes_back did (unsent (count_of old.1.asked) acts) new.0
     pub sent : said ≡ old.1.said ++ all_sends (desk_at old.1 m payload) (settled_at m acts)
     pub desk : new.1 ≡ cleared (does_all (desk_at old.1 m payload) (settled_at m acts))

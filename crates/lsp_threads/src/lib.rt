@@ -12,6 +12,8 @@ mod threads;
 mod workers;
 
 pub use pumping::{PumpFault, pump, pump_by, pump_within};
-pub use speaking::{run_threads_of_service, run_threads_of_service_within};
+pub use speaking::{
+    run_threads_of_service, run_threads_of_service_by, run_threads_of_service_within,
+};
 pub use threads::{Builders, Threaded, run_threads, run_threads_by, run_threads_within};
 pub use workers::StartFault;

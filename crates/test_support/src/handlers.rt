@@ -1,5 +1,5 @@
 //! Handlers of a session.
-use lsp_message::{ErrorCode, Notification, Request, ResponseError};
+use lsp_message::{Notification, Request, ResponseError};
 use lsp_session::Handler;
 use serde_json::Value;
 use std::alloc::{AllocError, Global};
@@ -37,11 +37,7 @@ impl Handler for Echo {
         if request.method.as_str() == "demo/echo" {
             return Ok(Ok(request.params.clone()?));
         }
-        Ok(Err(ResponseError {
-            code: ErrorCode::MethodNotFound.number(),
-            message: String::from_str(self.alloc, "method not found")?,
-            data: None,
-        }))
+        Ok(Err(ResponseError::method_not_found(self.alloc)?))
     }
 
     fn note(&mut self, _notification: &Notification) -> Result<(), AllocError> {

@@ -3,8 +3,8 @@ use crate::devices::{Bytes, Short};
 use crate::pusher::Pusher;
 use crate::rows::Input;
 use lsp_server::{
-    Handler, Notification, QueuedServer, Request, ResponseError, SessionEnd, SessionFault,
-    run_threads, run_threads_of_service, session, session_of_service,
+    Handler, Notification, Request, ResponseError, SessionEnd, SessionFault, run_threads,
+    run_threads_with, session, session_with,
 };
 use serde_json::{Map, Value};
 use std::alloc::{AllocError, Global};
@@ -134,8 +134,7 @@ pub(crate) fn speaking_alone<C: Clock + Copy>(
     input: &Input,
 ) -> io::Result<Ran> {
     let (mut reader, mut writer) = devices_of(clock, alloc, input)?;
-    let mut working = QueuedServer::new(alloc, Pusher::new(alloc));
-    let answer = session_of_service(alloc, &mut reader, &mut writer, &mut working);
+    let (_, answer) = session_with(alloc, &mut reader, &mut writer, Pusher::new(alloc));
     Ok(Ran {
         said: said(alloc, answer)?,
         written: writer.taken,
@@ -148,8 +147,8 @@ where
     R: Threads + Wait + Clock + Copy + Drop + Send + 'static,
 {
     let (reader, writer) = devices_of(rt, alloc, input)?;
-    let mut working = QueuedServer::new(alloc, Pusher::new(alloc));
-    match run_threads_of_service(rt, alloc, reader, writer, &mut working) {
+    let (_, done) = run_threads_with(rt, alloc, reader, writer, Pusher::new(alloc));
+    match done {
         Ok(done) => Ok(Ran {
             said: said(alloc, done.answer)?,
             written: done.writer.taken,

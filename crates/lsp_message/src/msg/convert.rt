@@ -1,8 +1,90 @@
-// Requests, notifications and responses over types of their own, which go through their compact text.
+// Requests, notifications, responses and errors over types of their own, which go through their compact text.
+ghost use Rattle.std.specs.Prelude.{IfErr, IfOk};
+ghost use Rattle.lsp_message.specs.Converted.{IsFault, IsOutcomeOf};
+ghost use Rattle.lsp_message.specs.View.{error_view, outcome_view};
+ghost use Rattle.lsp_message.specs.declared.msg.code.ErrorCode.TheVariants.{InvalidParams};
+
 use crate::error::ExtractError;
-use crate::msg::{Notification, Request, RequestId, Response, ResponseError};
+use crate::msg::{ErrorCode, Notification, Request, RequestId, Response, ResponseError};
 use serde::{DeserializeOwned, Serialize};
-use std::alloc::Global;
+use serde_json::Value;
+use std::alloc::{AllocError, Global};
+
+/// Reads a tree as a type of your own. A tree that does not fit gives the error to reply with: -32602, with the reason as its
+/// text (JSON-RPC 2.0, section 5.1).
+///
+/// `Err(AllocError)` means that an allocation failed. The tree goes through its compact text. What the type takes from it, no
+/// contract says: test it.
+pub fn read_as<P: DeserializeOwned>(
+    alloc: Global,
+    value: Value,
+) -> Result<Result<P, ResponseError>, AllocError>
+    ensures { IfOk result (λ read. IfErr read (λ e. IsFault InvalidParams (error_view e))) }
+{
+    match serde_json::from_value(alloc, value) {
+        Ok(read) => Ok(Ok(read)),
+        Err(error) => Ok(Err(fault(alloc, ErrorCode::InvalidParams, error)?)),
+    }
+}
+
+/// Writes a value of your own as a tree: an outcome to reply with. A value that nests more than 127 levels, or whose type refuses
+/// to be written, gives the error -32603, with the reason as its text (JSON-RPC 2.0, section 5.1).
+///
+/// `Err(AllocError)` means that an allocation failed. The value goes through its compact text.
+pub fn write_as<T: Serialize>(
+    alloc: Global,
+    value: &T,
+) -> Result<Result<Value, ResponseError>, AllocError>
+    ensures { IfOk result (λ written. IsOutcomeOf (T.writes value.now) (outcome_view written)) }
+{
+    match serde_json::to_value(alloc, value) {
+        Ok(written) => Ok(Ok(written)),
+        Err(error) => Ok(Err(fault(alloc, ErrorCode::InternalError, error)?)),
+    }
+}
+
+/// The error to reply with where a conversion failed.
+fn fault(
+    alloc: Global,
+    code: ErrorCode,
+    error: serde_json::Error,
+) -> Result<ResponseError, AllocError>
+    ensures { IfOk result (λ e. IsFault code (error_view e)) }
+{
+    if error.is_memory() {
+        return Err(AllocError);
+    }
+    let reason = format!(in alloc; "{error}")?;
+    ResponseError::new(alloc, code, reason.as_str())
+}
+
+impl ResponseError {
+    ghost use Rattle.std.specs.Prelude.{◌≡◌, None};
+    ghost use Rattle.lsp_message.specs.Converted.{method_not_found};
+    ghost use Rattle.lsp_message.specs.ErrorCode.{number_of};
+
+    /// An error with a code that the standards define, a short text for people, and no data (JSON-RPC 2.0, section 5.1).
+    ///
+    /// `Err` means that an allocation failed.
+    pub fn new(alloc: Global, code: ErrorCode, message: &str) -> Result<ResponseError, AllocError>
+        ensures { IfOk result (λ e. error_view e ≡ record { code = number_of code; message = message.now; details = None }) }
+    {
+        Ok(ResponseError {
+            code: code.number(),
+            message: String::from_str(alloc, message)?,
+            data: None,
+        })
+    }
+
+    /// The error of a request whose method the server does not have: -32601, `method not found` (JSON-RPC 2.0, section 5.1).
+    ///
+    /// `Err` means that an allocation failed.
+    pub fn method_not_found(alloc: Global) -> Result<ResponseError, AllocError>
+        ensures { IfOk result (λ e. error_view e ≡ method_not_found) }
+    {
+        ResponseError::new(alloc, ErrorCode::MethodNotFound, "method not found")
+    }
+}
 
 impl Request {
     ghost use Rattle.std.specs.Prelude.{◌≡◌, ◌≤◌, IfOk, string_bytes};
@@ -51,6 +133,22 @@ impl Request {
             Err(error) => Err(ExtractError::JsonError { method, error }),
         }
     }
+
+    /// Gives the id, and beside it the params as a type of your own. Params that do not fit give the error to reply with under
+    /// that id: -32602, with the reason as its text (JSON-RPC 2.0, section 5.1). Look at the method first.
+    ///
+    /// `Err(AllocError)` means that an allocation failed.
+    pub fn params_as<P: DeserializeOwned>(
+        self,
+        alloc: Global,
+    ) -> Result<(RequestId, Result<P, ResponseError>), AllocError>
+        ensures id { IfOk result (λ r. r.0 ≡ self.id) }
+        ensures fault { IfOk result (λ r. IfErr r.1 (λ e. IsFault InvalidParams (error_view e))) }
+    {
+        let Request { id, params, .. } = self;
+        let params = read_as(alloc, params)?;
+        Ok((id, params))
+    }
 }
 
 impl Notification {
@@ -95,6 +193,19 @@ impl Notification {
             Err(error) => Err(ExtractError::JsonError { method, error }),
         }
     }
+
+    /// Gives the params as a type of your own. Params that do not fit give an error that says why. A notification has no reply, so
+    /// log it or drop it (JSON-RPC 2.0, section 4.1). Look at the method first.
+    ///
+    /// `Err(AllocError)` means that an allocation failed.
+    pub fn params_as<P: DeserializeOwned>(
+        self,
+        alloc: Global,
+    ) -> Result<Result<P, ResponseError>, AllocError>
+        ensures { IfOk result (λ read. IfErr read (λ e. IsFault InvalidParams (error_view e))) }
+    {
+        read_as(alloc, self.params)
+    }
 }
 
 impl Response {
@@ -102,7 +213,9 @@ impl Response {
     ghost use Rattle.serde_json.specs.Data.{depth};
     ghost use Rattle.serde_json.specs.Read.{max_depth};
     ghost use Rattle.serde_json.specs.View.{view};
-    ghost use Rattle.lsp_message.specs.Converted.{IsTreeOf};
+    ghost use Rattle.lsp_message.specs.Converted.{IsTreeOf, method_not_found};
+    ghost use Rattle.lsp_message.specs.Message.{response};
+    ghost use Rattle.lsp_message.specs.View.{response_view};
 
     /// Makes a reply with a result of any type that `serde_json` writes (JSON-RPC 2.0, section 5).
     ///
@@ -121,6 +234,20 @@ impl Response {
         Ok(Response {
             id,
             response_result: Ok(value),
+        })
+    }
+
+    /// Makes the reply to a request whose method the server does not have: the error -32601, `method not found` (JSON-RPC 2.0,
+    /// section 5.1).
+    ///
+    /// `Err` means that an allocation failed.
+    pub fn method_not_found(alloc: Global, id: RequestId) -> Result<Response, AllocError>
+        ensures { IfOk result (λ r. response_view r ≡ response id (Err method_not_found)) }
+    {
+        let error = ResponseError::method_not_found(alloc)?;
+        Ok(Response {
+            id,
+            response_result: Err(error),
         })
     }
 

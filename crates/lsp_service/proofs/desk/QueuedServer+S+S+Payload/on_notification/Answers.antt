@@ -1,7 +1,7 @@
 use Rattle.std.proofs.Common.{◌∙◌, ap}
 use Rattle.std.proofs.lemmas.Result.{IfOk-weaker}
 use Rattle.lsp_service.specs.Desk.{Desk, settles}
-use Rattle.lsp_service.specs.QueuedServer.{desk_of, seen}
+use Rattle.lsp_service.specs.View.{desk_of, seen}
 use Rattle.lsp_service.proofs.desk.«QueuedServer+S+S+Payload».on_notification.Goals as goal
 
 pub returns : goal.returns

@@ -4,4 +4,4 @@ use Rattle.lsp_service.proofs.Desking.{drops_reply}
 use Rattle.lsp_service.proofs.desk.«QueuedServer+S+S+Payload».on_response.Goals as goal
 
 pub returns-in-None : goal.returns-in-None
-returns-in-None g c = drops_reply g.S.Server.requested g.S.Server.notified g.S.Server.replied g.S.Server.takes_back _ _ _ _ (outcome_view c.args.response.response_result) _ (sym c.in-None.ensures.value) c.in-None.ensures.removed refl
+returns-in-None g c = drops_reply g.S.Server _ _ _ _ (outcome_view c.args.response.response_result) _ (sym c.in-None.ensures.value) c.in-None.ensures.removed refl

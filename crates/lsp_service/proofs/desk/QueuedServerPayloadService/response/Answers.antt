@@ -1,6 +1,6 @@
 use Rattle.std.proofs.Common.{ap}
 use Rattle.lsp_service.specs.Desk.{Desk}
-use Rattle.lsp_service.specs.QueuedServer.{seen}
+use Rattle.lsp_service.specs.View.{seen}
 use Rattle.lsp_service.proofs.desk.QueuedServerPayloadService.response.Goals as goal
 
 pub returns : goal.returns

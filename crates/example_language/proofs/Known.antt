@@ -1,0 +1,17 @@
+-- What the law of a server's sessions gives its author.
+use Rattle.std.specs.Prelude.{List, Option}
+use Rattle.lsp_message.specs.Message.{Message}
+use Rattle.lsp_service.specs.Law.{KeepsLaws}
+use Rattle.lsp_service.specs.QueuedServer.{ServerSession, held_by}
+use Rattle.lsp_service.specs.declared.server.Server.{Ghosts as Stated}
+use Rattle.lsp_session.specs.Session.{Exchange, SessionAnswer, Stop}
+use Rattle.example_language.specs.Promise.{AnswersOnce}
+
+pub answers_once : {S P : Type 0} (may : Stated S P) (first last : S)
+    → ((first last : S) (xs : List Exchange) (stop : Stop) (null : Option Message) (answer : SessionAnswer)
+    → (session : ServerSession may first last xs stop null answer) → KeepsLaws may (held_by may session) xs stop null answer)
+    → (xs : List Exchange) (stop : Stop) (null : Option Message) (answer : SessionAnswer)
+    → ServerSession may first last xs stop null answer → AnswersOnce may first last xs stop null answer
+answers_once may first last law xs stop null answer session =
+    let laws = law first last xs stop null answer session in
+    record { session = session; no_more = laws.never_more; answered = laws.once }

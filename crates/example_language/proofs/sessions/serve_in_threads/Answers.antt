@@ -1,0 +1,10 @@
+use Rattle.lsp_message.specs.Frame.{no_limit}
+use Rattle.lsp_threads.proofs.ThreadsAs.{started_as}
+use Rattle.lsp_threads.specs.declared.threads.Threaded.{Threaded}
+use Rattle.example_language.proofs.Known.{answers_once}
+use Rattle.example_language.proofs.sessions.serve_in_threads.Goals as goal
+
+pub returns : goal.returns
+returns g c =
+    started_as _ _ (answers_once _ _ _ c.server_keeps_laws.ensures.exchanges) no_limit
+    (λ (done : Threaded _). g.W.Write.contents done.writer) (λ (done : Threaded _). done.answer) _ _ _ c.run_threads_with.ensures

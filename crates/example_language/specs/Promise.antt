@@ -1,0 +1,18 @@
+-- What the author of a server knows of each of its sessions.
+use Rattle.std.specs.Prelude.{◌≡◌, ℕ, List, Option}
+use Rattle.lsp_message.specs.Id.{Id}
+use Rattle.lsp_message.specs.Message.{Message}
+use Rattle.lsp_service.specs.Law.{how_many, is_request_under, IsWhole, NeverMore, OnceOrEnded}
+use Rattle.lsp_service.specs.QueuedServer.{ServerSession, held_by}
+use Rattle.lsp_service.specs.declared.server.Server.{Ghosts as Stated}
+use Rattle.lsp_session.specs.Session.{Exchange, letters_of, SessionAnswer, Stop}
+
+-- A session of this server, from its first state to its last. At no time had the client got more replies under an id than it had sent
+-- requests. A request whose id it used once has exactly one reply. Or it has none: the server still keeps it, or the session ended
+-- at it, since the lifecycle does not allow it. Where a write or an allocation failed, replies may be missing.
+pub record AnswersOnce {S P : Type 0} (may : Stated S P) (first last : S)
+    (exchanges : List Exchange) (stop : Stop) (null : Option Message) (answer : SessionAnswer) : Type 0 where
+  pub session : ServerSession may first last exchanges stop null answer
+  pub no_more : (id : Id) → NeverMore id exchanges
+  pub answered : IsWhole stop → (id : Id) → how_many (is_request_under id) (letters_of exchanges) ≡ 1
+      → OnceOrEnded id exchanges stop (held_by may session) answer

@@ -1,0 +1,56 @@
+// A session of the server: on one thread, and with a thread that reads and one that writes.
+ghost use Rattle.std.specs.Prelude.{IfOk, IfSome};
+ghost use Rattle.lsp_message.specs.Frame.{no_limit};
+ghost use Rattle.lsp_session.specs.SessionBytes.{Gives};
+ghost use Rattle.lsp_threads.specs.Threads.{ThreadsGive};
+ghost use Rattle.example_language.specs.Promise.{AnswersOnce};
+
+use crate::server::Sums;
+use lsp_server::laws::server_keeps_laws;
+use lsp_server::{
+    Server, SessionEnd, SessionFault, StartFault, Threaded, run_threads_with, session_with,
+};
+use std::alloc::Global;
+use std::io::{BufRead, Write};
+use std::sync::Wait;
+use std::thread::Threads;
+
+/// Runs a session, and gives the server back.
+///
+/// Its author knows by a law of the library, with no word about what `Sums` does: at no time has a client got more replies under an
+/// id than it sent requests. A request whose id it used once has exactly one reply. Or it has none: the server keeps it, as a
+/// `sums/solved` whose text still has an error; or the session ended at it, since the lifecycle does not allow it. Where a write or an
+/// allocation failed, replies may be missing.
+pub fn serve<R: BufRead, W: Write>(
+    alloc: Global,
+    reader: &mut R,
+    writer: &mut W,
+    sums: Sums,
+) -> (Sums, Result<SessionEnd, SessionFault>)
+    ensures { IfSome (R.remaining reader.old) (λ text.
+        Gives no_limit (AnswersOnce ⟦<Sums as Server>⟧ sums result.0)
+        text (R.remaining reader.new) (W.contents writer.old) (W.contents writer.new) result.1) }
+{
+    server_keeps_laws::<Sums>();
+    session_with(alloc, reader, writer, sums)
+}
+
+/// `serve` with a thread that reads and one that writes. Its author knows the same of it.
+pub fn serve_in_threads<T, R, W>(
+    rt: &T,
+    alloc: Global,
+    reader: R,
+    writer: W,
+    sums: Sums,
+) -> (Sums, Result<Threaded<W>, StartFault>)
+where
+    T: Threads + Wait + Copy + Drop + Send + 'static,
+    R: BufRead + Drop + Send + 'static,
+    W: Write + Drop + Send + 'static,
+    ensures { IfSome (R.remaining reader) (λ text. IfOk result.1 (λ done.
+        ThreadsGive no_limit (AnswersOnce ⟦<Sums as Server>⟧ sums result.0)
+        text (W.contents writer) (W.contents done.writer) done.answer)) }
+{
+    server_keeps_laws::<Sums>();
+    run_threads_with(rt, alloc, reader, writer, sums)
+}

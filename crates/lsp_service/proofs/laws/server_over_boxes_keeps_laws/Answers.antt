@@ -1,0 +1,10 @@
+use Rattle.lsp_session.proofs.Describing.{runs_as}
+use Rattle.lsp_service.specs.Law.{LawfulSession}
+use Rattle.lsp_service.specs.QueuedServer.{ServerSession}
+use Rattle.lsp_service.proofs.Lawful.{lawful}
+use Rattle.lsp_service.proofs.laws.server_over_boxes_keeps_laws.Goals as goal
+
+pub returns : goal.returns
+returns g c = λ first last before after answer runs.
+    runs_as (ServerSession g.S.Server first last) (LawfulSession g.S.Server first last) (lawful g.S.Server first last)
+    g.I.Inbox.receives g.O.Outbox.sends before after answer runs

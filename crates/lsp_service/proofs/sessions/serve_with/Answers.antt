@@ -1,0 +1,13 @@
+use Rattle.lsp_session.specs.Session.{SessionOut}
+use Rattle.lsp_session.proofs.Describing.{runs_as}
+use Rattle.lsp_service.specs.QueuedServer.{at_desk, ServerSession}
+use Rattle.lsp_service.proofs.Lawful.{session_of}
+use Rattle.lsp_service.proofs.sessions.serve_with.Goals as goal
+
+pub returns : goal.returns
+returns g c =
+    let old = c.new-queued.result in
+    let new = c.serve_service-answer.new.service in
+    runs_as (SessionOut (at_desk g.S.Server) old new) (ServerSession g.S.Server c.args.server _)
+    (session_of g.S.Server old new c.args.server _ c.new-queued.ensures c.into_server.ensures)
+    g.I.Inbox.receives g.O.Outbox.sends _ _ _ c.serve_service-answer.ensures

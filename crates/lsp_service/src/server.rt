@@ -1,0 +1,90 @@
+// What a server does at each message of its client.
+ghost use Rattle.serde_json.specs.View.{view};
+ghost use Rattle.std.specs.Prelude.{map, List, IfOk, string_bytes};
+ghost use Rattle.lsp_message.specs.View.{outcome_view};
+ghost use Rattle.lsp_service.specs.Desk.{Act as PlainAct};
+ghost use Rattle.lsp_service.specs.View.{act_view};
+
+use lsp_message::{Notification, Request, RequestId, ResponseError};
+use serde_json::Value;
+use std::alloc::AllocError;
+
+/// What a server does.
+#[derive(Drop)]
+pub enum Act<P> {
+    /// It sends a notification.
+    Tell(Notification),
+    /// It sends a request of its own with this method and these params, and keeps this for the reply. The id is the next of
+    /// 0, 1, 2, .. 2147483647. Where all of them were given out nothing is sent, and the server takes back what it was to keep.
+    Ask(String, Value, P),
+    /// It answers the client's request with this id, now or later. Where no request is held under it, nothing is sent.
+    Reply(RequestId, Result<Value, ResponseError>),
+    /// It cancels its own request with this id: the first `Ask` of a session has the id 0, the next 1, and so on. Where the
+    /// reply came, nothing is sent. Else the reply still comes, with what was kept for it (LSP 3.17, "Cancellation Support").
+    Cancel(i32),
+}
+
+/// A server that speaks. What each method gives are acts, which are done in order when it returns. An `Err` is a failed
+/// allocation, and ends the session; nothing is sent for that message.
+pub trait Server {
+    ghost use Rattle.serde_json.specs.Data.{Data};
+    ghost use Rattle.std.specs.Prelude.{ℕ, Result};
+    ghost use Rattle.lsp_message.specs.Id.{Id};
+    ghost use Rattle.lsp_message.specs.Message.{ErrorObject};
+
+    /// What the server keeps for the reply to a request of its own.
+    type Payload: Drop;
+
+    /// For these params of `initialize` it may give this outcome, and change so.
+    ghost initializes: { Self → Data → Result Data ErrorObject → Self → Type 0 };
+
+    /// At `initialized` it may do this, and change so.
+    ghost begins: { Self → List (PlainAct Self.Payload) → Self → Type 0 };
+
+    /// At a request with this id, method and params it may do this, and change so.
+    ghost requested: { Self → Id → List ℕ → Data → List (PlainAct Self.Payload) → Self → Type 0 };
+
+    /// At a notification with this method and these params it may do this, and change so.
+    ghost notified: { Self → List ℕ → Data → List (PlainAct Self.Payload) → Self → Type 0 };
+
+    /// At a reply to a request of its own it may do this, and change so.
+    ghost replied: { Self → Self.Payload → Result Data ErrorObject → List (PlainAct Self.Payload) → Self → Type 0 };
+
+    /// It may take this back, and change so.
+    ghost takes_back: { Self → Self.Payload → Self → Type 0 };
+
+    /// What comes of `initialize` (LSP 3.17, "Initialize Request"): the result, with the capabilities, the server's name and
+    /// version; or an error, which is sent as the reply, and the session goes on waiting for another `initialize`.
+    fn initialize(&mut self, params: Value) -> Result<Result<Value, ResponseError>, AllocError>
+        ensures { IfOk result (λ outcome. initializes self.old (view params) (outcome_view outcome) self.new) };
+
+    /// What it does first: `initialized` came, and from now on it may send.
+    fn initialized(&mut self) -> Result<Vec<Act<Self::Payload>>, AllocError>
+        ensures { IfOk result (λ acts. begins self.old (map act_view acts.items) self.new) };
+
+    /// Is given a request to keep, which is held until `Act::Reply` answers it, now or later. A client that uses an id again
+    /// while it is held gets one reply under it.
+    fn request(&mut self, request: Request) -> Result<Vec<Act<Self::Payload>>, AllocError>
+        ensures { IfOk result (λ acts. requested self.old request.id (string_bytes request.method) (view request.params) (map act_view acts.items) self.new) };
+
+    /// Takes notice of a notification. At `$/cancelRequest` it may answer the request that is cancelled; where it leaves it,
+    /// the reply is the error -32800, `canceled by client` (LSP 3.17, "Cancellation Support").
+    fn notification(
+        &mut self,
+        notification: Notification,
+    ) -> Result<Vec<Act<Self::Payload>>, AllocError>
+        ensures { IfOk result (λ acts. notified self.old (string_bytes notification.method) (view notification.params) (map act_view acts.items) self.new) };
+
+    /// Takes the reply to a request of its own, with what it kept for it.
+    fn response(
+        &mut self,
+        payload: Self::Payload,
+        outcome: Result<Value, ResponseError>,
+    ) -> Result<Vec<Act<Self::Payload>>, AllocError>
+        ensures { IfOk result (λ acts. replied self.old «payload» (outcome_view outcome) (map act_view acts.items) self.new) };
+
+    /// Takes back what an `Act::Ask` was to keep, since no id was left for the request, and it was not sent. It comes only after
+    /// 2147483648 requests of the session; all else goes on.
+    fn unsent(&mut self, payload: Self::Payload) -> Result<(), AllocError>
+        ensures { IfOk result (λ _. takes_back self.old «payload» self.new) };
+}
