@@ -137,7 +137,7 @@ module _ (limit : ℕ) where
     open_within letters brought = (brought.at, brought.read, rw brought.left (frame_unread body_means limit brought.at))
 
     -- the letters that were used, and what is left after them
-    left_within : (letters : List Message) (stop : Stop) (answer : SessionAnswer) → Brings events letters stop → Facts stop letters answer
+    pub left_within : (letters : List Message) (stop : Stop) (answer : SessionAnswer) → Brings events letters stop → Facts stop letters answer
         → (at : List ℕ) × BeginsWith limit text letters at × StopsWithin new.remaining (reading_within limit at)
     left_within letters decided answer brought facts = open_within letters (rw brought.0 at (brought_open limit events text old new unended known run brought.1))
     left_within letters no_more answer brought facts = elim brought.1 [
@@ -164,7 +164,7 @@ module _ (limit : ℕ) where
       left_unsent kind None stop brought facts unsent = absurd unsent
 
       -- no write failed
-      stop_ends : (sends : List Message) (a b : Option (List ℕ)) → GetsFrames sends a b → (stop : Stop) → Brings events letters stop → NotRefused stop
+      pub stop_ends : (sends : List Message) (a b : Option (List ℕ)) → GetsFrames sends a b → (stop : Stop) → Brings events letters stop → NotRefused stop
           → Facts stop letters answer
           → (at : List ℕ) × BeginsWith limit text letters at × Ended null sends a b new.remaining (read_answer answer new.end) answer stop at
       stop_ends sends a b wrote decided brought taken facts =

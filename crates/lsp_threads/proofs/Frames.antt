@@ -3,22 +3,20 @@ use Rattle.std.proofs.Common.{◌≡◌, ◌⊎◌, inl, inr, ℕ, ◌<◌, arit
 use Rattle.std.proofs.KnownBytes.{Appends-trans}
 use Rattle.std.specs.Io.KnownBytes.{Keeps}
 use Rattle.std.specs.List.{FoldsTo}
-use Rattle.lsp_message.specs.Letters.{Begins, PassesAll}
+use mathlib.Core.List.{IsPrefix}
 use Rattle.lsp_message.specs.Message as plain
 use Rattle.lsp_message.specs.Written.{AppendsBeginning, AreFramesOf, GetsFramesAndPart, IsFrameOf}
-use Rattle.lsp_message.specs.declared.frame.ReadFault.TheVariants.{Input, Memory as NoMemory}
 use Rattle.lsp_message.specs.declared.frame.WriteFault.{WriteFault}
+use Rattle.lsp_relay.proofs.Parcels.{same_messages}
 use Rattle.lsp_relay.specs.Relay.{ended, IsOpen, Sending}
 use Rattle.lsp_relay.specs.declared.ends.Parcel.{Parcel}
 use Rattle.lsp_relay.specs.declared.ends.Parcel.TheVariants as parcel
 use Rattle.lsp_session.proofs.Handing.{Handed}
 use Rattle.lsp_session.specs.Boxes.{Takes}
 use Rattle.lsp_session.specs.ReadLoop.{Hands}
-use Rattle.lsp_session.specs.declared.lifecycle.SendFault.{SendFault}
-use Rattle.lsp_session.specs.declared.lifecycle.SendFault.TheVariants.{Closed as IsClosed, Memory as IsFull}
 use Rattle.lsp_session.specs.declared.loops.ReadEnd.{ReadEnd}
 use Rattle.lsp_session.specs.declared.loops.ReadEnd.TheVariants.{Exit, End, Fault, Closed, Memory}
-use Rattle.lsp_threads.proofs.Handed.{ReadsTo, passes_split, reads_split}
+use Rattle.lsp_threads.proofs.Handed.{After, HandedOn, handed_on}
 use Rattle.lsp_threads.specs.Framing.{parcel_bytes, AreEnded, Framing, FramingSends, HandsFrames, WritesBytes}
 
 -- ---- bytes of parcels
@@ -44,19 +42,18 @@ open_texts (parcel.End ∷ rest) still_open = absurd still_open
 pub ended_after : (sent : List (Parcel (String Global))) → IsOpen sent → AreEnded (sent ++ parcel.End ∷ [])
 ended_after sent still_open = let all = open_texts sent still_open in (all.0, ap (λ l. l ++ parcel.End ∷ []) all.1)
 
+-- what was taken up to End is what was sent
+pub same_parcels : (taken sent : List (Parcel (String Global))) → AreEnded taken → AreEnded sent → IsPrefix taken sent → sent ≡ taken
+same_parcels taken sent t s settled = s.1 ∙ ap ended (sym (same_messages t.0 s.0 taken sent t.1 s.1 settled)) ∙ sym t.1
+
 -- ---- what was sent
 -- messages that an outbox took added their frames
-pub framed : (old new : Framing) (ms : List plain.Message) → FoldsTo (Takes FramingSends) old ms new → (text : List ℕ) × AreFramesOf ms text × (new.bytes ≡ old.bytes ++ text)
+framed : (old new : Framing) (ms : List plain.Message) → FoldsTo (Takes FramingSends) old ms new → (text : List ℕ) × AreFramesOf ms text × (new.bytes ≡ old.bytes ++ text)
 framed old new [] run = ([], refl, sym (ap (λ (f : Framing). f.bytes) run) ∙ sym (append-nil old.bytes))
 framed old new (m ∷ ms) run =
     let later = framed run.0 new ms run.2 in
     let first = run.1.1 in
     (first.0 ++ later.0, (first.0, later.0, first.1, later.1, refl), later.2 ∙ ap (λ l. l ++ later.0) first.2 ∙ append_assoc old.bytes first.0 later.0)
-
--- a message that was refused added nothing
-pub refused_nothing : (old : Framing) (m : plain.Message) (fault : SendFault) (new : Framing) → FramingSends old m (Err fault) new → new ≡ old
-refused_nothing old m (IsClosed back) new sent = absurd sent
-refused_nothing old m (IsFull back) new sent = sent
 
 -- one message more
 pub framed_more : {E : Type 0} (m : plain.Message) (old new : Framing) (frame : List ℕ) (r : Result (Unit {0}) E) → IsFrameOf m frame
@@ -64,6 +61,7 @@ pub framed_more : {E : Type 0} (m : plain.Message) (old new : Framing) (frame : 
 framed_more m old new frame (Ok done) is joined = (joined.0, (frame, is, joined.1))
 framed_more m old new frame (Err fault) is joined = tt
 
+-- ---- what a thread that reads sent
 module _ (limit : ℕ) where
   pub handed_frames : (known : Option (List ℕ)) (tx : Sending (String Global)) (start mid : Framing) (left : Option (List ℕ)) (sent : List (Parcel (String Global))) (end : ReadEnd)
       → start ≡ record { relay = tx.relay; bytes = [] } → IfSome known (λ text. Hands limit FramingSends text start mid left end)
@@ -72,38 +70,20 @@ module _ (limit : ℕ) where
   handed_frames (Some text) tx start mid left sent end same handed all ended =
       (mid, left, subst (λ f. Hands limit FramingSends text f mid left end) same handed, all, ended)
 
-  -- What is known of messages whose frames were made, up to such an end. Unlike an outbox of messages, this one may be out of memory.
-  abbrev pub MadeTo : List ℕ → ReadEnd → List plain.Message → Type 0
-  MadeTo text Exit ms = ReadsTo limit text Exit ms
-  MadeTo text End ms = ReadsTo limit text End ms
-  MadeTo text (Fault fault) ms = ReadsTo limit text (Fault fault) ms
-  MadeTo text Closed ms = ⊥
-  MadeTo text Memory ms = (at : List ℕ) × PassesAll limit text ms at
+  same_bytes : (end : ReadEnd) (mid new : Framing) → After limit FramingSends mid end new → new.bytes ≡ mid.bytes
+  same_bytes Memory mid new after = ap (λ (f : Framing). f.bytes) after.2
+  same_bytes end mid new after = ap (λ (f : Framing). f.bytes) after
 
-  -- a message whose frame was made, and those before it
-  pub made_split : (text : List ℕ) (end : ReadEnd) (ms whole : List plain.Message) (last : plain.Message) (more : List plain.Message) → MadeTo text end ms → ms ≡ whole ++ last ∷ more
-      → (mid : List ℕ) × (rest : List ℕ) × PassesAll limit text whole mid × Begins limit mid last rest
-  made_split text Exit ms whole last more made same = reads_split limit text Exit ms whole last more made same
-  made_split text End ms whole last more made same = reads_split limit text End ms whole last more made same
-  made_split text (Fault fault) ms whole last more made same = reads_split limit text (Fault fault) ms whole last more made same
-  made_split text Closed ms whole last more made same = absurd made
-  made_split text Memory ms whole last more (at, passed) same = passes_split limit whole last more text at (rw same at passed)
+  abbrev pub unsent : Sending (String Global) → Framing
+  unsent tx = record { relay = tx.relay; bytes = [] }
 
-  module _ (tx : Sending (String Global)) (sent : List (Parcel (String Global))) where
-    -- all that was sent
-    all_framed : (ms : List plain.Message) (mid : Framing) → FoldsTo (Takes FramingSends) (record { relay = tx.relay; bytes = [] }) ms mid → parcel_bytes sent ≡ mid.bytes
-        → AreFramesOf ms (parcel_bytes sent)
-    all_framed ms mid run all = let frames = framed (record { relay = tx.relay; bytes = [] }) mid ms run in subst (AreFramesOf ms) (sym (all ∙ frames.2)) frames.1
-
-    pub sent_frames : (text : List ℕ) (end : ReadEnd) → HandsFrames limit text tx end sent → (ms : List plain.Message) × AreFramesOf ms (parcel_bytes sent) × MadeTo text end ms
-    sent_frames text Exit (mid, left, handed, all, ended) = (handed.messages, all_framed handed.messages mid handed.taken all, (handed.rest, handed.letters))
-    sent_frames text End (mid, left, handed, all, ended) = (handed.messages, all_framed handed.messages mid handed.taken all, (handed.rest, handed.letters))
-    sent_frames text (Fault (Input kind)) (mid, left, handed, all, ended) = (handed.messages, all_framed handed.messages mid handed.taken all, (handed.at, handed.passed))
-    sent_frames text (Fault NoMemory) (mid, left, handed, all, ended) = (handed.messages, all_framed handed.messages mid handed.taken all, (handed.at, handed.passed))
-    sent_frames text (Fault fault) (mid, left, handed, all, ended) = (handed.messages, all_framed handed.messages mid handed.taken all, (handed.rest, handed.letters))
-    sent_frames text Closed (mid, left, refuses, all, ended) = absurd refuses.refused
-    sent_frames text Memory (mid, left, refuses, all, ended) =
-        (refuses.messages, all_framed refuses.messages refuses.mid refuses.taken (all ∙ ap (λ (f : Framing). f.bytes) refuses.refused), (refuses.at, refuses.passed))
+  pub sent_frames : (tx : Sending (String Global)) (sent : List (Parcel (String Global))) (text : List ℕ) (end : ReadEnd) → HandsFrames limit text tx end sent
+      → (new : Framing) × (on : HandedOn limit FramingSends text (unsent tx) end new) × AreFramesOf on.messages (parcel_bytes sent)
+  sent_frames tx sent text end (mid, left, handed, all, ended) =
+      let on = handed_on limit FramingSends (λ old m back new refuses. refuses) text (unsent tx) mid left end handed in
+      let frames = framed (unsent tx) on.mid on.messages on.taken in
+      let bytes = all ∙ same_bytes end on.mid mid on.after ∙ frames.2 in
+      (mid, on, rw bytes frames.1)
 
 -- a look at the reader keeps what was handed on
 module _ (limit : ℕ) where
@@ -160,75 +140,50 @@ split_in (f ∷ first) more (p ∷ part) rest same = joined (split_in first more
     joined (inr (x, later, cut, others)) = inr (x, later, (λ i. sym heads i ∷ cut i), others)
 
 -- of frames, a beginning has whole frames and then a beginning of one more
-pub record Broken (ms : List plain.Message) (part : List ℕ) : Type 0 where
-  pub whole : List plain.Message
-  pub next : plain.Message
-  pub unwritten : List plain.Message
-  pub cut : ms ≡ whole ++ next ∷ unwritten
-  pub frames : List ℕ
-  pub frames_of_whole : AreFramesOf whole frames
-  pub frame : List ℕ
-  pub frame_of_next : IsFrameOf next frame
-  pub begun : List ℕ
-  pub missing : List ℕ
-  pub split : frame ≡ begun ++ missing
-  pub all : part ≡ frames ++ begun
+abbrev Broken : List plain.Message → List ℕ → Type 0
+Broken ms part =
+    (whole : List plain.Message) × (next : plain.Message) × (unwritten : List plain.Message) × (ms ≡ whole ++ next ∷ unwritten)
+    × (frames : List ℕ) × AreFramesOf whole frames × (frame : List ℕ) × IsFrameOf next frame
+    × (begun : List ℕ) × (missing : List ℕ) × (frame ≡ begun ++ missing) × (part ≡ frames ++ begun)
 
 breaks_in : (ms : List plain.Message) (text part rest : List ℕ) → AreFramesOf ms text → text ≡ part ++ rest → 0 < length text → Broken ms part
 breaks_in [] text part rest none split some = absurd (omega (arith, ap length none))
 breaks_in (m ∷ ms) text part rest (first, more, is, are, same) split some =
     at (λ begun others some'. breaks_in ms more begun rest are others some') (split_in first more part rest (sym same ∙ split))
   where
+    one_more : (later : List ℕ) → part ≡ first ++ later → Broken ms later → Broken (m ∷ ms) part
+    one_more later cut (whole, next, unwritten, parts, frames, are', frame, is', begun, missing, split', all) = (
+      m ∷ whole,
+      next,
+      unwritten,
+      ap (λ l. m ∷ l) parts,
+      first ++ frames,
+      (first, frames, is, are', refl),
+      frame,
+      is',
+      begun,
+      missing,
+      split',
+      cut ∙ ap (λ l. first ++ l) all ∙ sym (append_assoc first frames begun),
+    )
+
     at : ((begun : List ℕ) → more ≡ begun ++ rest → 0 < length more → Broken ms begun)
-        → ((missing : List ℕ) × (first ≡ part ++ missing)) ⊎ ((x : ℕ) × (later : List ℕ) × (part ≡ first ++ x ∷ later) × (more ≡ (x ∷ later) ++ rest)) → Broken (m ∷ ms) part
-    at again (inl (missing, cut)) = record {
-      whole = [];
-      next = m;
-      unwritten = ms;
-      cut = refl;
-      frames = [];
-      frames_of_whole = refl;
-      frame = first;
-      frame_of_next = is;
-      begun = part;
-      missing = missing;
-      split = cut;
-      all = refl;
-    }
+        → ((missing : List ℕ) × (first ≡ part ++ missing)) ⊎ ((x : ℕ) × (later : List ℕ) × (part ≡ first ++ x ∷ later) × (more ≡ (x ∷ later) ++ rest))
+        → Broken (m ∷ ms) part
+    at again (inl (missing, cut)) = ([], m, ms, refl, [], refl, first, is, part, missing, cut, refl)
     at again (inr (x, later, cut, others)) =
-        let some' : 0 < length more = omega (arith, ap length others) in
-        let after = again (x ∷ later) others some' in
-        record {
-          whole = m ∷ after.whole;
-          next = after.next;
-          unwritten = after.unwritten;
-          cut = ap (λ l. m ∷ l) after.cut;
-          frames = first ++ after.frames;
-          frames_of_whole = (first, after.frames, is, after.frames_of_whole, refl);
-          frame = after.frame;
-          frame_of_next = after.frame_of_next;
-          begun = after.begun;
-          missing = after.missing;
-          split = after.split;
-          all = cut ∙ ap (λ l. first ++ l) after.all ∙ sym (append_assoc first after.frames after.begun);
-        }
+        one_more (x ∷ later) cut (again (x ∷ later) others (omega (arith, ap length others)))
 
 pub breaks : (ms : List plain.Message) (text : List ℕ) (a b : Option (List ℕ)) → AreFramesOf ms text → 0 < length text → AppendsBeginning a b text
     → (whole : List plain.Message) × (next : plain.Message) × (unwritten : List plain.Message) × (ms ≡ whole ++ next ∷ unwritten) × GetsFramesAndPart whole next a b
-breaks ms text a b are some (part, rest, split, got) =
-    let at = breaks_in ms text part rest are split some in (
-      at.whole,
-      at.next,
-      at.unwritten,
-      at.cut,
-      record {
-        frames = at.frames;
-        frames_of_whole = at.frames_of_whole;
-        frame = at.frame;
-        frame_of_next = at.frame_of_next;
-        part = at.begun;
-        missing = at.missing;
-        split = at.split;
-        got = rw at.all at got;
-      },
+breaks ms text a b are some (part, rest, split, got) = at (breaks_in ms text part rest are split some)
+  where
+    at : Broken ms part
+        → (whole : List plain.Message) × (next : plain.Message) × (unwritten : List plain.Message) × (ms ≡ whole ++ next ∷ unwritten) × GetsFramesAndPart whole next a b
+    at (whole, next, unwritten, cut, frames, are', frame, is', begun, missing, split', all) = (
+      whole,
+      next,
+      unwritten,
+      cut,
+      record { frames = frames; frames_of_whole = are'; frame = frame; frame_of_next = is'; part = begun; missing = missing; split = split'; got = rw all at got },
     )

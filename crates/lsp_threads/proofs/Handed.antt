@@ -1,91 +1,97 @@
--- What the thread that reads hands on.
-use Rattle.std.proofs.Common.{◌≡◌, ℕ, List, [], ◌∷◌, ◌++◌, ◌∙◌, ap, sym, refl, map, Option, Some, None, IfSome, subst}
+-- What a thread that reads hands on, and how the text goes on from message to message.
+use Rattle.std.proofs.Common.{◌≡◌, ℕ, Bool, true, false, List, [], ◌∷◌, ◌++◌, ◌∙◌, ap, sym, refl, length, length-append, append-nil, arith, Option, Some, None, Result, Ok, Err, subst}
+use Rattle.std.specs.Bool.{MatchBool}
 use Rattle.std.specs.List.{FoldsTo}
-use Rattle.lsp_message.specs.Letters.{Begins, Passes, PassesAll, exited, ended as at_end, failed, Letters}
-use Rattle.lsp_message.specs.Message as plain
-use Rattle.lsp_message.specs.View.{message_view}
+use Rattle.lsp_message.specs.Frame.{reading_within}
+use Rattle.lsp_message.specs.Letters.{Begins, PassesAll, is_exit, exited, ended, failed, Letters}
+use Rattle.lsp_message.specs.Message.{Message}
 use Rattle.lsp_message.specs.declared.frame.ReadFault.TheVariants.{Input, Memory as NoMemory}
-use Rattle.lsp_message.specs.declared.msg.Message.{Message}
-use Rattle.lsp_session.proofs.Waiting.{FoldsTo-split}
-use Rattle.lsp_session.specs.Boxes.{Takes}
+use Rattle.lsp_message.specs.declared.msg.Message as msg
+use Rattle.lsp_session.specs.Boxes.{Sends, Takes}
 use Rattle.lsp_session.specs.ReadLoop.{Hands}
+use Rattle.lsp_session.specs.declared.lifecycle.SendFault.TheVariants.{Closed as IsClosed, Memory as IsFull}
 use Rattle.lsp_session.specs.declared.loops.ReadEnd.{ReadEnd}
 use Rattle.lsp_session.specs.declared.loops.ReadEnd.TheVariants.{Exit, End, Fault, Closed, Memory}
-use Rattle.lsp_threads.proofs.Passing.{posted}
-use Rattle.lsp_threads.specs.RelayBoxes.{RelaySends}
-use Rattle.lsp_relay.specs.Relay.{ended, Sending}
-use Rattle.lsp_threads.specs.Workers.{HandsOn}
-use Rattle.lsp_relay.specs.declared.ends.Parcel.{Parcel}
-use Rattle.lsp_relay.specs.declared.ends.Parcel.TheVariants as parcel
 
 module _ (limit : ℕ) where
-  pub handed_on : (known : Option (List ℕ)) (tx old mid : Sending Message) (left : Option (List ℕ)) (sent : List (Parcel Message)) (end : ReadEnd) → old ≡ tx
-      → IfSome known (λ text. Hands limit RelaySends text old mid left end) → sent ≡ mid.sent ++ parcel.End ∷ [] → IfSome known (λ text. HandsOn limit text tx end sent)
-  handed_on None tx old mid left sent end same hands finished = tt
-  handed_on (Some text) tx old mid left sent end same hands finished = (mid, left, subst (λ (s : Sending Message). Hands limit RelaySends text s mid left end) same hands, finished)
+  -- reading may end so at this text; where an outbox was full, nothing is said
+  abbrev pub EndsAt : List ℕ → ReadEnd → Type 0
+  EndsAt text Exit = ⊥
+  EndsAt text End = (rest : List ℕ) × (reading_within limit text ≡ record { outcome = Ok None; rest = rest })
+  EndsAt text (Fault (Input kind)) = Unit {0}
+  EndsAt text (Fault NoMemory) = Unit {0}
+  EndsAt text (Fault fault) = (rest : List ℕ) × (reading_within limit text ≡ record { outcome = Err fault; rest = rest })
+  EndsAt text Closed = ⊥
+  EndsAt text Memory = Unit {0}
 
-  -- what is known of messages that were read up to such an end
-  abbrev pub ReadsTo : List ℕ → ReadEnd → List plain.Message → Type 0
-  ReadsTo text Exit ms = (rest : List ℕ) × Letters limit text ms exited rest
-  ReadsTo text End ms = (rest : List ℕ) × Letters limit text ms at_end rest
-  ReadsTo text (Fault (Input kind)) ms = (at : List ℕ) × PassesAll limit text ms at
-  ReadsTo text (Fault NoMemory) ms = (at : List ℕ) × PassesAll limit text ms at
-  ReadsTo text (Fault fault) ms = (rest : List ℕ) × Letters limit text ms (failed fault) rest
-  ReadsTo text Closed ms = ⊥
-  ReadsTo text Memory ms = ⊥
+  -- the text begins with these messages, up to the first `exit`, and reading ended so after them
+  abbrev pub ReadsTo : List ℕ → ReadEnd → List Message → Type 0
+  ReadsTo text end [] = EndsAt text end
+  ReadsTo text end (m ∷ ms) = (rest : List ℕ) × Begins limit text m rest × MatchBool (is_exit m) ((ms ≡ []) × (end ≡ Exit)) (ReadsTo rest end ms)
 
-  module _ (tx : Sending Message) (empty : tx.sent ≡ []) (sent : List (Parcel Message)) where
-    -- all that was sent
-    all_sent : (ms : List plain.Message) (mid : Sending Message) → FoldsTo (Takes RelaySends) tx ms mid → sent ≡ mid.sent ++ parcel.End ∷ []
-        → (xs : List Message) × (sent ≡ ended xs) × (map message_view xs ≡ ms)
-    all_sent ms mid run finished =
-        let all = posted tx mid ms run in
-        (all.0, finished ∙ ap (λ l. l ++ parcel.End ∷ []) (all.2 ∙ ap (λ l. l ++ map parcel.Message all.0) empty), all.1)
+  passed_then : (ms more : List Message) (text at : List ℕ) (end : ReadEnd) → PassesAll limit text ms at → ReadsTo at end more → ReadsTo text end (ms ++ more)
+  passed_then [] more text at end run reads = subst (λ t. ReadsTo t end more) (sym run) reads
+  passed_then (m ∷ ms) more text at end run reads = (run.0, run.1.0, rw run.1.1 (passed_then ms more run.0 at end run.2 reads))
 
-    pub sent_messages : (text : List ℕ) (end : ReadEnd) → HandsOn limit text tx end sent → (xs : List Message) × (sent ≡ ended xs) × ReadsTo text end (map message_view xs)
-    sent_messages text Exit (mid, left, handed, finished) =
-        let all = all_sent handed.messages mid handed.taken finished in (all.0, all.1, (handed.rest, rw all.2 handed.letters))
-    sent_messages text End (mid, left, handed, finished) =
-        let all = all_sent handed.messages mid handed.taken finished in (all.0, all.1, (handed.rest, rw all.2 handed.letters))
-    sent_messages text (Fault (Input kind)) (mid, left, handed, finished) =
-        let all = all_sent handed.messages mid handed.taken finished in (all.0, all.1, (handed.at, rw all.2 handed.passed))
-    sent_messages text (Fault NoMemory) (mid, left, handed, finished) =
-        let all = all_sent handed.messages mid handed.taken finished in (all.0, all.1, (handed.at, rw all.2 handed.passed))
-    sent_messages text (Fault fault) (mid, left, handed, finished) =
-        let all = all_sent handed.messages mid handed.taken finished in (all.0, all.1, (handed.rest, rw all.2 handed.letters))
-    sent_messages text Closed (mid, left, refuses, finished) = absurd refuses.refused
-    sent_messages text Memory (mid, left, refuses, finished) = absurd refuses.refused
+  passed_to : (ms : List Message) (text at : List ℕ) (end : ReadEnd) → PassesAll limit text ms at → EndsAt at end → ReadsTo text end ms
+  passed_to ms text at end passed ends = subst (ReadsTo text end) (append-nil ms) (passed_then ms [] text at end passed ends)
 
-  -- of messages that passed, one and those before it
-  pub passes_split : (whole : List plain.Message) (last : plain.Message) (more : List plain.Message) (text at : List ℕ) → PassesAll limit text (whole ++ last ∷ more) at
+  -- one of the messages, and those before it
+  pub reads_split : (whole : List Message) (last : Message) (more : List Message) (text : List ℕ) (end : ReadEnd) → ReadsTo text end (whole ++ last ∷ more)
       → (mid : List ℕ) × (rest : List ℕ) × PassesAll limit text whole mid × Begins limit mid last rest
-  passes_split whole last more text at run =
-      let parts = FoldsTo-split (Passes limit) whole (last ∷ more) text at run in (parts.0, parts.2.0, parts.1, parts.2.1.0)
+  reads_split [] last more text end reads = (text, reads.0, refl, reads.1)
+  reads_split (m ∷ ms) last more text end reads = at (is_exit m) refl reads.2 (reads_split ms last more reads.0 end)
+    where
+      at : (b : Bool) → is_exit m ≡ b → MatchBool b ((ms ++ last ∷ more ≡ []) × (end ≡ Exit)) (ReadsTo reads.0 end (ms ++ last ∷ more))
+          → (ReadsTo reads.0 end (ms ++ last ∷ more) → (mid : List ℕ) × (rest : List ℕ) × PassesAll limit reads.0 ms mid × Begins limit mid last rest)
+          → (mid : List ℕ) × (rest : List ℕ) × PassesAll limit text (m ∷ ms) mid × Begins limit mid last rest
+      at true exits none again = absurd (omega (arith, length-append ms (last ∷ more), ap length none.0))
+      at false goes later again = let split = again later in (split.0, split.1, (reads.0, (reads.1, goes), split.2), split.3)
 
-  -- the same where the last of all is an `exit`
-  exit_split : (before : List plain.Message) (final : plain.Message) (whole : List plain.Message) (last : plain.Message) (more : List plain.Message) (text at rest : List ℕ)
-      → before ++ final ∷ [] ≡ whole ++ last ∷ more → PassesAll limit text before at → Begins limit at final rest
-      → (mid : List ℕ) × (next : List ℕ) × PassesAll limit text whole mid × Begins limit mid last next
-  exit_split [] final [] last more text at rest same passed begins =
-      let is : final ≡ last = cc in (text, rest, refl, subst (λ m. Begins limit text m rest) is (subst (λ t. Begins limit t final rest) (sym passed) begins))
-  exit_split [] final (w ∷ []) last more text at rest same passed begins = absurd (cc (same))
-  exit_split [] final (w ∷ v ∷ ws) last more text at rest same passed begins = absurd (cc (same))
-  exit_split (b ∷ bs) final [] last more text at rest same passed begins =
-      let is : b ≡ last = cc in (text, passed.0, refl, subst (λ m. Begins limit text m passed.0) is passed.1.0)
-  exit_split (b ∷ bs) final (w ∷ ws) last more text at rest same passed begins =
-      let is : b ≡ w = cc in
-      let others : bs ++ final ∷ [] ≡ ws ++ last ∷ more = cc in
-      let later = exit_split bs final ws last more passed.0 at rest others passed.2 begins in
-      (later.0, later.1, (passed.0, subst (λ m. Passes limit text m passed.0) is passed.1, later.2), later.3)
+  -- the same in the words of `pump`
+  abbrev pub Told : List ℕ → ReadEnd → List Message → Type 0
+  Told text Exit ms = (rest : List ℕ) × Letters limit text ms exited rest
+  Told text End ms = (rest : List ℕ) × Letters limit text ms ended rest
+  Told text (Fault (Input kind)) ms = (at : List ℕ) × PassesAll limit text ms at
+  Told text (Fault NoMemory) ms = (at : List ℕ) × PassesAll limit text ms at
+  Told text (Fault fault) ms = (rest : List ℕ) × Letters limit text ms (failed fault) rest
+  Told text Closed ms = ⊥
+  Told text Memory ms = (at : List ℕ) × PassesAll limit text ms at
 
-  -- a message that was read, and those before it
-  pub reads_split : (text : List ℕ) (end : ReadEnd) (ms whole : List plain.Message) (last : plain.Message) (more : List plain.Message) → ReadsTo text end ms → ms ≡ whole ++ last ∷ more
-      → (mid : List ℕ) × (rest : List ℕ) × PassesAll limit text whole mid × Begins limit mid last rest
-  reads_split text Exit ms whole last more (rest, (before, final, at, cut, passed, begins, exits)) same =
-      exit_split before final whole last more text at rest (sym cut ∙ same) passed begins
-  reads_split text End ms whole last more (rest, (at, passed, end)) same = passes_split whole last more text at (rw same at passed)
-  reads_split text (Fault (Input kind)) ms whole last more (at, passed) same = passes_split whole last more text at (rw same at passed)
-  reads_split text (Fault NoMemory) ms whole last more (at, passed) same = passes_split whole last more text at (rw same at passed)
-  reads_split text (Fault fault) ms whole last more (rest, (at, passed, end)) same = passes_split whole last more text at (rw same at passed)
-  reads_split text Closed ms whole last more reads same = absurd reads
-  reads_split text Memory ms whole last more reads same = absurd reads
+  module _ {O : Type 0} (sends : Sends O) where
+    -- the outbox after the last message that it took: it refused one more, if an allocation failed
+    abbrev pub After : O → ReadEnd → O → Type 0
+    After mid Memory new = (m : Message) × (back : msg.Message) × sends mid m (Err (IsFull back)) new
+    After mid end new = new ≡ mid
+
+    -- what was handed on
+    pub record HandedOn (text : List ℕ) (old : O) (end : ReadEnd) (new : O) : Type 0 where
+      pub messages : List Message
+      pub mid : O
+      pub taken : FoldsTo (Takes sends) old messages mid
+      pub after : After mid end new
+      pub told : Told text end messages
+      pub reads : ReadsTo text end messages
+
+    module _ (never : (old : O) (m : Message) (back : msg.Message) (new : O) → sends old m (Err (IsClosed back)) new → ⊥) (text : List ℕ) (old new : O) (left : Option (List ℕ)) where
+      pub handed_on : (end : ReadEnd) → Hands limit sends text old new left end → HandedOn text old end new
+      handed_on Exit h =
+          let l = h.letters in
+          let reads : ReadsTo text Exit h.messages = rw l.3 (passed_then l.0 (l.1 ∷ []) text l.2 Exit l.4 (h.rest, l.5, rw l.6 (refl, refl))) in
+          record { messages = h.messages; mid = new; taken = h.taken; after = refl; told = (h.rest, l); reads = reads }
+      handed_on End h =
+          let l = h.letters in
+          record { messages = h.messages; mid = new; taken = h.taken; after = refl; told = (h.rest, l); reads = passed_to h.messages text l.0 End l.1 (h.rest, l.2) }
+      handed_on (Fault (Input kind)) h =
+          let reads = passed_to h.messages text h.at (Fault (Input kind)) h.passed tt in
+          record { messages = h.messages; mid = new; taken = h.taken; after = refl; told = (h.at, h.passed); reads = reads }
+      handed_on (Fault NoMemory) h =
+          let reads = passed_to h.messages text h.at (Fault NoMemory) h.passed tt in
+          record { messages = h.messages; mid = new; taken = h.taken; after = refl; told = (h.at, h.passed); reads = reads }
+      handed_on (Fault fault) h =
+          let l = h.letters in
+          record { messages = h.messages; mid = new; taken = h.taken; after = refl; told = (h.rest, l); reads = passed_to h.messages text l.0 (Fault fault) l.1 (h.rest, l.2) }
+      handed_on Closed h = absurd (never h.mid h.next h.back new h.refused)
+      handed_on Memory h =
+          let reads = passed_to h.messages text h.at Memory h.passed tt in
+          record { messages = h.messages; mid = h.mid; taken = h.taken; after = (h.next, h.back, h.refused); told = (h.at, h.passed); reads = reads }

@@ -1,6 +1,7 @@
 pub mod Frames
 pub mod Handed
-pub mod Passing
 pub mod Pumped
+pub mod RelayLemmas
+pub mod RelayStream
 pub mod Sessions
 pub mod ThreadsAs

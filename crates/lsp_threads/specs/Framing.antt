@@ -24,7 +24,7 @@ pub record Framing : Type 0 where
   pub relay : Relay (String Global)
   pub bytes : List ℕ
 
--- the outbox adds a frame of each message; where an allocation fails, nothing; it is never closed
+-- the outbox adds a frame of each message; if an allocation fails, nothing; it is never closed
 abbrev pub FramingSends : Framing → plain.Message → Result (Unit {0}) SendFault → Framing → Type 0
 FramingSends old m (Ok done) new = (new.relay ≡ old.relay) × ((frame : List ℕ) × IsFrameOf m frame × (new.bytes ≡ old.bytes ++ frame))
 FramingSends old m (Err (Closed back)) new = ⊥

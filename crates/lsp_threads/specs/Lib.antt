@@ -2,5 +2,4 @@ pub mod Framing
 pub mod Pump
 pub mod RelayBoxes
 pub mod Threads
-pub mod Workers
 pub use Rattle.lsp_relay.specs.Relay

@@ -1,17 +1,14 @@
 -- A session whose reader and writer run in threads of their own: bytes in to bytes out (LSP 3.17, "Base Protocol" and "Server lifecycle").
-use Rattle.std.specs.Prelude.{◌≡◌, Bool, true, false, ℕ, List, ◌∷◌, ◌++◌, Option, Some, None, Result, Ok, Err}
-use Rattle.lsp_message.specs.Frame.{reading_within}
+use Rattle.std.specs.Prelude.{◌≡◌, Bool, true, false, ℕ, List, ◌∷◌, ◌++◌, Option, Some, None, Result, Err}
 use Rattle.lsp_message.specs.Message.{Message}
 use Rattle.lsp_message.specs.Written.{GetsFrames, GetsFramesAndPart, IsOutput}
-use Rattle.lsp_message.specs.declared.frame.ReadFault.{ReadFault}
-use Rattle.lsp_message.specs.declared.frame.ReadFault.TheVariants.{Input, Memory as NoMemoryToRead}
-use Rattle.lsp_session.specs.Session.{SessionAnswer, SessionPart, Stop, decided, no_more}
-use Rattle.lsp_session.specs.SessionBytes.{GetsFirst, SessionOver}
+use Rattle.lsp_session.specs.Session.{SessionAnswer, SessionPart, Stop}
+use Rattle.lsp_session.specs.SessionBytes.{Ends, GetsFirst, SessionOver}
 use Rattle.lsp_session.specs.declared.loops.ReadEnd.{ReadEnd}
 use Rattle.lsp_session.specs.declared.loops.ReadEnd.TheVariants.{Exit}
 use Rattle.lsp_session.specs.declared.loops.handler.SessionEnd.{SessionEnd}
 use Rattle.lsp_session.specs.declared.loops.stream_session.SessionFault.{SessionFault}
-use Rattle.lsp_session.specs.declared.loops.stream_session.SessionFault.TheVariants.{Protocol, Read, Write, Memory}
+use Rattle.lsp_session.specs.declared.loops.stream_session.SessionFault.TheVariants.{Write, Memory}
 
 -- The writer got frames of the first of these messages, and a beginning of a frame of the next.
 pub record BreaksOffWithin (ms : List Message) (old new : Option (List ℕ)) : Type 0 where
@@ -21,26 +18,9 @@ pub record BreaksOffWithin (ms : List Message) (old new : Option (List ℕ)) : T
   pub cut : ms ≡ whole ++ next ∷ unwritten
   pub got : GetsFramesAndPart whole next old new
 
--- The last letter decided, or the text ends after it.
-abbrev pub EndsSo : ℕ → Stop → List ℕ → Type 0
-EndsSo limit decided at = Unit {0}
-EndsSo limit no_more at = (rest : List ℕ) × (reading_within limit at ≡ record { outcome = Ok None; rest = rest })
-EndsSo limit stop at = ⊥
-
--- Reading fails after the last letter: the reader failed there, or the text has this fault.
-abbrev pub FailsAt : ℕ → ReadFault → List ℕ → Type 0
-FailsAt limit (Input kind) at = Unit {0}
-FailsAt limit NoMemoryToRead at = ⊥
-FailsAt limit fault at = (rest : List ℕ) × (reading_within limit at ≡ record { outcome = Err fault; rest = rest })
-
--- For what a session in threads answers: the answer by the lifecycle, and how the text goes on at `at`, after the last message that
--- was used. Where a write or an allocation failed, nothing is said of it.
+-- For what a session in threads answers: as one over bytes ends, whatever is left of the text, since the reader is gone.
 abbrev pub EndsInThreads : ℕ → Result SessionEnd SessionFault → SessionAnswer → Stop → Option Message → List ℕ → Type 0
-EndsInThreads limit (Ok end) answer stop null at = (answer ≡ Ok end) × EndsSo limit stop at
-EndsInThreads limit (Err (Protocol fault)) answer stop null at = (answer ≡ Err fault) × EndsSo limit stop at
-EndsInThreads limit (Err (Read fault)) answer stop null at = (stop ≡ no_more) × FailsAt limit fault at
-EndsInThreads limit (Err (Write fault)) answer stop null at = Unit {0}
-EndsInThreads limit (Err Memory) answer stop null at = Unit {0}
+EndsInThreads limit result answer stop null at = (left : Option (List ℕ)) × Ends limit left result answer stop null at
 
 -- What the writer got of all that was sent: frames of it; or, where a write failed, frames of the first messages and a beginning of
 -- the next; or, where an allocation failed, frames of the first messages.

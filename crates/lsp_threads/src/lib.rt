@@ -2,18 +2,20 @@
 //! over them, `pump` and `run_threads`. `lsp_server` gives the public items on under the same names.
 #![tactic(auto)]
 
-mod ahead;
-mod boxes;
-mod framing;
 pub mod laws;
+mod peeking_reader;
+mod pump_frames;
 mod pumping;
-mod speaking;
-mod threads;
+mod relay_boxes;
+mod relay_texts;
+mod run;
+mod serving;
+pub mod spent;
 mod workers;
 
 pub use pumping::{PumpFault, pump, pump_by, pump_within};
-pub use speaking::{
-    run_threads_of_service, run_threads_of_service_by, run_threads_of_service_within,
+pub use run::{
+    Builders, Threaded, run_threads, run_threads_by, run_threads_of_service,
+    run_threads_of_service_by, run_threads_of_service_within, run_threads_within,
 };
-pub use threads::{Builders, Threaded, run_threads, run_threads_by, run_threads_within};
 pub use workers::StartFault;

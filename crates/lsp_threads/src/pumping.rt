@@ -3,7 +3,7 @@ ghost use Rattle.std.specs.Prelude.{◌≡◌, IfSome, Option};
 ghost use Rattle.lsp_message.specs.Frame.{no_limit};
 ghost use Rattle.lsp_threads.specs.Pump.{Pumps, pump_answer};
 
-use crate::framing::{PARCEL_ROOM, write_texts};
+use crate::relay_texts::write_texts;
 use crate::workers::{StartFault, start_reader};
 use lsp_message::{ReadFault, WriteFault};
 use lsp_relay::{relay, settle_all};
@@ -14,6 +14,9 @@ use std::fmt;
 use std::io::{BufRead, Write};
 use std::sync::Wait;
 use std::thread::{Builder, Threads};
+
+/// How many texts of frames may wait between the two threads. It changes speed and memory only, and no answer.
+const PARCEL_ROOM: usize = 8;
 
 /// Why not all messages were passed on. If several faults fit, it is the one with the greatest number.
 ///

@@ -1,14 +1,15 @@
 //! The threads that read and write, each over an end of a relay.
-ghost use Rattle.std.specs.Prelude.{◌≡◌, [], false, IfOk, IfSome};
-ghost use Rattle.lsp_relay.specs.Relay.{has_end, Sending};
-ghost use Rattle.lsp_threads.specs.Workers.{HandsOn, WritesToEnd, WritesTaken, write_fault};
-ghost use Rattle.lsp_relay.specs.declared.ends.Parcel.{Parcel as parcel};
+ghost use Rattle.std.specs.Prelude.{◌≡◌, [], None, IfOk, IfSome, OnSome};
+ghost use Rattle.lsp_message.specs.View.{message_view};
+ghost use Rattle.lsp_message.specs.Written.{Writes};
+ghost use Rattle.lsp_session.specs.FrameBoxes.{kept_write};
+ghost use Rattle.lsp_threads.specs.RelayBoxes.{HandsOn, WritesTaken};
 
-use crate::boxes::{RelayInbox, RelayOutbox, Returns};
-use crossbeam_channel::{Sender, never};
+use crate::relay_boxes::{RelayOutbox, collect};
+use crate::spent::GiveBack;
 use lsp_message::{Message, WriteFault};
 use lsp_relay::{Parcel, RelayRx, RelayTx};
-use lsp_session::{ReadEnd, WriteEnd, read_loop_within, write_loop};
+use lsp_session::{ReadEnd, read_loop_within};
 use std::alloc::Global;
 use std::error::Error;
 use std::fmt;
@@ -46,9 +47,9 @@ impl fmt::Display for StartFault {
 
 impl Error for StartFault {}
 
-/// What a relay carries from a thread that reads. The thread is started for any such type, since the check finds that it may
-/// own the end of its relay only where it need not look into the type.
-pub trait Carried: Drop {
+/// What a thread that reads sends on a relay. The thread is started for any such type, since the check finds that it may own the end
+/// of its relay only where it need not look into the type.
+pub trait ReadsInto: Drop {
     ghost use Rattle.std.specs.Prelude.{ℕ, List};
     ghost use Rattle.lsp_relay.specs.Relay.{Sending};
     ghost use Rattle.lsp_relay.specs.declared.ends.Parcel.{Parcel as parcel};
@@ -71,23 +72,23 @@ pub trait Carried: Drop {
         ensures sent { IfSome (S.remaining reader) (λ text. hands_on limit text tx result.1 result.0.sent) };
 }
 
-/// What a relay carries to a thread that writes. The thread is started for any such type, for the same reason.
-pub trait WrittenOut: Drop {
+/// What a thread that writes takes from a relay. The thread is started for any such type, for the same reason.
+pub trait WritesFrom: Drop {
     ghost use Rattle.std.specs.Prelude.{ℕ, List, Option};
+    ghost use Rattle.lsp_message.specs.declared.frame.WriteFault.{WriteFault as fault};
     ghost use Rattle.lsp_relay.specs.declared.ends.Parcel.{Parcel as parcel};
-    ghost use Rattle.lsp_session.specs.declared.loops.write.WriteEnd.{WriteEnd as write_end};
 
-    /// These parcels were taken and written, and the writing ended so.
-    ghost writes: { List (parcel Self) → write_end → Option (List ℕ) → Option (List ℕ) → Type 0 };
+    /// These parcels were taken and written, but if there is a fault, not from the failed write on.
+    ghost writes: { List (parcel Self) → Option fault → Option (List ℕ) → Option (List ℕ) → Type 0 };
 
-    /// Writes each message up to End, and gives it back. After a fault it writes nothing more.
-    fn write_out<R: Wait + Copy + Drop, W: Write + Drop>(
+    /// Writes each message up to End, and gives it back. After a fault, the answer, it writes nothing more.
+    fn write_out<R: Wait + Drop, W: Write + Drop>(
         rt: R,
         alloc: Global,
         rx: RelayRx<Self>,
         writer: W,
-        spent: Sender<Self>,
-    ) -> (RelayRx<Self>, W, WriteEnd)
+        back: GiveBack<Self>,
+    ) -> (RelayRx<Self>, W, Option<WriteFault>)
         requires { rx.taken ≡ [] }
         ensures relay { result.0.relay ≡ rx.relay }
         ensures written { writes result.0.taken result.2 (W.contents writer) (W.contents result.1) };
@@ -101,7 +102,7 @@ pub struct Reader<S, M: Drop> {
     pub tx: Snapshot<RelayTx<M>>,
 }
 
-impl<S: BufRead, M: Carried> Promise<(RelayTx<M>, ReadEnd)> for Reader<S, M> {
+impl<S: BufRead, M: ReadsInto> Promise<(RelayTx<M>, ReadEnd)> for Reader<S, M> {
     ghost use Rattle.std.specs.Prelude.{◌≡◌, IfSome};
 
     ghost kept_by = { λ p r. (r.0.relay ≡ p.tx.value.relay)
@@ -116,7 +117,7 @@ pub struct Writer<W, M: Drop> {
     pub rx: Snapshot<RelayRx<M>>,
 }
 
-impl<W: Write, M: WrittenOut> Promise<(RelayRx<M>, W, WriteEnd)> for Writer<W, M> {
+impl<W: Write, M: WritesFrom> Promise<(RelayRx<M>, W, Option<WriteFault>)> for Writer<W, M> {
     ghost use Rattle.std.specs.Prelude.{◌≡◌};
 
     ghost kept_by = { λ p r. (r.0.relay ≡ p.rx.value.relay)
@@ -133,7 +134,7 @@ pub fn start_reader<M, R, S>(
     tx: RelayTx<M>,
 ) -> Result<PromisedHandle<(RelayTx<M>, ReadEnd), Reader<S, M>>, StartFault>
 where
-    M: Carried + Drop + Send + 'static,
+    M: ReadsInto + Drop + Send + 'static,
     R: Threads + Wait + Copy + Drop + Send + 'static,
     S: BufRead + Drop + Send + 'static,
     requires { tx.sent ≡ [] }
@@ -162,10 +163,10 @@ pub fn start_writer<M, R, W>(
     alloc: Global,
     rx: RelayRx<M>,
     writer: W,
-    spent: Sender<M>,
-) -> Result<PromisedHandle<(RelayRx<M>, W, WriteEnd), Writer<W, M>>, StartFault>
+    back: GiveBack<M>,
+) -> Result<PromisedHandle<(RelayRx<M>, W, Option<WriteFault>), Writer<W, M>>, StartFault>
 where
-    M: WrittenOut + Drop + Send + 'static,
+    M: WritesFrom + Drop + Send + 'static,
     R: Threads + Wait + Copy + Drop + Send + 'static,
     W: Write + Drop + Send + 'static,
     requires { rx.taken ≡ [] }
@@ -179,15 +180,15 @@ where
     match builder.spawn_with(
         rt,
         promise,
-        move || M::write_out(theirs, alloc, rx, writer, spent),
+        move || M::write_out(theirs, alloc, rx, writer, back),
     ) {
         Ok(handle) => Ok(handle),
         Err(_) => Err(StartFault::Thread),
     }
 }
 
-impl Carried for Message {
-    ghost use Rattle.lsp_threads.specs.Workers.{HandsOn};
+impl ReadsInto for Message {
+    ghost use Rattle.lsp_threads.specs.RelayBoxes.{HandsOn};
 
     ghost hands_on = { HandsOn };
 
@@ -203,83 +204,75 @@ impl Carried for Message {
         ensures sent { IfSome (S.remaining reader) (λ text. HandsOn limit text tx result.1 result.0.sent) }
     {
         let mut reader = reader;
-        let mut outbox = RelayOutbox::new(rt, tx, never());
+        let mut outbox = RelayOutbox::new(rt, tx);
         let end = read_loop_within(alloc, &mut reader, &mut outbox, limit);
         (outbox.finish(), end)
     }
 }
 
-impl WrittenOut for Message {
-    ghost use Rattle.lsp_threads.specs.Workers.{WritesTaken};
+impl WritesFrom for Message {
+    ghost use Rattle.lsp_threads.specs.RelayBoxes.{WritesTaken};
 
     ghost writes = { WritesTaken };
 
-    fn write_out<R: Wait + Copy + Drop, W: Write + Drop>(
+    fn write_out<R: Wait + Drop, W: Write + Drop>(
         rt: R,
         alloc: Global,
         rx: RelayRx<Message>,
         writer: W,
-        spent: Sender<Message>,
-    ) -> (RelayRx<Message>, W, WriteEnd)
+        back: GiveBack<Message>,
+    ) -> (RelayRx<Message>, W, Option<WriteFault>)
         requires { rx.taken ≡ [] }
         ensures relay { result.0.relay ≡ rx.relay }
         ensures written { WritesTaken result.0.taken result.2 (W.contents writer) (W.contents result.1) }
     {
         let mut writer = writer;
-        let (rx, end) = write_from(rt, alloc, rx, &mut writer, spent);
-        (rx, writer, end)
+        let (rx, fault) = write_messages(&rt, alloc, rx, &mut writer, &back);
+        (rx, writer, fault)
     }
 }
 
-/// Writes each message up to End, and gives it back. After a fault it writes nothing more.
-fn write_from<R: Wait + Copy + Drop, W: Write>(
-    rt: R,
+/// Writes each message up to End, and gives it back. After a fault, the answer, it writes nothing more.
+fn write_messages<R: Wait, W: Write>(
+    rt: &R,
     alloc: Global,
     rx: RelayRx<Message>,
     writer: &mut W,
-    spent: Sender<Message>,
-) -> (RelayRx<Message>, WriteEnd)
+    back: &GiveBack<Message>,
+) -> (RelayRx<Message>, Option<WriteFault>)
     requires { rx.taken ≡ [] }
     ensures relay { result.0.relay ≡ rx.relay }
     ensures written { WritesTaken result.0.taken result.1 (W.contents writer.old) (W.contents writer.new) }
 {
-    let mut inbox = RelayInbox::new(rt, rx);
-    let mut spent = Returns { rt: &rt, spent };
-    let end = write_to_end(&rt, alloc, &mut inbox, writer, &mut spent);
-    (inbox.drain(), end)
-}
-
-/// Writes each message up to End, or up to a fault.
-fn write_to_end<R: Wait + Drop, W: Write>(
-    rt: &R,
-    alloc: Global,
-    inbox: &mut RelayInbox<R, Message>,
-    writer: &mut W,
-    spent: &mut Returns<'_, R>,
-) -> WriteEnd
-    requires { has_end inbox.old.taken ≡ false }
-    ensures relay { inbox.new.relay ≡ inbox.old.relay }
-    ensures written { WritesToEnd inbox.old.taken inbox.new.taken result (W.contents writer.old) (W.contents writer.new) }
-{
+    let mut rx = rx;
+    let mut fault = None;
     for _ in rt.forever() {
-        match write_loop(alloc, inbox, writer, spent) {
-            WriteEnd::Fault(fault) => return WriteEnd::Fault(fault),
-            WriteEnd::Closed => {
-                if inbox.is_closed() {
-                    return WriteEnd::Closed;
-                }
+        match collect(rt, &mut rx) {
+            Parcel::Message(message) => {
+                fault = write_after(alloc, fault, &message, writer);
+                back.give_or_drop(rt, message);
             }
+            Parcel::End => return (rx, fault),
         }
     }
     unreachable!()
 }
 
-/// The fault of the writing that ended so.
-pub fn fault_of(end: WriteEnd) -> Option<WriteFault>
-    ensures { result ≡ write_fault end }
+/// Writes a message, unless a write failed before. The answer is the first fault.
+fn write_after<W: Write>(
+    alloc: Global,
+    before: Option<WriteFault>,
+    message: &Message,
+    writer: &mut W,
+) -> Option<WriteFault>
+    ensures none { before ≡ None → Writes (message_view message.now) (W.contents writer.old) (kept_write result) (W.contents writer.new) }
+    ensures some { OnSome before ((result ≡ before) × (writer.new ≡ writer.old)) }
 {
-    match end {
-        WriteEnd::Closed => None,
-        WriteEnd::Fault(fault) => Some(fault),
+    if before.is_some() {
+        return before;
+    }
+    match message.write(alloc, writer) {
+        Ok(()) => None,
+        Err(fault) => Some(fault),
     }
 }

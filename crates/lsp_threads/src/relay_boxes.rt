@@ -1,0 +1,272 @@
+//! The ends of a relay of messages, as an outbox and as an inbox.
+ghost use Rattle.std.specs.Prelude.{◌≡◌, ◌++◌, ◌∷◌, [], List, true, false, if◌then◌else◌, MatchBool};
+ghost use Rattle.lsp_message.specs.Letters.{is_exit as exit_spec};
+ghost use Rattle.lsp_message.specs.View.{message_view};
+ghost use Rattle.lsp_session.specs.Event.{event_view};
+ghost use Rattle.lsp_threads.specs.RelayBoxes.{RelayGives};
+ghost use Rattle.lsp_relay.specs.Relay.{ended, has_end, IsOpen};
+
+use crate::spent::Spent;
+use lsp_message::Message;
+use lsp_relay::{Parcel, RelayRx, RelayTx};
+use lsp_session::{Event, Inbox, Outbox, SendFault, is_exit};
+use std::marker::Model;
+use std::sync::Wait;
+
+/// Sends a parcel, however often it has to be tried.
+pub fn deliver<R: Wait, M: Drop>(rt: &R, tx: &mut RelayTx<M>, parcel: Parcel<M>)
+    requires { IsOpen tx.old.sent }
+    ensures relay { tx.new.relay ≡ tx.old.relay }
+    ensures sent { tx.new.sent ≡ tx.old.sent ++ parcel ∷ [] }
+{
+    let mut parcel = parcel;
+    for _ in rt.forever() {
+        match tx.send(rt, parcel) {
+            Ok(()) => return,
+            Err(back) => parcel = back,
+        }
+    }
+    unreachable!()
+}
+
+/// Takes a parcel, however often it has to be tried.
+pub fn collect<R: Wait, M: Drop>(rt: &R, rx: &mut RelayRx<M>) -> Parcel<M>
+    ensures relay { rx.new.relay ≡ rx.old.relay }
+    ensures taken { rx.new.taken ≡ rx.old.taken ++ result ∷ [] }
+{
+    for _ in rt.forever() {
+        if let Some(parcel) = rx.take(rt) {
+            return parcel;
+        }
+    }
+    unreachable!()
+}
+
+/// The sender's end of a relay, as an outbox. It takes each message, and waits until there is room.
+#[derive(Drop)]
+pub struct RelayOutbox<R: Wait + Drop, M: Drop> {
+    rt: R,
+    tx: RelayTx<M>,
+}
+
+impl<R: Wait + Drop, M: Drop> Model for RelayOutbox<R, M> {
+    ghost use Rattle.lsp_relay.specs.Relay.{Sending, IsOpen};
+
+    ghost Value = { Sending M };
+
+    ghost view = { λ b. b.tx };
+
+    ghost invariant = { λ b. IsOpen b.tx.sent };
+}
+
+impl<R: Wait + Drop, M: Drop> RelayOutbox<R, M> {
+    pub fn new(rt: R, tx: RelayTx<M>) -> RelayOutbox<R, M>
+        requires { IsOpen tx.sent }
+        ensures { result ≡ tx }
+    {
+        RelayOutbox { rt, tx }
+    }
+
+    /// Sends End, and gives the relay's end back.
+    pub fn finish(self) -> RelayTx<M>
+        ensures relay { result.relay ≡ self.relay }
+        ensures sent { result.sent ≡ self.sent ++ Parcel.End ∷ [] }
+    {
+        let RelayOutbox { rt, mut tx } = self;
+        deliver(&rt, &mut tx, Parcel::End);
+        tx
+    }
+}
+
+impl<R: Wait + Drop> Outbox for RelayOutbox<R, Message> {
+    ghost use Rattle.lsp_threads.specs.RelayBoxes.{RelaySends};
+
+    ghost sends = { RelaySends };
+
+    fn send(&mut self, message: Message) -> Result<(), SendFault> {
+        deliver(&self.rt, &mut self.tx, Parcel::Message(message));
+        Ok(())
+    }
+}
+
+/// As `RelayOutbox`, for messages that come back when they were written. After each send it drops those.
+#[derive(Drop)]
+pub struct ReplyOutbox<R: Wait + Drop, M: Drop> {
+    rt: R,
+    outbox: RelayOutbox<R, M>,
+    spent: Spent<M>,
+}
+
+impl<R: Wait + Drop, M: Drop> Model for ReplyOutbox<R, M> {
+    ghost use Rattle.lsp_relay.specs.Relay.{Sending};
+
+    ghost Value = { Sending M };
+
+    ghost view = { λ b. b.outbox };
+}
+
+impl<R: Wait + Copy + Drop, M: Drop> ReplyOutbox<R, M> {
+    pub fn new(rt: R, tx: RelayTx<M>, spent: Spent<M>) -> ReplyOutbox<R, M>
+        requires { IsOpen tx.sent }
+        ensures { result ≡ tx }
+    {
+        ReplyOutbox {
+            rt,
+            outbox: RelayOutbox::new(rt, tx),
+            spent,
+        }
+    }
+
+    /// Sends End, and gives the relay's end back.
+    pub fn finish(self) -> RelayTx<M>
+        ensures relay { result.relay ≡ self.relay }
+        ensures sent { result.sent ≡ self.sent ++ Parcel.End ∷ [] }
+    {
+        self.outbox.finish()
+    }
+}
+
+impl<R: Wait + Drop> Outbox for ReplyOutbox<R, Message> {
+    ghost use Rattle.lsp_threads.specs.RelayBoxes.{RelaySends};
+
+    ghost sends = { RelaySends };
+
+    fn send(&mut self, message: Message) -> Result<(), SendFault> {
+        let sent = self.outbox.send(message);
+        self.spent.drop_waiting(&self.rt);
+        sent
+    }
+}
+
+/// The receiver's end of a relay, as an inbox. It waits for each parcel, and End closes it. It has no timeouts.
+#[derive(Drop)]
+pub struct RelayInbox<R: Wait + Drop, M: Drop> {
+    rt: R,
+    rx: RelayRx<M>,
+    closed: bool,
+    exited: bool,
+}
+
+impl<R: Wait + Drop, M: Drop> Model for RelayInbox<R, M> {
+    ghost use Rattle.std.specs.Prelude.{◌≡◌};
+    ghost use Rattle.lsp_relay.specs.Relay.{has_end};
+    ghost use Rattle.lsp_threads.specs.RelayBoxes.{Receiving};
+
+    ghost Value = { Receiving M };
+
+    ghost view = { λ b. record { relay = b.rx.relay; taken = b.rx.taken; exited = b.exited } };
+
+    ghost invariant = { λ b. b.closed ≡ has_end b.rx.taken };
+}
+
+impl<R: Wait + Drop, M: Drop> RelayInbox<R, M> {
+    pub fn new(rt: R, rx: RelayRx<M>) -> RelayInbox<R, M>
+        requires { has_end rx.taken ≡ false }
+        ensures { result ≡ record { relay = rx.relay; taken = rx.taken; exited = false } }
+    {
+        RelayInbox {
+            rt,
+            rx,
+            closed: false,
+            exited: false,
+        }
+    }
+
+    /// Whether an `exit` was taken.
+    pub fn gave_exit(&self) -> bool
+        ensures { result ≡ self.now.exited }
+    {
+        self.exited
+    }
+
+    /// Whether End was taken.
+    pub fn is_closed(&self) -> bool
+        ensures { result ≡ has_end self.now.taken }
+    {
+        self.closed
+    }
+
+    /// Takes the parcels up to End, where End is not taken yet, and gives the relay's end back.
+    pub fn drain(self) -> RelayRx<M>
+        ensures relay { result.relay ≡ self.relay }
+        ensures taken { MatchBool (has_end self.taken) (result.taken ≡ self.taken) ((more : List M) × (result.taken ≡ self.taken ++ ended more)) }
+    {
+        let RelayInbox {
+            rt,
+            mut rx,
+            closed,
+            exited: _,
+        } = self;
+        if !closed {
+            take_to_end(&rt, &mut rx);
+        }
+        rx
+    }
+}
+
+/// Whether the parcel, which is dropped, was End.
+fn is_end<M: Drop>(parcel: Parcel<M>) -> bool
+    ensures { MatchBool result (parcel ≡ Parcel.End) ((m : M) × (parcel ≡ Parcel.Message m)) }
+{
+    match parcel {
+        Parcel::Message(_) => false,
+        Parcel::End => true,
+    }
+}
+
+/// Takes the parcels up to End.
+fn take_to_end<R: Wait, M: Drop>(rt: &R, rx: &mut RelayRx<M>)
+    ensures relay { rx.new.relay ≡ rx.old.relay }
+    ensures taken { (more : List M) × (rx.new.taken ≡ rx.old.taken ++ ended more) }
+{
+    for _ in rt.forever() {
+        if is_end(collect(rt, rx)) {
+            return;
+        }
+    }
+    unreachable!()
+}
+
+/// Whether this or an earlier message is an `exit`.
+fn exits(message: &Message, before: bool) -> bool
+    ensures { result ≡ (if exit_spec (message_view message.now) then true else before) }
+{
+    if is_exit(message) {
+        return true;
+    }
+    before
+}
+
+impl<R: Wait + Drop> RelayInbox<R, Message> {
+    fn next_event(&mut self) -> Event
+        ensures { RelayGives self.old (event_view result) self.new }
+    {
+        if self.closed {
+            return Event::Closed;
+        }
+        match collect(&self.rt, &mut self.rx) {
+            Parcel::Message(message) => {
+                self.exited = exits(&message, self.exited);
+                Event::Message(message)
+            }
+            Parcel::End => {
+                self.closed = true;
+                Event::Closed
+            }
+        }
+    }
+}
+
+impl<R: Wait + Drop> Inbox for RelayInbox<R, Message> {
+    ghost use Rattle.lsp_threads.specs.RelayBoxes.{RelayGives};
+
+    ghost receives = { RelayGives };
+
+    fn receive_for(&mut self, _seconds: u64) -> Event {
+        self.next_event()
+    }
+
+    fn receive(&mut self) -> Event {
+        self.next_event()
+    }
+}

@@ -1,0 +1,155 @@
+//! The ends of a relay of texts: frames that are made and gathered, and a loop that writes them.
+ghost use Rattle.std.specs.Prelude.{◌≡◌, ◌++◌, [], None, Ok, OnErr, OnOk, OnSome, string_bytes};
+ghost use Rattle.lsp_message.specs.View.{message_view};
+ghost use Rattle.lsp_relay.specs.Relay.{IsOpen};
+ghost use Rattle.lsp_threads.specs.Framing.{parcel_bytes, AreEnded, FramingSends, WritesBytes, WritesParcels};
+
+use crate::relay_boxes::{collect, deliver};
+use lsp_message::{Message, WriteFault, write_frames};
+use lsp_relay::{Parcel, RelayRx, RelayTx};
+use std::alloc::{AllocError, Global};
+use std::io::Write;
+use std::marker::Model;
+use std::mem;
+use std::sync::Wait;
+
+/// From how many bytes on a text of frames is sent, though more frames could join it. It changes speed and memory only.
+const FULL_PARCEL: usize = 65536;
+
+/// The sender's end of a relay of texts. It makes the frame of each message, and gathers frames until they are handed over.
+#[derive(Drop)]
+pub struct FramingOutbox<R: Wait + Drop> {
+    rt: R,
+    alloc: Global,
+    tx: RelayTx<String>,
+    pending: String,
+}
+
+impl<R: Wait + Drop> Model for FramingOutbox<R> {
+    ghost use Rattle.std.specs.Prelude.{◌++◌, string_bytes};
+    ghost use Rattle.lsp_relay.specs.Relay.{IsOpen};
+    ghost use Rattle.lsp_threads.specs.Framing.{parcel_bytes, Framing};
+
+    ghost Value = { Framing };
+
+    ghost view = { λ b. record { relay = b.tx.relay; bytes = parcel_bytes b.tx.sent ++ string_bytes b.pending } };
+
+    ghost invariant = { λ b. IsOpen b.tx.sent };
+}
+
+impl<R: Wait + Drop> FramingOutbox<R> {
+    pub fn new(rt: R, alloc: Global, tx: RelayTx<String>) -> FramingOutbox<R>
+        requires { tx.sent ≡ [] }
+        ensures { result ≡ record { relay = tx.relay; bytes = [] } }
+    {
+        FramingOutbox {
+            rt,
+            alloc,
+            tx,
+            pending: String::new(alloc),
+        }
+    }
+
+    /// Adds the frame of a message. The error means that an allocation failed.
+    pub fn add(&mut self, message: &Message) -> Result<(), AllocError>
+        ensures ok { OnOk result (FramingSends self.old (message_view message.now) (Ok tt) self.new) }
+        ensures err { OnErr result (self.new ≡ self.old) }
+    {
+        let frame = message.to_frame(self.alloc)?;
+        self.join(frame)
+    }
+
+    /// Adds a frame to those that were gathered. If there are none, it is moved and not copied.
+    fn join(&mut self, frame: String) -> Result<(), AllocError>
+        ensures ok { OnOk result ((self.new.relay ≡ self.old.relay) × (self.new.bytes ≡ self.old.bytes ++ string_bytes frame)) }
+        ensures err { OnErr result (self.new ≡ self.old) }
+    {
+        if self.pending.is_empty() {
+            self.pending = frame;
+            return Ok(());
+        }
+        self.pending.push_str(frame.as_str())
+    }
+
+    /// Sends what was gathered, as one parcel.
+    fn hand_over(&mut self)
+        ensures { self.new ≡ self.old }
+    {
+        let text = mem::replace(&mut self.pending, String::new(self.alloc));
+        deliver_text(&self.rt, &mut self.tx, text);
+    }
+
+    /// Sends what was gathered, unless the next message is at hand and the parcel not full.
+    pub fn go_on(&mut self, has_next: bool)
+        ensures { self.new ≡ self.old }
+    {
+        if !has_next || self.pending.len() >= FULL_PARCEL {
+            self.hand_over();
+        }
+    }
+
+    /// Sends what was gathered and then End, and gives the relay's end back.
+    pub fn finish(self) -> RelayTx<String>
+        ensures relay { result.relay ≡ self.relay }
+        ensures bytes { parcel_bytes result.sent ≡ self.bytes }
+        ensures ended { AreEnded result.sent }
+    {
+        let FramingOutbox {
+            rt,
+            alloc: _,
+            mut tx,
+            pending,
+        } = self;
+        deliver_text(&rt, &mut tx, pending);
+        deliver(&rt, &mut tx, Parcel::End);
+        tx
+    }
+}
+
+/// Sends a text as one parcel, unless it is empty.
+fn deliver_text<R: Wait>(rt: &R, tx: &mut RelayTx<String>, text: String)
+    requires { IsOpen tx.old.sent }
+    ensures relay { tx.new.relay ≡ tx.old.relay }
+    ensures bytes { parcel_bytes tx.new.sent ≡ parcel_bytes tx.old.sent ++ string_bytes text }
+    ensures still_open { IsOpen tx.new.sent }
+{
+    if !text.is_empty() {
+        deliver(rt, tx, Parcel::Message(text));
+    }
+}
+
+/// Writes each text up to End. After a fault it writes nothing more, and drops the texts.
+pub fn write_texts<R: Wait, W: Write>(
+    rt: &R,
+    rx: RelayRx<String>,
+    writer: &mut W,
+) -> (RelayRx<String>, Option<WriteFault>)
+    requires { rx.taken ≡ [] }
+    ensures relay { result.0.relay ≡ rx.relay }
+    ensures written { WritesParcels result.0.taken result.1 (W.contents writer.old) (W.contents writer.new) }
+{
+    let mut rx = rx;
+    let mut fault = None;
+    for _ in rt.forever() {
+        match collect(rt, &mut rx) {
+            Parcel::Message(text) => fault = write_after(fault, &text, writer),
+            Parcel::End => return (rx, fault),
+        }
+    }
+    unreachable!()
+}
+
+/// Writes a text, unless a write failed before. The answer is the first fault.
+fn write_after<W: Write>(
+    before: Option<WriteFault>,
+    text: &str,
+    writer: &mut W,
+) -> Option<WriteFault>
+    ensures none { before ≡ None → WritesBytes text.now result (W.contents writer.old) (W.contents writer.new) }
+    ensures some { OnSome before ((result ≡ before) × (writer.new ≡ writer.old)) }
+{
+    if before.is_some() || text.is_empty() {
+        return before;
+    }
+    write_frames(writer, text).err()
+}

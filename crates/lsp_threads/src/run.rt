@@ -1,0 +1,194 @@
+//! Sessions whose reader and writer run in threads of their own: of a handler, and of any service.
+ghost use Rattle.serde_json.specs.View.{view};
+ghost use Rattle.std.specs.Prelude.{IfOk, IfSome};
+ghost use Rattle.lsp_message.specs.Frame.{no_limit};
+ghost use Rattle.lsp_session.specs.HandlerSession.{of_handler};
+ghost use Rattle.lsp_session.specs.Session.{SessionOut};
+ghost use Rattle.lsp_threads.specs.Threads.{ThreadsGive};
+
+use crate::serving::{serve_between, start_both};
+use crate::workers::StartFault;
+use lsp_session::{Handler, HandlerService, Service, SessionEnd, SessionFault};
+use serde_json::Value;
+use std::alloc::Global;
+use std::io::{BufRead, Write};
+use std::sync::Wait;
+use std::thread::{Builder, Threads};
+
+/// What `run_threads` gives back.
+#[derive(Debug, Drop)]
+pub struct Threaded<W> {
+    /// The writer that you gave it.
+    pub writer: W,
+    /// How the session ended.
+    pub answer: Result<SessionEnd, SessionFault>,
+}
+
+/// Runs a session of a server (LSP 3.17, "Server lifecycle") with a thread that reads, a thread that writes and the handler on
+/// the caller's thread. In every schedule its answer and the bytes that it writes are such as a session allows.
+///
+/// - The fault means that a thread was not started, or that an allocation failed. Nothing was read or written then.
+/// - It returns only when the reader comes to its end, to a fault or to an `exit`. What is read after the session's answer is
+///   dropped. A read fault counts only if the session came to it.
+/// - After a failed write nothing more is written, and the session goes on: the handler gets messages that `session` would not
+///   have read.
+pub fn run_threads<T, R, W, H>(
+    rt: &T,
+    alloc: Global,
+    reader: R,
+    writer: W,
+    capabilities: Value,
+    handler: &mut H,
+) -> Result<Threaded<W>, StartFault>
+where
+    T: Threads + Wait + Copy + Drop + Send + 'static,
+    R: BufRead + Drop + Send + 'static,
+    W: Write + Drop + Send + 'static,
+    H: Handler,
+    ensures { IfSome (R.remaining reader) (λ text. IfOk result (λ done.
+        ThreadsGive no_limit (SessionOut (of_handler H.answers H.notes (view capabilities)) handler.old handler.new) text (W.contents writer) (W.contents done.writer) done.answer)) }
+{
+    run_threads_within(rt, alloc, reader, writer, capabilities, handler, u64::MAX)
+}
+
+/// As `run_threads`, with a limit on what is read. If the session comes to a content part longer than `limit` bytes, the fault is
+/// `SessionFault::Read` with `ReadFault::TooLong`.
+pub fn run_threads_within<T, R, W, H>(
+    rt: &T,
+    alloc: Global,
+    reader: R,
+    writer: W,
+    capabilities: Value,
+    handler: &mut H,
+    limit: u64,
+) -> Result<Threaded<W>, StartFault>
+where
+    T: Threads + Wait + Copy + Drop + Send + 'static,
+    R: BufRead + Drop + Send + 'static,
+    W: Write + Drop + Send + 'static,
+    H: Handler,
+    ensures { IfSome (R.remaining reader) (λ text. IfOk result (λ done.
+        ThreadsGive limit (SessionOut (of_handler H.answers H.notes (view capabilities)) handler.old handler.new) text (W.contents writer) (W.contents done.writer) done.answer)) }
+{
+    let builders = Builders {
+        writer: Builder::new(),
+        reader: Builder::new(),
+    };
+    run_threads_by(
+        rt,
+        builders,
+        alloc,
+        reader,
+        writer,
+        capabilities,
+        handler,
+        limit,
+    )
+}
+
+/// How the two threads of a session are started.
+#[derive(Drop)]
+pub struct Builders {
+    /// The thread that writes.
+    pub writer: Builder,
+    /// The thread that reads.
+    pub reader: Builder,
+}
+
+/// As `run_threads_within`, with builders for the two threads, which can set the sizes of their stacks.
+pub fn run_threads_by<T, R, W, H>(
+    rt: &T,
+    builders: Builders,
+    alloc: Global,
+    reader: R,
+    writer: W,
+    capabilities: Value,
+    handler: &mut H,
+    limit: u64,
+) -> Result<Threaded<W>, StartFault>
+where
+    T: Threads + Wait + Copy + Drop + Send + 'static,
+    R: BufRead + Drop + Send + 'static,
+    W: Write + Drop + Send + 'static,
+    H: Handler,
+    ensures { IfSome (R.remaining reader) (λ text. IfOk result (λ done.
+        ThreadsGive limit (SessionOut (of_handler H.answers H.notes (view capabilities)) handler.old handler.new) text (W.contents writer) (W.contents done.writer) done.answer)) }
+{
+    let mut capabilities = capabilities;
+    let mut service = HandlerService::new(alloc, &mut capabilities, handler);
+    run_threads_of_service_by(rt, builders, alloc, reader, writer, &mut service, limit)
+}
+
+/// Runs a session of a service (LSP 3.17, "Server lifecycle") with a thread that reads, a thread that writes and the
+/// service on the caller's thread. In every schedule its answer and the bytes that it writes are such as a session allows.
+///
+/// Starts, faults and the end are those of `run_threads`. A message that the service gives is written while the service goes on.
+pub fn run_threads_of_service<T, R, W, S>(
+    rt: &T,
+    alloc: Global,
+    reader: R,
+    writer: W,
+    service: &mut S,
+) -> Result<Threaded<W>, StartFault>
+where
+    T: Threads + Wait + Copy + Drop + Send + 'static,
+    R: BufRead + Drop + Send + 'static,
+    W: Write + Drop + Send + 'static,
+    S: Service,
+    ensures { IfSome (R.remaining reader) (λ text. IfOk result (λ done.
+        ThreadsGive no_limit (SessionOut S.behavior service.old service.new)
+        text (W.contents writer) (W.contents done.writer) done.answer)) }
+{
+    run_threads_of_service_within(rt, alloc, reader, writer, service, u64::MAX)
+}
+
+/// `run_threads_of_service` over messages whose content part has at most `limit` bytes. A longer one is `SessionFault::Read` of
+/// `ReadFault::TooLong`, where the session came to it.
+pub fn run_threads_of_service_within<T, R, W, S>(
+    rt: &T,
+    alloc: Global,
+    reader: R,
+    writer: W,
+    service: &mut S,
+    limit: u64,
+) -> Result<Threaded<W>, StartFault>
+where
+    T: Threads + Wait + Copy + Drop + Send + 'static,
+    R: BufRead + Drop + Send + 'static,
+    W: Write + Drop + Send + 'static,
+    S: Service,
+    ensures { IfSome (R.remaining reader) (λ text. IfOk result (λ done.
+        ThreadsGive limit (SessionOut S.behavior service.old service.new)
+        text (W.contents writer) (W.contents done.writer) done.answer)) }
+{
+    let builders = Builders {
+        writer: Builder::new(),
+        reader: Builder::new(),
+    };
+    run_threads_of_service_by(rt, builders, alloc, reader, writer, service, limit)
+}
+
+/// As `run_threads_of_service_within`, with builders for the two threads, which can set the sizes of their stacks.
+pub fn run_threads_of_service_by<T, R, W, S>(
+    rt: &T,
+    builders: Builders,
+    alloc: Global,
+    reader: R,
+    writer: W,
+    service: &mut S,
+    limit: u64,
+) -> Result<Threaded<W>, StartFault>
+where
+    T: Threads + Wait + Copy + Drop + Send + 'static,
+    R: BufRead + Drop + Send + 'static,
+    W: Write + Drop + Send + 'static,
+    S: Service,
+    ensures { IfSome (R.remaining reader) (λ text. IfOk result (λ done.
+        ThreadsGive limit (SessionOut S.behavior service.old service.new)
+        text (W.contents writer) (W.contents done.writer) done.answer)) }
+{
+    match start_both(rt, builders, alloc, reader, limit, writer) {
+        Ok(workers) => Ok(serve_between(rt, alloc, workers, service)),
+        Err(fault) => Err(fault),
+    }
+}

@@ -1,0 +1,150 @@
+//! The session between the two threads, and how they are started.
+ghost use Rattle.std.specs.Prelude.{◌≡◌, [], IfOk, IfSome};
+ghost use Rattle.lsp_session.specs.Session.{SessionOut};
+ghost use Rattle.lsp_threads.specs.Threads.{ThreadsGive, session_end as session_end_spec};
+
+use crate::relay_boxes::{RelayInbox, ReplyOutbox, deliver};
+use crate::run::{Builders, Threaded};
+use crate::spent::{Spent, way_back};
+use crate::workers::{ROOM, Reader, StartFault, Writer, start_reader, start_writer};
+use lsp_message::{Message, WriteFault};
+use lsp_relay::{Parcel, RelayRx, RelayTx, relay, settle_all};
+use lsp_session::{ReadEnd, Service, serve_service, session_answer};
+use std::alloc::Global;
+use std::io::{BufRead, Write};
+use std::sync::Wait;
+use std::thread::{PromisedHandle, Threads};
+
+/// How many messages that were written may wait for the caller to drop them. It changes speed and memory only, and no answer.
+const SPENT_ROOM: usize = 8;
+
+/// The two threads, and the caller's ends of their relays.
+#[derive(Drop)]
+pub(crate) struct Workers<R: BufRead + Drop, W: Write + Drop> {
+    pub(crate) rx: RelayRx<Message>,
+    pub(crate) replies: RelayTx<Message>,
+    /// The replies that were written.
+    pub(crate) spent: Spent<Message>,
+    pub(crate) reading: PromisedHandle<(RelayTx<Message>, ReadEnd), Reader<R, Message>>,
+    pub(crate) writing: PromisedHandle<
+        (RelayRx<Message>, W, Option<WriteFault>),
+        Writer<W, Message>,
+    >,
+}
+
+/// Starts the thread that writes and then the one that reads.
+pub(crate) fn start_both<T, R, W>(
+    rt: &T,
+    builders: Builders,
+    alloc: Global,
+    reader: R,
+    limit: u64,
+    writer: W,
+) -> Result<Workers<R, W>, StartFault>
+where
+    T: Threads + Wait + Copy + Drop + Send + 'static,
+    R: BufRead + Drop + Send + 'static,
+    W: Write + Drop + Send + 'static,
+    ensures reading { IfOk result (λ workers. (workers.rx.taken ≡ []) × (workers.reading.promise.tx.value.relay ≡ workers.rx.relay)
+        × (workers.reading.promise.tx.value.sent ≡ []) × (workers.reading.promise.reader.value ≡ reader) × (workers.reading.promise.limit ≡ limit)) }
+    ensures writing { IfOk result (λ workers. (workers.replies.sent ≡ []) × (workers.writing.promise.rx.value.relay ≡ workers.replies.relay)
+        × (workers.writing.promise.writer.value ≡ writer)) }
+{
+    let Ok((replies, replies_rx)) = relay::<Message>(alloc, ROOM) else {
+        return Err(StartFault::Memory);
+    };
+    let Ok((tx, rx)) = relay::<Message>(alloc, ROOM) else {
+        return Err(StartFault::Memory);
+    };
+    let Ok((back, spent)) = way_back::<Message>(alloc, SPENT_ROOM) else {
+        return Err(StartFault::Memory);
+    };
+    let writing = match start_writer::<Message, T, W>(
+        rt,
+        builders.writer,
+        alloc,
+        replies_rx,
+        writer,
+        back,
+    ) {
+        Ok(writing) => writing,
+        Err(fault) => return Err(fault),
+    };
+    match start_reader::<Message, T, R>(rt, builders.reader, alloc, reader, limit, tx) {
+        Ok(reading) => Ok(Workers {
+            rx,
+            replies,
+            spent,
+            reading,
+            writing,
+        }),
+        Err(fault) => {
+            end_writing(rt, replies, writing);
+            Err(fault)
+        }
+    }
+}
+
+/// Ends the thread that writes, which has nothing to write.
+fn end_writing<T: Threads + Wait, W: Write + Drop>(
+    rt: &T,
+    replies: RelayTx<Message>,
+    writing: PromisedHandle<(RelayRx<Message>, W, Option<WriteFault>), Writer<W, Message>>,
+)
+    requires { replies.sent ≡ [] }
+{
+    let mut replies = replies;
+    deliver(rt, &mut replies, Parcel::End);
+    let _ = writing.join(rt);
+}
+
+/// The session between the two threads.
+pub(crate) fn serve_between<T, R, W, S>(
+    rt: &T,
+    alloc: Global,
+    workers: Workers<R, W>,
+    service: &mut S,
+) -> Threaded<W>
+where
+    T: Threads + Wait + Copy + Drop,
+    R: BufRead + Drop,
+    W: Write + Drop,
+    S: Service,
+    requires reading { (workers.rx.taken ≡ []) × (workers.reading.promise.tx.value.relay ≡ workers.rx.relay) × (workers.reading.promise.tx.value.sent ≡ []) }
+    requires writing { (workers.replies.sent ≡ []) × (workers.writing.promise.rx.value.relay ≡ workers.replies.relay) }
+    ensures { IfSome (R.remaining workers.reading.promise.reader.value) (λ text.
+        ThreadsGive workers.reading.promise.limit (SessionOut S.behavior service.old service.new) text
+        (W.contents workers.writing.promise.writer.value) (W.contents result.writer) result.answer) }
+{
+    let Workers {
+        rx,
+        replies,
+        spent,
+        reading,
+        writing,
+    } = workers;
+    let mut inbox = RelayInbox::new(*rt, rx);
+    let mut outbox = ReplyOutbox::new(*rt, replies, spent);
+    let answer = serve_service(alloc, &mut inbox, &mut outbox, service);
+    let closed = inbox.is_closed();
+    let exited = inbox.gave_exit();
+    let replies = outbox.finish();
+    let rx = inbox.drain();
+    let (tx, read) = reading.join(rt);
+    let (replies_rx, writer, unwritten) = writing.join(rt);
+    settle_all(rt, rx, tx);
+    settle_all(rt, replies_rx, replies);
+    let answer = session_answer(answer, session_end(closed, exited, read), unwritten);
+    Threaded { writer, answer }
+}
+
+/// What ended the messages of a session.
+fn session_end(closed: bool, exited: bool, read: ReadEnd) -> Option<ReadEnd>
+    ensures { result ≡ session_end_spec closed exited read }
+{
+    match (closed, exited) {
+        (true, _) => Some(read),
+        (false, true) => Some(ReadEnd::Exit),
+        (false, false) => None,
+    }
+}
