@@ -77,7 +77,7 @@ impl Connection {
         let (sender, receiver, threads) = start_threads(
             rt,
             alloc,
-            move |incoming, to_drop| read_all(theirs, alloc, reader, limit, incoming, to_drop),
+            move |incoming, spent| read_all(theirs, alloc, reader, limit, incoming, spent),
             move |outgoing, written| write_all(theirs, alloc, outgoing, writer, written),
         )?;
         Ok((Connection { sender, receiver }, threads))

@@ -11,6 +11,7 @@ use crate::written::{Written, channels_of_written, drop_all};
 use crossbeam_channel::{Receiver, Sender, bounded};
 use lsp_message::{Message, WriteFault, write_frames};
 use lsp_session::{ReadEnd, read_loop_within};
+use lsp_threads::spent::Spent;
 use std::alloc::Global;
 use std::io::{BufRead, Write};
 use std::sync::Wait;
@@ -106,40 +107,44 @@ pub(crate) fn start_threads<M, R, F, G>(
 where
     M: Drop + Send + 'static,
     R: Threads + Wait + Copy + Drop + Send + 'static,
-    F: FnOnce(Sender<M>, Receiver<M>) -> Result<(), IoFault> + Drop + Send + 'static,
+    F: FnOnce(Sender<M>, Spent<M>) -> Result<(), IoFault> + Drop + Send + 'static,
     G: FnOnce(Receiver<M>, Written<M>) -> Result<(), IoFault> + Drop + Send + 'static,
     requires { F.IsAlwaysCallable read × G.IsAlwaysCallable write }
     ensures { IfErr result (λ fault. is_start_fault fault ≡ true) }
 {
     let (incoming, receiver) = bounded(alloc, CHANNEL_ROOM)?;
     let (sender, outgoing) = bounded(alloc, CHANNEL_ROOM)?;
-    let (written, to_drop, large) = channels_of_written(alloc)?;
+    let (written, spent, large) = channels_of_written(alloc)?;
     let theirs = *rt;
-    let Ok(writer) = thread::spawn(
-        rt,
-        move || -> Result<(), IoFault>
-            requires { G.IsAlwaysCallable write }
-        { write(outgoing, written) },
-    ) else {
-        return Err(IoFault::Start);
-    };
-    let Ok(dropper) = thread::spawn(rt, move || drop_all(theirs, large)) else {
-        return Err(IoFault::Start);
-    };
-    let Ok(reader) = thread::spawn(
-        rt,
-        move || -> Result<(), IoFault>
-            requires { F.IsAlwaysCallable read }
-        { read(incoming, to_drop) },
-    ) else {
-        return Err(IoFault::Start);
-    };
+    let writing = move || -> Result<(), IoFault>
+        requires { G.IsAlwaysCallable write }
+    { write(outgoing, written) };
+    let writer = Writer::Started(start(rt, writing)?);
+    let dropper = start(rt, move || drop_all(theirs, large))?;
+    let reading = move || -> Result<(), IoFault>
+        requires { F.IsAlwaysCallable read }
+    { read(incoming, spent) };
     let threads = IoThreads {
-        reader,
-        writer: Writer::Started(writer),
+        reader: start(rt, reading)?,
+        writer,
         dropper,
     };
     Ok((sender, receiver, threads))
+}
+
+/// Starts a thread.
+fn start<R, F, T>(rt: &R, work: F) -> Result<JoinHandle<T>, IoFault>
+where
+    R: Threads,
+    F: FnOnce() -> T + Drop + Send + 'static,
+    T: Drop + Send + 'static,
+    requires { F.IsAlwaysCallable work }
+    ensures { IfErr result (λ fault. is_start_fault fault ≡ true) }
+{
+    match thread::spawn(rt, work) {
+        Ok(thread) => Ok(thread),
+        Err(_) => Err(IoFault::Start),
+    }
 }
 
 /// The thread that reads.
@@ -149,12 +154,12 @@ pub(crate) fn read_all<R: Wait + Drop, B: BufRead + Drop>(
     mut reader: B,
     limit: u64,
     incoming: Sender<Message>,
-    to_drop: Receiver<Message>,
+    spent: Spent<Message>,
 ) -> Result<(), IoFault> {
     let mut outbox = ForwardingOutbox {
         rt: &rt,
         incoming: &incoming,
-        to_drop: &to_drop,
+        spent: &spent,
     };
     reader_end(read_loop_within(alloc, &mut reader, &mut outbox, limit))
 }

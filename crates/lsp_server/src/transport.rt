@@ -2,10 +2,10 @@
 ghost use Rattle.std.specs.Prelude.{◌≡◌, IfErr};
 ghost use Rattle.lsp_session.specs.Boxes.{handed_back};
 
-use crate::written::drop_waiting;
 use crossbeam_channel::{Receiver, RecvTimeoutError, SendError, Sender};
 use lsp_message::Message;
 use lsp_session::{Event, Inbox, Outbox, SendFault};
+use lsp_threads::spent::Spent;
 use std::sync::Wait;
 use std::time::{Clock, Duration};
 
@@ -62,7 +62,7 @@ impl<'a, R: Wait> Outbox for ChannelOutbox<'a, R> {
 pub(crate) struct ForwardingOutbox<'a, R> {
     pub(crate) rt: &'a R,
     pub(crate) incoming: &'a Sender<Message>,
-    pub(crate) to_drop: &'a Receiver<Message>,
+    pub(crate) spent: &'a Spent<Message>,
 }
 
 impl<'a, R: Wait> Outbox for ForwardingOutbox<'a, R> {
@@ -72,7 +72,7 @@ impl<'a, R: Wait> Outbox for ForwardingOutbox<'a, R> {
 
     fn send(&mut self, message: Message) -> Result<(), SendFault> {
         let sent = forward(self.rt, self.incoming, message);
-        drop_waiting(self.rt, self.to_drop);
+        self.spent.drop_waiting(self.rt);
         sent
     }
 }

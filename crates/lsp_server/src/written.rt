@@ -1,25 +1,24 @@
-//! Messages that were written, on their way to the thread that drops them.
-//!
-//! The thread that reads drops them, since it allocated most of them: two threads that allocate and free in one arena of the C
-//! library wait for its lock.
+//! Messages that were written, on their way to the thread that drops them: back to the thread that reads, which allocated most of
+//! them, and to a thread of their own where that one has no room for a large one.
 use crossbeam_channel::{Receiver, Sender, bounded};
+use lsp_threads::spent::{GiveBack, Spent, way_back};
 use std::alloc::{AllocError, Global};
 use std::sync::Wait;
 
 /// How many messages that were written wait for the thread that reads.
 const WRITTEN_ROOM: usize = 16;
 
-/// How many large messages wait for the thread that drops, which takes what the thread that reads has no room for.
+/// How many large messages wait for the thread that drops.
 const LARGE_ROOM: usize = 1;
 
 /// The longest frame in bytes of a small message. Of large ones the thread that reads is given one at a time, since it may wait
 /// long for its peer and keeps them meanwhile.
 const SMALL_FRAME: usize = 8192;
 
-/// Where the thread that writes sends its messages when they are written.
+/// Where the thread that writes sends its messages when it needs them no more.
 #[derive(Drop)]
-pub(crate) struct Written<M> {
-    to_reader: Sender<M>,
+pub(crate) struct Written<M: Drop> {
+    back: GiveBack<M>,
     to_dropper: Sender<M>,
 }
 
@@ -28,13 +27,14 @@ impl<M: Drop> Written<M> {
     /// dropped here.
     pub(crate) fn let_go<R: Wait>(&self, rt: &R, message: M, frame_length: usize) {
         let is_large = frame_length > SMALL_FRAME;
-        if is_large && !self.to_reader.is_empty() {
-            let _ = self.to_dropper.send(rt, message);
-            return;
-        }
-        match self.to_reader.try_send(rt, message) {
-            Err(refused) if is_large => {
-                let _ = self.to_dropper.send(rt, refused.into_inner());
+        let refused = if is_large && !self.back.is_empty() {
+            Some(message)
+        } else {
+            self.back.give(rt, message)
+        };
+        match refused {
+            Some(large) if is_large => {
+                let _ = self.to_dropper.send(rt, large);
             }
             _ => {}
         }
@@ -45,24 +45,10 @@ impl<M: Drop> Written<M> {
 /// the thread that drops large ones.
 pub(crate) fn channels_of_written<M: Drop>(
     alloc: Global,
-) -> Result<(Written<M>, Receiver<M>, Receiver<M>), AllocError> {
-    let (to_reader, to_drop) = bounded(alloc, WRITTEN_ROOM)?;
+) -> Result<(Written<M>, Spent<M>, Receiver<M>), AllocError> {
+    let (back, spent) = way_back(alloc, WRITTEN_ROOM)?;
     let (to_dropper, large) = bounded(alloc, LARGE_ROOM)?;
-    let written = Written {
-        to_reader,
-        to_dropper,
-    };
-    Ok((written, to_drop, large))
-}
-
-/// Drops the messages that wait, and waits for none.
-pub(crate) fn drop_waiting<R: Wait, M: Drop>(rt: &R, to_drop: &Receiver<M>) {
-    for _ in 0..WRITTEN_ROOM {
-        match to_drop.try_recv(rt) {
-            Ok(message) => drop(message),
-            Err(_) => return,
-        }
-    }
+    Ok((Written { back, to_dropper }, spent, large))
 }
 
 /// Drops large messages as they come, until no more can come.

@@ -8,6 +8,7 @@ mod framing;
 pub mod laws;
 mod pumping;
 mod speaking;
+pub mod spent;
 mod threads;
 mod workers;
 
