@@ -7,8 +7,6 @@ ghost use Rattle.lsp_demo.specs.Program.{asks_serve, asked_address};
 mod pump;
 mod report;
 mod serve;
-#[cfg(test)]
-mod tests;
 mod work;
 
 use lsp_server::keep_freed_memory;

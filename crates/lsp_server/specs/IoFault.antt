@@ -3,12 +3,10 @@ use Rattle.std.specs.Prelude.{ℕ, List, Bool, true, false, Option, Some, None, 
 use Rattle.lsp_message.specs.Faults.{read_fault_text, write_fault_text}
 use Rattle.lsp_session.specs.declared.loops.ReadEnd.{ReadEnd}
 use Rattle.lsp_session.specs.declared.loops.ReadEnd.TheVariants.{Exit, End, Fault, Closed as OutboxClosed, Memory as OutboxMemory}
-use Rattle.lsp_session.specs.declared.loops.write.WriteEnd.{WriteEnd}
-use Rattle.lsp_session.specs.declared.loops.write.WriteEnd.TheVariants.{Closed as InboxClosed, Fault as Unwritten}
-use Rattle.lsp_server.specs.declared.stdio.IoFault.{IoFault}
-use Rattle.lsp_server.specs.declared.stdio.IoFault.TheVariants.{Read, Write, Closed, Start, Socket, Memory}
-use Rattle.lsp_server.specs.declared.stdio.Writer.{Writer}
-use Rattle.lsp_server.specs.declared.stdio.Writer.TheVariants.{Started, Ended}
+use Rattle.lsp_server.specs.declared.io_fault.IoFault.{IoFault}
+use Rattle.lsp_server.specs.declared.io_fault.IoFault.TheVariants.{Read, Write, Closed, Start, Socket, Memory}
+use Rattle.lsp_server.specs.declared.io_threads.Writer.{Writer}
+use Rattle.lsp_server.specs.declared.io_threads.Writer.TheVariants.{Started, Ended}
 
 abbrev pub io_fault_number : IoFault → ℕ
 io_fault_number (Read fault) = 1
@@ -52,11 +50,6 @@ reader_answer End = Ok tt
 reader_answer (Fault fault) = Err (Read fault)
 reader_answer OutboxClosed = Err Closed
 reader_answer OutboxMemory = Err Memory
-
--- what the thread that writes answers. For private clauses.
-abbrev pub writer_answer : WriteEnd → Result (Unit {0}) IoFault
-writer_answer InboxClosed = Ok tt
-writer_answer (Unwritten fault) = Err (Write fault)
 
 -- what the thread that writes answered, where it has ended
 abbrev pub ended_answer : Writer → Option (Result (Unit {0}) IoFault)

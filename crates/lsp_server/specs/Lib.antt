@@ -76,3 +76,4 @@ pub use Rattle.lsp_session.specs.WriteLoop
 pub use Rattle.lsp_threads.specs.Pump
 pub use Rattle.lsp_threads.specs.Threads
 pub mod IoFault
+pub mod Writing

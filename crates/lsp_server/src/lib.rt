@@ -5,16 +5,22 @@
 //! your own. `docs/WRITING_A_SERVER.md` goes through all three.
 #![tactic(auto)]
 
-mod channels;
+mod connection;
 pub mod dispatch;
+mod io_fault;
+mod io_threads;
 pub mod laws;
 mod memory;
 mod relays;
 mod servers;
 mod socket;
 mod stdio;
+mod transport;
+mod written;
 
-pub use channels::Connection;
+pub use connection::Connection;
+pub use io_fault::IoFault;
+pub use io_threads::{CHANNEL_ROOM, IoThreads};
 pub use lsp_message::{
     ErrorCode, ExtractError, Front, Message, Notification, ReadFault, Request, RequestId, Response,
     ResponseError, WriteFault, front, read_as, write_as, write_frames,
@@ -38,4 +44,3 @@ pub use lsp_threads::{
 pub use memory::keep_freed_memory;
 pub use relays::{Parcel, RelayRx, RelayTx, relay};
 pub use servers::{run_threads_with, run_threads_with_by, run_threads_with_within};
-pub use stdio::{CHANNEL_ROOM, IoFault, IoThreads};

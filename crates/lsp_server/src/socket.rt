@@ -2,10 +2,11 @@
 ghost use Rattle.std.specs.Prelude.{◌≡◌, true, IfErr};
 ghost use Rattle.std.specs.IoError.{error_kind};
 ghost use Rattle.lsp_server.specs.IoFault.{is_connect_fault};
-ghost use Rattle.lsp_server.specs.declared.stdio.IoFault.TheVariants.{Socket};
+ghost use Rattle.lsp_server.specs.declared.io_fault.IoFault.TheVariants.{Socket};
 
-use crate::channels::Connection;
-use crate::stdio::{IoFault, IoThreads};
+use crate::connection::Connection;
+use crate::io_fault::IoFault;
+use crate::io_threads::IoThreads;
 use std::io;
 use std::io::Write;
 use std::net::{Net, OpenListener, OpenStream, Shutdown, TcpListener, TcpStream, ToSocketAddrs};

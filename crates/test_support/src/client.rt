@@ -86,49 +86,43 @@ pub struct Part {
     pub sent_last: &'static [&'static str],
 }
 
-// What a connection carries. The thread is started for any such type, since the check finds that it may own the ends of the
-// channels only where it need not look into the type.
-trait Carried {
-    fn play<R: Wait + Clock + AllocGlobal + Drop>(
-        rt: R,
-        part: Part,
-        sender: Sender<Self>,
-        receiver: Receiver<Self>,
-    ) -> bool;
-}
-
-impl Carried for Message {
-    fn play<R: Wait + Clock + AllocGlobal + Drop>(
-        rt: R,
-        part: Part,
-        sender: Sender<Message>,
-        receiver: Receiver<Message>,
-    ) -> bool {
-        if !plays(&rt, &sender, &receiver, part.acts) {
+/// Whether a client could play its part.
+fn plays_part<R: Wait + Clock + AllocGlobal + Drop>(
+    rt: R,
+    part: Part,
+    sender: Sender<Message>,
+    receiver: Receiver<Message>,
+) -> bool {
+    if !plays(&rt, &sender, &receiver, part.acts) {
+        return false;
+    }
+    drop(receiver);
+    for text in part.sent_last {
+        if !sends(&rt, &sender, text) {
             return false;
         }
-        drop(receiver);
-        for text in part.sent_last {
-            if !sends(&rt, &sender, text) {
-                return false;
-            }
-        }
-        true
     }
+    true
 }
 
-fn start<M, R>(
+/// A thread that owns the ends of two channels, whatever they carry: the check finds that it may own them only where it need not
+/// look into that type.
+fn start<M, R, F>(
     rt: &R,
-    part: Part,
     sender: Sender<M>,
     receiver: Receiver<M>,
+    work: F,
 ) -> Option<JoinHandle<bool>>
 where
-    M: Carried + Drop + Send + 'static,
-    R: Threads + Wait + Clock + AllocGlobal + Copy + Drop + Send + 'static,
+    M: Drop + Send + 'static,
+    R: Threads,
+    F: FnOnce(Sender<M>, Receiver<M>) -> bool + Drop + Send + 'static,
+    requires { F.IsAlwaysCallable work }
 {
-    let theirs = *rt;
-    thread::spawn(rt, move || M::play(theirs, part, sender, receiver)).ok()
+    let working = move || -> bool
+        requires { F.IsAlwaysCallable work }
+    { work(sender, receiver) };
+    thread::spawn(rt, working).ok()
 }
 
 /// A thread that plays the part of a client with the ends of its channels. It gives back whether the client could do all of
@@ -142,7 +136,10 @@ pub fn client_thread<R>(
 where
     R: Threads + Wait + Clock + AllocGlobal + Copy + Drop + Send + 'static,
 {
-    start::<Message, R>(rt, part, sender, receiver)
+    let theirs = *rt;
+    start(rt, sender, receiver, move |sender, receiver| {
+        plays_part(theirs, part, sender, receiver)
+    })
 }
 
 /// A stream to a server that is about to listen: it is tried 10,000 times, a millisecond after one another.

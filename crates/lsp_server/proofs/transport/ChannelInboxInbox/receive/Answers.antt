@@ -1,5 +1,5 @@
 use Rattle.lsp_session.proofs.Waiting.{waits_none}
-use Rattle.lsp_server.proofs.channels.boxes.ChannelInboxInbox.receive.Goals as goal
+use Rattle.lsp_server.proofs.transport.ChannelInboxInbox.receive.Goals as goal
 
 pub returns-in-Ok-clause-receives : goal.returns-in-Ok-clause-receives
 returns-in-Ok-clause-receives g c = waits_none _ _ _ _ tt

@@ -1,21 +1,24 @@
 //! A connection of two channels, and the lifecycle of a session over them.
+ghost use Rattle.std.specs.Prelude.{◌≡◌, true, IfErr};
+ghost use Rattle.lsp_server.specs.IoFault.{is_start_fault};
+
+use crate::io_fault::IoFault;
+use crate::io_threads::{IoThreads, read_all, start_threads, write_all};
+use crate::transport::{ChannelInbox, ChannelOutbox};
 use crossbeam_channel::{Receiver, Sender, unbounded};
 use lsp_message::{Message, Request, RequestId};
 use lsp_session::{
     CallGate, ProtocolError, finish, finish_within, initialize_result, shutdown, start_within,
-    wait_within,
 };
 use serde_json::Value;
 use std::alloc::{AllocError, Global};
+use std::io::{BufReader, Read, Write};
 use std::sync::Wait;
+use std::thread::Threads;
 use std::time::Clock;
 
-mod boxes;
-
-pub(crate) use boxes::{ChannelInbox, ChannelOutbox};
-
-/// How many waits of the handshake one call of an engine makes.
-const TURNS: u64 = 1;
+/// How many bytes a reader is asked for at once: as many as a pipe holds.
+const READ_AHEAD: usize = 65536;
 
 /// The two channels of one side: what it sends, and what it receives.
 ///
@@ -50,6 +53,36 @@ impl Connection {
         Ok((first, second))
     }
 
+    /// Makes a connection over any reader and writer, such as the pipes of a child process. A content part may have at most
+    /// `limit` bytes; with `u64::MAX` any number.
+    ///
+    /// The reader gets a buffer here. The writer needs none, since each frame is one write. The faults are those of `stdio`.
+    pub fn over<R, S, W>(
+        rt: &R,
+        reader: S,
+        writer: W,
+        limit: u64,
+    ) -> Result<(Connection, IoThreads), IoFault>
+    where
+        R: Threads + Wait + Clock + AllocGlobal + Copy + Drop + Send + 'static,
+        S: Read + Drop + Send + 'static,
+        W: Write + Drop + Send + 'static,
+        ensures { IfErr result (λ fault. is_start_fault fault ≡ true) }
+    {
+        let alloc = rt.alloc();
+        let Ok(reader) = BufReader::with_capacity(alloc, READ_AHEAD, reader) else {
+            return Err(IoFault::Memory);
+        };
+        let theirs = *rt;
+        let (sender, receiver, threads) = start_threads(
+            rt,
+            alloc,
+            move |incoming, spent| read_all(theirs, alloc, reader, limit, incoming, spent),
+            move |outgoing, written| write_all(theirs, alloc, outgoing, writer, written),
+        )?;
+        Ok((Connection { sender, receiver }, threads))
+    }
+
     /// Waits for the request `initialize`, and gives its id and its params. Use it in place of `initialize` if your answer depends
     /// on the params, or has more than capabilities in it:
     ///
@@ -81,21 +114,14 @@ impl Connection {
     ) -> Result<(RequestId, Value), ProtocolError>
         requires { C.IsAlwaysCallable running }
     {
-        let mut inbox = self.inbox(rt);
-        let mut outbox = self.outbox(rt);
-        let mut gate = CallGate { running: &running };
-        for _round in 0..u64::MAX {
-            if let Some(answer) = start_within(
-                rt.alloc(),
-                &mut inbox,
-                &mut outbox,
-                &mut gate,
-                TURNS,
-            ) {
-                return answer;
-            }
-        }
-        Err(ProtocolError::disconnected())
+        let started = start_within(
+            rt.alloc(),
+            &mut self.inbox(rt),
+            &mut self.outbox(rt),
+            &mut CallGate { running },
+            u64::MAX,
+        );
+        started.unwrap_or_else(|| Err(ProtocolError::disconnected()))
     }
 
     /// Sends the result of `initialize`, and waits for the notification `initialized`. The example stands at `initialize_start`.
@@ -127,37 +153,16 @@ impl Connection {
     ) -> Result<(), ProtocolError>
         requires { C.IsAlwaysCallable running }
     {
-        let answer = finish_within(
+        let finished = finish_within(
             rt.alloc(),
             &mut self.inbox(rt),
             &mut self.outbox(rt),
-            &mut CallGate { running: &running },
+            &mut CallGate { running },
             initialize_id,
             initialize_result,
-            TURNS,
+            u64::MAX,
         );
-        match answer {
-            Some(answer) => answer,
-            None => self.wait_while(rt, &running),
-        }
-    }
-
-    /// Waits for `initialized`.
-    fn wait_while<R: Wait + Clock + AllocGlobal, C: Fn() -> bool>(
-        &self,
-        rt: &R,
-        running: &C,
-    ) -> Result<(), ProtocolError>
-        requires { C.IsAlwaysCallable running.now }
-    {
-        let mut inbox = self.inbox(rt);
-        let mut gate = CallGate { running };
-        for _round in 0..u64::MAX {
-            if let Some(answer) = wait_within(rt.alloc(), &mut inbox, &mut gate, TURNS) {
-                return answer;
-            }
-        }
-        Err(ProtocolError::disconnected())
+        finished.unwrap_or_else(|| Err(ProtocolError::disconnected()))
     }
 
     /// Does the whole handshake: sends `{"capabilities":<server_capabilities>}`, and gives the params of `initialize`.

@@ -1,7 +1,11 @@
-// Boxes over plain channels. No clause says what a channel delivers, so their relations allow everything.
+//! The ends of a connection's two channels as boxes. No clause says what a channel delivers, so their relations allow everything.
+ghost use Rattle.std.specs.Prelude.{◌≡◌, IfErr};
+ghost use Rattle.lsp_session.specs.Boxes.{handed_back};
+
 use crossbeam_channel::{Receiver, RecvTimeoutError, SendError, Sender};
 use lsp_message::Message;
 use lsp_session::{Event, Inbox, Outbox, SendFault};
+use lsp_threads::spent::Spent;
 use std::sync::Wait;
 use std::time::{Clock, Duration};
 
@@ -49,10 +53,37 @@ impl<'a, R: Wait> Outbox for ChannelOutbox<'a, R> {
     ghost sends = { λ _ _ _ _. ⊤ };
 
     fn send(&mut self, message: Message) -> Result<(), SendFault> {
-        match self.sender.send(self.rt, message) {
-            Ok(()) => Ok(()),
-            Err(SendError::Disconnected(back)) => Err(SendFault::Closed(back)),
-            Err(SendError::OutOfMemory(back)) => Err(SendFault::Memory(back)),
-        }
+        forward(self.rt, self.sender, message)
+    }
+}
+
+/// Sends what was read on a channel, and drops what was written meanwhile.
+#[derive(Drop)]
+pub(crate) struct ForwardingOutbox<'a, R> {
+    pub(crate) rt: &'a R,
+    pub(crate) incoming: &'a Sender<Message>,
+    pub(crate) spent: &'a Spent<Message>,
+}
+
+impl<'a, R: Wait> Outbox for ForwardingOutbox<'a, R> {
+    ghost use Rattle.std.specs.Prelude.{⊤};
+
+    ghost sends = { λ _ _ _ _. ⊤ };
+
+    fn send(&mut self, message: Message) -> Result<(), SendFault> {
+        let sent = forward(self.rt, self.incoming, message);
+        self.spent.drop_waiting(self.rt);
+        sent
+    }
+}
+
+/// Sends a message, or tells why the channel refused it.
+fn forward<R: Wait>(rt: &R, sender: &Sender<Message>, message: Message) -> Result<(), SendFault>
+    ensures { IfErr result (λ fault. handed_back fault ≡ message) }
+{
+    match sender.send(rt, message) {
+        Ok(()) => Ok(()),
+        Err(SendError::Disconnected(back)) => Err(SendFault::Closed(back)),
+        Err(SendError::OutOfMemory(back)) => Err(SendFault::Memory(back)),
     }
 }

@@ -1,3 +1,0 @@
-mod serve;
-mod tcp;
-mod words;
