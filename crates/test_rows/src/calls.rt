@@ -3,7 +3,7 @@ use crate::attempt::{Attempt, Stop};
 use crate::devices::{Pause, Signal, Signals, Sink, Source, is_alone};
 use crate::escapes::escape;
 use crate::servers::{Echo, Talker};
-use crate::table::{Call, Case, Device, Given};
+use crate::table::{Call, Device, Given};
 use lsp_message::{Front, Message, ReadFault, WriteFault, front};
 use lsp_service::{QueuedServer, session_of_service_within};
 use lsp_session::{SessionEnd, SessionFault, session_within};
@@ -19,64 +19,52 @@ use std::time::Clock;
 
 /// A case at one of its places, in one way and with one size of pieces.
 #[derive(Clone, Copy)]
-pub struct Run<'a> {
-    pub case: Case<'a>,
-    pub given: &'a Given,
+pub struct Run {
+    pub call: Call,
+    pub device: Device,
     /// Whether the call has threads of its own.
     pub in_threads: bool,
     pub step: usize,
     pub count: usize,
+    pub written: u64,
 }
 
-impl Run<'_> {
+impl Run {
+    fn is_over(self, device: Device) -> bool {
+        self.device == device
+    }
+
     /// The count of the device, if the case has this one.
-    fn at(&self, device: Device) -> Option<usize> {
-        (self.case.device == device).then_some(self.count)
-    }
-
-    fn is_over(&self, device: Device) -> bool {
-        self.case.device == device
-    }
-
-    /// The bytes that come.
-    fn sent(&self) -> &[u8] {
-        let bytes = self.given.bytes.as_slice();
-        let end = self.at(Device::Ends).unwrap_or(usize::MAX);
-        &bytes[..end.min(bytes.len())]
+    fn at(self, device: Device) -> Option<usize> {
+        if self.device == device {
+            Some(self.count)
+        } else {
+            None
+        }
     }
 
     /// How many bytes a content part may have, if the call has a limit.
-    fn limit(&self) -> Option<u64> {
-        match self.case.device {
+    fn limit(self) -> Option<u64> {
+        match self.device {
             Device::Limits => Some(self.count as u64),
             Device::Huge if self.count > 0 => Some(self.count as u64),
             _ => None,
         }
     }
 
-    fn pauses(&self, alloc: Global) -> Result<Vec<Pause>, AllocError> {
-        match self.case.device {
-            Device::Slow | Device::Gated => Vec::from_slice(alloc, self.given.pauses.as_slice()),
-            Device::Waits => {
-                let pause = Pause {
-                    at: self.count,
-                    signal: Signal::Written,
-                    wanted: self.case.written,
-                };
-                Vec::from_slice(alloc, &[pause])
-            }
-            _ => Ok(Vec::new(alloc)),
-        }
+    /// Whether a thread is not started.
+    fn lacks_thread(self) -> bool {
+        matches!(self.device, Device::NoReader | Device::NoWriter)
     }
 }
 
 /// What comes of a run.
-pub fn attempt_of<R>(rt: &R, alloc: Global, run: Run<'_>) -> Result<Attempt, Stop>
+pub fn attempt_of<R>(rt: &R, alloc: Global, run: Run, given: &Given) -> Result<Attempt, Stop>
 where
     R: Threads + Wait + Clock + Copy + Drop + Send + 'static,
 {
     let signals = Arc::new(alloc, Signals::new())?;
-    let came = call(rt, alloc, run, &signals)?;
+    let came = call(rt, alloc, run, given, &signals)?;
     if signals.is_late() {
         return Err(Stop::Broken("a wait took ten seconds"));
     }
@@ -89,40 +77,60 @@ where
 fn call<R>(
     rt: &R,
     alloc: Global,
-    run: Run<'_>,
+    run: Run,
+    given: &Given,
     signals: &Arc<Signals>,
 ) -> Result<Attempt, AllocError>
 where
     R: Threads + Wait + Clock + Copy + Drop + Send + 'static,
 {
-    match run.case.call {
-        Call::Front => front_answer(alloc, run.sent()),
-        Call::Read => read_answer(rt, alloc, run, signals),
-        Call::Stream => stream_answer(rt, alloc, run, signals),
-        Call::Session => session_answer(rt, alloc, run, signals),
-        Call::Speaks => speaks_answer(rt, alloc, run, signals),
-        Call::Pump | Call::Burst => pump_answer(rt, alloc, run, signals),
+    let reader = source(rt, alloc, run, given, signals)?;
+    match run.call {
+        Call::Front => front_answer(alloc, reader.left()),
+        Call::Read => read_answer(alloc, run, reader),
+        Call::Stream => stream_answer(alloc, reader),
+        Call::Session => session_answer(rt, alloc, run, reader, signals),
+        Call::Speaks => speaks_answer(rt, alloc, run, reader, signals),
+        Call::Pump | Call::Burst => pump_answer(rt, alloc, run, reader, signals),
     }
 }
 
 fn source<C: Clock + Copy>(
     clock: &C,
     alloc: Global,
-    run: Run<'_>,
+    run: Run,
+    given: &Given,
     signals: &Arc<Signals>,
 ) -> Result<Source<C>, AllocError> {
+    let bytes = given.bytes.as_slice();
+    let end = run.at(Device::Ends).unwrap_or(usize::MAX).min(bytes.len());
     Ok(Source {
         clock: *clock,
         signals: Arc::try_clone(signals)?,
-        bytes: Vec::from_slice(alloc, run.sent())?,
+        bytes: Vec::from_slice(alloc, &bytes[..end])?,
         taken: 0,
         shown: 0,
         step: run.step,
         fails_at: run.at(Device::Breaks).or(run.at(Device::Looks)),
         shows_on: run.is_over(Device::Looks),
-        pauses: run.pauses(alloc)?,
+        pauses: pauses(alloc, run, given)?,
         over: 0,
     })
+}
+
+fn pauses(alloc: Global, run: Run, given: &Given) -> Result<Vec<Pause>, AllocError> {
+    match run.device {
+        Device::Slow | Device::Gated => Vec::from_slice(alloc, given.pauses.as_slice()),
+        Device::Waits => {
+            let pause = Pause {
+                at: run.count,
+                signal: Signal::Written,
+                wanted: run.written,
+            };
+            Vec::from_slice(alloc, &[pause])
+        }
+        _ => Ok(Vec::new(alloc)),
+    }
 }
 
 /// How many bytes are written without a new allocation, which could fail in the call.
@@ -131,7 +139,7 @@ const ROOM: usize = 65536;
 fn sink<C: Clock + Copy>(
     clock: &C,
     alloc: Global,
-    run: Run<'_>,
+    run: Run,
     signals: &Arc<Signals>,
 ) -> Result<Sink<C>, AllocError> {
     Ok(Sink {
@@ -156,13 +164,11 @@ fn front_answer(alloc: Global, bytes: &[u8]) -> Result<Attempt, AllocError> {
 }
 
 /// What one read gives, and what it leaves.
-fn read_answer<C: Clock + Copy>(
-    clock: &C,
+fn read_answer<C: Clock + Drop>(
     alloc: Global,
-    run: Run<'_>,
-    signals: &Arc<Signals>,
+    run: Run,
+    mut reader: Source<C>,
 ) -> Result<Attempt, AllocError> {
-    let mut reader = source(clock, alloc, run, signals)?;
     let read = match run.limit() {
         Some(limit) => Message::read_within(alloc, &mut reader, limit),
         None => Message::read(alloc, &mut reader),
@@ -189,13 +195,10 @@ fn read_text(
 const MOST: usize = 9;
 
 /// What reads give, up to the end or a fault.
-fn stream_answer<C: Clock + Copy>(
-    clock: &C,
+fn stream_answer<C: Clock + Drop>(
     alloc: Global,
-    run: Run<'_>,
-    signals: &Arc<Signals>,
+    mut reader: Source<C>,
 ) -> Result<Attempt, AllocError> {
-    let mut reader = source(clock, alloc, run, signals)?;
     let mut texts = String::new(alloc);
     for _ in 0..MOST {
         let read = Message::read(alloc, &mut reader);
@@ -213,13 +216,13 @@ fn stream_answer<C: Clock + Copy>(
 fn session_answer<R>(
     rt: &R,
     alloc: Global,
-    run: Run<'_>,
+    run: Run,
+    mut reader: Source<R>,
     signals: &Arc<Signals>,
 ) -> Result<Attempt, AllocError>
 where
     R: Threads + Wait + Clock + Copy + Drop + Send + 'static,
 {
-    let mut reader = source(rt, alloc, run, signals)?;
     let mut writer = sink(rt, alloc, run, signals)?;
     let none = Value::Object(Map::new(alloc));
     let mut echo = Echo {
@@ -243,13 +246,13 @@ where
 fn speaks_answer<R>(
     rt: &R,
     alloc: Global,
-    run: Run<'_>,
+    run: Run,
+    mut reader: Source<R>,
     signals: &Arc<Signals>,
 ) -> Result<Attempt, AllocError>
 where
     R: Threads + Wait + Clock + Copy + Drop + Send + 'static,
 {
-    let mut reader = source(rt, alloc, run, signals)?;
     let mut writer = sink(rt, alloc, run, signals)?;
     let mut talker = QueuedServer::new(alloc, Talker::new(alloc));
     let limit = run.limit().unwrap_or(u64::MAX);
@@ -263,7 +266,7 @@ where
 }
 
 /// Builders of threads. No thread gets a stack of `usize::MAX` bytes.
-fn builders(run: Run<'_>) -> Builders {
+fn builders(run: Run) -> Builders {
     Builders {
         writer: builder(run.is_over(Device::NoWriter)),
         reader: builder(run.is_over(Device::NoReader)),
@@ -281,7 +284,7 @@ fn builder(is_refused: bool) -> Builder {
 fn threads_answer<C: Clock + Drop>(
     alloc: Global,
     ran: Result<Threaded<Sink<C>>, StartFault>,
-    run: Run<'_>,
+    run: Run,
     signals: &Arc<Signals>,
 ) -> Result<Attempt, AllocError> {
     match ran {
@@ -294,10 +297,10 @@ fn threads_answer<C: Clock + Drop>(
 fn not_started(
     alloc: Global,
     fault: StartFault,
-    run: Run<'_>,
+    run: Run,
     signals: &Arc<Signals>,
 ) -> Result<Attempt, AllocError> {
-    if run.is_over(Device::NoReader) || run.is_over(Device::NoWriter) {
+    if run.lacks_thread() {
         let calls = signals.calls();
         return Ok(Attempt::Came(format!(in alloc; "{fault}, {calls} calls")?));
     }
@@ -306,7 +309,7 @@ fn not_started(
 
 fn ended_answer(
     alloc: Global,
-    run: Run<'_>,
+    run: Run,
     ended: Result<SessionEnd, SessionFault>,
     taken: &[u8],
 ) -> Result<Attempt, AllocError> {
@@ -324,7 +327,7 @@ fn ended_answer(
     ))
 }
 
-fn answer(run: Run<'_>, text: String, is_refused: bool) -> Attempt {
+fn answer(run: Run, text: String, is_refused: bool) -> Attempt {
     if is_refused && !run.is_over(Device::Huge) {
         Attempt::Refused(text)
     } else {
@@ -336,13 +339,13 @@ fn answer(run: Run<'_>, text: String, is_refused: bool) -> Attempt {
 fn pump_answer<R>(
     rt: &R,
     alloc: Global,
-    run: Run<'_>,
+    run: Run,
+    reader: Source<R>,
     signals: &Arc<Signals>,
 ) -> Result<Attempt, AllocError>
 where
     R: Threads + Wait + Clock + Copy + Drop + Send + 'static,
 {
-    let reader = source(rt, alloc, run, signals)?;
     let mut writer = sink(rt, alloc, run, signals)?;
     let builder = builder(run.is_over(Device::NoReader));
     let limit = run.limit().unwrap_or(u64::MAX);
@@ -360,9 +363,9 @@ where
     Ok(answer(run, format!(in alloc; "{end}; {written}")?, is_refused))
 }
 
-fn written_text<C>(alloc: Global, run: Run<'_>, writer: &Sink<C>) -> Result<String, AllocError> {
+fn written_text<C>(alloc: Global, run: Run, writer: &Sink<C>) -> Result<String, AllocError> {
     let written = escape(alloc, writer.taken.as_slice())?;
-    match run.case.call {
+    match run.call {
         Call::Burst => format!(in alloc; "wrote {written}, in {} writes", writer.writes),
         _ => format!(in alloc; "wrote {written}"),
     }

@@ -96,17 +96,28 @@ fn finish_in(alloc: Global, words: &str) -> Result<Call, Stop> {
 
 /// An answer with its ticket and its message.
 fn text_of(alloc: Global, answer: Answer) -> Result<String, AllocError> {
-    let (name, ticket, message) = match answer {
+    let (name, ticket) = match &answer {
         Answer::Nothing => return String::from_str(alloc, "nothing"),
-        Answer::Unknown(reply) => ("unknown", None, Message::from(reply)),
-        Answer::Note(notification) => ("note", None, Message::from(notification)),
-        Answer::Work { request, ticket } => ("work", Some(ticket), Message::from(request)),
-        Answer::Cancelled { reply, ticket } => ("cancelled", Some(ticket), Message::from(reply)),
-        Answer::Finished { reply, ticket } => ("finished", Some(ticket), Message::from(reply)),
+        Answer::Note(_) => ("note", None),
+        Answer::Unknown(_) => ("unknown", None),
+        Answer::Work { request: _, ticket } => ("work", Some(*ticket)),
+        Answer::Cancelled { reply: _, ticket } => ("cancelled", Some(*ticket)),
+        Answer::Finished { reply: _, ticket } => ("finished", Some(*ticket)),
     };
-    let text = message.member_text(alloc)?;
+    let text = match message_of(answer) {
+        Some(message) => message.member_text(alloc)?,
+        None => String::from_str(alloc, "no reply")?,
+    };
     match ticket {
         Some(ticket) => format!(in alloc; "{name} {ticket}: {text}"),
         None => format!(in alloc; "{name}: {text}"),
+    }
+}
+
+fn message_of(answer: Answer) -> Option<Message> {
+    match answer {
+        Answer::Note(notification) => Some(Message::from(notification)),
+        Answer::Work { request, ticket: _ } => Some(Message::from(request)),
+        reply => reply.into_reply(),
     }
 }

@@ -159,13 +159,14 @@ where
     for word in case.steps.split(',') {
         let step: usize = word.parse()?;
         let run = Run {
-            case,
-            given,
+            call: case.call,
+            device: case.device,
             in_threads: way == "threads",
             step,
             count,
+            written: case.written,
         };
-        let came = run_once(rt, alloc, run)?;
+        let came = run_once(rt, alloc, run, given)?;
         if all.is_empty() {
             all = came;
         } else if all != came {
@@ -175,13 +176,13 @@ where
     Ok(all)
 }
 
-fn run_once<R>(rt: &R, alloc: Global, run: Run<'_>) -> Result<String, Stop>
+fn run_once<R>(rt: &R, alloc: Global, run: Run, given: &Given) -> Result<String, Stop>
 where
     R: Print + Clock + Threads + Wait + Copy + Drop + Send + 'static,
 {
-    match attempt_of(rt, alloc, run)? {
+    match attempt_of(rt, alloc, run, given)? {
         Attempt::Came(came) => return Ok(came),
         Attempt::Refused(what) => print_refused(rt, alloc, what.as_str())?,
     }
-    attempt_of(rt, alloc, run)?.again()
+    attempt_of(rt, alloc, run, given)?.again()
 }
