@@ -1,6 +1,7 @@
 // What came of a row, and what ends the program.
 use std::alloc::{AllocError, AllocFailed, Global};
 use std::io::ErrorKind;
+use std::num::ParseIntError;
 use std::{fmt, io};
 
 /// What came of a call that is tried.
@@ -72,6 +73,19 @@ impl From<AllocError> for Stop {
 
 impl<T: Drop> From<AllocFailed<T>> for Stop {
     fn from(_: AllocFailed<T>) -> Stop {
+        Stop::Memory
+    }
+}
+
+impl From<ParseIntError> for Stop {
+    fn from(_: ParseIntError) -> Stop {
+        Stop::Table
+    }
+}
+
+/// The texts of a table are JSON, so only memory can be wanting.
+impl From<serde_json::Error> for Stop {
+    fn from(_: serde_json::Error) -> Stop {
         Stop::Memory
     }
 }

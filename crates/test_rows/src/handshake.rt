@@ -1,13 +1,13 @@
 // The handshake and the shutdown over the messages of a line, whose member texts have `; ` between them.
 use crate::attempt::{Attempt, Stop};
-use crate::dispatching::message_in;
+use crate::messages::message_in;
 use lsp_message::{Request, RequestId};
 use lsp_session::{
     Event, ListInbox, ListOutbox, OpenGate, ProtocolError, finish, finish_within, shutdown,
     start_within,
 };
 use serde_json::{Map, Value};
-use std::alloc::{AllocError, Global};
+use std::alloc::Global;
 
 /// Which call ends the handshake.
 #[derive(Clone, Copy)]
@@ -22,7 +22,7 @@ pub enum Finishing {
 const TURNS: u64 = 10;
 
 /// What comes of a whole handshake and a whole shutdown.
-pub fn engines(alloc: Global, finishing: Finishing, texts: &str) -> Result<Attempt, Stop> {
+pub fn handshake(alloc: Global, finishing: Finishing, texts: &str) -> Result<Attempt, Stop> {
     let mut inbox = ListInbox::new(alloc);
     for text in texts.split("; ") {
         let event = Event::Message(message_in(alloc, text)?);
@@ -85,7 +85,7 @@ fn shut_down(
     }
 }
 
-/// What comes where a call answers with an error. Of its text the part before the message that came is shown.
+/// What comes where a call answers with an error.
 fn failed(
     alloc: Global,
     name: &str,
@@ -100,24 +100,6 @@ fn failed(
     if !said.is_empty() {
         said.push_str("; ")?;
     }
-    said.push_str(cause_of(alloc, name, error, sent)?.as_str())?;
+    said.push_str(format!(in alloc; "{name}: {error}, sent {sent}")?.as_str())?;
     Ok(Attempt::Came(said))
-}
-
-fn cause_of(
-    alloc: Global,
-    name: &str,
-    error: &ProtocolError,
-    sent: usize,
-) -> Result<String, AllocError> {
-    let text = format!(in alloc; "{error}")?;
-    let cause = before_message(text.as_str());
-    format!(in alloc; "{name}: {cause}, sent {sent}")
-}
-
-/// The text of a `ProtocolError` without the message that came, whose form is open.
-pub fn before_message(text: &str) -> &str {
-    let (cause, _) = text.split_once(", got").unwrap_or((text, ""));
-    let (cause, _) = cause.split_once(": ").unwrap_or((cause, ""));
-    cause
 }

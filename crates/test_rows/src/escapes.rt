@@ -32,13 +32,27 @@ fn escaped_byte(text: &str) -> Option<(u8, &str)> {
     Some((u8::from_str_radix(digits, 16).ok()?, others))
 }
 
-/// The text of these bytes.
+/// How many bytes are shown at most.
+const SHOWN: usize = 1000;
+
+/// The text of these bytes. Of many bytes it is their count and their value as digits of base 31, modulo 2^32.
 pub fn escape(alloc: Global, bytes: &[u8]) -> Result<String, AllocError> {
+    if bytes.len() > SHOWN {
+        return format!(in alloc; "{} bytes of sum {}", bytes.len(), sum(bytes));
+    }
     let mut text = String::new(alloc);
     for byte in bytes {
         push_escaped(&mut text, *byte)?;
     }
     Ok(text)
+}
+
+fn sum(bytes: &[u8]) -> u32 {
+    let mut sum: u32 = 0;
+    for byte in bytes {
+        sum = sum.wrapping_mul(31).wrapping_add(u32::from(*byte));
+    }
+    sum
 }
 
 fn push_escaped(text: &mut String, byte: u8) -> Result<(), AllocError> {

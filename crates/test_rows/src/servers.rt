@@ -1,0 +1,174 @@
+// A handler, and a server that speaks.
+use crate::devices::{Signal, Signals};
+use lsp_message::{ErrorCode, Notification, Request, RequestId, ResponseError};
+use lsp_service::{Act, Server};
+use lsp_session::Handler;
+use serde_json::{Map, Value, json};
+use std::alloc::{AllocError, Global};
+use std::mem;
+use std::sync::Arc;
+use std::time::Clock;
+
+/// Answers `demo/echo` with its params, and knows no other method.
+#[derive(Drop)]
+pub struct Echo<C> {
+    pub alloc: Global,
+    pub clock: C,
+    pub signals: Arc<Signals>,
+    /// Whether it waits with an answer until the reader came to its second pause.
+    pub is_gated: bool,
+}
+
+impl<C: Clock> Handler for Echo<C> {
+    ghost use Rattle.std.specs.Prelude.{⊤};
+
+    ghost answers = { λ _ _ _ _ _ _. ⊤ };
+
+    ghost notes = { λ _ _ _ _. ⊤ };
+
+    fn answer(&mut self, request: &Request) -> Result<Result<Value, ResponseError>, AllocError> {
+        self.signals.tell(Signal::Requests);
+        if self.is_gated && self.signals.wait(&self.clock, Signal::Pauses, 2).is_err() {
+            return Ok(Ok(Value::Null));
+        }
+        if request.method.as_str() == "demo/echo" {
+            return Ok(Ok(request.params.clone()?));
+        }
+        Ok(Err(method_not_found(self.alloc)?))
+    }
+
+    fn note(&mut self, _notification: &Notification) -> Result<(), AllocError> {
+        Ok(())
+    }
+}
+
+/// Why the server asked its client.
+#[derive(Drop)]
+pub enum Asked {
+    /// To answer this request with the reply.
+    For(RequestId),
+    /// For the configuration, the number of this question, from 1.
+    Configuration(u64),
+}
+
+/// Pushes, asks, and answers late.
+///
+/// - It says `demo/hello` first, and asks for the configuration.
+/// - It answers `demo/echo` with its params, asks its client `demo/asked` at `demo/ask` and answers with the reply, keeps `demo/hold`
+///   until the next notification, and knows no other method.
+/// - At a notification it pushes its params, asks for the configuration and answers what it keeps.
+/// - At a reply with the configuration it pushes the number of the question.
+#[derive(Drop)]
+pub struct Talker {
+    alloc: Global,
+    questions: u64,
+    held: Vec<RequestId>,
+}
+
+type Acts = Vec<Act<Asked>>;
+
+impl Talker {
+    /// A server to which nothing came.
+    pub fn new(alloc: Global) -> Talker {
+        Talker {
+            alloc,
+            questions: 0,
+            held: Vec::new(alloc),
+        }
+    }
+
+    fn one(&self, act: Act<Asked>) -> Result<Acts, AllocError> {
+        let mut acts = Vec::new(self.alloc);
+        acts.push(act)?;
+        Ok(acts)
+    }
+
+    fn tell(&self, method: &str, params: Value) -> Result<Act<Asked>, AllocError> {
+        let method = String::from_str(self.alloc, method)?;
+        Ok(Act::Tell(Notification { method, params }))
+    }
+
+    fn configuration(&mut self) -> Result<Act<Asked>, AllocError> {
+        self.questions = self.questions.saturating_add(1);
+        let method = String::from_str(self.alloc, "workspace/configuration")?;
+        Ok(Act::Ask(method, Value::Null, Asked::Configuration(self.questions)))
+    }
+}
+
+impl Server for Talker {
+    ghost use Rattle.std.specs.Prelude.{⊤};
+
+    type Payload = Asked;
+
+    ghost initializes = { λ _ _ _ _. ⊤ };
+
+    ghost begins = { λ _ _ _. ⊤ };
+
+    ghost requested = { λ _ _ _ _ _ _. ⊤ };
+
+    ghost notified = { λ _ _ _ _ _. ⊤ };
+
+    ghost replied = { λ _ _ _ _ _. ⊤ };
+
+    ghost takes_back = { λ _ _ _. ⊤ };
+
+    fn initialize(&mut self, _params: Value) -> Result<Result<Value, ResponseError>, AllocError> {
+        Ok(Ok(json!(in self.alloc; { "capabilities": {} })?))
+    }
+
+    fn initialized(&mut self) -> Result<Acts, AllocError> {
+        let mut acts = self.one(self.tell("demo/hello", Value::Object(Map::new(self.alloc)))?)?;
+        acts.push(self.configuration()?)?;
+        Ok(acts)
+    }
+
+    fn request(&mut self, request: Request) -> Result<Acts, AllocError> {
+        let Request { id, method, params } = request;
+        match method.as_str() {
+            "demo/echo" => self.one(Act::Reply(id, Ok(params))),
+            "demo/ask" => {
+                let method = String::from_str(self.alloc, "demo/asked")?;
+                self.one(Act::Ask(method, params, Asked::For(id)))
+            }
+            "demo/hold" => {
+                self.held.push(id)?;
+                Ok(Vec::new(self.alloc))
+            }
+            _ => self.one(Act::Reply(id, Err(method_not_found(self.alloc)?))),
+        }
+    }
+
+    fn notification(&mut self, notification: Notification) -> Result<Acts, AllocError> {
+        let mut acts = self.one(self.tell("demo/pushed", notification.params)?)?;
+        acts.push(self.configuration()?)?;
+        for id in mem::replace(&mut self.held, Vec::new(self.alloc)) {
+            acts.push(Act::Reply(id, Ok(Value::Null)))?;
+        }
+        Ok(acts)
+    }
+
+    fn response(
+        &mut self,
+        asked: Asked,
+        outcome: Result<Value, ResponseError>,
+    ) -> Result<Acts, AllocError> {
+        match asked {
+            Asked::For(id) => self.one(Act::Reply(id, outcome)),
+            Asked::Configuration(number) => {
+                self.one(self.tell("demo/pushed", Value::from(number))?)
+            }
+        }
+    }
+
+    fn unsent(&mut self, _asked: Asked) -> Result<(), AllocError> {
+        Ok(())
+    }
+}
+
+fn method_not_found(alloc: Global) -> Result<ResponseError, AllocError> {
+    Ok(ResponseError {
+        code: ErrorCode::MethodNotFound.number(),
+        message: String::from_str(alloc, "method not found")?,
+        data: None,
+    })
+}

@@ -1,0 +1,609 @@
+"""What has to come of the calls that the rows make, by the base protocol and the lifecycle of LSP 3.17, JSON-RPC 2.0, RFC 8259 and the
+documents of the calls. Nothing here calls a library of this repository."""
+import json
+
+GREATEST = 2**64 - 1
+# A body may nest so far.
+LEVELS = 127
+# More bytes than any memory holds.
+HUGE = 2**47
+# A pump sends what it gathered once it has so many bytes.
+FULL = 65536
+# At most so many bytes are shown.
+SHOWN = 1000
+
+
+# How bytes stand in a line.
+
+
+def escape(data):
+    shown = {13: "\\r", 10: "\\n"}
+    return "".join(shown.get(it) or (chr(it) if 32 <= it < 127 and it != 92 else f"\\x{it:02x}") for it in data)
+
+
+def shown(data):
+    """Bytes in an answer: as they are, or of many their count and their value as digits of base 31, modulo 2^32."""
+    if len(data) <= SHOWN:
+        return escape(data)
+    value = 0
+    for byte in data:
+        value = (31 * value + byte) % 2**32
+    return f"{len(data)} bytes of sum {value}"
+
+
+# JSON (RFC 8259).
+
+
+class NoJson(ValueError):
+    pass
+
+
+def whole_or_real(text):
+    """A number without a fraction: as serde_json has it, a 64-bit integer where it fits, and else a double."""
+    value = int(text)
+    return value if -(2**63) <= value < 2**64 and text != "-0" else real(text)
+
+
+def real(text):
+    value = float(text)
+    if value in (float("inf"), float("-inf")):
+        raise NoJson
+    return value
+
+
+def constant(_):
+    raise NoJson
+
+
+def is_text(tree):
+    """Whether all texts of a tree are Unicode: no half of a surrogate pair stands alone."""
+    if isinstance(tree, dict):
+        return all(is_text(name) and is_text(it) for name, it in tree.items())
+    if isinstance(tree, list):
+        return all(map(is_text, tree))
+    return not isinstance(tree, str) or not any(0xD800 <= ord(it) < 0xE000 for it in tree)
+
+
+def nesting(tree):
+    if isinstance(tree, dict):
+        return 1 + max(map(nesting, tree.values()), default=0)
+    if isinstance(tree, list):
+        return 1 + max(map(nesting, tree), default=0)
+    return 0
+
+
+def tree_of(text):
+    """The tree of a text of JSON. Else it raises."""
+    try:
+        tree = json.loads(text, parse_int=whole_or_real, parse_float=real, parse_constant=constant)
+    except (ValueError, RecursionError):
+        raise NoJson from None
+    if nesting(tree) > LEVELS or not is_text(tree):
+        raise NoJson
+    return tree
+
+
+def compact(value):
+    return json.dumps(value, separators=(",", ":"), ensure_ascii=False)
+
+
+def ordered(value):
+    """As a tree prints, which keeps its members in the order of their names."""
+    return json.dumps(value, separators=(",", ":"), ensure_ascii=False, sort_keys=True)
+
+
+# Messages (JSON-RPC 2.0) and frames (LSP 3.17, "Base Protocol").
+
+
+def framed(body):
+    return b"Content-Length: %d\r\n\r\n%s" % (len(body), body)
+
+
+def frame(members):
+    return framed(text_of({"jsonrpc": "2.0", **members}).encode())
+
+
+def is_whole(value):
+    return isinstance(value, int) and not isinstance(value, bool) and -(2**31) <= value < 2**31
+
+
+def is_id(value):
+    return isinstance(value, str) or is_whole(value)
+
+
+def error_of(value):
+    """The members of an error, which may come as a list of them."""
+    if isinstance(value, list) and 2 <= len(value) <= 3:
+        value = dict(zip(["code", "message", "data"], value))
+    if not isinstance(value, dict) or not is_whole(value.get("code")) or not isinstance(value.get("message"), str):
+        return None
+    data = {} if value.get("data") is None else {"data": value["data"]}
+    return {"code": value["code"], "message": value["message"], **data}
+
+
+def members_of(tree):
+    """The members of the message that a tree means, in the order in which they are written, or None."""
+    if not isinstance(tree, dict):
+        return None
+    params = {} if tree.get("params") is None else {"params": tree["params"]}
+    has_id = "id" in tree and is_id(tree["id"])
+    if isinstance(tree.get("method"), str):
+        return {**({"id": tree["id"]} if has_id else {}), "method": tree["method"], **params}
+    if not has_id:
+        return None
+    if "result" in tree and tree.get("error") is None:
+        return {"id": tree["id"], "result": tree["result"]}
+    error = error_of(tree.get("error"))
+    if tree.get("result") is None and error:
+        return {"id": tree["id"], "error": error}
+    return None
+
+
+# Members whose values are trees: these keep their own members in the order of their names.
+TREES = ["params", "result", "data"]
+
+
+def text_of(members):
+    """The text of a message: its own members in their order."""
+
+    def value_text(name, value):
+        return text_of(value) if name == "error" else ordered(value) if name in TREES else compact(value)
+
+    return "{" + ",".join(f"{compact(name)}:{value_text(name, it)}" for name, it in members.items()) + "}"
+
+
+def kind_of(members):
+    if "method" in members:
+        return "request" if "id" in members else "notification"
+    return "result" if "result" in members else "error"
+
+
+def length_in(value):
+    digits = value[1:] if value.startswith("+") else value
+    if not digits or not digits.isascii() or not digits.isdigit() or int(digits) > GREATEST:
+        return None
+    return int(digits)
+
+
+def header_end(data):
+    """How long the content part is and where it begins; or a fault, or None at the end of the input, and where the rest begins."""
+    at, length = 0, None
+    while at < len(data):
+        end = data.find(b"\n", at) + 1 or len(data)
+        line, at = data[at:end], end
+        try:
+            text = line.decode()
+        except UnicodeDecodeError:
+            return 2, None, at
+        if not text.endswith("\r\n"):
+            return 3, None, at
+        if text == "\r\n":
+            return (None, length, at) if length is not None else (6, None, at)
+        name, separator, value = text[:-2].partition(": ")
+        if not separator:
+            return 4, None, at
+        if name.lower() == "content-length":
+            length = length_in(value)
+            if length is None:
+                return 5, None, at
+    return "end", None, at
+
+
+def meaning(body):
+    """The members of the message that a content part means, or a fault's number."""
+    try:
+        tree = tree_of(body.decode())
+    except UnicodeDecodeError:
+        return 8
+    except NoJson:
+        return 9
+    if isinstance(tree, list):
+        return 13
+    return members_of(tree) or 10
+
+
+def read(data, limit=GREATEST):
+    """What the next read gives: "end", a fault's number or the members of a message; and what is left. A content part has at most
+    `limit` bytes."""
+    fault, length, at = header_end(data)
+    if fault:
+        return fault, data[at:]
+    if length > limit:
+        return 12, data[at:]
+    if length > HUGE:
+        return 11, data[at:]
+    body, left = data[at : at + length], data[at + length :]
+    if len(body) < length:
+        return 7, b""
+    return meaning(body), left
+
+
+def front(data):
+    """Whether a frame stands at the front of these bytes, of which more may come."""
+    lines = data.split(b"\n")[:-1]
+    terminated = b"".join(it + b"\n" for it in lines)
+    fault, length, at = header_end(terminated)
+    if fault == "end":
+        return "more"
+    if fault:
+        return f"read fault {fault}"
+    return f"whole, {at + length} bytes" if len(data) >= at + length else "more"
+
+
+def read_text(came):
+    if came == "end":
+        return "the end"
+    return f"read fault {came}" if isinstance(came, int) else text_of(came)
+
+
+def read_answer(data, breaks, unread, limit):
+    """What one read gives of these bytes, behind which the reader may fail, and what it leaves of them and of the unread ones."""
+    came, left = read(data, limit)
+    if breaks and not left and not isinstance(came, dict):
+        came = 1
+    return f"{read_text(came)}; left {escape(left + unread)}"
+
+
+def stream_answer(data):
+    came, data = read(data)
+    texts = [read_text(came)]
+    while isinstance(came, dict):
+        came, data = read(data)
+        texts.append(read_text(came))
+    return " ".join(texts)
+
+
+def body_answer(body):
+    came = meaning(body)
+    if isinstance(came, int):
+        return f"read fault {came}, no message"
+    return f"{kind_of(came)} {text_of(came)}"
+
+
+# How values print for a programmer, as Rust's `{:?}` prints them.
+
+
+def debug_text(text):
+    marks = {"\n": "\\n", "\r": "\\r", "\t": "\\t", "\0": "\\0", '"': '\\"', "\\": "\\\\"}
+    return '"' + "".join(marks.get(it) or (it if it.isprintable() else f"\\u{{{ord(it):x}}}") for it in text) + '"'
+
+
+def id_answer(value):
+    if not is_id(value):
+        return "no id"
+    return debug_text(value) if isinstance(value, str) else str(value)
+
+
+def debug_value(value):
+    if value is None:
+        return "Null"
+    if isinstance(value, list):
+        return "Array [" + ", ".join(map(debug_value, value)) + "]"
+    if isinstance(value, dict):
+        return "Object {" + ", ".join(f"{debug_text(name)}: {debug_value(value[name])}" for name in sorted(value)) + "}"
+    if isinstance(value, str):
+        return f"String({debug_text(value)})"
+    return f"Bool({str(value).lower()})" if isinstance(value, bool) else f"Number({value})"
+
+
+def debug_id(name):
+    return f"RequestId(String({debug_text(name)}))" if isinstance(name, str) else f"RequestId(I32({name}))"
+
+
+def debug_message(members):
+    if "method" not in members:
+        return f"Response(Response {{ id: {debug_id(members['id'])}, response_result: Ok({debug_value(members['result'])}) }})"
+    params = f"method: {debug_text(members['method'])}, params: {debug_value(members.get('params'))}"
+    if "id" in members:
+        return f"Request(Request {{ id: {debug_id(members['id'])}, {params} }})"
+    return f"Notification(Notification {{ {params} }})"
+
+
+# Sessions (LSP 3.17, "Server lifecycle").
+
+
+def is_note(members, method):
+    return "id" not in members and members.get("method") == method
+
+
+def is_request(members, method):
+    return "id" in members and members.get("method") == method
+
+
+NOT_FOUND = {"code": -32601, "message": "method not found"}
+CANCELED = {"code": -32800, "message": "canceled by client"}
+# What the end of the input gives, and before the message that came, a message at the wrong time.
+AT_END = {
+    "new": "disconnected channel",
+    "asked": "disconnected channel",
+    "open": "closed",
+    "ending": "channel disconnected waiting for exit notification",
+}
+AT_WRONG_TIME = {
+    "new": "expected initialize request, got ",
+    "asked": "expected initialized notification, got: ",
+    "ending": "unexpected message during shutdown: ",
+}
+
+
+class Echo:
+    """Answers `demo/echo` with its params, and knows no other method. It gives the messages that it sends."""
+
+    def opened(self):
+        return []
+
+    def heard(self, came):
+        if is_request(came, "demo/echo"):
+            return [{"id": came["id"], "result": came.get("params")}]
+        if "method" in came and "id" in came:
+            return [{"id": came["id"], "error": NOT_FOUND}]
+        return []
+
+
+class Talker:
+    """The server that pushes, asks and answers late."""
+
+    def __init__(self):
+        self.asked, self.questions, self.held = [], 0, []
+
+    def ask(self, method, params, why):
+        self.asked.append(why)
+        return {"id": len(self.asked) - 1, "method": method, **({} if params is None else {"params": params})}
+
+    def configuration(self):
+        self.questions += 1
+        return self.ask("workspace/configuration", None, self.questions)
+
+    def opened(self):
+        return [{"method": "demo/hello", "params": {}}, self.configuration()]
+
+    def heard(self, came):
+        if "method" not in came:
+            return self.replied(came)
+        if "id" not in came:
+            pushed = {"method": "demo/pushed", **({} if came.get("params") is None else {"params": came["params"]})}
+            said = [pushed, self.configuration(), *({"id": it, "result": None} for it in self.held)]
+            self.held = []
+            return said
+        if came["method"] == "demo/ask":
+            return [self.ask("demo/asked", came.get("params"), came)]
+        if came["method"] == "demo/hold":
+            self.held.append(came["id"])
+            return []
+        return Echo().heard(came)
+
+    def replied(self, came):
+        """A reply counts once, and only to a request that was sent."""
+        if came["id"] not in range(len(self.asked)) or self.asked[came["id"]] is None:
+            return []
+        why, self.asked[came["id"]] = self.asked[came["id"]], None
+        if isinstance(why, int):
+            return [{"method": "demo/pushed", "params": why}]
+        return [{**came, "id": why["id"]}]
+
+
+def served(server, data, breaks, limit):
+    """What a session of a server with no capabilities says at its end, and the messages that it sends for these bytes.
+
+    `breaks` says whether the reader fails behind them; else they end. Each reply is there before the next read.
+    """
+    sent, state = [], "new"
+    while True:
+        came, data = read(data, limit)
+        if breaks and not data and not isinstance(came, dict):
+            # (a frame that is not whole: the failure comes before its end does)
+            return "read fault 1", sent
+        if came == "end":
+            return AT_END[state], sent
+        if isinstance(came, int):
+            return "out of memory" if came == 11 else f"read fault {came}", sent
+        if state == "ending" and is_note(came, "exit"):
+            return "shut down", sent
+        if state == "open" and is_note(came, "exit"):
+            return "closed", sent
+        if state == "new" and is_request(came, "initialize"):
+            sent.append({"id": came["id"], "result": {"capabilities": {}}})
+            state = "asked"
+        elif state == "asked" and is_note(came, "initialized"):
+            sent += server.opened()
+            state = "open"
+        elif state == "open" and is_request(came, "shutdown"):
+            sent.append({"id": came["id"], "result": None})
+            state = "ending"
+        elif state == "open":
+            sent += server.heard(came)
+        elif state == "new" and "method" in came and not is_note(came, "exit"):
+            raise SystemExit(f"this session is not worked out here: {came}")
+        else:
+            return AT_WRONG_TIME[state] + debug_message(came), sent
+
+
+def pumped(data, breaks, limit):
+    """What passing these messages on says, and the messages that it sends."""
+    sent = []
+    while True:
+        came, data = read(data, limit)
+        if breaks and not data and not isinstance(came, dict):
+            return "read fault 1", sent
+        if came == "end":
+            return "passed on", sent
+        if isinstance(came, int):
+            return f"read fault {came}", sent
+        sent.append(came)
+        if is_note(came, "exit"):
+            return "passed on", sent
+
+
+STREAMS = {
+    "session": lambda *words: served(Echo(), *words),
+    "speaks": lambda *words: served(Talker(), *words),
+    "pump": pumped,
+    "burst": pumped,
+}
+
+
+def written_by(call, data):
+    """How many bytes a call writes for these."""
+    return sum(len(frame(it)) for it in STREAMS[call](data, False, GREATEST)[1])
+
+
+def gathered(frames):
+    """How frames that came at once are written: together, until there are enough."""
+    parts = []
+    for it in frames:
+        if parts and len(parts[-1]) < FULL:
+            parts[-1] += it
+        else:
+            parts.append(it)
+    return parts
+
+
+def answer(call, device, count, data, is_at_once):
+    """What has to come of a case at one of its places. `is_at_once` says whether all bytes are shown at once."""
+    if device in ("no_reader", "no_writer"):
+        return "thread not started, 0 calls"
+    if device == "ends":
+        data = data[:count]
+    breaks, unread = device in ("breaks", "looks") and count <= len(data), b""
+    if breaks:
+        data, unread = data[:count], data[count:]
+    limit = count if device == "limits" or device == "huge" and count else GREATEST
+    if call == "read":
+        return read_answer(data, breaks, unread, limit)
+    if call == "stream":
+        return stream_answer(data)
+    if call == "front":
+        return front(data)
+    end, sent = STREAMS[call](data, breaks, limit)
+    frames = [frame(it) for it in sent]
+    if call in ("pump", "burst") and is_at_once:
+        frames = gathered(frames)
+    written = b"".join(frames)
+    if device == "fills" and count < len(written):
+        end, written = "write fault 1", written[:count]
+    if device == "flushes" and count <= len(frames):
+        end, written = "write fault 1", b"".join(frames[:count])
+    writes = f", in {len(frames)} writes" if call == "burst" else ""
+    return f"{end}; wrote {shown(written)}{writes}"
+
+
+# Calls over values, as steps of a row. What each answers follows from the documents of the calls.
+
+
+def of_char(data):
+    return f"Some('{data}')" if data else "None"
+
+
+def queue_answers(steps):
+    """What comes of the steps: two tables of what is pending, and a count of the ids that were given out."""
+    outgoing, incoming, answers, count = {}, {}, [], 0
+    for step in steps.split("; "):
+        verb, _, words = step.partition(" ")
+        if verb in ("register", "register_value"):
+            method, _, rest = words.partition(" ")
+            params, _, data = rest.rpartition(" ")
+            params = json.loads(params)
+            outgoing[count] = data
+            answers.append("sent " + text_of({"id": count, "method": method, **({} if params is None else {"params": params})}))
+            count += 1
+        elif verb == "complete":
+            answers.append(f"complete {of_char(outgoing.pop(json.loads(words), None))}")
+        elif verb == "receive":
+            name, data = words.split(" ")
+            incoming[json.loads(name)] = data
+            answers.append(f"received {name}")
+        elif verb == "answer":
+            answers.append(f"answer {of_char(incoming.pop(json.loads(words), None))}")
+        elif verb == "pending":
+            answers.append(f"pending {'true' if outgoing or incoming else 'false'}")
+        else:
+            was_pending = incoming.pop(json.loads(words), None)
+            answers.append("cancelled " + (text_of({"id": json.loads(words), "error": CANCELED}) if was_pending else "none"))
+    return answers
+
+
+def finished(pending, step):
+    _, number, ticket, result = step.split(" ", 3)
+    if pending.get(int(number)) != int(ticket):
+        return "nothing"
+    del pending[int(number)]
+    return f"finished {ticket}: " + text_of({"id": int(number), "result": json.loads(result)})
+
+
+def cancelled(pending, params):
+    """A cancellation counts where its params name the id of a request that is pending."""
+    name = params.get("id") if isinstance(params, dict) else None
+    if not is_id(name) or name not in pending:
+        return "nothing"
+    return f"cancelled {pending.pop(name)}: " + text_of({"id": name, "error": CANCELED})
+
+
+def dispatch_answers(steps, is_asked):
+    """What comes of the steps: a table of the tickets that are pending, and a count of those that were given out. `is_asked` says
+    whether the caller asks which ticket a request replaces."""
+    pending, answers, count = {}, [], 0
+    for step in steps.split("; "):
+        if step.startswith("finish "):
+            answers.append(finished(pending, step))
+            continue
+        message = json.loads(step)
+        method, name = message.get("method"), message.get("id")
+        if method is None:
+            answers.append("nothing")
+        elif name is None and method == "$/cancelRequest":
+            answers.append(cancelled(pending, message.get("params")))
+        elif name is None:
+            answers.append("nothing" if method.startswith("$/") else f"note: {step}")
+        elif method.startswith("$/"):
+            replaced = f"{pending[name]} is replaced by " if is_asked and name in pending else ""
+            answers.append(replaced + "unknown: " + text_of({"id": name, "error": NOT_FOUND}))
+        else:
+            replaced = f"{pending[name]} is replaced by " if is_asked and name in pending else ""
+            pending[name] = count
+            answers.append(f"{replaced}work {count}: {step}")
+            count += 1
+    return answers
+
+
+def handshake_answer(texts):
+    """What a handshake and a shutdown over these messages come to."""
+    messages, sent, said = [json.loads(it) for it in texts.split("; ")], 0, []
+
+    def answer(text):
+        said.append(f"{text}, sent {sent}")
+        return ["; ".join(said)]
+
+    while True:
+        if not messages:
+            return answer("start: disconnected channel")
+        came = messages.pop(0)
+        if is_request(came, "initialize"):
+            break
+        if "method" not in came or is_note(came, "exit"):
+            return answer("start: " + AT_WRONG_TIME["new"] + debug_message(came))
+        sent += "id" in came
+    answer(f"start {id_answer(came['id'])} {compact(came.get('params'))}")
+    for name, wanted, at_end, at_wrong in [
+        ("finish", "initialized", AT_END["asked"], AT_WRONG_TIME["asked"]),
+        ("shutdown", "exit", AT_END["ending"], AT_WRONG_TIME["ending"]),
+    ]:
+        sent += 1
+        if not messages:
+            return answer(f"{name}: {at_end}")
+        came = messages.pop(0)
+        if not is_note(came, wanted):
+            return answer(f"{name}: {at_wrong}{debug_message(came)}")
+        answer("finish" if name == "finish" else "shutdown true")
+    return ["; ".join(said)]
+
+
+def value_answers(members):
+    body = text_of({"jsonrpc": "2.0", **members})
+    # A message is a tree whose members stand in the order of their names.
+    return [text_of(members), ordered(members), body, escape(framed(body.encode()))]
+
+
+def relay_answers(method):
+    """What was sent comes first, then the end, then nothing."""
+    note = text_of({"method": method})
+    return [f"sent true, ended true, taken {note}, settled the end, settled again nothing"]
