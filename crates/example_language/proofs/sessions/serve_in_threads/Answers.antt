@@ -1,6 +1,6 @@
 use Rattle.lsp_message.specs.Frame.{no_limit}
 use Rattle.lsp_threads.proofs.ThreadsAs.{started_as}
-use Rattle.lsp_threads.specs.declared.threads.Threaded.{Threaded}
+use Rattle.lsp_threads.specs.declared.run.Threaded.{Threaded}
 use Rattle.example_language.proofs.Known.{answers_once}
 use Rattle.example_language.proofs.sessions.serve_in_threads.Goals as goal
 
