@@ -1,12 +1,10 @@
-// A link between two peers alone, and the queue of a side whose params nest too deep to be written.
+// What nests too deep, in a link and in a queue; and what a queue shows. How links carry messages is in the stored run of `example_two_peers`.
 use anyhow::Result;
 use lsp_message::{Message, Notification, RequestId};
 use lsp_peers::Link;
 use lsp_queue::{RegisterFault, ReqQueue};
 use serde_json::Value;
 use std::alloc::{AllocError, Global};
-use std::fmt::Write;
-use test_support::messages::note;
 
 // So many lists, each in the next.
 fn nested(alloc: Global, levels: u8) -> Result<Value, AllocError> {
@@ -19,50 +17,19 @@ fn nested(alloc: Global, levels: u8) -> Result<Value, AllocError> {
     Ok(value)
 }
 
-// What is taken once more bytes have arrived.
-fn taken(alloc: Global, link: &mut Link, bytes: usize) -> Result<String, AllocError> {
-    let passed = link.pass(bytes);
-    match link.take() {
-        Ok(message) => {
-            let is_taken = message.is_some();
-            format!(in alloc;
-                "{passed} passed, taken {is_taken}, {} there; ",
-                link.arrived().len()
-            )
-        }
-        Err(fault) => format!(in alloc; "{passed} passed, {fault}; "),
-    }
-}
-
-/// Two frames of 55 bytes, which arrive in pieces.
-pub fn link(alloc: Global) -> Result<String> {
-    let exit = note(alloc, "exit")?;
+/// Whether a link passes over a message that nests too deep to be read, and then over no other.
+pub fn skipped(alloc: Global) -> Result<String> {
     let mut link = Link::default(alloc);
-    link.write(&exit)?;
-    link.write(&exit)?;
-    let mut text = format!(in alloc; "{} on the way; ", link.on_way().len())?;
-    for bytes in [54, 2, 1000, 0] {
-        text.push_str(taken(alloc, &mut link, bytes)?.as_str())?;
-    }
-    Ok(text)
-}
-
-/// A link goes on behind a message that nests too deep to be read.
-pub fn deep(alloc: Global) -> Result<String> {
-    let deep = Message::Notification(Notification {
+    link.write(&Message::Notification(Notification {
         method: String::from_str(alloc, "deep")?,
         params: nested(alloc, 127)?,
-    });
-    let mut link = Link::default(alloc);
-    link.write(&deep)?;
-    link.write(&note(alloc, "exit")?)?;
-    let mut text = format!(in alloc; "skipped {}; ", link.skip())?;
-    for bytes in [1000, 0] {
-        text.push_str(taken(alloc, &mut link, bytes)?.as_str())?;
-    }
-    write!(text, "skipped {}; ", link.skip())?;
-    text.push_str(taken(alloc, &mut link, 0)?.as_str())?;
-    Ok(text)
+    }))?;
+    let passed = link.pass(1000);
+    let skips = (link.skip(), link.skip());
+    Ok(format!(in alloc;
+        "{passed} passed, {skips:?}, {} there",
+        link.arrived().len()
+    )?)
 }
 
 type Queue = ReqQueue<char, char>;
