@@ -58,22 +58,15 @@ pub fn answer_until_shutdown<R: Wait + Clock + AllocGlobal>(
 #[cfg(test)]
 mod tests {
     use super::{answer_initialize, answer_until_shutdown, initialize_until_stopped};
-    use lsp_server::{Connection, Message};
-    use std::alloc::Global;
-    use std::sync::Wait;
+    use lsp_server::Connection;
     use std::sync::atomic::AtomicBool;
     use std::test::Fail;
-    use test_support::client::sends;
+    use test_support::client::{receives, sends};
 
     const INITIALIZE: &str = "{\"id\":1,\"method\":\"initialize\",\"params\":{\"a\":1}}";
 
-    // The text of the next message that the client gets.
-    fn next(rt: &impl Wait, alloc: Global, client: &Connection) -> Result<String, Fail> {
-        match client.receiver.recv(rt) {
-            Ok(message) => Ok(message.member_text(alloc)?),
-            Err(_) => Err(Fail::from("no message")),
-        }
-    }
+    const RESULT: &str =
+        "{\"id\":1,\"result\":{\"capabilities\":{\"hoverProvider\":true},\"serverInfo\":{\"name\":\"my_server\",\"version\":\"0.1\"}}}";
 
     #[test]
     fn a_session_goes_through(rt: HostRuntime) -> Result<(), Fail> {
@@ -88,14 +81,8 @@ mod tests {
         };
         assert_eq!(rt; params.to_string(alloc)?.as_str(), "{\"a\":1}");
         assert!(rt; answer_until_shutdown(&rt, &server).is_ok());
-        assert_eq!(rt;
-            next(&rt, alloc, &client)?.as_str(),
-            "{\"id\":1,\"result\":{\"capabilities\":{\"hoverProvider\":true},\"serverInfo\":{\"name\":\"my_server\",\"version\":\"0.1\"}}}"
-        );
-        assert_eq!(rt;
-            next(&rt, alloc, &client)?.as_str(),
-            "{\"id\":2,\"result\":null}"
-        );
+        assert!(rt; receives(&rt, &client.receiver, RESULT));
+        assert!(rt; receives(&rt, &client.receiver, "{\"id\":2,\"result\":null}"));
         Ok(())
     }
 
