@@ -86,7 +86,7 @@ impl Connection {
     /// Waits for the request `initialize`, and gives its id and its params. Use it in place of `initialize` if your answer depends
     /// on the params, or has more than capabilities in it:
     ///
-    /// <!-- from crates/examples/src/handshake.rt -->
+    /// <!-- from crates/example_pieces/src/handshake.rt -->
     /// ```rust
     /// let (id, params) = connection.initialize_start(rt)?;
     /// let result = json!(in rt.alloc(); {
@@ -189,7 +189,7 @@ impl Connection {
 
     /// As `initialize`, until `running` answers false, which is an error then. Here another thread may set a flag:
     ///
-    /// <!-- from crates/examples/src/handshake.rt -->
+    /// <!-- from crates/example_pieces/src/handshake.rt -->
     /// ```rust
     /// let running = || !stopped.load(Ordering::SeqCst);
     /// let params = connection.initialize_while(rt, capabilities, running)?;
@@ -213,7 +213,7 @@ impl Connection {
     /// If the request is `shutdown`, answers it with null and waits up to 30 seconds for the notification `exit`: then `Ok(true)`,
     /// and the session is over. For any other request it gives `Ok(false)` at once, and the request is yours to answer.
     ///
-    /// <!-- from crates/examples/src/handshake.rt -->
+    /// <!-- from crates/example_pieces/src/handshake.rt -->
     /// ```rust
     /// for message in connection.receiver.iter(rt) {
     ///     let Message::Request(request) = message else {
