@@ -136,6 +136,27 @@ pub struct Source<C> {
 }
 
 impl<C: Clock> Source<C> {
+    /// It is asked for bytes: it fails, if that is due, and else shows a piece.
+    fn ask(&mut self) -> io::Result<()> {
+        self.signals.tell(Signal::Reads);
+        if let Some(place) = self.fails_at {
+            if place <= self.taken {
+                self.fails_at = None;
+                return Err(io::Error::from(ErrorKind::ConnectionReset));
+            }
+        }
+        if self.taken >= self.shown {
+            self.show()?;
+        }
+        Ok(())
+    }
+
+    /// The bytes of the piece that were not taken.
+    fn piece(&self) -> &[u8] {
+        let piece = self.bytes.as_slice().get(self.taken..self.shown);
+        piece.unwrap_or(&[])
+    }
+
     /// Shows the next piece.
     fn show(&mut self) -> io::Result<()> {
         let mut end = self.taken.saturating_add(self.step).min(self.bytes.len());
@@ -181,16 +202,8 @@ impl<C: Clock> Read for Source<C> {
 
 impl<C: Clock> BufRead for Source<C> {
     fn fill_buf(&mut self) -> io::Result<&[u8]> {
-        self.signals.tell(Signal::Reads);
-        if self.fails_at.is_some_and(|place| place <= self.taken) {
-            self.fails_at = None;
-            return Err(io::Error::from(ErrorKind::ConnectionReset));
-        }
-        if self.taken >= self.shown {
-            self.show()?;
-        }
-        let piece = self.bytes.as_slice().get(self.taken..self.shown);
-        Ok(piece.unwrap_or(&[]))
+        self.ask()?;
+        Ok(self.piece())
     }
 
     fn consume(&mut self, amount: usize) {
