@@ -14,9 +14,7 @@ use Rattle.lsp_service.specs.declared.server.Server.{Ghosts as Stated}
 module _ {P : Type 0} where
   said_one : (d : Desk P) (act : Act P) → (does d act).said ≡ d.said ++ sends_by d act
   said_one d (tells method params) = refl
-  said_one d (asks method params payload) = grind (arith, append-nil)
-  said_one d (replies id outcome) = grind (arith, append-nil)
-  said_one d (cancels z) = grind (arith, append-nil)
+  said_one d act = grind (arith, append-nil)
 
   said_all : (d : Desk P) (acts : List (Act P)) → (does_all d acts).said ≡ d.said ++ all_sends d acts
   said_all d [] = sym (append-nil d.said)
@@ -28,20 +26,16 @@ module _ {P : Type 0} where
   does-append d (x ∷ xs) ys = does-append (does d x) xs ys
 
   pub at_count : (d : Desk P) (m : Message) (payload : Option P) → count_of (desk_at d m payload).asked ≡ count_of d.asked
-  at_count d (request id method params) payload = refl
-  at_count d (notification method params) payload = refl
-  at_count d (response id outcome) None = refl
   at_count d (response id outcome) (Some payload) = refl
+  at_count d m payload = refl
 
   settled_so : (d : Desk P) (cancelled : Option Id) → settles d cancelled ≡ does_all d (settled_by cancelled)
   settled_so d None = refl
   settled_so d (Some id) = refl
 
   pub at_said : (d : Desk P) (m : Message) (payload : Option P) → (desk_at d m payload).said ≡ d.said
-  at_said d (request id method params) payload = refl
-  at_said d (notification method params) payload = refl
-  at_said d (response id outcome) None = refl
   at_said d (response id outcome) (Some payload) = refl
+  at_said d m payload = refl
 
 module _ {S P : Type 0} (may : Stated S P) where
   acts_so : (old : S × Desk P) (m : Message) (said : List Message) (new : S × Desk P) (payload : Option P) (acts : List (Act P)) (did : S) (after : Desk P)

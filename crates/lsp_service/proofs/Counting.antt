@@ -25,8 +25,7 @@ module _ {S P : Type 0} (may : Stated S P) where
   Clean starting w = Clear may w
   Clean in_reply w = Clear may w
   Clean serving w = (desk_of w.client).said ≡ []
-  Clean (asked i) w = Unit {0}
-  Clean (ended null by) w = Unit {0}
+  Clean phase w = Unit {0}
 
   module _ (id : Id) where
     abbrev owed : QueuedServer S P → ℕ
@@ -64,8 +63,7 @@ module _ {S P : Type 0} (may : Stated S P) where
     -- a message that is no request
     none_under : (m : Message) → IsNoRequest m → 0 ≡ one_if (is_request_under id m)
     none_under (request i method params) mute = absurd mute
-    none_under (notification method params) mute = refl
-    none_under (response i outcome) mute = refl
+    none_under m mute = refl
 
     -- the server is not called
     count_idle : (p q : Phase) (w : QueuedServer S P) (m : Message) (said : List Message) → Clean p w → Idle p m said q → Count w w q m said
@@ -181,29 +179,17 @@ module _ {S P : Type 0} (may : Stated S P) where
         → Stops (at_desk may) q w stop answer w' → w' ≡ w
     left_in q (refused f) answer w w' whole stops = absurd whole
     left_in q exhausted answer w w' whole stops = absurd whole
-    left_in starting decided answer w w' whole stops = absurd stops
-    left_in starting no_more answer w w' whole stops = stops.1
-    left_in starting timed_out answer w w' whole stops = absurd stops
-    left_in in_reply decided answer w w' whole stops = absurd stops
-    left_in in_reply no_more answer w w' whole stops = stops.1
-    left_in in_reply timed_out answer w w' whole stops = absurd stops
-    left_in serving decided answer w w' whole stops = absurd stops
-    left_in serving no_more answer w w' whole stops = stops.1
-    left_in serving timed_out answer w w' whole stops = absurd stops
-    left_in (asked i) decided answer w w' whole stops = absurd stops
-    left_in (asked i) no_more answer w w' whole stops = stops.1
-    left_in (asked i) timed_out answer w w' whole stops = stops.1
     left_in (ended null by) decided answer w w' whole stops = stops.1
-    left_in (ended null by) no_more answer w w' whole stops = absurd stops
-    left_in (ended null by) timed_out answer w w' whole stops = absurd stops
+    left_in (ended null by) stop answer w w' whole stops = absurd stops
+    left_in (asked i) timed_out answer w w' whole stops = stops.1
+    left_in q no_more answer w w' whole stops = stops.1
+    left_in q stop answer w w' whole stops = absurd stops
 
     run_of : (stop : Stop) (w w' : QueuedServer S P) (xs : List Exchange) (q : Phase) → IsWhole stop → Reaches (at_desk may) stop starting w xs q w'
         → Steps (at_desk may) starting w xs q w'
-    run_of decided w w' xs q whole run = run
-    run_of no_more w w' xs q whole run = run
-    run_of timed_out w w' xs q whole run = run
     run_of (refused f) w w' xs q whole run = absurd whole
     run_of exhausted w w' xs q whole run = absurd whole
+    run_of stop w w' xs q whole run = run
 
     is_one : (o : Option (Unit {0})) → 1 ≤ 0 + one_if (is_some o) → one_if (is_some o) ≡ 1
     is_one None one = absurd (omega (arith, one))
