@@ -143,7 +143,8 @@ module _ {S P : Type 0} (may : Stated S P) where
     least_of : (xs : List Exchange) (p q : Phase) (w w' : QueuedServer S P) → Steps (at_desk may) p w xs q w' → Clean p w
         → 1 ≤ Q (letters_of xs) + owed w → (1 ≤ R (sends_of xs) + owed w') ⊎ EndsUnallowed xs q
     least_of [] p q w w' run clean some = inl (rw run.1 (omega (arith, some)))
-    least_of (x ∷ xs) p q w w' run clean some = at (λ clean some. least_of xs run.0 q run.1 w' run.3 clean some) (one_if (is_request_under id x.letter) + owed w) refl
+    least_of (x ∷ xs) p q w w' run clean some =
+        at (Q (letters_of xs) + owed run.1) refl (λ clean some. least_of xs run.0 q run.1 w' run.3 clean some)
       where
         one : Count w run.1 run.0 x.letter x.said
         one = count p run.0 w run.1 x.letter x.said clean run.2
@@ -151,28 +152,20 @@ module _ {S P : Type 0} (may : Stated S P) where
         sent : R (x.said ++ sends_of xs) ≡ R x.said + R (sends_of xs)
         sent = how_many-append (is_reply_under id) x.said (sends_of xs)
 
-        later : (Clean run.0 run.1 → 1 ≤ Q (letters_of xs) + owed run.1 → (1 ≤ R (sends_of xs) + owed w') ⊎ EndsUnallowed xs q) → 1 ≤ Q (letters_of xs) + owed run.1
+        at : (n : ℕ) → Q (letters_of xs) + owed run.1 ≡ n
+            → (Clean run.0 run.1 → 1 ≤ Q (letters_of xs) + owed run.1 → (1 ≤ R (sends_of xs) + owed w') ⊎ EndsUnallowed xs q)
             → (1 ≤ R (x.said ++ sends_of xs) + owed w') ⊎ EndsUnallowed (x ∷ xs) q
-        later more some = elim (more one.clean some) [
-          | inl found ↦ inl (omega (arith, sent, found))
-          | inr ends ↦ inr (x ∷ ends.0, ends.1, ap (λ (l : List Exchange). x ∷ l) ends.2, ends.3)
-        ]
-
-        held : (Clean run.0 run.1 → 1 ≤ Q (letters_of xs) + owed run.1 → (1 ≤ R (sends_of xs) + owed w') ⊎ EndsUnallowed xs q) → (n : ℕ) → owed run.1 ≡ n → 1 ≤ R x.said + owed run.1
-            → (1 ≤ R (x.said ++ sends_of xs) + owed w') ⊎ EndsUnallowed (x ∷ xs) q
-        held more zero e some = inl (omega (arith, sent, e, some))
-        held more (suc n) e some = later more (omega (arith, e))
-
-        at : (Clean run.0 run.1 → 1 ≤ Q (letters_of xs) + owed run.1 → (1 ≤ R (sends_of xs) + owed w') ⊎ EndsUnallowed xs q) → (n : ℕ) → one_if (is_request_under id x.letter) + owed w ≡ n
-            → (1 ≤ R (x.said ++ sends_of xs) + owed w') ⊎ EndsUnallowed (x ∷ xs) q
-        at more zero e = later more (omega (arith, e, some))
-        at more (suc n) e = elim (one.least (omega (arith, e))) [
-          | inl found ↦ held more (owed run.1) refl found
+        at zero e more = elim (one.least (omega (arith, e, some))) [
+          | inl found ↦ inl (omega (arith, sent, e, found))
           | inr unallowed ↦ (
               let rest = over xs q unallowed.1 (Err unallowed.2) run.1 w' (rw unallowed.3 at run.3) in
               let same : q ≡ run.0 = rest.1 ∙ sym unallowed.3 in
               inr (rw (rest.0, same) ([], x, refl, unallowed))
               )
+        ]
+        at (suc n) e more = elim (more one.clean (omega (arith, e))) [
+          | inl found ↦ inl (omega (arith, sent, found))
+          | inr ends ↦ inr (x ∷ ends.0, ends.1, ap (λ (l : List Exchange). x ∷ l) ends.2, ends.3)
         ]
 
     left_in : (q : Phase) (stop : Stop) (answer : SessionAnswer) (w w' : QueuedServer S P) → IsWhole stop

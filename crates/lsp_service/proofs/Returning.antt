@@ -4,9 +4,8 @@ use Rattle.std.proofs.lemmas.List.{map-append}
 use Rattle.std.specs.FinMap as map
 use Rattle.std.specs.FinMap.{get-insert, get-remove, get-empty}
 use Rattle.std.specs.Ordering.{eq_by_cmp}
-use Rattle.std.specs.Prelude.{Result, pos, if◌then◌else◌}
 use Rattle.std.specs.List.{list_all}
-use Rattle.std.specs.Prelude.{map as map_list}
+use Rattle.std.specs.Prelude.{Result, pos, map as map_list, if◌then◌else◌}
 use Rattle.serde_json.specs.Data.{Data}
 use Rattle.lsp_message.specs.Id.{Id, id_cmp, number}
 use Rattle.lsp_message.specs.IdLaws.{id_total, id_decides}
@@ -103,19 +102,16 @@ module _ {P : Type 0} where
       one : Sent P
       one = record { id = next; method = method; params = params; payload = payload }
 
-      kept_one : (id : Id) (b : Bool) → eq_by_cmp id_cmp id next ≡ b → kept_under id (one ∷ []) ≡ (if b then Some payload else None)
-      kept_one id b e = ap (λ (x : Bool). if x then Some payload else None) e
-
       at : (id : Id) (b : Bool) → eq_by_cmp id_cmp id next ≡ b
           → cond b (Some payload) (map.get (pending_of asked) id) ≡ (if was_given id before then None else kept_under id (sent ++ one ∷ []))
       at id true e =
           let same : id ≡ next = (id_decides id next).0 e in
           let ungiven : was_given id before ≡ false = ap (λ i. was_given i before) same ∙ agrees.ungiven (count_of asked) (omega arith) in
           let none : kept_under id sent ≡ None = ap (λ i. kept_under i sent) same ∙ agrees.fresh (count_of asked) (omega arith) in
-          rw (ungiven, kept-append id sent (one ∷ []), none, kept_one id true e) refl
+          rw (ungiven, kept-append id sent (one ∷ []), none, e) refl
       at id false e =
           let kept = kept-append id sent (one ∷ []) in
-          let others : kept_under id (one ∷ []) ≡ None = kept_one id false e in
+          let others : kept_under id (one ∷ []) ≡ None = ap (λ (x : Bool). if x then Some payload else None) e in
           let before = agrees.pending id in
           grind (arith, kept, others, before)
 

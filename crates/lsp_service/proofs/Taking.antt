@@ -144,13 +144,6 @@ module _ {S P : Type 0} (may : Stated S P) (stop : Stop) where
 
   -- ---- from the result of `initialize` on
 
-  part_opened : (w mid : QueuedServer S P) (x : Exchange) (xs : List Exchange) (full : List Message) → (desk_of w.client).said ≡ [] → Unasked may w
-      → (at_desk may).opens w full mid → Sends mid xs full x.said → TakesPart may (letters_of xs) stop (requests_in (x.said ++ sends_of xs))
-  part_opened w mid x xs full silent unasked opened s =
-      subst (λ (l : List Message). TakesPart may l stop (requests_in (x.said ++ sends_of xs))) (sym s.later.cut)
-      (part_whole may w mid s.later.after full s.later.served s.later.rest stop (requests_in (x.said ++ sends_of xs)) s.more silent unasked opened s.later.given
-      s.later.all_served s.later.unserved s.sent s.whole)
-
   after_result : (xs : List Exchange) (q : Phase) (w w' : QueuedServer S P) → (desk_of w.client).said ≡ [] → Unasked may w
       → Runs_from in_reply w xs q w' → GoesOn may xs stop
   after_result [] q w w' silent unasked run = tt
@@ -159,8 +152,11 @@ module _ {S P : Type 0} (may : Stated S P) (stop : Stop) where
       at : (b : Bool) → is_initialized x.letter ≡ b
           → MatchBool b ((at_desk may).opens w run.0 run.5 × (run.4 ≡ serving)) (Fails expected_initialized in_reply run.0 run.4 × (run.5 ≡ w))
           → GoesOn may (x ∷ xs) stop
-      at true e step = rw e (part_opened w run.5 x xs run.0 silent unasked step.0
-          (sends_more run.5 xs run.0 x.said run.1 run.2 run.7 (serve_all xs q run.5 w' (rw step.1 at run.8))))
+      at true e step =
+          let s = sends_more run.5 xs run.0 x.said run.1 run.2 run.7 (serve_all xs q run.5 w' (rw step.1 at run.8)) in
+          rw e (subst (λ (l : List Message). TakesPart may l stop (requests_in (x.said ++ sends_of xs))) (sym s.later.cut)
+          (part_whole may w run.5 s.later.after run.0 s.later.served s.later.rest stop (requests_in (x.said ++ sends_of xs)) s.more silent unasked step.0
+          s.later.given s.later.all_served s.later.unserved s.sent s.whole))
       at false e step =
           rw e (rw (part_none x.said run.1 run.0 run.2 step.0.1, over xs None (Err (expected_initialized step.0.0)) q run.5 w' (rw step.0.2 at run.8)) refl)
 
