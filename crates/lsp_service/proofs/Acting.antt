@@ -38,9 +38,10 @@ module _ {P : Type 0} where
   at_said d m payload = refl
 
 module _ {S P : Type 0} (may : Stated S P) where
-  acts_so : (old : S × Desk P) (m : Message) (said : List Message) (new : S × Desk P) (payload : Option P) (acts : List (Act P)) (did : S) (after : Desk P)
-      → payload ≡ brought_by old.1 m → Handed may old.0 m payload acts did → TakesBack may.takes_back did (unsent (count_of old.1.asked) acts) new.0
-      → after ≡ does_all (desk_at old.1 m payload) (settled_at m acts) → said ≡ after.said → new.1 ≡ cleared after
+  acts_so : (old : S × Desk P) (m : Message) (said : List Message) (new : S × Desk P) (payload : Option P) (acts : List (Act P)) (did : S)
+      (after : S × Desk P) → payload ≡ brought_by old.1 m → Handed may old.0 m payload acts did
+      → TakesBack may.takes_back did (unsent (count_of old.1.asked) acts) after.0
+      → after.1 ≡ does_all (desk_at old.1 m payload) (settled_at m acts) → said ≡ after.1.said → new ≡ (after.0, cleared after.1)
       → ActsAt may old m said new
   acts_so old m said new payload acts did after brought handed back same is left = record {
     payload = payload;
@@ -48,10 +49,10 @@ module _ {S P : Type 0} (may : Stated S P) where
     acts = acts;
     did = did;
     handed = handed;
-    back = back;
+    back = rw (ap (λ (x : S × Desk P). x.0) left) back;
     sent = is ∙ ap (λ (d : Desk P). d.said) same ∙ said_all (desk_at old.1 m payload) (settled_at m acts)
         ∙ ap (λ (l : List Message). l ++ all_sends (desk_at old.1 m payload) (settled_at m acts)) (at_said old.1 m payload);
-    desk = left ∙ ap (λ (d : Desk P). cleared d) same;
+    desk = ap (λ (x : S × Desk P). x.1) left ∙ ap (λ (d : Desk P). cleared d) same;
   }
 
   -- all that was sent, as the desk had it
@@ -65,23 +66,21 @@ module _ {S P : Type 0} (may : Stated S P) where
       → ActsAt may old m said new
   acts_at old (request id method params) said new gives =
       let w = gives.1 in
-      let server : new.0 ≡ gives.0.0 = ap (λ (x : S × Desk P). x.0) gives.3 in
-      acts_so old (request id method params) said new None w.0 w.1 gives.0.1 refl (w.2, refl) (rw server w.3) w.4 gives.2 (ap (λ (x : S × Desk P). x.1) gives.3)
+      acts_so old (request id method params) said new None w.0 w.1 gives.0 refl (w.2, refl) w.3 w.4 gives.2 gives.3
   acts_at old (notification method params) said new gives =
       let w = gives.1 in
-      let server : new.0 ≡ w.0.0 = ap (λ (x : S × Desk P). x.0) gives.3 ∙ ap (λ (x : S × Desk P). x.0) w.2 in
       let desk : gives.0.1 ≡ does_all old.1 (w.1.0 ++ settled_by (cancelled_by method params)) =
       ap (λ (x : S × Desk P). x.1) w.2 ∙ settled_so w.0.1 (cancelled_by method params)
       ∙ ap (λ (d : Desk P). does_all d (settled_by (cancelled_by method params))) w.1.4 ∙ sym (does-append old.1 w.1.0 (settled_by (cancelled_by method params))) in
-      acts_so old (notification method params) said new None w.1.0 w.1.1 gives.0.1 refl (w.1.2, refl) (rw server w.1.3) desk gives.2 (ap (λ (x : S × Desk P). x.1) gives.3)
+      acts_so old (notification method params) said new None w.1.0 w.1.1 gives.0 refl (w.1.2, refl) (rw (ap (λ (x : S × Desk P). x.0) w.2) w.1.3) desk
+      gives.2 gives.3
   acts_at old (response id outcome) said new gives = at (map.get (pending_of old.1.asked) id) refl gives.1
     where
       at : (o : Option P) → map.get (pending_of old.1.asked) id ≡ o
           → MatchOption o (gives.0 ≡ old) (λ payload. Acts may.takes_back (may.replied old.0 payload outcome) (given old.1 id) gives.0)
           → ActsAt may old (response id outcome) said new
       at None kept same =
-          let server : new.0 ≡ old.0 = ap (λ (x : S × Desk P). x.0) gives.3 ∙ ap (λ (x : S × Desk P). x.0) same in
-          acts_so old (response id outcome) said new None [] old.0 gives.0.1 (sym kept) (refl, refl) server (ap (λ (x : S × Desk P). x.1) same) gives.2 (ap (λ (x : S × Desk P). x.1) gives.3)
+          acts_so old (response id outcome) said new None [] old.0 gives.0 (sym kept) (refl, refl) (ap (λ (x : S × Desk P). x.0) same)
+          (ap (λ (x : S × Desk P). x.1) same) gives.2 gives.3
       at (Some payload) kept w =
-          let server : new.0 ≡ gives.0.0 = ap (λ (x : S × Desk P). x.0) gives.3 in
-          acts_so old (response id outcome) said new (Some payload) w.0 w.1 gives.0.1 (sym kept) w.2 (rw server w.3) w.4 gives.2 (ap (λ (x : S × Desk P). x.1) gives.3)
+          acts_so old (response id outcome) said new (Some payload) w.0 w.1 gives.0 (sym kept) w.2 w.3 w.4 gives.2 gives.3

@@ -14,7 +14,7 @@ use Rattle.lsp_service.specs.Desk.{Desk}
 use Rattle.lsp_service.specs.Law.{one_if, is_request_under, is_reply_under, how_many, held_under, IsWhole, NeverMore, OnceOrEnded}
 use Rattle.lsp_service.specs.QueuedServer.{at_desk}
 use Rattle.lsp_service.specs.declared.desk.QueuedServer.{QueuedServer}
-use Rattle.lsp_service.proofs.Keeping.{Clear, clear_same, silent_opened, due_opened}
+use Rattle.lsp_service.proofs.Keeping.{Clear, clear_same, due_opened}
 use Rattle.lsp_service.proofs.Owing.{how_many-append, due_one}
 use Rattle.lsp_service.specs.View.{desk_of}
 use Rattle.lsp_service.specs.declared.server.Server.{Ghosts as Stated}
@@ -103,7 +103,7 @@ module _ {S P : Type 0} (may : Stated S P) where
             rw next (record {
               most = omega (arith, none);
               least = λ some. absurd (omega (arith, some, other, empty));
-              clean = silent_opened may w w' said opened;
+              clean = ap (λ (x : S × Desk P). x.1.said) opened.3;
             })
         by (at_served begun e gives next) =
             let due = due_one may id w w' m said (rw begun at clean) gives in
@@ -194,21 +194,15 @@ module _ {S P : Type 0} (may : Stated S P) where
         → OnceOrEnded id xs stop (desk_of w'.client).held answer
     answered_once stop answer w after w' xs q reached stops clean whole one = at (R (sends_of xs)) refl
       where
-        run : Steps (at_desk may) starting w xs q after
-        run = run_of stop w after xs q whole reached
-
         most : R (sends_of xs) ≤ Q (letters_of xs)
         most = never_more stop w after xs q reached clean xs [] (sym (append-nil xs))
-
-        left : owed w' ≡ owed after
-        left = ap (λ (v : QueuedServer S P). held_under id (desk_of v.client).held) (left_in q stop answer after w' whole stops)
 
         at : (n : ℕ) → R (sends_of xs) ≡ n → OnceOrEnded id xs stop (desk_of w'.client).held answer
         at (suc n) e = inl (omega (arith, e, most, one))
         at zero e = inr (
           e,
-          elim (least_of xs starting q w after run clean (omega (arith, one))) [
-            | inl found ↦ inl (left ∙ is_one _ (omega (arith, e, found)))
+          elim (least_of xs starting q w after (run_of stop w after xs q whole reached) clean (omega (arith, one))) [
+            | inl found ↦ inl (ap owed (left_in q stop answer after w' whole stops) ∙ is_one _ (omega (arith, e, found)))
             | inr ends ↦ inr (
                 let by = stops_by {S = QueuedServer S P} (at_desk may) q after w' stop answer stops in
                 let so = (rw ends.3.3 at by) in

@@ -45,6 +45,3 @@ module _ {S P : Type 0} (may : Stated S P) where
       let silent : how_many (is_reply_under id) (desk_of w.client).said ≡ 0 = ap (how_many (is_reply_under id)) clear.silent in
       let sent : how_many (is_reply_under id) said ≡ how_many (is_reply_under id) after.1.said = ap (how_many (is_reply_under id)) opened.2 in
       omega (arith, kept, none, silent, sent, clear.none id)
-
-  pub silent_opened : (w w' : QueuedServer S P) (said : List Message) → (at_desk may).opens w said w' → (desk_of w'.client).said ≡ []
-  silent_opened w w' said opened = ap (λ (x : S × Desk P). x.1.said) opened.3
