@@ -149,14 +149,11 @@ module _ {S P : Type 0} (may : Stated S P) where
         one : Count w run.1 run.0 x.letter x.said
         one = count p run.0 w run.1 x.letter x.said clean run.2
 
-        sent : R (x.said ++ sends_of xs) ≡ R x.said + R (sends_of xs)
-        sent = how_many-append (is_reply_under id) x.said (sends_of xs)
-
         at : (n : ℕ) → Q (letters_of xs) + owed run.1 ≡ n
             → (Clean run.0 run.1 → 1 ≤ Q (letters_of xs) + owed run.1 → (1 ≤ R (sends_of xs) + owed w') ⊎ EndsUnallowed xs q)
             → (1 ≤ R (x.said ++ sends_of xs) + owed w') ⊎ EndsUnallowed (x ∷ xs) q
         at zero e more = elim (one.least (omega (arith, e, some))) [
-          | inl found ↦ inl (omega (arith, sent, e, found))
+          | inl found ↦ inl (let sent = how_many-append (is_reply_under id) x.said (sends_of xs) in omega (arith, sent, e, found))
           | inr unallowed ↦ (
               let rest = over xs q unallowed.1 (Err unallowed.2) run.1 w' (rw unallowed.3 at run.3) in
               let same : q ≡ run.0 = rest.1 ∙ sym unallowed.3 in
@@ -164,7 +161,7 @@ module _ {S P : Type 0} (may : Stated S P) where
               )
         ]
         at (suc n) e more = elim (more one.clean (omega (arith, e))) [
-          | inl found ↦ inl (omega (arith, sent, found))
+          | inl found ↦ inl (let sent = how_many-append (is_reply_under id) x.said (sends_of xs) in omega (arith, sent, found))
           | inr ends ↦ inr (x ∷ ends.0, ends.1, ap (λ (l : List Exchange). x ∷ l) ends.2, ends.3)
         ]
 

@@ -23,9 +23,6 @@ use Rattle.lsp_service.proofs.Returning.{requests-append, GivesAll, part_whole}
 use Rattle.lsp_service.specs.View.{desk_of}
 use Rattle.lsp_service.specs.declared.server.Server.{Ghosts as Stated}
 
-all_both : (xs ys : List Message) → list_all is_refusal xs ≡ true → list_all is_refusal ys ≡ true → list_all is_refusal (xs ++ ys) ≡ true
-all_both xs ys first second = list_all-append is_refusal xs ys ∙ (rw (first, second) refl)
-
 whole_sent : (stop : Stop) → IsWhole stop → IsSent stop
 whole_sent (refused fault) whole = whole
 whole_sent stop whole = tt
@@ -165,7 +162,7 @@ module _ {S P : Type 0} (may : Stated S P) (stop : Stop) where
   -- one more error comes first, or a message without a reply
   payloads_more : (x : Exchange) (xs : List Exchange) → list_all is_refusal x.said ≡ true → GivesPayloads may xs stop → GivesPayloads may (x ∷ xs) stop
   payloads_more x xs errors payloads = elim payloads [
-    | inl none ↦ inl (all_both x.said (sends_of xs) errors none)
+    | inl none ↦ inl (list_all-append is_refusal x.said (sends_of xs) ∙ (rw (errors, none) refl))
     | inr p ↦ inr (
       x ∷ p.0,
       p.1,
@@ -179,7 +176,7 @@ module _ {S P : Type 0} (may : Stated S P) (stop : Stop) where
         asks = p.3.asks;
         cut = ap (λ (l : List Exchange). x ∷ l) p.3.cut;
       },
-      all_both x.said (sends_of p.3.before) errors p.4,
+      list_all-append is_refusal x.said (sends_of p.3.before) ∙ (rw (errors, p.4) refl),
       p.5,
     )
   ]
