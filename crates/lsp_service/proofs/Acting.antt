@@ -5,7 +5,7 @@ use Rattle.std.specs.Prelude.{MatchOption}
 use Rattle.lsp_message.specs.Id.{Id}
 use Rattle.lsp_message.specs.Message.{Message, request, notification, response}
 use Rattle.lsp_queue.specs.Queue.{pending_of, count_of}
-use Rattle.lsp_service.specs.Desk.{Act, tells, asks, replies, cancels, settles, cancelled_by, Desk, does, does_all, unsent, given, cleared, TakesBack, Acts}
+use Rattle.lsp_service.specs.Desk.{Act, tells, settles, cancelled_by, Desk, does, does_all, unsent, given, cleared, TakesBack, Acts}
 use Rattle.lsp_service.specs.Law.{Handed}
 use Rattle.lsp_service.specs.Turning.{brought_by, sends_by, all_sends, desk_at, settled_by, settled_at, ActsAt}
 use Rattle.lsp_service.specs.QueuedServer.{WorksGiving}

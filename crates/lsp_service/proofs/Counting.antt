@@ -3,7 +3,7 @@ use Rattle.std.proofs.Common.{◌≡◌, refl, sym, ◌∙◌, ap, inl, inr, ◌
 use Rattle.std.specs.Prelude.{Result, Ok, Err, is_some}
 use Rattle.serde_json.specs.Data.{Data}
 use Rattle.lsp_message.specs.Id.{Id}
-use Rattle.lsp_message.specs.Message.{Message, ErrorObject, request, notification, response}
+use Rattle.lsp_message.specs.Message.{Message, ErrorObject, request, response}
 use Rattle.lsp_session.proofs.Ran.{Ran, reaches_ran, stops_by}
 use Rattle.lsp_session.proofs.Rows.{IsNoRequest, Idle, early_request, early_note, unasked, uninvited, shuts, leaves, exits, stays, Row, at_initialize, at_initialized, at_served, idle, row, exit_no_request, initialized_no_request}
 use Rattle.lsp_session.specs.ProtocolError.{ProtocolFault, ShowsUnallowed, expected_initialize, expected_initialized, unexpected_in_shutdown}

@@ -1,5 +1,5 @@
 -- A desk before `initialized`, and at it.
-use Rattle.std.proofs.Common.{◌≡◌, refl, ◌∙◌, ap, ◌+◌, List, [], arith}
+use Rattle.std.proofs.Common.{◌≡◌, ◌∙◌, ap, ◌+◌, List, [], arith}
 use Rattle.std.specs.FinMap as map
 use Rattle.std.specs.FinMap.{get-empty}
 use Rattle.std.specs.Prelude.{is_some}

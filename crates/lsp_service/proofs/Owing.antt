@@ -1,13 +1,13 @@
 -- Each request of the client is answered once, or still held.
-use Rattle.std.proofs.Common.{◌≡◌, refl, ◌∙◌, ap, ℕ, ◌+◌, ◌≤◌, Bool, true, false, cond, List, [], ◌∷◌, ◌++◌, arith, Option, Some, None}
+use Rattle.std.proofs.Common.{◌≡◌, refl, ◌∙◌, ap, ℕ, ◌+◌, ◌≤◌, Bool, true, false, cond, List, [], ◌∷◌, ◌++◌, arith, Option, Some}
 use Rattle.std.specs.FinMap as map
 use Rattle.std.specs.FinMap.{get-insert, get-remove}
 use Rattle.std.specs.Ordering.{eq_by_cmp}
 use Rattle.lsp_message.specs.Id.{Id, id_cmp}
 use Rattle.lsp_message.specs.IdLaws.{id_total, id_decides}
-use Rattle.lsp_message.specs.Message.{Message, request, notification, response}
+use Rattle.lsp_message.specs.Message.{Message, request, response}
 use Rattle.lsp_queue.specs.Queue.{Pending}
-use Rattle.lsp_service.specs.Desk.{Act, tells, asks, replies, cancels, Desk, does, does_all}
+use Rattle.lsp_service.specs.Desk.{Act, replies, Desk, does, does_all}
 use Rattle.lsp_service.specs.Law.{one_if, is_request_under, is_reply_under, how_many, held_under}
 use Rattle.lsp_service.specs.QueuedServer.{WorksGiving}
 use Rattle.lsp_service.specs.View.{seen, desk_of}

@@ -12,7 +12,7 @@ use Rattle.lsp_message.specs.IdLaws.{id_total, id_decides}
 use Rattle.lsp_message.specs.Message.{Message, ErrorObject, request, notification, response}
 use Rattle.lsp_queue.specs.Queue.{Asked, pending_of, count_of}
 use Rattle.lsp_session.specs.Session.{Exchange, letters_of, sends_of, Stop, is_served}
-use Rattle.lsp_service.specs.Desk.{Act, tells, asks, replies, cancels, cancelled_by, Desk, is_spent, sends_request, does, does_all, ids_after, unsent, given, TakesBack}
+use Rattle.lsp_service.specs.Desk.{Act, tells, asks, cancelled_by, Desk, is_spent, sends_request, does, does_all, ids_after, unsent, given, TakesBack}
 use Rattle.lsp_service.specs.Law.{is_reply_under, Sent, Turn, requests_in, request_of, ids_after_all, sent_by, all_sent, kept_under, acts_of, was_given, brings, GivesOwnPayloads, TakesTurns, IsUnserved, IsWhole, TakesPart}
 use Rattle.lsp_service.specs.QueuedServer.{WorksGiving, OpensSaying}
 use Rattle.lsp_service.specs.View.{seen, desk_of}

@@ -5,14 +5,14 @@ use Rattle.std.specs.Bool.{MatchBool}
 use Rattle.std.specs.List.{list_all}
 use Rattle.std.specs.Prelude.{Ok, Err}
 use Rattle.lsp_message.specs.Id.{Id}
-use Rattle.lsp_message.specs.Message.{Message, request, notification, response}
+use Rattle.lsp_message.specs.Message.{Message, request, response}
 use Rattle.lsp_message.specs.Methods.{is_initialized, is_exit}
 use Rattle.lsp_session.proofs.Ran.{part_none, part_one, Ran, reaches_ran}
 use Rattle.lsp_session.proofs.Rows.{early_request, early_note, unasked as unasked_for, uninvited, shuts, leaves as goes, exits, stays, Row, at_initialize, at_initialized, at_served, idle, row}
 use Rattle.lsp_session.proofs.SessionSteps.{IsWhole as IsSent}
 use Rattle.lsp_session.specs.ProtocolError.{expected_initialize, expected_initialized, unexpected_in_shutdown}
 use Rattle.lsp_session.specs.Replies.{null_reply}
-use Rattle.lsp_session.specs.Session.{Exchange, letters_of, sends_of, SessionAnswer, Stop, decided, no_more, timed_out, refused, exhausted, Phase, starting, replied as in_reply, serving, asked, ended, is_served, Fails, Leaves, Reaches}
+use Rattle.lsp_session.specs.Session.{Exchange, letters_of, sends_of, SessionAnswer, Stop, refused, Phase, starting, replied as in_reply, serving, asked, ended, is_served, Fails, Leaves, Reaches}
 use Rattle.lsp_session.specs.declared.loops.handler.SessionEnd.TheVariants.{Closed, ShutDown}
 use Rattle.lsp_service.specs.Desk.{Desk}
 use Rattle.lsp_service.specs.Law.{IsWhole, requests_in, IsUnserved, TakesPart, GivesPayloads, is_refusal, GoesOn}
