@@ -5,7 +5,7 @@ use Rattle.std.specs.Prelude.{MatchOption}
 use Rattle.lsp_message.specs.Id.{Id}
 use Rattle.lsp_message.specs.Message.{Message, request, notification, response}
 use Rattle.lsp_queue.specs.Queue.{pending_of, count_of}
-use Rattle.lsp_service.specs.Desk.{Act, tells, asks, replies, cancels, settles, cancelled_by, Desk, does, does_all, unsent, given, cleared, TakesBack, Acts}
+use Rattle.lsp_service.specs.Desk.{Act, tells, settles, cancelled_by, Desk, does, does_all, unsent, given, cleared, TakesBack, Acts}
 use Rattle.lsp_service.specs.Law.{Handed}
 use Rattle.lsp_service.specs.Turning.{brought_by, sends_by, all_sends, desk_at, settled_by, settled_at, ActsAt}
 use Rattle.lsp_service.specs.QueuedServer.{WorksGiving}
@@ -14,9 +14,7 @@ use Rattle.lsp_service.specs.declared.server.Server.{Ghosts as Stated}
 module _ {P : Type 0} where
   said_one : (d : Desk P) (act : Act P) → (does d act).said ≡ d.said ++ sends_by d act
   said_one d (tells method params) = refl
-  said_one d (asks method params payload) = grind (arith, append-nil)
-  said_one d (replies id outcome) = grind (arith, append-nil)
-  said_one d (cancels z) = grind (arith, append-nil)
+  said_one d act = grind (arith, append-nil)
 
   said_all : (d : Desk P) (acts : List (Act P)) → (does_all d acts).said ≡ d.said ++ all_sends d acts
   said_all d [] = sym (append-nil d.said)
@@ -28,25 +26,22 @@ module _ {P : Type 0} where
   does-append d (x ∷ xs) ys = does-append (does d x) xs ys
 
   pub at_count : (d : Desk P) (m : Message) (payload : Option P) → count_of (desk_at d m payload).asked ≡ count_of d.asked
-  at_count d (request id method params) payload = refl
-  at_count d (notification method params) payload = refl
-  at_count d (response id outcome) None = refl
   at_count d (response id outcome) (Some payload) = refl
+  at_count d m payload = refl
 
   settled_so : (d : Desk P) (cancelled : Option Id) → settles d cancelled ≡ does_all d (settled_by cancelled)
   settled_so d None = refl
   settled_so d (Some id) = refl
 
   pub at_said : (d : Desk P) (m : Message) (payload : Option P) → (desk_at d m payload).said ≡ d.said
-  at_said d (request id method params) payload = refl
-  at_said d (notification method params) payload = refl
-  at_said d (response id outcome) None = refl
   at_said d (response id outcome) (Some payload) = refl
+  at_said d m payload = refl
 
 module _ {S P : Type 0} (may : Stated S P) where
-  acts_so : (old : S × Desk P) (m : Message) (said : List Message) (new : S × Desk P) (payload : Option P) (acts : List (Act P)) (did : S) (after : Desk P)
-      → payload ≡ brought_by old.1 m → Handed may old.0 m payload acts did → TakesBack may.takes_back did (unsent (count_of old.1.asked) acts) new.0
-      → after ≡ does_all (desk_at old.1 m payload) (settled_at m acts) → said ≡ after.said → new.1 ≡ cleared after
+  acts_so : (old : S × Desk P) (m : Message) (said : List Message) (new : S × Desk P) (payload : Option P) (acts : List (Act P)) (did : S)
+      (after : S × Desk P) → payload ≡ brought_by old.1 m → Handed may old.0 m payload acts did
+      → TakesBack may.takes_back did (unsent (count_of old.1.asked) acts) after.0
+      → after.1 ≡ does_all (desk_at old.1 m payload) (settled_at m acts) → said ≡ after.1.said → new ≡ (after.0, cleared after.1)
       → ActsAt may old m said new
   acts_so old m said new payload acts did after brought handed back same is left = record {
     payload = payload;
@@ -54,10 +49,10 @@ module _ {S P : Type 0} (may : Stated S P) where
     acts = acts;
     did = did;
     handed = handed;
-    back = back;
+    back = rw (ap (λ (x : S × Desk P). x.0) left) back;
     sent = is ∙ ap (λ (d : Desk P). d.said) same ∙ said_all (desk_at old.1 m payload) (settled_at m acts)
         ∙ ap (λ (l : List Message). l ++ all_sends (desk_at old.1 m payload) (settled_at m acts)) (at_said old.1 m payload);
-    desk = left ∙ ap (λ (d : Desk P). cleared d) same;
+    desk = ap (λ (x : S × Desk P). x.1) left ∙ ap (λ (d : Desk P). cleared d) same;
   }
 
   -- all that was sent, as the desk had it
@@ -71,23 +66,21 @@ module _ {S P : Type 0} (may : Stated S P) where
       → ActsAt may old m said new
   acts_at old (request id method params) said new gives =
       let w = gives.1 in
-      let server : new.0 ≡ gives.0.0 = ap (λ (x : S × Desk P). x.0) gives.3 in
-      acts_so old (request id method params) said new None w.0 w.1 gives.0.1 refl (w.2, refl) (rw server w.3) w.4 gives.2 (ap (λ (x : S × Desk P). x.1) gives.3)
+      acts_so old (request id method params) said new None w.0 w.1 gives.0 refl (w.2, refl) w.3 w.4 gives.2 gives.3
   acts_at old (notification method params) said new gives =
       let w = gives.1 in
-      let server : new.0 ≡ w.0.0 = ap (λ (x : S × Desk P). x.0) gives.3 ∙ ap (λ (x : S × Desk P). x.0) w.2 in
       let desk : gives.0.1 ≡ does_all old.1 (w.1.0 ++ settled_by (cancelled_by method params)) =
       ap (λ (x : S × Desk P). x.1) w.2 ∙ settled_so w.0.1 (cancelled_by method params)
       ∙ ap (λ (d : Desk P). does_all d (settled_by (cancelled_by method params))) w.1.4 ∙ sym (does-append old.1 w.1.0 (settled_by (cancelled_by method params))) in
-      acts_so old (notification method params) said new None w.1.0 w.1.1 gives.0.1 refl (w.1.2, refl) (rw server w.1.3) desk gives.2 (ap (λ (x : S × Desk P). x.1) gives.3)
+      acts_so old (notification method params) said new None w.1.0 w.1.1 gives.0 refl (w.1.2, refl) (rw (ap (λ (x : S × Desk P). x.0) w.2) w.1.3) desk
+      gives.2 gives.3
   acts_at old (response id outcome) said new gives = at (map.get (pending_of old.1.asked) id) refl gives.1
     where
       at : (o : Option P) → map.get (pending_of old.1.asked) id ≡ o
           → MatchOption o (gives.0 ≡ old) (λ payload. Acts may.takes_back (may.replied old.0 payload outcome) (given old.1 id) gives.0)
           → ActsAt may old (response id outcome) said new
       at None kept same =
-          let server : new.0 ≡ old.0 = ap (λ (x : S × Desk P). x.0) gives.3 ∙ ap (λ (x : S × Desk P). x.0) same in
-          acts_so old (response id outcome) said new None [] old.0 gives.0.1 (sym kept) (refl, refl) server (ap (λ (x : S × Desk P). x.1) same) gives.2 (ap (λ (x : S × Desk P). x.1) gives.3)
+          acts_so old (response id outcome) said new None [] old.0 gives.0 (sym kept) (refl, refl) (ap (λ (x : S × Desk P). x.0) same)
+          (ap (λ (x : S × Desk P). x.1) same) gives.2 gives.3
       at (Some payload) kept w =
-          let server : new.0 ≡ gives.0.0 = ap (λ (x : S × Desk P). x.0) gives.3 in
-          acts_so old (response id outcome) said new (Some payload) w.0 w.1 gives.0.1 (sym kept) w.2 (rw server w.3) w.4 gives.2 (ap (λ (x : S × Desk P). x.1) gives.3)
+          acts_so old (response id outcome) said new (Some payload) w.0 w.1 gives.0 (sym kept) w.2 w.3 w.4 gives.2 gives.3

@@ -3,7 +3,7 @@ use Rattle.std.proofs.Common.{◌≡◌, refl, sym, ◌∙◌, ap, inl, inr, ◌
 use Rattle.std.specs.Prelude.{Result, Ok, Err, is_some}
 use Rattle.serde_json.specs.Data.{Data}
 use Rattle.lsp_message.specs.Id.{Id}
-use Rattle.lsp_message.specs.Message.{Message, ErrorObject, request, notification, response}
+use Rattle.lsp_message.specs.Message.{Message, ErrorObject, request, response}
 use Rattle.lsp_session.proofs.Ran.{Ran, reaches_ran, stops_by}
 use Rattle.lsp_session.proofs.Rows.{IsNoRequest, Idle, early_request, early_note, unasked, uninvited, shuts, leaves, exits, stays, Row, at_initialize, at_initialized, at_served, idle, row, exit_no_request, initialized_no_request}
 use Rattle.lsp_session.specs.ProtocolError.{ProtocolFault, ShowsUnallowed, expected_initialize, expected_initialized, unexpected_in_shutdown}
@@ -14,7 +14,7 @@ use Rattle.lsp_service.specs.Desk.{Desk}
 use Rattle.lsp_service.specs.Law.{one_if, is_request_under, is_reply_under, how_many, held_under, IsWhole, NeverMore, OnceOrEnded}
 use Rattle.lsp_service.specs.QueuedServer.{at_desk}
 use Rattle.lsp_service.specs.declared.desk.QueuedServer.{QueuedServer}
-use Rattle.lsp_service.proofs.Keeping.{Clear, clear_same, silent_opened, due_opened}
+use Rattle.lsp_service.proofs.Keeping.{Clear, clear_same, due_opened}
 use Rattle.lsp_service.proofs.Owing.{how_many-append, due_one}
 use Rattle.lsp_service.specs.View.{desk_of}
 use Rattle.lsp_service.specs.declared.server.Server.{Ghosts as Stated}
@@ -25,8 +25,7 @@ module _ {S P : Type 0} (may : Stated S P) where
   Clean starting w = Clear may w
   Clean in_reply w = Clear may w
   Clean serving w = (desk_of w.client).said ≡ []
-  Clean (asked i) w = Unit {0}
-  Clean (ended null by) w = Unit {0}
+  Clean phase w = Unit {0}
 
   module _ (id : Id) where
     abbrev owed : QueuedServer S P → ℕ
@@ -64,8 +63,7 @@ module _ {S P : Type 0} (may : Stated S P) where
     -- a message that is no request
     none_under : (m : Message) → IsNoRequest m → 0 ≡ one_if (is_request_under id m)
     none_under (request i method params) mute = absurd mute
-    none_under (notification method params) mute = refl
-    none_under (response i outcome) mute = refl
+    none_under m mute = refl
 
     -- the server is not called
     count_idle : (p q : Phase) (w : QueuedServer S P) (m : Message) (said : List Message) → Clean p w → Idle p m said q → Count w w q m said
@@ -105,7 +103,7 @@ module _ {S P : Type 0} (may : Stated S P) where
             rw next (record {
               most = omega (arith, none);
               least = λ some. absurd (omega (arith, some, other, empty));
-              clean = silent_opened may w w' said opened;
+              clean = ap (λ (x : S × Desk P). x.1.said) opened.3;
             })
         by (at_served begun e gives next) =
             let due = due_one may id w w' m said (rw begun at clean) gives in
@@ -145,65 +143,43 @@ module _ {S P : Type 0} (may : Stated S P) where
     least_of : (xs : List Exchange) (p q : Phase) (w w' : QueuedServer S P) → Steps (at_desk may) p w xs q w' → Clean p w
         → 1 ≤ Q (letters_of xs) + owed w → (1 ≤ R (sends_of xs) + owed w') ⊎ EndsUnallowed xs q
     least_of [] p q w w' run clean some = inl (rw run.1 (omega (arith, some)))
-    least_of (x ∷ xs) p q w w' run clean some = at (λ clean some. least_of xs run.0 q run.1 w' run.3 clean some) (one_if (is_request_under id x.letter) + owed w) refl
+    least_of (x ∷ xs) p q w w' run clean some =
+        at (Q (letters_of xs) + owed run.1) refl (λ clean some. least_of xs run.0 q run.1 w' run.3 clean some)
       where
         one : Count w run.1 run.0 x.letter x.said
         one = count p run.0 w run.1 x.letter x.said clean run.2
 
-        sent : R (x.said ++ sends_of xs) ≡ R x.said + R (sends_of xs)
-        sent = how_many-append (is_reply_under id) x.said (sends_of xs)
-
-        later : (Clean run.0 run.1 → 1 ≤ Q (letters_of xs) + owed run.1 → (1 ≤ R (sends_of xs) + owed w') ⊎ EndsUnallowed xs q) → 1 ≤ Q (letters_of xs) + owed run.1
+        at : (n : ℕ) → Q (letters_of xs) + owed run.1 ≡ n
+            → (Clean run.0 run.1 → 1 ≤ Q (letters_of xs) + owed run.1 → (1 ≤ R (sends_of xs) + owed w') ⊎ EndsUnallowed xs q)
             → (1 ≤ R (x.said ++ sends_of xs) + owed w') ⊎ EndsUnallowed (x ∷ xs) q
-        later more some = elim (more one.clean some) [
-          | inl found ↦ inl (omega (arith, sent, found))
-          | inr ends ↦ inr (x ∷ ends.0, ends.1, ap (λ (l : List Exchange). x ∷ l) ends.2, ends.3)
-        ]
-
-        held : (Clean run.0 run.1 → 1 ≤ Q (letters_of xs) + owed run.1 → (1 ≤ R (sends_of xs) + owed w') ⊎ EndsUnallowed xs q) → (n : ℕ) → owed run.1 ≡ n → 1 ≤ R x.said + owed run.1
-            → (1 ≤ R (x.said ++ sends_of xs) + owed w') ⊎ EndsUnallowed (x ∷ xs) q
-        held more zero e some = inl (omega (arith, sent, e, some))
-        held more (suc n) e some = later more (omega (arith, e))
-
-        at : (Clean run.0 run.1 → 1 ≤ Q (letters_of xs) + owed run.1 → (1 ≤ R (sends_of xs) + owed w') ⊎ EndsUnallowed xs q) → (n : ℕ) → one_if (is_request_under id x.letter) + owed w ≡ n
-            → (1 ≤ R (x.said ++ sends_of xs) + owed w') ⊎ EndsUnallowed (x ∷ xs) q
-        at more zero e = later more (omega (arith, e, some))
-        at more (suc n) e = elim (one.least (omega (arith, e))) [
-          | inl found ↦ held more (owed run.1) refl found
+        at zero e more = elim (one.least (omega (arith, e, some))) [
+          | inl found ↦ inl (let sent = how_many-append (is_reply_under id) x.said (sends_of xs) in omega (arith, sent, e, found))
           | inr unallowed ↦ (
               let rest = over xs q unallowed.1 (Err unallowed.2) run.1 w' (rw unallowed.3 at run.3) in
               let same : q ≡ run.0 = rest.1 ∙ sym unallowed.3 in
               inr (rw (rest.0, same) ([], x, refl, unallowed))
               )
         ]
+        at (suc n) e more = elim (more one.clean (omega (arith, e))) [
+          | inl found ↦ inl (let sent = how_many-append (is_reply_under id) x.said (sends_of xs) in omega (arith, sent, found))
+          | inr ends ↦ inr (x ∷ ends.0, ends.1, ap (λ (l : List Exchange). x ∷ l) ends.2, ends.3)
+        ]
 
     left_in : (q : Phase) (stop : Stop) (answer : SessionAnswer) (w w' : QueuedServer S P) → IsWhole stop
         → Stops (at_desk may) q w stop answer w' → w' ≡ w
     left_in q (refused f) answer w w' whole stops = absurd whole
     left_in q exhausted answer w w' whole stops = absurd whole
-    left_in starting decided answer w w' whole stops = absurd stops
-    left_in starting no_more answer w w' whole stops = stops.1
-    left_in starting timed_out answer w w' whole stops = absurd stops
-    left_in in_reply decided answer w w' whole stops = absurd stops
-    left_in in_reply no_more answer w w' whole stops = stops.1
-    left_in in_reply timed_out answer w w' whole stops = absurd stops
-    left_in serving decided answer w w' whole stops = absurd stops
-    left_in serving no_more answer w w' whole stops = stops.1
-    left_in serving timed_out answer w w' whole stops = absurd stops
-    left_in (asked i) decided answer w w' whole stops = absurd stops
-    left_in (asked i) no_more answer w w' whole stops = stops.1
-    left_in (asked i) timed_out answer w w' whole stops = stops.1
     left_in (ended null by) decided answer w w' whole stops = stops.1
-    left_in (ended null by) no_more answer w w' whole stops = absurd stops
-    left_in (ended null by) timed_out answer w w' whole stops = absurd stops
+    left_in (ended null by) stop answer w w' whole stops = absurd stops
+    left_in (asked i) timed_out answer w w' whole stops = stops.1
+    left_in q no_more answer w w' whole stops = stops.1
+    left_in q stop answer w w' whole stops = absurd stops
 
     run_of : (stop : Stop) (w w' : QueuedServer S P) (xs : List Exchange) (q : Phase) → IsWhole stop → Reaches (at_desk may) stop starting w xs q w'
         → Steps (at_desk may) starting w xs q w'
-    run_of decided w w' xs q whole run = run
-    run_of no_more w w' xs q whole run = run
-    run_of timed_out w w' xs q whole run = run
     run_of (refused f) w w' xs q whole run = absurd whole
     run_of exhausted w w' xs q whole run = absurd whole
+    run_of stop w w' xs q whole run = run
 
     is_one : (o : Option (Unit {0})) → 1 ≤ 0 + one_if (is_some o) → one_if (is_some o) ≡ 1
     is_one None one = absurd (omega (arith, one))
@@ -215,21 +191,15 @@ module _ {S P : Type 0} (may : Stated S P) where
         → OnceOrEnded id xs stop (desk_of w'.client).held answer
     answered_once stop answer w after w' xs q reached stops clean whole one = at (R (sends_of xs)) refl
       where
-        run : Steps (at_desk may) starting w xs q after
-        run = run_of stop w after xs q whole reached
-
         most : R (sends_of xs) ≤ Q (letters_of xs)
         most = never_more stop w after xs q reached clean xs [] (sym (append-nil xs))
-
-        left : owed w' ≡ owed after
-        left = ap (λ (v : QueuedServer S P). held_under id (desk_of v.client).held) (left_in q stop answer after w' whole stops)
 
         at : (n : ℕ) → R (sends_of xs) ≡ n → OnceOrEnded id xs stop (desk_of w'.client).held answer
         at (suc n) e = inl (omega (arith, e, most, one))
         at zero e = inr (
           e,
-          elim (least_of xs starting q w after run clean (omega (arith, one))) [
-            | inl found ↦ inl (left ∙ is_one _ (omega (arith, e, found)))
+          elim (least_of xs starting q w after (run_of stop w after xs q whole reached) clean (omega (arith, one))) [
+            | inl found ↦ inl (ap owed (left_in q stop answer after w' whole stops) ∙ is_one _ (omega (arith, e, found)))
             | inr ends ↦ inr (
                 let by = stops_by {S = QueuedServer S P} (at_desk may) q after w' stop answer stops in
                 let so = (rw ends.3.3 at by) in

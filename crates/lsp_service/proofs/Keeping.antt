@@ -1,23 +1,17 @@
 -- A desk before `initialized`, and at it.
-use Rattle.std.proofs.Common.{◌≡◌, refl, ◌∙◌, ap, ◌+◌, true, false, List, [], arith}
+use Rattle.std.proofs.Common.{◌≡◌, ◌∙◌, ap, ◌+◌, List, [], arith}
 use Rattle.std.specs.FinMap as map
 use Rattle.std.specs.FinMap.{get-empty}
 use Rattle.std.specs.Prelude.{is_some}
 use Rattle.lsp_message.specs.Id.{Id, id_cmp}
-use Rattle.lsp_message.specs.Message.{Message, request, notification, response}
-use Rattle.lsp_session.specs.Finish.{is_initialized}
+use Rattle.lsp_message.specs.Message.{Message}
 use Rattle.lsp_service.specs.Desk.{Desk}
-use Rattle.lsp_service.specs.Law.{one_if, is_request_under, is_reply_under, how_many, held_under}
+use Rattle.lsp_service.specs.Law.{one_if, is_reply_under, how_many, held_under}
 use Rattle.lsp_service.specs.QueuedServer.{at_desk}
 use Rattle.lsp_service.specs.View.{desk_of}
 use Rattle.lsp_service.specs.declared.desk.QueuedServer.{QueuedServer}
 use Rattle.lsp_service.proofs.Owing.{due, due_acts}
 use Rattle.lsp_service.specs.declared.server.Server.{Ghosts as Stated}
-
-pub no_request : (id : Id) (m : Message) → is_initialized m ≡ true → is_request_under id m ≡ false
-no_request id (request i method params) e = absurd (cc (e))
-no_request id (notification method params) e = refl
-no_request id (response i outcome) e = refl
 
 module _ {S P : Type 0} (may : Stated S P) where
   -- nothing was asked
@@ -51,6 +45,3 @@ module _ {S P : Type 0} (may : Stated S P) where
       let silent : how_many (is_reply_under id) (desk_of w.client).said ≡ 0 = ap (how_many (is_reply_under id)) clear.silent in
       let sent : how_many (is_reply_under id) said ≡ how_many (is_reply_under id) after.1.said = ap (how_many (is_reply_under id)) opened.2 in
       omega (arith, kept, none, silent, sent, clear.none id)
-
-  pub silent_opened : (w w' : QueuedServer S P) (said : List Message) → (at_desk may).opens w said w' → (desk_of w'.client).said ≡ []
-  silent_opened w w' said opened = ap (λ (x : S × Desk P). x.1.said) opened.3

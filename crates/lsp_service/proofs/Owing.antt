@@ -1,13 +1,13 @@
 -- Each request of the client is answered once, or still held.
-use Rattle.std.proofs.Common.{◌≡◌, refl, ◌∙◌, ap, ℕ, ◌+◌, ◌≤◌, Bool, true, false, cond, List, [], ◌∷◌, ◌++◌, arith, Option, Some, None}
+use Rattle.std.proofs.Common.{◌≡◌, refl, ◌∙◌, ap, ℕ, ◌+◌, ◌≤◌, Bool, true, false, cond, List, [], ◌∷◌, ◌++◌, arith, Option, Some}
 use Rattle.std.specs.FinMap as map
 use Rattle.std.specs.FinMap.{get-insert, get-remove}
 use Rattle.std.specs.Ordering.{eq_by_cmp}
 use Rattle.lsp_message.specs.Id.{Id, id_cmp}
 use Rattle.lsp_message.specs.IdLaws.{id_total, id_decides}
-use Rattle.lsp_message.specs.Message.{Message, request, notification, response}
+use Rattle.lsp_message.specs.Message.{Message, request, response}
 use Rattle.lsp_queue.specs.Queue.{Pending}
-use Rattle.lsp_service.specs.Desk.{Act, tells, asks, replies, cancels, Desk, does, does_all}
+use Rattle.lsp_service.specs.Desk.{Act, replies, Desk, does, does_all}
 use Rattle.lsp_service.specs.Law.{one_if, is_request_under, is_reply_under, how_many, held_under}
 use Rattle.lsp_service.specs.QueuedServer.{WorksGiving}
 use Rattle.lsp_service.specs.View.{seen, desk_of}
@@ -40,10 +40,8 @@ module _ (id : Id) where
 module _ {P : Type 0} (id : Id) where
   -- an act neither adds nor loses what is due
   due_act : (d : Desk P) (act : Act P) → due id (does d act) ≡ due id d
-  due_act d (tells method params) = grind (arith, how_many-append)
-  due_act d (asks method params payload) = grind (arith, how_many-append)
   due_act d (replies i outcome) = grind (arith, how_many-append, held_remove, answered)
-  due_act d (cancels z) = grind (arith, how_many-append)
+  due_act d act = grind (arith, how_many-append)
 
   pub due_acts : (d : Desk P) (acts : List (Act P)) → due id (does_all d acts) ≡ due id d
   due_acts d [] = refl
@@ -59,9 +57,8 @@ module _ {S P : Type 0} (may : Stated S P) (id : Id) where
   due_at : (d : Desk P) (m : Message) (payload : Option P)
       → due id (desk_at d m payload) ≡ how_many (is_reply_under id) d.said + cond (is_request_under id m) 1 (held_under id d.held)
   due_at d (request i method params) payload = ap (λ n. how_many (is_reply_under id) d.said + n) (held_insert id d.held i)
-  due_at d (notification method params) payload = refl
-  due_at d (response i outcome) None = refl
   due_at d (response i outcome) (Some payload) = refl
+  due_at d m payload = refl
 
   pub due_one : (w w' : QueuedServer S P) (m : Message) (said : List Message) → (desk_of w.client).said ≡ [] → WorksGiving may (seen w) m said (seen w')
       → Due id m said (desk_of w.client).held (desk_of w'.client).held

@@ -4,16 +4,15 @@ use Rattle.std.proofs.lemmas.List.{map-append}
 use Rattle.std.specs.FinMap as map
 use Rattle.std.specs.FinMap.{get-insert, get-remove, get-empty}
 use Rattle.std.specs.Ordering.{eq_by_cmp}
-use Rattle.std.specs.Prelude.{Result, pos, if◌then◌else◌}
 use Rattle.std.specs.List.{list_all}
-use Rattle.std.specs.Prelude.{map as map_list}
+use Rattle.std.specs.Prelude.{Result, pos, map as map_list, if◌then◌else◌}
 use Rattle.serde_json.specs.Data.{Data}
 use Rattle.lsp_message.specs.Id.{Id, id_cmp, number}
 use Rattle.lsp_message.specs.IdLaws.{id_total, id_decides}
 use Rattle.lsp_message.specs.Message.{Message, ErrorObject, request, notification, response}
 use Rattle.lsp_queue.specs.Queue.{Asked, pending_of, count_of}
 use Rattle.lsp_session.specs.Session.{Exchange, letters_of, sends_of, Stop, is_served}
-use Rattle.lsp_service.specs.Desk.{Act, tells, asks, replies, cancels, cancelled_by, Desk, is_spent, sends_request, does, does_all, ids_after, unsent, given, TakesBack}
+use Rattle.lsp_service.specs.Desk.{Act, tells, asks, cancelled_by, Desk, is_spent, sends_request, does, does_all, ids_after, unsent, given, TakesBack}
 use Rattle.lsp_service.specs.Law.{is_reply_under, Sent, Turn, requests_in, request_of, ids_after_all, sent_by, all_sent, kept_under, acts_of, was_given, brings, GivesOwnPayloads, TakesTurns, IsUnserved, IsWhole, TakesPart}
 use Rattle.lsp_service.specs.QueuedServer.{WorksGiving, OpensSaying}
 use Rattle.lsp_service.specs.View.{seen, desk_of}
@@ -26,8 +25,7 @@ use Rattle.lsp_service.specs.declared.server.Server.{Ghosts as Stated}
 pub requests-append : (xs ys : List Message) → requests_in (xs ++ ys) ≡ requests_in xs ++ requests_in ys
 requests-append [] ys = refl
 requests-append (request id method params ∷ xs) ys = ap (λ l. request id method params ∷ l) (requests-append xs ys)
-requests-append (notification method params ∷ xs) ys = requests-append xs ys
-requests-append (response id outcome ∷ xs) ys = requests-append xs ys
+requests-append (x ∷ xs) ys = requests-append xs ys
 
 -- the second of two, where the first is nothing
 abbrev or_kept : {P : Type 0} → Option P → Option P → Option P
@@ -55,9 +53,7 @@ module _ {P : Type 0} where
   -- what an act says of requests is what it sends
   said_one : (d : Desk P) (act : Act P) → requests_in (does d act).said ≡ requests_in d.said ++ map_list request_of (sent_by (count_of d.asked) act)
   said_one d (tells method params) = requests-append d.said (notification method params ∷ [])
-  said_one d (asks method params payload) = grind (arith, append-nil, requests-append)
-  said_one d (replies id outcome) = grind (arith, append-nil, requests-append)
-  said_one d (cancels z) = grind (arith, append-nil, requests-append)
+  said_one d act = grind (arith, append-nil, requests-append)
 
   pub said_all : (d : Desk P) (acts : List (Act P)) → requests_in (does_all d acts).said ≡ requests_in d.said ++ map_list request_of (all_sent (count_of d.asked) acts)
   said_all d [] = sym (append-nil (requests_in d.said))
@@ -87,8 +83,9 @@ module _ {P : Type 0} where
   agrees_start : Agrees [] [] (map.empty, 0)
   agrees_start = record { pending = λ id. get-empty id_cmp id; fresh = λ n more. refl; ungiven = λ n more. refl }
 
-  agrees_none : (sent : List (Sent P)) (before : List (Turn P)) (asked : Asked P) → Agrees sent before asked → Agrees (sent ++ []) before asked
-  agrees_none sent before asked agrees = rw (append-nil sent) agrees
+  agrees_none : (sent : List (Sent P)) (before : List (Turn P)) (asked asked' : Asked P) → asked' ≡ asked → Agrees sent before asked
+      → Agrees (sent ++ []) before asked'
+  agrees_none sent before asked asked' same agrees = rw (append-nil sent, same) agrees
 
   agrees_asked : (sent : List (Sent P)) (before : List (Turn P)) (asked : Asked P) (method : List ℕ) (params : Data) (payload : P) → Agrees sent before asked
       → Agrees (sent ++ record { id = number (pos (count_of asked)); method = method; params = params; payload = payload } ∷ []) before
@@ -105,43 +102,32 @@ module _ {P : Type 0} where
       one : Sent P
       one = record { id = next; method = method; params = params; payload = payload }
 
-      kept_one : (id : Id) (b : Bool) → eq_by_cmp id_cmp id next ≡ b → kept_under id (one ∷ []) ≡ (if b then Some payload else None)
-      kept_one id b e = ap (λ (x : Bool). if x then Some payload else None) e
-
       at : (id : Id) (b : Bool) → eq_by_cmp id_cmp id next ≡ b
           → cond b (Some payload) (map.get (pending_of asked) id) ≡ (if was_given id before then None else kept_under id (sent ++ one ∷ []))
       at id true e =
           let same : id ≡ next = (id_decides id next).0 e in
           let ungiven : was_given id before ≡ false = ap (λ i. was_given i before) same ∙ agrees.ungiven (count_of asked) (omega arith) in
           let none : kept_under id sent ≡ None = ap (λ i. kept_under i sent) same ∙ agrees.fresh (count_of asked) (omega arith) in
-          rw (ungiven, kept-append id sent (one ∷ []), none, kept_one id true e) refl
+          rw (ungiven, kept-append id sent (one ∷ []), none, e) refl
       at id false e =
           let kept = kept-append id sent (one ∷ []) in
-          let others : kept_under id (one ∷ []) ≡ None = kept_one id false e in
+          let others : kept_under id (one ∷ []) ≡ None = ap (λ (x : Bool). if x then Some payload else None) e in
           let before = agrees.pending id in
           grind (arith, kept, others, before)
 
   agrees_act : (sent : List (Sent P)) (before : List (Turn P)) (d : Desk P) (act : Act P) → Agrees sent before d.asked
       → Agrees (sent ++ sent_by (count_of d.asked) act) before (does d act).asked
-  agrees_act sent before d (tells method params) agrees = agrees_none sent before d.asked agrees
   agrees_act sent before d (asks method params payload) agrees = at (is_spent (count_of d.asked))
     where
       at : (b : Bool) → Agrees (sent ++ (if b then [] else record { id = number (pos (count_of d.asked)); method = method; params = params; payload = payload } ∷ [])) before
           (if b then d else sends_request d method params payload).asked
-      at true = agrees_none sent before d.asked agrees
+      at true = agrees_none sent before d.asked d.asked refl agrees
       at false = agrees_asked sent before d.asked method params payload agrees
-  agrees_act sent before d (replies id outcome) agrees = rw same_asked (agrees_none sent before d.asked agrees)
-    where
-      same_asked : (does d (replies id outcome)).asked ≡ d.asked
-      same_asked = grind arith
-  agrees_act sent before d (cancels z) agrees = rw same_asked (agrees_none sent before d.asked agrees)
-    where
-      same_asked : (does d (cancels z)).asked ≡ d.asked
-      same_asked = grind arith
+  agrees_act sent before d act agrees = agrees_none sent before d.asked (does d act).asked (grind arith) agrees
 
   agrees_acts : (sent : List (Sent P)) (before : List (Turn P)) (d : Desk P) (acts : List (Act P)) → Agrees sent before d.asked
       → Agrees (sent ++ all_sent (count_of d.asked) acts) before (does_all d acts).asked
-  agrees_acts sent before d [] agrees = agrees_none sent before d.asked agrees
+  agrees_acts sent before d [] agrees = agrees_none sent before d.asked d.asked refl agrees
   agrees_acts sent before d (act ∷ acts) agrees =
       let one = sent_by (count_of d.asked) act in
       let more = agrees_acts (sent ++ one) before (does d act) acts (agrees_act sent before d act agrees) in
@@ -205,44 +191,33 @@ module _ {P : Type 0} where
       other n more false e = refl
 
   -- the answer of a cancelled request is no request
-  settled_ids : (count : ℕ) (m : Message) (acts : List (Act P)) → ids_after_all count (settled_at m acts) ≡ ids_after_all count acts
-  settled_ids count (request id method params) acts = refl
-  settled_ids count (notification method params) acts = of_both count acts (cancelled_by method params)
-    where
-      of_both : (count : ℕ) (acts : List (Act P)) (cancelled : Option Id) → ids_after_all count (acts ++ settled_by cancelled) ≡ ids_after_all count acts
-      of_both count [] None = refl
-      of_both count [] (Some id) = refl
-      of_both count (act ∷ acts) cancelled = of_both (ids_after count act) acts cancelled
-  settled_ids count (response id outcome) acts = refl
+  settled_none : (count : ℕ) (acts : List (Act P)) (cancelled : Option Id)
+      → (ids_after_all count (acts ++ settled_by cancelled) ≡ ids_after_all count acts) × (all_sent count (acts ++ settled_by cancelled) ≡ all_sent count acts)
+  settled_none count [] None = (refl, refl)
+  settled_none count [] (Some id) = (refl, refl)
+  settled_none count (act ∷ acts) cancelled =
+      let more = settled_none (ids_after count act) acts cancelled in (more.0, ap (λ l. sent_by count act ++ l) more.1)
 
-  settled_sends : (count : ℕ) (m : Message) (acts : List (Act P)) → all_sent count (settled_at m acts) ≡ all_sent count acts
-  settled_sends count (request id method params) acts = refl
-  settled_sends count (notification method params) acts =
-      sent-append count acts (settled_by (cancelled_by method params)) ∙ ap (λ l. all_sent count acts ++ l) (none (cancelled_by method params))
-      ∙ append-nil (all_sent count acts)
-    where
-      none : (cancelled : Option Id) → all_sent {P = P} (ids_after_all count acts) (settled_by {P = P} cancelled) ≡ []
-      none None = refl
-      none (Some id) = refl
-  settled_sends count (response id outcome) acts = refl
+  settled : (count : ℕ) (m : Message) (acts : List (Act P))
+      → (ids_after_all count (settled_at m acts) ≡ ids_after_all count acts) × (all_sent count (settled_at m acts) ≡ all_sent count acts)
+  settled count (notification method params) acts = settled_none count acts (cancelled_by method params)
+  settled count m acts = (refl, refl)
 
   -- a turn in which the server is handed a message
   agrees_at : (sent : List (Sent P)) (before : List (Turn P)) (d : Desk P) (m : Message) (payload : Option P) (acts : List (Act P))
       → payload ≡ brought_by d m → Agrees sent before d.asked
       → Agrees sent (before ++ record { letter = m; payload = payload; acts = acts } ∷ []) (desk_at d m payload).asked
-  agrees_at sent before d (request id method params) payload acts is agrees = agrees_other sent before d.asked _ is agrees
-  agrees_at sent before d (notification method params) payload acts is agrees = agrees_other sent before d.asked _ is agrees
   agrees_at sent before d (response i outcome) None acts is agrees = agrees_other sent before d.asked _ refl agrees
   agrees_at sent before d (response i outcome) (Some payload) acts is agrees =
       agrees_given sent before d.asked _ i outcome payload refl refl (sym is) agrees
+  agrees_at sent before d m payload acts is agrees = agrees_other sent before d.asked _ is agrees
 
   fits_one : (sent : List (Sent P)) (before : List (Turn P)) (d : Desk P) (m : Message) (payload : Option P) (acts : List (Act P))
       → payload ≡ brought_by d m → Agrees sent before d.asked → FitsOne sent before (record { letter = m; payload = payload; acts = acts })
-  fits_one sent before d (request i method params) payload acts is agrees id under = absurd (cc (under))
-  fits_one sent before d (notification method params) payload acts is agrees id under = absurd (cc (under))
   fits_one sent before d (response i outcome) payload acts is agrees id under =
       let same : id ≡ i = (id_decides id i).0 under in
       is ∙ sym (ap (λ j. map.get (pending_of d.asked) j) same) ∙ agrees.pending id
+  fits_one sent before d m payload acts is agrees id under = absurd (cc (under))
 
 module _ {S P : Type 0} (may : Stated S P) where
   -- the server is given these messages, and this is sent for each
@@ -278,8 +253,8 @@ module _ {S P : Type 0} (may : Stated S P) where
       let same : count_of start.asked ≡ n = at_count d x.letter a.payload in
       let asked : (desk_of mid.client).asked ≡ (does_all start acts).asked = ap (λ (d : Desk P). d.asked) a.desk in
       let count : count_of (desk_of mid.client).asked ≡ ids_after_all n a.acts =
-      ap count_of asked ∙ ids_all start acts ∙ ap (λ k. ids_after_all k acts) same ∙ settled_ids n x.letter a.acts in
-      let sends : all_sent (count_of start.asked) acts ≡ all_sent n a.acts = ap (λ k. all_sent k acts) same ∙ settled_sends n x.letter a.acts in
+      ap count_of asked ∙ ids_all start acts ∙ ap (λ k. ids_after_all k acts) same ∙ (settled n x.letter a.acts).0 in
+      let sends : all_sent (count_of start.asked) acts ≡ all_sent n a.acts = ap (λ k. all_sent k acts) same ∙ (settled n x.letter a.acts).1 in
       let agrees' : Agrees (sent ++ all_sent n a.acts) (before ++ turn ∷ []) (desk_of mid.client).asked =
       subst (Agrees (sent ++ all_sent n a.acts) (before ++ turn ∷ [])) (sym asked)
       (subst (λ l. Agrees (sent ++ l) (before ++ turn ∷ []) (does_all start acts).asked) sends
@@ -303,7 +278,6 @@ module _ {S P : Type 0} (may : Stated S P) where
         );
       }
 
-  -- what was done at `initialized`
   -- The server's part: what it said to `initialized`, the messages that it was given, and what came after these.
   pub part_whole : (w mid after : QueuedServer S P) (said : List Message) (xs rest : List Exchange) (stop : Stop) (requests more : List Message)
       → (desk_of w.client).said ≡ [] → (desk_of w.client).asked ≡ (map.empty, 0) → OpensSaying may (seen w) said (seen mid)

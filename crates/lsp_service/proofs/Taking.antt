@@ -5,14 +5,14 @@ use Rattle.std.specs.Bool.{MatchBool}
 use Rattle.std.specs.List.{list_all}
 use Rattle.std.specs.Prelude.{Ok, Err}
 use Rattle.lsp_message.specs.Id.{Id}
-use Rattle.lsp_message.specs.Message.{Message, request, notification, response}
+use Rattle.lsp_message.specs.Message.{Message, request, response}
 use Rattle.lsp_message.specs.Methods.{is_initialized, is_exit}
 use Rattle.lsp_session.proofs.Ran.{part_none, part_one, Ran, reaches_ran}
 use Rattle.lsp_session.proofs.Rows.{early_request, early_note, unasked as unasked_for, uninvited, shuts, leaves as goes, exits, stays, Row, at_initialize, at_initialized, at_served, idle, row}
 use Rattle.lsp_session.proofs.SessionSteps.{IsWhole as IsSent}
 use Rattle.lsp_session.specs.ProtocolError.{expected_initialize, expected_initialized, unexpected_in_shutdown}
 use Rattle.lsp_session.specs.Replies.{null_reply}
-use Rattle.lsp_session.specs.Session.{Exchange, letters_of, sends_of, SessionAnswer, Stop, decided, no_more, timed_out, refused, exhausted, Phase, starting, replied as in_reply, serving, asked, ended, is_served, Fails, Leaves, Reaches}
+use Rattle.lsp_session.specs.Session.{Exchange, letters_of, sends_of, SessionAnswer, Stop, refused, Phase, starting, replied as in_reply, serving, asked, ended, is_served, Fails, Leaves, Reaches}
 use Rattle.lsp_session.specs.declared.loops.handler.SessionEnd.TheVariants.{Closed, ShutDown}
 use Rattle.lsp_service.specs.Desk.{Desk}
 use Rattle.lsp_service.specs.Law.{IsWhole, requests_in, IsUnserved, TakesPart, GivesPayloads, is_refusal, GoesOn}
@@ -23,25 +23,13 @@ use Rattle.lsp_service.proofs.Returning.{requests-append, GivesAll, part_whole}
 use Rattle.lsp_service.specs.View.{desk_of}
 use Rattle.lsp_service.specs.declared.server.Server.{Ghosts as Stated}
 
-all_both : (xs ys : List Message) → list_all is_refusal xs ≡ true → list_all is_refusal ys ≡ true → list_all is_refusal (xs ++ ys) ≡ true
-all_both xs ys first second = list_all-append is_refusal xs ys ∙ (rw (first, second) refl)
-
 whole_sent : (stop : Stop) → IsWhole stop → IsSent stop
-whole_sent decided whole = tt
-whole_sent no_more whole = tt
-whole_sent timed_out whole = tt
 whole_sent (refused fault) whole = whole
-whole_sent exhausted whole = tt
+whole_sent stop whole = tt
 
 module _ {S P : Type 0} (may : Stated S P) (stop : Stop) where
   abbrev Runs_from : Phase → QueuedServer S P → List Exchange → Phase → QueuedServer S P → Type 0
   Runs_from = Ran (at_desk may) stop
-
-  abbrev Part : List Message → Stop → List Message → Type 0
-  Part = TakesPart may
-
-  abbrev Payloads : List Exchange → Stop → Type 0
-  Payloads = GivesPayloads may
 
   -- ---- from `initialized` on
 
@@ -76,7 +64,7 @@ module _ {S P : Type 0} (may : Stated S P) (stop : Stop) where
     whole : IsWhole stop → more ≡ []
 
   -- `shutdown` or `exit` comes, or nothing
-  serve_left : (w : QueuedServer S P) (xs : List Exchange) → IsUnserved (letters_of xs) → requests_in (sends_of xs) ≡ [] → Served w xs
+  abbrev serve_left : (w : QueuedServer S P) (xs : List Exchange) → IsUnserved (letters_of xs) → requests_in (sends_of xs) ≡ [] → Served w xs
   serve_left w xs unserved silent = record {
     served = [];
     rest = xs;
@@ -90,47 +78,55 @@ module _ {S P : Type 0} (may : Stated S P) (stop : Stop) where
     whole = λ is. refl;
   }
 
-  -- one more message comes first
-  serve_more : (w mid : QueuedServer S P) (x : Exchange) (xs : List Exchange) (full more : List Message) → is_served x.letter ≡ true → x.said ++ more ≡ full
-      → (at_desk may).gives w x.letter full mid → (more ≡ []) ⊎ ((xs ≡ []) × (IsSent stop → ⊥)) → Served mid xs → Served w (x ∷ xs)
-  serve_more w mid x xs full more served cut gives (inl none) later = record {
-    served = record { letter = x.letter; said = full } ∷ later.served;
-    rest = later.rest;
-    after = later.after;
-    given = (mid, gives, later.given);
-    all_served = rw served later.all_served;
-    unserved = later.unserved;
-    cut = ap (λ (l : List Message). x.letter ∷ l) later.cut;
+  -- What is sent for one more message, and then to those that the server was given: where a part of that is left, it was given no more.
+  record Sends (mid : QueuedServer S P) (xs : List Exchange) (full : List Message) (said : List Message) : Type 0 where
+    later : Served mid xs
+    more : List Message
+    sent : requests_in full ++ requests_in (sends_of later.served) ≡ requests_in (said ++ sends_of xs) ++ more
+    whole : IsWhole stop → more ≡ []
+
+  sends_more : (mid : QueuedServer S P) (xs : List Exchange) (full said more : List Message) → said ++ more ≡ full
+      → (more ≡ []) ⊎ ((xs ≡ []) × (IsSent stop → ⊥)) → Served mid xs → Sends mid xs full said
+  sends_more mid xs full said more cut (inl none) later = record {
+    later = later;
     more = later.more;
-    sent = requests-append full (sends_of later.served) ∙ (λ i. requests_in (same i) ++ later.sent i)
-        ∙ sym (append_assoc (requests_in x.said) (requests_in (sends_of xs)) later.more)
-        ∙ ap (λ (l : List Message). l ++ later.more) (sym (requests-append x.said (sends_of xs)));
+    sent = (λ i. requests_in (same i) ++ later.sent i) ∙ sym (append_assoc (requests_in said) (requests_in (sends_of xs)) later.more)
+        ∙ ap (λ (l : List Message). l ++ later.more) (sym (requests-append said (sends_of xs)));
     whole = later.whole;
   }
     where
-      same : full ≡ x.said
-      same = sym cut ∙ ap (λ (l : List Message). x.said ++ l) none ∙ append-nil x.said
-  serve_more w mid x xs full more served cut gives (inr last) later = record {
-    served = record { letter = x.letter; said = full } ∷ [];
-    rest = [];
-    after = mid;
-    given = (mid, gives, refl);
-    all_served = rw served refl;
-    unserved = tt;
-    cut = rw last.0 refl;
+      same : full ≡ said
+      same = sym cut ∙ ap (λ (l : List Message). said ++ l) none ∙ append-nil said
+  sends_more mid xs full said more cut (inr last) later = record {
+    later = serve_left mid xs (rw last.0 tt) (rw last.0 refl);
     more = requests_in more;
-    sent = ap requests_in (append-nil full) ∙ ap requests_in (sym cut) ∙ requests-append x.said more ∙ ap (λ (l : List Message). requests_in l ++ requests_in more) (sym (append-nil x.said))
-        ∙ ap (λ (l : List Exchange). requests_in (x.said ++ sends_of l) ++ requests_in more) (sym last.0);
+    sent = append-nil (requests_in full) ∙ ap requests_in (sym cut) ∙ requests-append said more
+        ∙ ap (λ (l : List Message). requests_in l ++ requests_in more) (sym (append-nil said))
+        ∙ ap (λ (l : List Exchange). requests_in (said ++ sends_of l) ++ requests_in more) (sym last.0);
     whole = λ is. absurd (last.1 (whole_sent stop is));
+  }
+
+  -- one more message comes first
+  serve_more : (w mid : QueuedServer S P) (x : Exchange) (xs : List Exchange) (full : List Message) → is_served x.letter ≡ true
+      → (at_desk may).gives w x.letter full mid → Sends mid xs full x.said → Served w (x ∷ xs)
+  serve_more w mid x xs full served gives s = record {
+    served = record { letter = x.letter; said = full } ∷ s.later.served;
+    rest = s.later.rest;
+    after = s.later.after;
+    given = (mid, gives, s.later.given);
+    all_served = rw served s.later.all_served;
+    unserved = s.later.unserved;
+    cut = ap (λ (l : List Message). x.letter ∷ l) s.later.cut;
+    more = s.more;
+    sent = requests-append full (sends_of s.later.served) ∙ s.sent;
+    whole = s.whole;
   }
 
   left_silent : (w w' : QueuedServer S P) (q next : Phase) (m : Message) (full said more : List Message) (xs : List Exchange) → Leaves m full next → said ++ more ≡ full → (said ≡ [] → full ≡ [])
       → Runs_from next w xs q w' → requests_in (said ++ sends_of xs) ≡ []
   left_silent w w' q next (request i method params) full said more xs leaves cut none run =
       rw (part_one said more full (null_reply i) cut none leaves.0, quiet xs i q w w' (rw leaves.1 at run)) refl
-  left_silent w w' q next (notification method params) full said more xs leaves cut none run =
-      rw (part_none said more full cut leaves.0, over xs None (Ok Closed) q w w' (rw leaves.1 at run)) refl
-  left_silent w w' q next (response i outcome) full said more xs leaves cut none run =
+  left_silent w w' q next m full said more xs leaves cut none run =
       rw (part_none said more full cut leaves.0, over xs None (Ok Closed) q w w' (rw leaves.1 at run)) refl
 
   serve_all : (xs : List Exchange) (q : Phase) (w w' : QueuedServer S P) → Runs_from serving w xs q w' → Served w xs
@@ -140,26 +136,10 @@ module _ {S P : Type 0} (may : Stated S P) (stop : Stop) where
       at : (Runs_from serving run.5 xs q w' → Served run.5 xs) → (b : Bool) → is_served x.letter ≡ b
           → MatchBool b ((at_desk may).gives w x.letter run.0 run.5 × (run.4 ≡ serving)) (Leaves x.letter run.0 run.4 × (run.5 ≡ w))
           → Served w (x ∷ xs)
-      at later true e step = serve_more w run.5 x xs run.0 run.1 e run.2 step.0 run.7 (later (rw step.1 at run.8))
+      at later true e step = serve_more w run.5 x xs run.0 e step.0 (sends_more run.5 xs run.0 x.said run.1 run.2 run.7 (later (rw step.1 at run.8)))
       at later false e step = serve_left w (x ∷ xs) e (left_silent run.5 w' q run.4 x.letter run.0 x.said run.1 xs step.0 run.2 run.3 run.8)
 
   -- ---- from the result of `initialize` on
-
-  part_opened : (w mid : QueuedServer S P) (x : Exchange) (xs : List Exchange) (full more : List Message) → (desk_of w.client).said ≡ [] → Unasked may w
-      → x.said ++ more ≡ full → (more ≡ []) ⊎ ((xs ≡ []) × (IsSent stop → ⊥)) → (at_desk may).opens w full mid
-      → Served mid xs → Part (letters_of xs) stop (requests_in (x.said ++ sends_of xs))
-  part_opened w mid x xs full more silent unasked cut (inl none) opened s =
-      subst (λ (l : List Message). Part l stop (requests_in (x.said ++ sends_of xs))) (sym s.cut)
-      (part_whole may w mid s.after full s.served s.rest stop (requests_in (x.said ++ sends_of xs)) s.more silent unasked opened s.given s.all_served s.unserved
-      ((λ i. requests_in (same i) ++ s.sent i) ∙ sym (append_assoc (requests_in x.said) (requests_in (sends_of xs)) s.more)
-      ∙ ap (λ (l : List Message). l ++ s.more) (sym (requests-append x.said (sends_of xs)))) s.whole)
-    where
-      same : full ≡ x.said
-      same = sym cut ∙ ap (λ (l : List Message). x.said ++ l) none ∙ append-nil x.said
-  part_opened w mid x xs full more silent unasked cut (inr last) opened s =
-      rw last.0 (part_whole may w mid mid full [] [] stop (requests_in (x.said ++ [])) (requests_in more) silent unasked opened refl refl tt
-      (append-nil (requests_in full) ∙ ap requests_in (sym cut) ∙ requests-append x.said more ∙ ap (λ (l : List Message). requests_in l ++ requests_in more) (sym (append-nil x.said)))
-      (λ is. absurd (last.1 (whole_sent stop is))))
 
   after_result : (xs : List Exchange) (q : Phase) (w w' : QueuedServer S P) → (desk_of w.client).said ≡ [] → Unasked may w
       → Runs_from in_reply w xs q w' → GoesOn may xs stop
@@ -169,16 +149,20 @@ module _ {S P : Type 0} (may : Stated S P) (stop : Stop) where
       at : (b : Bool) → is_initialized x.letter ≡ b
           → MatchBool b ((at_desk may).opens w run.0 run.5 × (run.4 ≡ serving)) (Fails expected_initialized in_reply run.0 run.4 × (run.5 ≡ w))
           → GoesOn may (x ∷ xs) stop
-      at true e step = rw e (part_opened w run.5 x xs run.0 run.1 silent unasked run.2 run.7 step.0 (serve_all xs q run.5 w' (rw step.1 at run.8)))
+      at true e step =
+          let s = sends_more run.5 xs run.0 x.said run.1 run.2 run.7 (serve_all xs q run.5 w' (rw step.1 at run.8)) in
+          rw e (subst (λ (l : List Message). TakesPart may l stop (requests_in (x.said ++ sends_of xs))) (sym s.later.cut)
+          (part_whole may w run.5 s.later.after run.0 s.later.served s.later.rest stop (requests_in (x.said ++ sends_of xs)) s.more silent unasked step.0
+          s.later.given s.later.all_served s.later.unserved s.sent s.whole))
       at false e step =
           rw e (rw (part_none x.said run.1 run.0 run.2 step.0.1, over xs None (Err (expected_initialized step.0.0)) q run.5 w' (rw step.0.2 at run.8)) refl)
 
   -- ---- from the beginning on
 
   -- one more error comes first, or a message without a reply
-  payloads_more : (x : Exchange) (xs : List Exchange) → list_all is_refusal x.said ≡ true → Payloads xs stop → Payloads (x ∷ xs) stop
+  payloads_more : (x : Exchange) (xs : List Exchange) → list_all is_refusal x.said ≡ true → GivesPayloads may xs stop → GivesPayloads may (x ∷ xs) stop
   payloads_more x xs errors payloads = elim payloads [
-    | inl none ↦ inl (all_both x.said (sends_of xs) errors none)
+    | inl none ↦ inl (list_all-append is_refusal x.said (sends_of xs) ∙ (rw (errors, none) refl))
     | inr p ↦ inr (
       x ∷ p.0,
       p.1,
@@ -192,13 +176,13 @@ module _ {S P : Type 0} (may : Stated S P) (stop : Stop) where
         asks = p.3.asks;
         cut = ap (λ (l : List Exchange). x ∷ l) p.3.cut;
       },
-      all_both x.said (sends_of p.3.before) errors p.4,
+      list_all-append is_refusal x.said (sends_of p.3.before) ∙ (rw (errors, p.4) refl),
       p.5,
     )
   ]
 
   payloads_from : (xs : List Exchange) (q : Phase) (w w' : QueuedServer S P) → (desk_of w.client).said ≡ [] → Unasked may w
-      → Runs_from starting w xs q w' → Payloads xs stop
+      → Runs_from starting w xs q w' → GivesPayloads may xs stop
   payloads_from [] q w w' silent unasked run = inl refl
   payloads_from (x ∷ xs) q w w' silent unasked run =
       by (λ silent unasked rest. payloads_from xs q run.5 w' silent unasked rest) (row (at_desk may) starting run.4 w run.5 x.letter run.0 run.6)
@@ -209,8 +193,8 @@ module _ {S P : Type 0} (may : Stated S P) (stop : Stop) where
       none : run.0 ≡ [] → x.said ≡ []
       none e = part_none x.said run.1 run.0 run.2 e
 
-      by : ((desk_of run.5.client).said ≡ [] → Unasked may run.5 → Runs_from starting run.5 xs q w' → Payloads xs stop)
-          → Row (at_desk may) starting w x.letter run.0 run.4 run.5 → Payloads (x ∷ xs) stop
+      by : ((desk_of run.5.client).said ≡ [] → Unasked may run.5 → Runs_from starting run.5 xs q w' → GivesPayloads may xs stop)
+          → Row (at_desk may) starting w x.letter run.0 run.4 run.5 → GivesPayloads may (x ∷ xs) stop
       by later (at_initialize i method params (Ok result) begun is e init sent next) = inr (
         x ∷ [],
         xs,
@@ -244,6 +228,6 @@ module _ {S P : Type 0} (may : Stated S P) (stop : Stop) where
       by later (idle same any (stays i shown begun e sent next)) = absurd (cc (begun))
 
   pub keeps_payloads : (w w' : QueuedServer S P) (xs : List Exchange) (q : Phase) → (desk_of w.client).said ≡ [] → Unasked may w
-      → Reaches (at_desk may) stop starting w xs q w' → Payloads xs stop
+      → Reaches (at_desk may) stop starting w xs q w' → GivesPayloads may xs stop
   keeps_payloads w w' xs q silent unasked reached =
       payloads_from xs q w w' silent unasked (reaches_ran (at_desk may) stop starting q w w' xs reached)
