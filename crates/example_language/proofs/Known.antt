@@ -9,7 +9,7 @@ use Rattle.example_language.specs.Promise.{AnswersOnce}
 
 pub answers_once : {S P : Type 0} (may : Stated S P) (first last : S)
     → ((first last : S) (xs : List Exchange) (stop : Stop) (null : Option Message) (answer : SessionAnswer)
-    → (session : ServerSession may first last xs stop null answer) → KeepsLaws may (held_by may session) xs stop null answer)
+    → (session : ServerSession may first last xs stop null answer) → KeepsLaws may first last (held_by may session) xs stop null answer)
     → (xs : List Exchange) (stop : Stop) (null : Option Message) (answer : SessionAnswer)
     → ServerSession may first last xs stop null answer → AnswersOnce may first last xs stop null answer
 answers_once may first last law xs stop null answer session =

@@ -282,7 +282,8 @@ module _ {S P : Type 0} (may : Stated S P) where
   pub part_whole : (w mid after : QueuedServer S P) (said : List Message) (xs rest : List Exchange) (stop : Stop) (requests more : List Message)
       → (desk_of w.client).said ≡ [] → (desk_of w.client).asked ≡ (map.empty, 0) → OpensSaying may (seen w) said (seen mid)
       → GivesAll mid xs after → list_all is_served (letters_of xs) ≡ true → IsUnserved (letters_of rest)
-      → requests_in said ++ requests_in (sends_of xs) ≡ requests ++ more → (IsWhole stop → more ≡ []) → TakesPart may (letters_of xs ++ letters_of rest) stop requests
+      → requests_in said ++ requests_in (sends_of xs) ≡ requests ++ more → (IsWhole stop → more ≡ [])
+      → TakesPart may w.server after.server (letters_of xs ++ letters_of rest) stop requests
   part_whole w mid after said xs rest stop requests more silent unasked opened given served unserved sent whole =
       let d : Desk P = desk_of w.client in
       let begun = opened.1.0 in
@@ -306,10 +307,8 @@ module _ {S P : Type 0} (may : Stated S P) where
         cut = ap (λ l. l ++ letters_of rest) (sym t.letters_are);
         served = rw t.letters_are served;
         ended = unserved;
-        start = w.server;
         did = opened.1.1;
         first = mid.server;
-        last = after.server;
         began = opened.1.2;
         took_back = subst (λ (s : S). TakesBack may.takes_back opened.1.1 (unsent 0 begun) s) (sym (ap (λ (x : S × Desk P). x.0) opened.3))
             (subst (λ n. TakesBack may.takes_back opened.1.1 (unsent n begun) opened.0.0) none opened.1.3);

@@ -3,11 +3,12 @@
 use Rattle.serde_json.specs.Data.{Data}
 use Rattle.std.specs.FinMap as map
 use Rattle.std.specs.Ordering.{eq_by_cmp}
-use Rattle.std.specs.Prelude.{◌≡◌, ◌≤◌, ◌⊎◌, ◌+◌, ◌||◌, ◌&&◌, ℕ, pos, Bool, true, false, List, [], ◌∷◌, ◌++◌, map as map_list, fold, Option, Some, None, is_some, Ok, Err, IsErrAnd, if◌then◌else◌}
+use Rattle.std.specs.Prelude.{◌≡◌, ◌≤◌, ◌⊎◌, ◌+◌, ◌||◌, ◌&&◌, ℕ, pos, Bool, true, false, List, [], ◌∷◌, ◌++◌, map as map_list, fold, Option, Some, None, is_some, Result, Ok, Err, IsErrAnd, if◌then◌else◌}
 use Rattle.std.specs.Bool.{MatchBool}
 use Rattle.std.specs.List.{list_all}
 use Rattle.lsp_message.specs.Id.{Id, id_cmp, number}
-use Rattle.lsp_message.specs.Message.{Message, request, notification, response}
+use Rattle.lsp_message.specs.Message.{Message, ErrorObject, request, notification, response}
+use Rattle.lsp_message.specs.Methods.{is_initialize}
 use Rattle.lsp_queue.specs.Queue.{Pending}
 use Rattle.lsp_session.specs.Finish.{is_initialized}
 use Rattle.lsp_session.specs.ProtocolError.{ShowsUnallowed}
@@ -164,19 +165,18 @@ module _ {S P : Type 0} (may : Stated S P) where
       (did : S) × (mid : S) × Handed old turn.letter turn.payload turn.acts did × TakesBack may.takes_back did (unsent count turn.acts) mid
       × TakesTurns (ids_after_all count turn.acts) mid turns new
 
-  -- The server's part of a session from `initialized` on: it did this, then took these turns at the letters up to `shutdown` or
-  -- `exit`, by its stated meaning. These are the requests that it sent, or the first of them where the outbox refused a message.
-  pub record TakesPart (letters : List Message) (stop : Stop) (requests : List Message) : Type 0 where
+  -- The server's part of a session from `initialized` on, from its state at the result to its last: it did this, then took these turns
+  -- at the letters up to `shutdown` or `exit`, by its stated meaning. These are the requests that it sent, or the first of them where
+  -- the outbox refused a message.
+  pub record TakesPart (start last : S) (letters : List Message) (stop : Stop) (requests : List Message) : Type 0 where
     pub begun : List (Act P)
     pub turns : List (Turn P)
     pub rest : List Message
     pub cut : letters ≡ map_list (λ (turn : Turn P). turn.letter) turns ++ rest
     pub served : list_all is_served (map_list (λ (turn : Turn P). turn.letter) turns) ≡ true
     pub ended : IsUnserved rest
-    pub start : S
     pub did : S
     pub first : S
-    pub last : S
     pub began : may.begins start begun did
     pub took_back : TakesBack may.takes_back did (unsent 0 begun) first
     pub took_turns : TakesTurns (ids_after_all 0 begun) first turns last
@@ -186,29 +186,51 @@ module _ {S P : Type 0} (may : Stated S P) where
     pub payloads : GivesOwnPayloads begun turns
 
   -- What follows the result of `initialize`: `initialized`, and the server takes part from then on. Or nothing more is sent.
-  abbrev pub GoesOn : List Exchange → Stop → Type 0
-  GoesOn [] stop = Unit {0}
-  GoesOn (x ∷ later) stop =
-      MatchBool (is_initialized x.letter) (TakesPart (letters_of later) stop (requests_in (sends_of (x ∷ later)))) (sends_of (x ∷ later) ≡ [])
+  abbrev pub GoesOn : S → S → List Exchange → Stop → Type 0
+  GoesOn start last [] stop = last ≡ start
+  GoesOn start last (x ∷ later) stop =
+      MatchBool (is_initialized x.letter) (TakesPart start last (letters_of later) stop (requests_in (sends_of (x ∷ later))))
+      ((sends_of (x ∷ later) ≡ []) × (last ≡ start))
+
+  -- the server answers this `initialize` by its stated meaning
+  pub record Initializes (old : S) (m : Message) (said : List Message) (new : S) : Type 0 where
+    pub id : Id
+    pub method : List ℕ
+    pub params : Data
+    pub outcome : Result Data ErrorObject
+    pub came : m ≡ request id method params
+    pub gave : may.initializes old params outcome new
+    pub told : said ≡ response id outcome ∷ []
+
+  -- messages up to the result of `initialize` take the server from old to new: no other message changes it
+  abbrev pub AnswersInitialize : S → List Exchange → S → Type 0
+  AnswersInitialize old [] new = new ≡ old
+  AnswersInitialize old (x ∷ xs) new =
+      (mid : S) × MatchBool (is_initialize x.letter) (Initializes old x.letter x.said mid) (mid ≡ old) × AnswersInitialize mid xs new
 
   -- Nothing but errors is sent. Or errors first, then the result of `initialize`, and the session goes on from there.
-  abbrev pub GivesPayloads : List Exchange → Stop → Type 0
-  GivesPayloads exchanges stop =
-      (list_all is_refusal (sends_of exchanges) ≡ true)
+  abbrev pub GivesPayloads : S → S → List Exchange → Stop → Type 0
+  GivesPayloads first last exchanges stop =
+      ((list_all is_refusal (sends_of exchanges) ≡ true) × AnswersInitialize first exchanges last)
       ⊎ ((early : List Exchange) × (rest : List Exchange) × (exchanges ≡ early ++ rest)
-      × (ends : EndsWithResult early) × (list_all is_refusal (sends_of ends.before) ≡ true) × GoesOn rest stop)
+      × (ends : EndsWithResult early) × (list_all is_refusal (sends_of ends.before) ≡ true)
+      × (start : S) × AnswersInitialize first early start × GoesOn start last rest stop)
 
   -- the laws of a session, in whose end these requests are held
-  pub record KeepsLaws (held : Pending (Unit {0})) (exchanges : List Exchange) (stop : Stop) (null : Option Message) (answer : SessionAnswer) : Type 0 where
+  pub record KeepsLaws (first last : S) (held : Pending (Unit {0})) (exchanges : List Exchange) (stop : Stop) (null : Option Message) (answer : SessionAnswer)
+      : Type 0 where
     -- under no id are there ever more replies than requests that came before: no reply goes to anything else, and none comes twice
     pub never_more : (id : Id) → NeverMore id exchanges
     pub once : IsWhole stop → (id : Id) → how_many (is_request_under id) (letters_of exchanges) ≡ 1 → OnceOrEnded id exchanges stop held answer
     -- before `initialized` nothing is sent but one reply for each request, and nothing follows the null
     pub order : KeepsOrder exchanges stop null answer
-    -- each reply of the client comes to the server with the payload of its own request, once
-    pub payloads : GivesPayloads exchanges stop
+    -- Each reply of the client comes to the server with the payload of its own request, once, from the server's first state to the one
+    -- after the last exchange. That is its last state, unless an allocation failed at the message that came next.
+    pub after : S
+    pub payloads : GivesPayloads first after exchanges stop
+    pub kept : (stop ≡ exhausted) ⊎ (last ≡ after)
 
   -- a session of a server, which keeps the laws
   abbrev pub LawfulSession : S → S → SessionPart
   LawfulSession first last exchanges stop null answer =
-      (session : ServerSession may first last exchanges stop null answer) × KeepsLaws (held_by may session) exchanges stop null answer
+      (session : ServerSession may first last exchanges stop null answer) × KeepsLaws first last (held_by may session) exchanges stop null answer

@@ -27,11 +27,12 @@ use lsp_session::{Inbox, Outbox};
 /// failed, a request may be left without a reply; the rest holds there too.
 ///
 /// Each reply of the client comes to the server with the payload of its own request, once: what was kept with the request that
-/// was sent under its id. A reply under an id that is not pending reaches nobody.
+/// was sent under its id. A reply under an id that is not pending reaches nobody. This is told of the server's states, from the first
+/// to the last (unless an allocation failed), each by what the server stated.
 pub fn server_keeps_laws<S: Server>()
     ensures exchanges { (first last : S) (exchanges : List Exchange) (stop : Stop) (null : Option Message) (answer : SessionAnswer)
         → (session : ServerSession S.Server first last exchanges stop null answer)
-        → KeepsLaws S.Server (held_by S.Server session) exchanges stop null answer }
+        → KeepsLaws S.Server first last (held_by S.Server session) exchanges stop null answer }
     ensures bytes { (limit : ℕ) (first last : S) (text : List ℕ) (left before after : Option (List ℕ)) (answer : Result EndOfSession FaultOfSession)
         → Gives limit (ServerSession S.Server first last) text left before after answer
         → Gives limit (LawfulSession S.Server first last) text left before after answer }

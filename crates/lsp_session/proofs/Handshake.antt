@@ -14,8 +14,9 @@ use Rattle.lsp_session.specs.Event.{Event, message, timeout, closed}
 use Rattle.lsp_session.specs.Finish.{FinishAnswer, IsUninvited, EventFinishes, FinishesAt, is_initialized}
 use Rattle.lsp_session.specs.Outputs.{RefusesOne}
 use Rattle.lsp_session.specs.ProtocolError.{ProtocolFault, disconnected, out_of_memory}
+use Rattle.lsp_session.specs.Session.{Behavior}
 use Rattle.lsp_session.proofs.SessionSteps.{open_after}
-use Rattle.lsp_session.specs.Session.{Behavior, SessionAnswer, Exchange, letters_of, sends_of, starting, replied, serving, ended, phase_after, request_id, is_initialize, Step, Steps}
+use Rattle.lsp_session.specs.Session.{SessionAnswer, Exchange, letters_of, sends_of, starting, replied, serving, ended, phase_after, request_id, is_initialize, Step, Steps}
 use Rattle.lsp_session.specs.SessionRun.{message_in, is_open, Runs}
 use Rattle.lsp_session.specs.Start.{StartAnswer, is_early, is_undecided, request_of, IsEarlyReply, fault_of_refusal, PassesOver, RefusesReply, Decides, MessageDecides, StartsWithin}
 use Rattle.lsp_session.specs.Turns.{Turn, stopped, got, TakesTurn}

@@ -29,17 +29,15 @@ no_request_no_shutdown (request i method params) mute = absurd mute
 no_request_no_shutdown (notification method params) mute = refl
 no_request_no_shutdown (response i outcome) mute = refl
 
+refusal_allowed : (fault : SendFault) → ShowsUnallowed (fault_of_refusal fault) → ⊥
+refusal_allowed (Shut m) (inl shows) = let e : disconnected ≡ expected_initialized shows.0 = shows.1 in cc (e)
+refusal_allowed (Shut m) (inr shows) = let e : disconnected ≡ unexpected_in_shutdown shows.0 = shows.1 in cc (e)
+refusal_allowed (Full m) (inl shows) = let e : out_of_memory ≡ expected_initialized shows.0 = shows.1 in cc (e)
+refusal_allowed (Full m) (inr shows) = let e : out_of_memory ≡ unexpected_in_shutdown shows.0 = shows.1 in cc (e)
+
 memory_allowed : ShowsUnallowed out_of_memory → ⊥
 memory_allowed (inl shows) = let e : out_of_memory ≡ expected_initialized shows.0 = shows.1 in cc (e)
 memory_allowed (inr shows) = let e : out_of_memory ≡ unexpected_in_shutdown shows.0 = shows.1 in cc (e)
-
-still_there : (fault : ProtocolFault) → is_disconnected fault ≡ true → ShowsUnallowed fault → ⊥
-still_there fault lost (inl shows) = let e = (rw shows.1 at lost) in cc (e)
-still_there fault lost (inr shows) = let e = (rw shows.1 at lost) in cc (e)
-
-refusal_allowed : (fault : SendFault) → ShowsUnallowed (fault_of_refusal fault) → ⊥
-refusal_allowed (Shut m) shows = still_there disconnected refl shows
-refusal_allowed (Full m) shows = memory_allowed shows
 
 module _ {S : Type 0} (may : Behavior S) (stop : Stop) (null : Option Message) (answer : SessionAnswer) where
   -- what is said of the exchanges from `initialized` on
@@ -195,6 +193,10 @@ keeps_order may s s' xs stop null answer out =
     order may stop null answer starting out.last s out.after s' xs (reaches_ran may stop starting out.last s out.after xs out.reached) out.stopped out.null_is
 
 -- ---- a client that is gone
+
+still_there : (fault : ProtocolFault) → is_disconnected fault ≡ true → ShowsUnallowed fault → ⊥
+still_there fault lost (inl shows) = let e = (rw shows.1 at lost) in cc (e)
+still_there fault lost (inr shows) = let e = (rw shows.1 at lost) in cc (e)
 
 pub all_answered : (xs : List Exchange) (stop : Stop) (null : Option Message) (fault : ProtocolFault) → is_disconnected fault ≡ true
     → AnswersRequests xs stop null (Err fault) → AllReplied xs

@@ -4,7 +4,8 @@ use Rattle.std.specs.Prelude.{Result, Ok, Err}
 use Rattle.serde_json.specs.Data.{Data}
 use Rattle.lsp_message.specs.Message.{Message, ErrorObject}
 use Rattle.lsp_session.specs.ProtocolError.{disconnected, shutdown_disconnected, fault_of_refusal}
-use Rattle.lsp_session.specs.Session.{Behavior, Exchange, letters_of, sends_of, SessionAnswer, Stop, decided, no_more, timed_out, refused, exhausted, Phase, starting, replied, serving, asked, ended, null_of, phase_after, Step, Steps, Reaches, Stops, SessionFrom}
+use Rattle.lsp_session.specs.Session.{Behavior}
+use Rattle.lsp_session.specs.Session.{Exchange, letters_of, sends_of, SessionAnswer, Stop, decided, no_more, timed_out, refused, exhausted, Phase, starting, replied, serving, asked, ended, null_of, phase_after, Step, Steps, Reaches, Stops, SessionFrom}
 use Rattle.lsp_session.specs.SessionRun.{all_of}
 use Rattle.lsp_session.specs.declared.lifecycle.SendFault.{SendFault}
 use Rattle.lsp_session.specs.declared.loops.handler.SessionEnd.TheVariants.{Closed}
