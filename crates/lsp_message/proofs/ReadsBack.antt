@@ -1,5 +1,5 @@
 -- A message's content part is read back as that message.
-use Rattle.std.proofs.Common.{◌≡◌, ℕ, suc, ◌<◌, ◌≤◌, max, List, [], ◌++◌, Bool, true, false, Option, Some, None, Result, Ok, Err, IfOk, OnOk, option_map, option_and_then, codes, refl, sym, ap, ap₂, ◌∙◌, arith, lit≤, append_assoc, append-nil}
+use Rattle.std.proofs.Common.{◌≡◌, ℕ, suc, ◌<◌, ◌≤◌, max, List, [], ◌++◌, Bool, true, false, Option, Some, None, Result, Ok, Err, IfOk, OnOk, option_map, option_and_then, codes, refl, sym, ap, ap₂, ◌∙◌, arith, lit≤, append_assoc, append-nil, ◌^◌, pos, negsuc, decimal, ℤ}
 use Rattle.std.specs.Prelude.{fold}
 use Rattle.std.proofs.lemmas.List.Sums.{fold-append}
 use Rattle.json.specs.Token.{Token}
@@ -17,7 +17,6 @@ use Rattle.serde_json.specs.Written.{outline, items_outline, members_outline, bl
 use Rattle.json.proofs.Printed.Decimals.{IsNumber-decimal, IsNumber-signed_decimal}
 use Rattle.serde_json.proofs.Numbers.{number_of-decimal, number_of-negative}
 use Rattle.std.specs.Fmt.{signed_decimal}
-use Rattle.std.proofs.Common.{◌^◌, pos, negsuc, decimal}
 use borrow.Author.Tests.{ltb-true}
 use Rattle.lsp_message.specs.Id as id
 use Rattle.lsp_message.specs.Id.{Id}
@@ -28,7 +27,6 @@ use Rattle.lsp_message.specs.Frame.{body_means, no_message, tree_means}
 use Rattle.lsp_message.proofs.Contents.{body_means-text}
 use Rattle.lsp_message.specs.Tree.{id_tree, error_tree, without_null_details}
 use Rattle.lsp_message.proofs.TreeLaws.{as_error-error_tree}
-use Rattle.std.proofs.Common.{ℤ}
 use Rattle.lsp_message.specs.Meaning.{is_i32, as_i32, as_id, code_of, meaning, unless_null}
 use Rattle.lsp_message.specs.Message.{ErrorObject, Message, request, notification, response}
 use Rattle.lsp_message.specs.Ranges.{IsIdInRange, IsInRange, nesting}

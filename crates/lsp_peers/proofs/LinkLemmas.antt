@@ -3,9 +3,8 @@ use Rattle.std.proofs.Common.{◌≡◌, ℕ, ◌+◌, ◌-◌, ◌^◌, ◌<◌
 use Rattle.std.proofs.lemmas.List.{length-take}
 use Rattle.std.specs.Prelude.{Option, None, Some, Ok, Err, false, is_some}
 use Rattle.lsp_message.specs.Frame.{reading_of}
-use Rattle.lsp_message.specs.Reading.{Answers}
+use Rattle.lsp_message.specs.Reading.{Answers, Reading}
 use Rattle.lsp_message.specs.Front.{front_of}
-use Rattle.lsp_message.specs.Reading.{Reading}
 use Rattle.lsp_message.specs.Message.{Message}
 use Rattle.lsp_message.specs.Readable.{WritesReadably}
 use Rattle.lsp_message.specs.Tree.{without_null_details}

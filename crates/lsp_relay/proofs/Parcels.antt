@@ -3,8 +3,7 @@ use Rattle.std.proofs.Common.{◌≡◌, true, List, [], ◌∷◌, ◌++◌, �
 use mathlib.Core.List.{IsPrefix}
 use Rattle.lsp_relay.specs.declared.ends.Parcel.{Parcel}
 use Rattle.lsp_relay.specs.declared.ends.Parcel.TheVariants as parcel
-use Rattle.lsp_relay.specs.Relay.{ended, has_end}
-use Rattle.lsp_relay.specs.Relay.{IsOpen}
+use Rattle.lsp_relay.specs.Relay.{ended, has_end, IsOpen}
 
 module _ {M : Type 0} where
   pub open_push : (sent : List (Parcel M)) (m : M) → IsOpen sent → IsOpen (sent ++ parcel.Message m ∷ [])

@@ -1,15 +1,20 @@
 -- What the server does at a message is all that is sent.
-use Rattle.std.proofs.Common.{◌≡◌, refl, sym, ◌∙◌, ap, List, [], ◌∷◌, ◌++◌, append_assoc, append-nil, arith, Option, Some, None}
-use Rattle.std.specs.FinMap as map
-use Rattle.std.specs.Prelude.{MatchOption}
-use Rattle.lsp_message.specs.Id.{Id}
-use Rattle.lsp_message.specs.Message.{Message, request, notification, response}
-use Rattle.lsp_queue.specs.Queue.{pending_of, count_of}
-use Rattle.lsp_service.specs.Desk.{Act, tells, settles, cancelled_by, Desk, does, does_all, unsent, given, cleared, TakesBack, Acts}
+use Rattle.lsp_message.specs.Id.{Id, id_cmp}
+use Rattle.lsp_message.specs.IdKeys.{id_antisymmetric}
+use Rattle.lsp_message.specs.IdLaws.{id_total, id_decides}
+use Rattle.lsp_message.specs.Message.{Message, request, notification, response, ErrorObject}
+use Rattle.lsp_queue.specs.Queue.{pending_of, count_of, Asked}
+use Rattle.lsp_service.specs.Desk.{Act, tells, settles, cancelled_by, Desk, does, does_all, unsent, given, cleared, TakesBack, Acts, ids_after, unsent_by}
 use Rattle.lsp_service.specs.Law.{Handed}
+use Rattle.lsp_service.specs.QueuedServer.{WorksGiving, Works}
 use Rattle.lsp_service.specs.Turning.{brought_by, sends_by, all_sends, desk_at, settled_by, settled_at, ActsAt}
-use Rattle.lsp_service.specs.QueuedServer.{WorksGiving}
 use Rattle.lsp_service.specs.declared.server.Server.{Ghosts as Stated}
+use Rattle.serde_json.specs.Data.{Data}
+use Rattle.std.proofs.Common.{◌≡◌, refl, sym, ◌∙◌, ap, List, [], ◌∷◌, ◌++◌, append_assoc, append-nil, arith, Option, Some, None, Bool, true, false, cond}
+use Rattle.std.specs.FinMap as map
+use Rattle.std.specs.FinMap.{FinMap, get-remove, same_map}
+use Rattle.std.specs.Ordering.{eq_by_cmp}
+use Rattle.std.specs.Prelude.{MatchOption, Result}
 
 module _ {P : Type 0} where
   said_one : (d : Desk P) (act : Act P) → (does d act).said ≡ d.said ++ sends_by d act
@@ -84,3 +89,51 @@ module _ {S P : Type 0} (may : Stated S P) where
           (ap (λ (x : S × Desk P). x.1) same) gives.2 gives.3
       at (Some payload) kept w =
           acts_so old (response id outcome) said new (Some payload) w.0 w.1 gives.0 (sym kept) w.2 w.3 w.4 gives.2 gives.3
+
+-- What a desk is after a message.
+-- one act more
+pub does_push : {P : Type 0} (d : Desk P) (acts : List (Act P)) (act : Act P) → does_all d (acts ++ act ∷ []) ≡ does (does_all d acts) act
+does_push d [] act = refl
+does_push d (x ∷ acts) act = does_push (does d x) acts act
+
+-- how many ids were given out
+pub ids_counted : {P : Type 0} (d : Desk P) (act : Act P) → count_of (does d act).asked ≡ ids_after (count_of d.asked) act
+ids_counted d (tells method params) = refl
+ids_counted d act = grind arith
+
+pub unsent_push : {P : Type 0} (d : Desk P) (acts : List (Act P)) (act : Act P)
+    → unsent (count_of d.asked) (acts ++ act ∷ []) ≡ unsent (count_of d.asked) acts ++ unsent_by (count_of (does_all d acts).asked) act
+unsent_push d [] act = append-nil (unsent_by (count_of d.asked) act)
+unsent_push d (x ∷ acts) act =
+    let more = unsent_push (does d x) acts act in
+    ap (λ l. unsent_by (count_of d.asked) x ++ l) (rw (ids_counted d x) at more)
+    ∙ sym (append_assoc (unsent_by (count_of d.asked) x) (unsent (ids_after (count_of d.asked) x) acts) (unsent_by (count_of (does_all (does d x) acts).asked) act))
+
+-- more is taken back
+pub takes_more : {S P : Type 0} (takes_back : S → P → S → Type 0) (old mid new : S) (xs ys : List P)
+    → TakesBack takes_back old xs mid → TakesBack takes_back mid ys new → TakesBack takes_back old (xs ++ ys) new
+takes_more takes_back old mid new [] ys first second = rw first at second
+takes_more takes_back old mid new (x ∷ xs) ys first second = (first.0, first.1, takes_more takes_back first.0 mid new xs ys first.2 second)
+
+-- removing what is not there changes nothing
+remove_absent : {X : Type 0} (m : FinMap id_cmp X) (k : Id) → map.get m k ≡ None → map.remove m k ≡ m
+remove_absent {X} m k absent = same_map id_total id_antisymmetric _ _ (λ q. get-remove id_total m k q ∙ same_at q (eq_by_cmp id_cmp q k) refl)
+  where
+    same_at : (q : Id) (b : Bool) → eq_by_cmp id_cmp q k ≡ b → cond b None (map.get m q) ≡ map.get m q
+    same_at q true e = let same : q ≡ k = (id_decides q k).0 e in rw same (sym absent)
+    same_at q false e = refl
+
+module _ {S P : Type 0} (may : Stated S P) where
+  -- a reply under an id that no request of the server's has
+  pub drops_reply : (s : S) (d d' : Desk P) (id : Id) (outcome : Result Data ErrorObject) (asked : Asked P)
+      → map.get (pending_of d.asked) id ≡ None → asked ≡ (map.remove (pending_of d.asked) id, count_of d.asked)
+      → d' ≡ record { held = d.held; asked = asked; said = d.said }
+      → Works may (s, d) (response id outcome) (s, d')
+  drops_reply s d d' id outcome asked none removed is =
+      rw none (ap (λ (x : Desk P). (s, x)) (is ∙ same))
+    where
+      gone : asked ≡ d.asked
+      gone = removed ∙ ap (λ m. (m, count_of d.asked)) (remove_absent (pending_of d.asked) id none)
+
+      same : ◌≡◌ {A = Desk P} (record { held = d.held; asked = asked; said = d.said }) d
+      same = rw gone refl

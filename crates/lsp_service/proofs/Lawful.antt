@@ -9,8 +9,7 @@ use Rattle.lsp_service.specs.QueuedServer.{at_desk, held_by, ServerSession}
 use Rattle.lsp_service.specs.View.{desk_of, seen}
 use Rattle.lsp_service.specs.declared.desk.QueuedServer.{QueuedServer}
 use Rattle.lsp_service.specs.declared.server.Server.{Ghosts as Stated}
-use Rattle.lsp_service.proofs.Counting.{never_more, answered_once}
-use Rattle.lsp_service.proofs.Keeping.{clear_fresh}
+use Rattle.lsp_service.proofs.Counting.{never_more, answered_once, clear_fresh}
 use Rattle.lsp_service.proofs.Taking.{keeps_payloads, kept_to_last}
 
 module _ {S P : Type 0} (may : Stated S P) where

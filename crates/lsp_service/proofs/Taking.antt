@@ -8,8 +8,7 @@ use Rattle.std.specs.Prelude.{Result, Ok, Err}
 use Rattle.lsp_message.specs.Id.{Id}
 use Rattle.lsp_message.specs.Message.{Message, ErrorObject, request, notification, response}
 use Rattle.lsp_message.specs.Methods.{is_initialize, is_initialized, is_exit}
-use Rattle.lsp_session.proofs.Ran.{part_none, part_one, Ran, reaches_ran}
-use Rattle.lsp_session.proofs.Rows.{early_request, early_note, unasked as unasked_for, uninvited, shuts, leaves as goes, exits, stays, Row, at_initialize, at_initialized, at_served, idle, row}
+use Rattle.lsp_session.proofs.Ran.{part_none, part_one, Ran, reaches_ran, early_request, early_note, unasked as unasked_for, uninvited, shuts, leaves as goes, exits, stays, Row, at_initialize, at_initialized, at_served, idle, row}
 use Rattle.lsp_session.proofs.SessionSteps.{IsWhole as IsSent}
 use Rattle.lsp_session.specs.ProtocolError.{expected_initialize, expected_initialized, unexpected_in_shutdown}
 use Rattle.lsp_session.specs.Replies.{null_reply, IsEarlyReply}
@@ -19,7 +18,7 @@ use Rattle.lsp_service.specs.Desk.{Desk}
 use Rattle.lsp_service.specs.Law.{IsWhole, requests_in, IsUnserved, TakesPart, GivesPayloads, is_refusal, GoesOn, Initializes}
 use Rattle.lsp_service.specs.QueuedServer.{at_desk}
 use Rattle.lsp_service.specs.declared.desk.QueuedServer.{QueuedServer}
-use Rattle.lsp_service.proofs.Keeping.{Unasked}
+use Rattle.lsp_service.proofs.Counting.{Unasked}
 use Rattle.lsp_service.proofs.Returning.{requests-append, GivesAll, part_whole}
 use Rattle.lsp_service.specs.View.{desk_of}
 use Rattle.lsp_service.specs.declared.server.Server.{Ghosts as Stated}

@@ -66,15 +66,12 @@ brings_after events0 events letters0 letters exhausted e o h = (h.0, rw (filter_
 -- what an outbox got after what it took before
 gets_after : {O : Type 0} (sends : O → Message → Result (Unit {0}) SendFault → O → Type 0) (old mid new : O) (output0 output : List Message) (null : Option Message) (stop : Stop)
     → FoldsTo (Takes sends) old output0 mid → Gets sends mid output null stop new → Gets sends old (output0 ++ output) null stop new
-gets_after sends old mid new output0 output null decided taken got = (got.0, FoldsTo-append (Takes sends) output0 output old mid got.0 taken got.1, got.2)
-gets_after sends old mid new output0 output null no_more taken got = (got.0, FoldsTo-append (Takes sends) output0 output old mid got.0 taken got.1, got.2)
-gets_after sends old mid new output0 output null timed_out taken got = (got.0, FoldsTo-append (Takes sends) output0 output old mid got.0 taken got.1, got.2)
-gets_after sends old mid new output0 output null exhausted taken got = (got.0, FoldsTo-append (Takes sends) output0 output old mid got.0 taken got.1, got.2)
 gets_after sends old mid new output0 output null (refused fault) taken got =
     let last = got.0 in (
       (output0 ++ last.0, last.1, last.2, rw (last.3, append_assoc) refl, FoldsTo-append (Takes sends) output0 last.0 old mid last.2 taken last.4, last.5),
       got.1,
     )
+gets_after sends old mid new output0 output null stop taken got = (got.0, FoldsTo-append (Takes sends) output0 output old mid got.0 taken got.1, got.2)
 
 awaits_after : (events0 events : List Event) (null : Option Message) → AwaitsExit events null → AwaitsExit (events0 ++ events) null
 awaits_after events0 events None awaited = tt
@@ -103,11 +100,8 @@ module _ {I O : Type 0} (receives : I → Event → I → Type 0) (sends : O →
 
   -- the outbox is offered nothing but the null, or not even that
   pub gets_last : (old new : O) (null : Option Message) (stop : Stop) → IsWhole stop → OffersLast sends old null new → Gets sends old [] null stop new
-  gets_last old new null decided whole offers = (old, refl, offers)
-  gets_last old new null no_more whole offers = (old, refl, offers)
-  gets_last old new null timed_out whole offers = (old, refl, offers)
-  gets_last old new null exhausted whole offers = (old, refl, offers)
   gets_last old new null (refused fault) whole offers = absurd whole
+  gets_last old new null stop whole offers = (old, refl, offers)
 
   -- an event was waited for, and nothing is sent
   pub waited : (P : SessionPart) (i i' : I) (o : O) (event : Event) (xs : List Exchange) (stop : Stop) (answer : SessionAnswer) → WaitsFor receives i event i'

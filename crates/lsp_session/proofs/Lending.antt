@@ -1,15 +1,21 @@
 -- A session of a handler, from that of the service that lends it.
-use Rattle.std.proofs.Common.{◌≡◌, ◌∙◌, ap, inl, inr, ◌⊎◌, ℕ, List, [], ◌∷◌, ◌++◌, Option}
-use Rattle.std.specs.Prelude.{Result, Ok}
-use Rattle.serde_json.specs.Data.{Data}
-use Rattle.serde_json.specs.View.{view}
 use Rattle.lsp_message.specs.Id.{Id}
 use Rattle.lsp_message.specs.Message.{Message, ErrorObject}
-use Rattle.lsp_session.proofs.Rows.{Row, row, at_initialize, at_initialized, at_served, idle, Idle, early_request, early_note, unasked, uninvited, shuts, leaves, exits, stays}
+use Rattle.lsp_session.proofs.Ran.{Row, row, at_initialize, at_initialized, at_served, idle, Idle, early_request, early_note, unasked, uninvited, shuts, leaves, exits, stays}
+use Rattle.lsp_session.specs.Event.{Event}
 use Rattle.lsp_session.specs.HandlerService.{KeepsHandler, lent_handler}
 use Rattle.lsp_session.specs.HandlerSession.{initialize_result, of_handler}
-use Rattle.lsp_session.specs.Session.{Behavior, SessionAnswer, Exchange, Stop, decided, no_more, timed_out, refused, exhausted, Phase, starting, replied, serving, asked, ended, phase_after, Step, Steps, Reaches, Stops, SessionOut}
+use Rattle.lsp_session.specs.Session.{Behavior, SessionAnswer, Exchange, Stop, decided, no_more, timed_out, refused, exhausted, Phase, starting, replied, serving, asked, ended, phase_after, Step, Steps, Reaches, Stops, SessionOut, SessionPart}
+use Rattle.lsp_session.specs.SessionBytes.{SessionOver, Gives}
+use Rattle.lsp_session.specs.SessionRun.{Runs}
+use Rattle.lsp_session.specs.declared.lifecycle.SendFault.{SendFault}
+use Rattle.lsp_session.specs.declared.loops.handler.SessionEnd.{SessionEnd}
 use Rattle.lsp_session.specs.declared.loops.handler_service.HandlerService.{HandlerService}
+use Rattle.lsp_session.specs.declared.loops.stream_session.SessionFault.{SessionFault}
+use Rattle.serde_json.specs.Data.{Data}
+use Rattle.serde_json.specs.View.{view}
+use Rattle.std.proofs.Common.{◌≡◌, ◌∙◌, ap, inl, inr, ◌⊎◌, ℕ, List, [], ◌∷◌, ◌++◌, Option, Some, None, IfSome}
+use Rattle.std.specs.Prelude.{Result, Ok}
 
 module _ {H : Type 0} (answers : H → Id → List ℕ → Data → Result Data ErrorObject → H → Type 0) (notes : H → List ℕ → Data → H → Type 0) (capabilities : Data) where
   abbrev lent : Behavior (HandlerService H)
@@ -62,10 +68,6 @@ module _ {H : Type 0} (answers : H → Id → List ℕ → Data → Result Data 
 
   to_as : (stop : Stop) (p p' : Phase) (s s' : HandlerService H) (xs : List Exchange) → Has p s → Reaches lent stop p s xs p' s'
       → Reaches plain stop p s.handler.now xs p' s'.handler.now × (s'.handler.ghost_name ≡ s.handler.ghost_name)
-  to_as decided p p' s s' xs has steps = let all = steps_as p p' s s' xs has steps in (all.0, all.2)
-  to_as no_more p p' s s' xs has steps = let all = steps_as p p' s s' xs has steps in (all.0, all.2)
-  to_as timed_out p p' s s' xs has steps = let all = steps_as p p' s s' xs has steps in (all.0, all.2)
-  to_as exhausted p p' s s' xs has steps = let all = steps_as p p' s s' xs has steps in (all.0, all.2)
   to_as (refused fault) p p' s s' xs has broken =
       let before = steps_as p broken.next s broken.mid broken.earlier has broken.steps in
       let full = broken.part ++ broken.unsaid ∷ broken.more in
@@ -84,6 +86,7 @@ module _ {H : Type 0} (answers : H → Id → List ℕ → Data → Result Data 
         },
         one.2 ∙ before.2,
       )
+  to_as stop p p' s s' xs has steps = let all = steps_as p p' s s' xs has steps in (all.0, all.2)
 
   module _ (s s' : HandlerService H) (h' : H) (back : s'.handler.ghost_name ≡ s.handler.ghost_name → h' ≡ s'.handler.now) where
     same : (after : HandlerService H) → after.handler.ghost_name ≡ s.handler.ghost_name → s' ≡ after → h' ≡ after.handler.now
@@ -98,30 +101,14 @@ module _ {H : Type 0} (answers : H → Id → List ℕ → Data → Result Data 
     left_as : (p : Phase) (stop : Stop) (answer : SessionAnswer) (after : HandlerService H) → after.handler.ghost_name ≡ s.handler.ghost_name
         → Stops lent p after stop answer s' → Stops plain p after.handler.now stop answer h'
     left_as (ended null by) decided answer after name stops = (stops.0, same after name stops.1)
-    left_as (ended null by) no_more answer after name stops = absurd stops
-    left_as (ended null by) timed_out answer after name stops = absurd stops
-    left_as (ended null by) (refused fault) answer after name stops = absurd stops
-    left_as (ended null by) exhausted answer after name stops = absurd stops
-    left_as starting decided answer after name stops = absurd stops
-    left_as starting no_more answer after name stops = (stops.0, same after name stops.1)
-    left_as starting timed_out answer after name stops = absurd stops
-    left_as starting (refused fault) answer after name stops = (stops.0, same after name stops.1)
-    left_as starting exhausted answer after name stops = (stops.0, unserved after name stops.1)
-    left_as replied decided answer after name stops = absurd stops
-    left_as replied no_more answer after name stops = (stops.0, same after name stops.1)
-    left_as replied timed_out answer after name stops = absurd stops
-    left_as replied (refused fault) answer after name stops = (stops.0, same after name stops.1)
-    left_as replied exhausted answer after name stops = (stops.0, unserved after name stops.1)
-    left_as serving decided answer after name stops = absurd stops
-    left_as serving no_more answer after name stops = (stops.0, same after name stops.1)
-    left_as serving timed_out answer after name stops = absurd stops
-    left_as serving (refused fault) answer after name stops = (stops.0, same after name stops.1)
-    left_as serving exhausted answer after name stops = stops
-    left_as (asked i) decided answer after name stops = absurd stops
-    left_as (asked i) no_more answer after name stops = (stops.0, same after name stops.1)
-    left_as (asked i) timed_out answer after name stops = (stops.0, same after name stops.1)
+    left_as (ended null by) stop answer after name stops = absurd stops
+    left_as p decided answer after name stops = absurd stops
     left_as (asked i) (refused fault) answer after name stops = absurd stops
-    left_as (asked i) exhausted answer after name stops = (stops.0, same after name stops.1)
+    left_as (asked i) stop answer after name stops = (stops.0, same after name stops.1)
+    left_as p timed_out answer after name stops = absurd stops
+    left_as serving exhausted answer after name stops = stops
+    left_as p exhausted answer after name stops = (stops.0, unserved after name stops.1)
+    left_as p stop answer after name stops = (stops.0, same after name stops.1)
 
     pub session_as : (h : H) → s.handler.now ≡ h → view s.capabilities.now ≡ capabilities
         → (xs : List Exchange) (stop : Stop) (null : Option Message) (answer : SessionAnswer)
@@ -135,3 +122,44 @@ module _ {H : Type 0} (answers : H → Id → List ℕ → Data → Result Data 
           null_is = out.null_is;
           stopped = left_as out.last stop answer out.after steps.1 out.stopped;
         }
+
+-- A session that is described otherwise.
+module _ (P Q : SessionPart)
+    (to : (xs : List Exchange) (stop : Stop) (null : Option Message) (answer : SessionAnswer) → P xs stop null answer → Q xs stop null answer) where
+  -- over boxes
+  pub runs_as : {I O : Type 0} (receives : I → Event → I → Type 0) (sends : O → Message → Result (Unit {0}) SendFault → O → Type 0)
+      (old new : I × O) (answer : SessionAnswer) → Runs receives sends P old answer new → Runs receives sends Q old answer new
+  runs_as receives sends old new answer run = record {
+    events = run.events;
+    received = run.received;
+    exchanges = run.exchanges;
+    stop = run.stop;
+    brought = run.brought;
+    output = run.output;
+    null = run.null;
+    all = run.all;
+    awaited = run.awaited;
+    got = run.got;
+    part = to run.exchanges run.stop run.null answer run.part;
+  }
+
+  -- over the first messages of a text, whatever is said of its end and of what was written
+  pub over_as : (limit : ℕ) (text : List ℕ) (Ends : SessionAnswer → Stop → Option Message → List ℕ → Type 0) (Wrote : Stop → Option Message → List Message → Type 0)
+      → SessionOver limit P text Ends Wrote → SessionOver limit Q text Ends Wrote
+  over_as limit text Ends Wrote g = record {
+    exchanges = g.exchanges;
+    at = g.at;
+    read = g.read;
+    stop = g.stop;
+    null = g.null;
+    answer = g.answer;
+    part = to g.exchanges g.stop g.null g.answer g.part;
+    ends = g.ends;
+    wrote = g.wrote;
+  }
+
+  -- where the bytes are known
+  pub known_as : (limit : ℕ) (known left old new : Option (List ℕ)) (answer : Result SessionEnd SessionFault) → IfSome known (λ text. Gives limit P text left old new answer)
+      → IfSome known (λ text. Gives limit Q text left old new answer)
+  known_as limit None left old new answer gives = tt
+  known_as limit (Some text) left old new answer gives = over_as limit text _ _ gives

@@ -1,5 +1,3 @@
-pub mod Describing
-pub mod EachAnswered
 pub mod Engine
 pub mod Handing
 pub mod Handshake
@@ -7,12 +5,9 @@ pub mod Lending
 pub mod Listing
 pub mod Ordering
 pub mod Ran
-pub mod Rows
 pub mod SameTexts
 pub mod SessionFacts
 pub mod SessionGives
-pub mod SessionSteps
-pub mod SessionStreams
-pub mod Starting
 pub mod Waiting
 pub mod Writing
+pub mod SessionSteps

@@ -1,23 +1,23 @@
 -- What the laws of a session say: it keeps the order of the lifecycle, and what follows for its beginning and its end.
-use Rattle.std.proofs.Common.{◌≡◌, refl, sym, ◌∙◌, ap, inl, inr, ◌⊎◌, ℕ, true, false, List, [], ◌∷◌, ◌++◌, Option, Some, None}
-use Rattle.std.specs.Prelude.{Result, Ok, Err, IsErrAnd}
-use Rattle.serde_json.specs.Data.{Data}
 use Rattle.lsp_message.specs.Id.{Id}
 use Rattle.lsp_message.specs.Message.{Message, ErrorObject, request, notification, response}
 use Rattle.lsp_message.specs.Methods.{is_initialize}
-use Rattle.lsp_session.proofs.Ran.{part_none, part_one, Ran, reaches_ran, stops_by}
-use Rattle.lsp_session.proofs.Rows.{Row, row, at_initialize, at_initialized, at_served, idle, Idle, early_request, early_note, unasked, uninvited, shuts, leaves, exits, stays, IsNoRequest, initialized_no_request, exit_no_request, silent, one_reply}
-use Rattle.lsp_session.specs.Answered.{IsReplied, RepliesTo, RepliesToEach, requests_of, AllReplied, AnswersRequests}
+use Rattle.lsp_session.proofs.Ran.{part_none, part_one, Ran, reaches_ran, stops_by, ended_by, Holds, after_outcome, holds, Row, row, at_initialize, at_initialized, at_served, idle, Idle, early_request, early_note, unasked, uninvited, shuts, leaves, exits, stays, IsNoRequest, initialized_no_request, exit_no_request, silent, one_reply}
+use Rattle.lsp_session.proofs.SessionSteps.{sends_both}
+use Rattle.lsp_session.proofs.Handshake.{AllZip-append}
+use Rattle.lsp_session.specs.Answered.{IsReplied, RepliesTo, RepliesToEach, requests_of, AllReplied, AnswersRequests, LastUnanswered}
+use Rattle.lsp_session.specs.HandlerSession.{Handles, of_handler}
 use Rattle.lsp_session.specs.ProtocolError.{ProtocolFault, disconnected, out_of_memory, fault_of_refusal, ShowsUnallowed, expected_initialize, expected_initialized, unexpected_in_shutdown, is_disconnected}
 use Rattle.lsp_session.specs.Replies.{null_reply}
 use Rattle.lsp_session.specs.Session.{Behavior, Exchange, letters_of, sends_of, SessionAnswer, Stop, decided, no_more, timed_out, refused, exhausted, Phase, starting, replied as in_reply, serving, asked, ended, null_of, phase_after, is_served, Stops, SessionOut, request_id}
 use Rattle.lsp_session.specs.SessionLaws.{IsInvited, IsUnopened, AfterNull, is_no_shutdown, EndsWithNull, HasNoShutdown, KeepsOrder, is_reply, OpenedBy}
-use Rattle.lsp_session.specs.declared.lifecycle.SendFault.{SendFault}
 use Rattle.lsp_session.specs.declared.lifecycle.SendFault.TheVariants.{Closed as Shut, Memory as Full}
+use Rattle.lsp_session.specs.declared.lifecycle.SendFault.{SendFault}
 use Rattle.lsp_session.specs.declared.loops.handler.SessionEnd.TheVariants.{Closed, ShutDown}
+use Rattle.serde_json.specs.Data.{Data}
+use Rattle.std.proofs.Common.{◌≡◌, refl, sym, ◌∙◌, ap, inl, inr, ◌⊎◌, ℕ, true, false, List, [], ◌∷◌, ◌++◌, Option, Some, None}
 use Rattle.std.proofs.lemmas.List.Elements.{filter_map-append}
-use Rattle.lsp_session.proofs.Starting.{AllZip-append}
-use Rattle.lsp_session.proofs.SessionSteps.{sends_both}
+use Rattle.std.specs.Prelude.{Result, Ok, Err, IsErrAnd, MatchOption}
 
 served_no_shutdown : (m : Message) → is_served m ≡ true → is_no_shutdown m ≡ true
 served_no_shutdown (request i method params) served = (Rattle.lsp_session.proofs.Waiting.and-true (is_no_shutdown (request i method params)) true served).0
@@ -29,15 +29,17 @@ no_request_no_shutdown (request i method params) mute = absurd mute
 no_request_no_shutdown (notification method params) mute = refl
 no_request_no_shutdown (response i outcome) mute = refl
 
-refusal_allowed : (fault : SendFault) → ShowsUnallowed (fault_of_refusal fault) → ⊥
-refusal_allowed (Shut m) (inl shows) = let e : disconnected ≡ expected_initialized shows.0 = shows.1 in cc (e)
-refusal_allowed (Shut m) (inr shows) = let e : disconnected ≡ unexpected_in_shutdown shows.0 = shows.1 in cc (e)
-refusal_allowed (Full m) (inl shows) = let e : out_of_memory ≡ expected_initialized shows.0 = shows.1 in cc (e)
-refusal_allowed (Full m) (inr shows) = let e : out_of_memory ≡ unexpected_in_shutdown shows.0 = shows.1 in cc (e)
-
 memory_allowed : ShowsUnallowed out_of_memory → ⊥
 memory_allowed (inl shows) = let e : out_of_memory ≡ expected_initialized shows.0 = shows.1 in cc (e)
 memory_allowed (inr shows) = let e : out_of_memory ≡ unexpected_in_shutdown shows.0 = shows.1 in cc (e)
+
+still_there : (fault : ProtocolFault) → is_disconnected fault ≡ true → ShowsUnallowed fault → ⊥
+still_there fault lost (inl shows) = let e = (rw shows.1 at lost) in cc (e)
+still_there fault lost (inr shows) = let e = (rw shows.1 at lost) in cc (e)
+
+refusal_allowed : (fault : SendFault) → ShowsUnallowed (fault_of_refusal fault) → ⊥
+refusal_allowed (Shut m) shows = still_there disconnected refl shows
+refusal_allowed (Full m) shows = memory_allowed shows
 
 module _ {S : Type 0} (may : Behavior S) (stop : Stop) (null : Option Message) (answer : SessionAnswer) where
   -- what is said of the exchanges from `initialized` on
@@ -194,10 +196,6 @@ keeps_order may s s' xs stop null answer out =
 
 -- ---- a client that is gone
 
-still_there : (fault : ProtocolFault) → is_disconnected fault ≡ true → ShowsUnallowed fault → ⊥
-still_there fault lost (inl shows) = let e = (rw shows.1 at lost) in cc (e)
-still_there fault lost (inr shows) = let e = (rw shows.1 at lost) in cc (e)
-
 pub all_answered : (xs : List Exchange) (stop : Stop) (null : Option Message) (fault : ProtocolFault) → is_disconnected fault ≡ true
     → AnswersRequests xs stop null (Err fault) → AllReplied xs
 all_answered xs stop null fault lost (inl all) = all
@@ -206,11 +204,9 @@ all_answered xs stop null fault lost (inr last) = absurd (still_there fault lost
 -- ---- a message that was refused
 
 no_null_at : {S : Type 0} (may : Behavior S) (p : Phase) (s s' : S) (fault : SendFault) (answer : SessionAnswer) → Stops may p s (refused fault) answer s' → null_of p ≡ None
-no_null_at may starting s s' fault answer stops = refl
-no_null_at may in_reply s s' fault answer stops = refl
-no_null_at may serving s s' fault answer stops = refl
 no_null_at may (asked i) s s' fault answer stops = absurd stops
 no_null_at may (ended null by) s s' fault answer stops = absurd stops
+no_null_at may p s s' fault answer stops = refl
 
 pub no_null : {S : Type 0} (may : Behavior S) (s s' : S) (xs : List Exchange) (fault : SendFault) (null : Option Message) (answer : SessionAnswer)
     → SessionOut may s s' xs (refused fault) null answer → null ≡ None
@@ -259,3 +255,88 @@ opened_before xs stop null answer before more m order sent other =
       | inl opened ↦ (order.early, order.rest, after.0, order.cut, after.1, opened.0, opened.1)
       | inr none ↦ absurd (never_none after.0 more m (sym (unopened_silent order.rest stop answer none.0) ∙ after.2))
     ]
+
+-- Each request of a handler's session is answered once, under its id, in order.
+module _ (stop : Stop) where
+  -- a message decided
+  abbrev Last : List Exchange → SessionAnswer → Type 0
+  Last xs answer = stop ≡ decided → AllReplied xs ⊎ LastUnanswered xs stop answer
+
+  more_replied : (by : Option SessionAnswer) (x : Exchange) (xs : List Exchange) → AllReplied (x ∷ [])
+      → MatchOption by (AllReplied xs) (λ answer. Last xs answer)
+      → MatchOption by (AllReplied (x ∷ xs)) (λ answer. Last (x ∷ xs) answer)
+  more_replied None x xs first rest = (first.0, rest)
+  more_replied (Some answer) x xs first rest = λ decides. elim (rest decides) [
+    | inl all ↦ inl (first.0, all)
+    | inr last ↦ inr (record {
+      before = x ∷ last.before;
+      id = last.id;
+      method = last.method;
+      params = last.params;
+      cut = λ j. x ∷ last.cut j;
+      replied = (first.0, last.replied);
+      decides = last.decides;
+      unallowed = last.unallowed;
+    })
+  ]
+
+  -- a message that the lifecycle does not allow
+  unanswered : (x : Exchange) (fault : ProtocolFault) → x.said ≡ [] → ShowsUnallowed fault → Last (x ∷ []) (Err fault)
+  unanswered x fault none unallowed = λ decides. at decides x.letter refl
+    where
+      at : stop ≡ decided → (m : Message) → x.letter ≡ m → AllReplied (x ∷ []) ⊎ LastUnanswered (x ∷ []) stop (Err fault)
+      at decides (request i method params) is = inr (record {
+        before = [];
+        id = i;
+        method = method;
+        params = params;
+        cut = λ j. record { letter = is j; said = none j } ∷ [];
+        replied = tt;
+        decides = decides;
+        unallowed = unallowed;
+      })
+      at decides (notification method params) is = inl (silent x (rw is tt) none)
+      at decides (response i outcome) is = inl (silent x (rw is tt) none)
+
+  module _ {H : Type 0} (answers : H → Id → List ℕ → Data → Result Data ErrorObject → H → Type 0) (notes : H → List ℕ → Data → H → Type 0) (capabilities : Data) where
+    abbrev plain : Behavior H
+    plain = of_handler answers notes capabilities
+
+    module _ (p q : Phase) (h h' : H) (x : Exchange) (full : List Message) (one : (r : Message) → full ≡ r ∷ [] → x.said ≡ r ∷ [])
+        (none : full ≡ [] → x.said ≡ []) where
+      handled : (m : Message) → x.letter ≡ m → Handles answers notes h m full h' → AllReplied (x ∷ [])
+      handled (request i method params) is handles = one_reply x i method params _ is (one _ handles.2) (_, refl)
+      handled (notification method params) is handles = silent x (rw is tt) (none handles.1)
+      handled (response i outcome) is handles = silent x (rw is tt) (none handles.1)
+
+      unserved : Idle p x.letter full q → Holds plain stop AllReplied Last q (x ∷ [])
+      unserved (early_request i method params reply at is early said next) = rw next (one_reply x i method params reply is (one reply said) (_, early.is))
+      unserved (early_note at mute early said next) = rw next (silent x mute (none said))
+      unserved (unasked shown at mute said next) = rw next (λ decides. inl (silent x mute (none said)))
+      unserved (uninvited shown at other said next) = rw next (unanswered x _ (none said) (inl (shown, refl)))
+      unserved (shuts i method params at is asks said next) = rw next (one_reply x i method params _ is (one _ said) (_, refl))
+      unserved (leaves at is said next) = rw next (λ decides. inl (silent x (exit_no_request x.letter is) (none said)))
+      unserved (exits i at is said next) = rw next (λ decides. inl (silent x (exit_no_request x.letter is) (none said)))
+      unserved (stays i shown at other said next) = rw next (unanswered x _ (none said) (inr (shown, refl)))
+
+      replied_row : Row plain p h x.letter full q h' → Holds plain stop AllReplied Last q (x ∷ [])
+      replied_row (at_initialize i method params outcome at is asks given said next) =
+          rw next (after_outcome plain stop AllReplied Last outcome (x ∷ []) (one_reply x i method params _ is (one _ said) (_, refl)))
+      replied_row (at_initialized at is given next) = rw next (silent x (initialized_no_request x.letter is) (none given.0))
+      replied_row (at_served at is given next) = rw next (handled x.letter refl given)
+      replied_row (idle same step row) = unserved row
+
+    -- what became of the requests of a session
+    pub session_answers : (h h' : H) (xs : List Exchange) (null : Option Message) (answer : SessionAnswer) → SessionOut plain h h' xs stop null answer
+        → AnswersRequests xs stop null answer
+    session_answers h h' xs null answer out =
+        at (ended_by out.last) (stops_by plain out.last out.after h' stop answer out.stopped)
+        (holds plain stop AllReplied Last tt (λ p q s s' x full row one none. replied_row p q s s' x full one none row)
+        (λ q x rest first more. more_replied (ended_by q) x rest first more)
+        starting out.last h out.after xs refl (reaches_ran plain stop starting out.last h out.after xs out.reached))
+      where
+        at : (by : Option SessionAnswer) → MatchOption by (stop ≡ decided → ⊥) (λ by. (stop ≡ decided) × (answer ≡ by))
+            → MatchOption by (AllReplied xs) (λ answer. Last xs answer)
+            → AllReplied xs ⊎ LastUnanswered xs stop answer
+        at None on all = inl all
+        at (Some by) stops last = rw stops.1 (last stops.0)

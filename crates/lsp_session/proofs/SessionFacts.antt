@@ -1,17 +1,16 @@
 -- What the definition of a session says of its answer, and of an `exit` among its messages.
-use Rattle.std.proofs.Common.{◌≡◌, refl, Bool, true, false, not, List, [], ◌∷◌, Option, Some, None, codes}
-use Rattle.std.specs.List.{list_all}
-use Rattle.std.specs.Prelude.{MatchOption}
-use Rattle.std.proofs.lemmas.Slice.Eq.{bytes_eq-Decides}
 use Rattle.lsp_message.specs.Letters.{is_exit}
 use Rattle.lsp_message.specs.Message.{Message, request, notification, response}
-use Rattle.lsp_session.proofs.Ran.{reaches_ran, ended_by, Holds, after_outcome, holds, stops_by}
-use Rattle.lsp_session.proofs.Rows.{Row, at_initialize, at_initialized, at_served, idle, Idle, early_request, early_note, unasked, uninvited, shuts, leaves, exits, stays, IsNoRequest}
+use Rattle.lsp_session.proofs.Ran.{reaches_ran, ended_by, Holds, after_outcome, holds, stops_by, Row, at_initialize, at_initialized, at_served, idle, Idle, early_request, early_note, unasked, uninvited, shuts, leaves, exits, stays, IsNoRequest}
 use Rattle.lsp_session.proofs.Waiting.{and-true}
 use Rattle.lsp_session.specs.Finish.{is_initialized}
-use Rattle.lsp_session.specs.Session.{Behavior, Exchange, letters_of, SessionAnswer, Stop, decided, no_more, timed_out, refused, exhausted, Phase, starting, replied, serving, asked, ended, is_served, is_shutdown, Reaches, Stops, SessionFrom}
+use Rattle.lsp_session.specs.Session.{Behavior, Exchange, letters_of, SessionAnswer, Stop, decided, no_more, timed_out, refused, exhausted, Phase, serving, ended, is_served, is_shutdown, Reaches, Stops, SessionFrom}
 use Rattle.lsp_session.specs.SessionFault.{ran_out, came_to_no_more}
 use Rattle.lsp_session.specs.Start.{is_early}
+use Rattle.std.proofs.Common.{◌≡◌, refl, Bool, true, false, not, List, [], ◌∷◌, Option, Some, None, codes, ◌++◌}
+use Rattle.std.proofs.lemmas.Slice.Eq.{bytes_eq-Decides}
+use Rattle.std.specs.List.{list_all}
+use Rattle.std.specs.Prelude.{MatchOption}
 
 abbrev pub is_no_exit : Message → Bool
 is_no_exit m = not (is_exit m)
@@ -84,18 +83,13 @@ module _ {S : Type 0} (may : Behavior S) (stop : Stop) where
 module _ {S : Type 0} (may : Behavior S) where
   at_no_more : (q : Phase) (s s' : S) (xs : List Exchange) (answer : SessionAnswer) → Known may no_more q xs → Stops may q s no_more answer s'
       → Facts no_more (letters_of xs) answer
-  at_no_more starting s s' xs answer is stops = rw stops.0 (refl, refl, is)
-  at_no_more replied s s' xs answer is stops = rw stops.0 (refl, refl, is)
-  at_no_more serving s s' xs answer is stops = rw stops.0 (refl, refl, is)
-  at_no_more (asked i) s s' xs answer is stops = rw stops.0 (refl, refl, is)
   at_no_more (ended null by) s s' xs answer is stops = absurd stops
+  at_no_more q s s' xs answer is stops = rw stops.0 (refl, refl, is)
 
   at_exhausted : (q : Phase) (s s' : S) (answer : SessionAnswer) → Stops may q s exhausted answer s' → ran_out answer ≡ true
-  at_exhausted starting s s' answer stops = rw stops.0 refl
-  at_exhausted replied s s' answer stops = rw stops.0 refl
-  at_exhausted serving s s' answer stops = rw stops refl
-  at_exhausted (asked i) s s' answer stops = rw stops.0 refl
   at_exhausted (ended null by) s s' answer stops = absurd stops
+  at_exhausted serving s s' answer stops = rw stops refl
+  at_exhausted q s s' answer stops = rw stops.0 refl
 
   pub session_facts : (p : Phase) (s s' : S) → ended_by p ≡ None → (xs : List Exchange) (stop : Stop) (null : Option Message) (answer : SessionAnswer)
       → SessionFrom may p s s' xs stop null answer → Facts stop (letters_of xs) answer

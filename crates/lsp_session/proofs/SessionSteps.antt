@@ -1,14 +1,13 @@
 -- Laws of the exchanges of a session.
-use Rattle.std.proofs.Common.{◌≡◌, refl, sym, ap, List, [], ◌∷◌, ◌++◌, append_assoc, Option, Some, None}
-use Rattle.std.specs.Prelude.{Result, Ok, Err}
-use Rattle.serde_json.specs.Data.{Data}
 use Rattle.lsp_message.specs.Message.{Message, ErrorObject}
 use Rattle.lsp_session.specs.ProtocolError.{disconnected, shutdown_disconnected, fault_of_refusal}
-use Rattle.lsp_session.specs.Session.{Behavior}
-use Rattle.lsp_session.specs.Session.{Exchange, letters_of, sends_of, SessionAnswer, Stop, decided, no_more, timed_out, refused, exhausted, Phase, starting, replied, serving, asked, ended, null_of, phase_after, Step, Steps, Reaches, Stops, SessionFrom}
+use Rattle.lsp_session.specs.Session.{Behavior, Exchange, letters_of, SessionAnswer, Stop, decided, no_more, refused, Phase, starting, replied, serving, asked, ended, Reaches, Stops, SessionFrom, sends_of, null_of, phase_after, Step, Steps}
 use Rattle.lsp_session.specs.SessionRun.{all_of}
 use Rattle.lsp_session.specs.declared.lifecycle.SendFault.{SendFault}
 use Rattle.lsp_session.specs.declared.loops.handler.SessionEnd.TheVariants.{Closed}
+use Rattle.serde_json.specs.Data.{Data}
+use Rattle.std.proofs.Common.{◌≡◌, refl, List, [], ◌∷◌, Option, Some, None, sym, ap, ◌++◌, append_assoc}
+use Rattle.std.specs.Prelude.{Result, Ok, Err}
 
 pub letters_both : (xs ys : List Exchange) → letters_of (xs ++ ys) ≡ letters_of xs ++ letters_of ys
 letters_both [] ys = refl
@@ -50,11 +49,9 @@ module _ {S : Type 0} (may : Behavior S) where
   pub of_open : (p : Phase) (s : S) → IsOpen p
       → (None ≡ null_of p) × Stops may p s no_more (answer_at_end p) s
       × ((refusal : SendFault) → Stops may p s (refused refusal) (Err (fault_of_refusal refusal)) s)
-  of_open starting s is = (refl, (refl, refl), λ refusal. (refl, refl))
-  of_open replied s is = (refl, (refl, refl), λ refusal. (refl, refl))
-  of_open serving s is = (refl, (refl, refl), λ refusal. (refl, refl))
   of_open (asked i) s is = absurd is
   of_open (ended null answer) s is = absurd is
+  of_open p s is = (refl, (refl, refl), λ refusal. (refl, refl))
 
   -- steps, one after another
   pub steps_both : (p p' p'' : Phase) (s s' s'' : S) (xs ys : List Exchange)
@@ -69,19 +66,12 @@ module _ {S : Type 0} (may : Behavior S) where
 
   -- where no message was refused
   pub reaches_whole : (stop : Stop) (p p' : Phase) (s s' : S) (xs : List Exchange) → IsWhole stop → Steps may p s xs p' s' → Reaches may stop p s xs p' s'
-  reaches_whole decided p p' s s' xs whole steps = steps
-  reaches_whole no_more p p' s s' xs whole steps = steps
-  reaches_whole timed_out p p' s s' xs whole steps = steps
-  reaches_whole exhausted p p' s s' xs whole steps = steps
   reaches_whole (refused fault) p p' s s' xs whole steps = absurd whole
+  reaches_whole stop p p' s s' xs whole steps = steps
 
   -- the same, up to what ended the session
   reaches_both : (stop : Stop) (p p' p'' : Phase) (s s' s'' : S) (xs ys : List Exchange)
       → Steps may p s xs p' s' → Reaches may stop p' s' ys p'' s'' → Reaches may stop p s (xs ++ ys) p'' s''
-  reaches_both decided p p' p'' s s' s'' xs ys first second = steps_both p p' p'' s s' s'' xs ys first second
-  reaches_both no_more p p' p'' s s' s'' xs ys first second = steps_both p p' p'' s s' s'' xs ys first second
-  reaches_both timed_out p p' p'' s s' s'' xs ys first second = steps_both p p' p'' s s' s'' xs ys first second
-  reaches_both exhausted p p' p'' s s' s'' xs ys first second = steps_both p p' p'' s s' s'' xs ys first second
   reaches_both (refused fault) p p' p'' s s' s'' xs ys first second = record {
     earlier = xs ++ second.earlier;
     letter = second.letter;
@@ -94,6 +84,7 @@ module _ {S : Type 0} (may : Behavior S) where
     steps = steps_both p p' second.next s s' second.mid xs second.earlier first second.steps;
     step = second.step;
   }
+  reaches_both stop p p' p'' s s' s'' xs ys first second = steps_both p p' p'' s s' s'' xs ys first second
 
   -- a session from some phase on, after exchanges that lead to it
   pub from_after : (p p' : Phase) (s s' s'' : S) (xs ys : List Exchange) (stop : Stop) (null : Option Message) (answer : SessionAnswer)

@@ -11,9 +11,8 @@ use Rattle.lsp_message.specs.declared.msg.Message.{Message}
 use Rattle.lsp_relay.specs.Relay.{Sending}
 use Rattle.lsp_relay.specs.declared.ends.Parcel.{Parcel}
 use Rattle.lsp_relay.specs.declared.ends.Parcel.TheVariants as parcel
-use Rattle.lsp_session.proofs.Writing.{AreFramesOf-push}
-use Rattle.lsp_session.proofs.Writing.{breaks_off}
-use Rattle.lsp_session.proofs.SessionStreams.{NotRefused}
+use Rattle.lsp_session.proofs.Writing.{AreFramesOf-push, breaks_off}
+use Rattle.lsp_session.proofs.SessionGives.{NotRefused}
 use Rattle.lsp_session.specs.Boxes.{Takes}
 use Rattle.lsp_session.specs.Event.{Event, message, timeout, closed}
 use Rattle.lsp_session.specs.FrameBoxes.{kept_write}

@@ -17,8 +17,7 @@ use Rattle.lsp_relay.specs.Relay.{ended, has_end, Sending}
 use Rattle.lsp_relay.specs.declared.ends.Parcel.{Parcel}
 use Rattle.lsp_relay.specs.declared.ends.Parcel.TheVariants as parcel
 use Rattle.lsp_session.proofs.SessionFacts.{Facts}
-use Rattle.lsp_session.proofs.SessionGives.{left_within, stop_ends}
-use Rattle.lsp_session.proofs.SessionStreams.{NotRefused}
+use Rattle.lsp_session.proofs.SessionGives.{left_within, stop_ends, NotRefused}
 use Rattle.lsp_session.specs.Session.{Exchange, letters_of, sends_of, SessionAnswer, SessionPart, Stop}
 use Rattle.lsp_session.specs.SessionBytes.{BeginsWith, Wrote}
 use Rattle.lsp_session.specs.SessionFault.{read_answer, session_answer}

@@ -2,7 +2,7 @@
 use Rattle.std.proofs.Common.{ℕ, List, Option, Some, None, IfSome}
 use Rattle.std.specs.Prelude.{Result, Ok, Err, IfOk}
 use Rattle.lsp_message.specs.Message.{Message}
-use Rattle.lsp_session.proofs.Describing.{over_as}
+use Rattle.lsp_session.proofs.Lending.{over_as}
 use Rattle.lsp_session.specs.Session.{Exchange, SessionAnswer, SessionPart, Stop}
 use Rattle.lsp_session.specs.declared.loops.handler.SessionEnd.{SessionEnd}
 use Rattle.lsp_session.specs.declared.loops.stream_session.SessionFault.{SessionFault}

@@ -1,6 +1,6 @@
 use Rattle.lsp_message.specs.Frame.{no_limit}
 use Rattle.lsp_service.specs.QueuedServer.{ServerSession}
-use Rattle.lsp_session.proofs.Describing.{known_as}
+use Rattle.lsp_session.proofs.Lending.{known_as}
 use Rattle.example_language.specs.Promise.{AnswersOnce}
 use Rattle.example_language.proofs.Known.{answers_once}
 use Rattle.example_language.proofs.sessions.serve.Goals as goal

@@ -1,4 +1,4 @@
-use Rattle.lsp_session.proofs.Describing.{over_as}
+use Rattle.lsp_session.proofs.Lending.{over_as}
 use Rattle.lsp_service.proofs.Lawful.{lawful}
 use Rattle.lsp_service.specs.Law.{LawfulSession}
 use Rattle.lsp_service.specs.QueuedServer.{ServerSession}

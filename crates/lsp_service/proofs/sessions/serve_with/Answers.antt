@@ -1,5 +1,5 @@
 use Rattle.lsp_session.specs.Session.{SessionOut}
-use Rattle.lsp_session.proofs.Describing.{runs_as}
+use Rattle.lsp_session.proofs.Lending.{runs_as}
 use Rattle.lsp_service.specs.QueuedServer.{at_desk, ServerSession}
 use Rattle.lsp_service.proofs.Lawful.{session_of}
 use Rattle.lsp_service.proofs.sessions.serve_with.Goals as goal

@@ -1,5 +1,5 @@
 use Rattle.lsp_session.specs.Session.{SessionOut}
-use Rattle.lsp_session.proofs.Describing.{known_as}
+use Rattle.lsp_session.proofs.Lending.{known_as}
 use Rattle.lsp_service.specs.QueuedServer.{at_desk, ServerSession}
 use Rattle.lsp_service.proofs.Lawful.{session_of}
 use Rattle.lsp_service.proofs.sessions.session_with_within.Goals as goal

@@ -1,6 +1,6 @@
 use Rattle.std.proofs.Common.{refl, sym}
 use Rattle.lsp_message.specs.View.{outcome_view}
-use Rattle.lsp_service.proofs.Desking.{drops_reply}
+use Rattle.lsp_service.proofs.Acting.{drops_reply}
 use Rattle.lsp_service.proofs.desk.«QueuedServer+S+S+Payload».on_response.Goals as goal
 
 pub returns-in-None : goal.returns-in-None

@@ -5,7 +5,7 @@ use Rattle.lsp_queue.specs.Queue.{count_of}
 use Rattle.lsp_service.specs.Desk.{Desk, TakesBack, does, does_all, unsent, unsent_by}
 use Rattle.lsp_service.specs.View.{act_view, desk_of}
 use Rattle.lsp_service.specs.declared.server.Act as rust
-use Rattle.lsp_service.proofs.Desking.{does_push, unsent_push, takes_more}
+use Rattle.lsp_service.proofs.Acting.{does_push, unsent_push, takes_more}
 use Rattle.lsp_service.proofs.desk.«QueuedServer+S+S+Payload».perform_all.Goals as goal
 
 pub loop-act-preserved : goal.loop-act-preserved

@@ -1,5 +1,5 @@
-use Rattle.lsp_session.proofs.Describing.{over_as}
-use Rattle.lsp_session.proofs.EachAnswered.{session_answers}
+use Rattle.lsp_session.proofs.Lending.{over_as}
+use Rattle.lsp_session.proofs.Ordering.{session_answers}
 use Rattle.lsp_session.specs.Answered.{AnswersRequests}
 use Rattle.lsp_session.specs.HandlerSession.{of_handler}
 use Rattle.lsp_session.specs.Session.{SessionOut}

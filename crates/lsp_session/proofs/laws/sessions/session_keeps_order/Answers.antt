@@ -1,4 +1,4 @@
-use Rattle.lsp_session.proofs.Describing.{runs_as, over_as}
+use Rattle.lsp_session.proofs.Lending.{runs_as, over_as}
 use Rattle.lsp_session.proofs.Ordering.{keeps_order}
 use Rattle.lsp_session.specs.Session.{SessionOut}
 use Rattle.lsp_session.specs.SessionLaws.{Both, KeepsOrder}

@@ -1,6 +1,6 @@
 use Rattle.std.proofs.Common.{sym, ◌∙◌}
 use Rattle.lsp_message.specs.Frame.{no_limit}
-use Rattle.lsp_session.proofs.SessionStreams.{finishes_over}
+use Rattle.lsp_session.proofs.SessionGives.{finishes_over}
 use Rattle.lsp_session.proofs.laws.streams.finish_over_reader.Goals as goal
 
 pub returns : goal.returns

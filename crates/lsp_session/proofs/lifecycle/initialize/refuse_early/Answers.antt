@@ -1,5 +1,5 @@
 use Rattle.std.proofs.Common.{[], ◌∷◌}
-use Rattle.lsp_session.proofs.Starting.{passes_request, refuses_request}
+use Rattle.lsp_session.proofs.Handshake.{passes_request, refuses_request}
 use Rattle.lsp_session.proofs.lifecycle.initialize.refuse_early.Goals as goal
 
 pub returns-in-Ok-send : goal.returns-in-Ok-send

@@ -1,5 +1,5 @@
 use Rattle.std.proofs.Common.{refl, inl}
-use Rattle.lsp_session.proofs.Starting.{undecided_none, undecided_more, starts_answered}
+use Rattle.lsp_session.proofs.Handshake.{undecided_none, undecided_more, starts_answered}
 use Rattle.lsp_session.specs.Event.{event_view}
 use Rattle.lsp_session.specs.Turns.{stopped, got}
 use Rattle.lsp_session.proofs.lifecycle.initialize.start_within.Goals as goal

@@ -1,4 +1,4 @@
-use Rattle.lsp_session.proofs.Starting.{Undecided}
+use Rattle.lsp_session.proofs.Handshake.{Undecided}
 use Rattle.lsp_session.proofs.lifecycle.initialize.start_within.Given as goal
 
 -- the turns so far left the handshake undecided

@@ -1,6 +1,6 @@
 use Rattle.std.proofs.Common.{refl}
 use Rattle.lsp_message.specs.View.{message_view}
-use Rattle.lsp_session.proofs.Starting.{idles_more, awaits_answered}
+use Rattle.lsp_session.proofs.Handshake.{idles_more, awaits_answered}
 use Rattle.lsp_session.specs.Event.{message, closed}
 use Rattle.lsp_session.specs.Turns.{stopped, got}
 use Rattle.lsp_session.proofs.lifecycle.initialized.wait_within.Goals as goal

@@ -1,4 +1,4 @@
-use Rattle.lsp_session.proofs.Starting.{Idles}
+use Rattle.lsp_session.proofs.Handshake.{Idles}
 use Rattle.lsp_session.proofs.lifecycle.initialized.wait_within.Given as goal
 
 -- nothing came in the turns so far

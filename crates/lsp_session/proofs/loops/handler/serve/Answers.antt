@@ -3,8 +3,7 @@ use Rattle.serde_json.specs.View.{view}
 use Rattle.lsp_session.specs.HandlerService.{lent_handler}
 use Rattle.lsp_session.specs.HandlerSession.{of_handler}
 use Rattle.lsp_session.specs.Session.{SessionOut}
-use Rattle.lsp_session.proofs.Describing.{runs_as}
-use Rattle.lsp_session.proofs.Lending.{session_as}
+use Rattle.lsp_session.proofs.Lending.{runs_as, session_as}
 use Rattle.lsp_session.proofs.loops.handler.serve.Goals as goal
 
 pub returns : goal.returns

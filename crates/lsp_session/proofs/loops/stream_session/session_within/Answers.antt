@@ -3,8 +3,7 @@ use Rattle.serde_json.specs.View.{view}
 use Rattle.lsp_session.specs.HandlerService.{lent_handler}
 use Rattle.lsp_session.specs.HandlerSession.{of_handler}
 use Rattle.lsp_session.specs.Session.{SessionOut}
-use Rattle.lsp_session.proofs.Describing.{known_as}
-use Rattle.lsp_session.proofs.Lending.{session_as}
+use Rattle.lsp_session.proofs.Lending.{known_as, session_as}
 use Rattle.lsp_session.proofs.loops.stream_session.session_within.Goals as goal
 
 pub returns : goal.returns
