@@ -165,8 +165,8 @@ module _ {S P : Type 0} (may : Stated S P) where
 
     -- the server is not called
     count_idle : (p q : Phase) (w : QueuedServer S P) (m : Message) (said : List Message) → Clean p w → Idle p m said q → Count w w q m said
-    count_idle p q w m said clean (early_request i method params reply begun is replies sent next) =
-        rw (is, sent, replies.is, next) (count_even w w starting (request i method params) (response i _ ∷ []) (omega arith) refl (rw begun at clean))
+    count_idle p q w m said clean (early_request i method params reply begun is early sent next) =
+        rw (is, sent, early.is, next) (count_even w w starting (request i method params) (response i _ ∷ []) (omega arith) refl (rw begun at clean))
     count_idle p q w m said clean (early_note begun mute e sent next) =
         rw (sent, next) (count_even w w starting m [] (none_under m mute) refl (rw begun at clean))
     count_idle p q w m said clean (unasked shown begun mute sent next) =
