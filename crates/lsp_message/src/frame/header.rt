@@ -6,7 +6,7 @@ use crate::frame::ReadFault;
 use memchr::memmem;
 
 /// A good line of the header part.
-#[derive(Clone, Copy, Debug, PartialEq, Eq)]
+#[derive(Clone, Copy)]
 pub enum HeaderLine {
     /// The empty line, which ends the header part.
     Blank,

@@ -9,7 +9,7 @@ use memchr::memchr;
 use std::io::{BufRead, ErrorKind};
 
 /// The next line, as far as the reader shows it at once.
-#[derive(Clone, Copy, Debug, PartialEq, Eq)]
+#[derive(Clone, Copy)]
 pub(crate) enum InPlace {
     /// It was shown whole, and taken.
     Whole(HeaderLine),

@@ -26,3 +26,18 @@ pub returns-clause-exact : goal.returns-clause-exact
 returns-clause-exact g c =
     let within : length c.loop.body.items ≤ c.args.count = omega arith in
     body_stops Ok c.args.count _ _ _ c.loop.invariant.taken within
+
+pub returns-in_err-body-clause-begun : goal.returns-in_err-body-clause-begun
+returns-in_err-body-clause-begun g c = (_, Consumes-nil _)
+
+pub returns-then-missing-eq0-clause-begun : goal.returns-then-missing-eq0-clause-begun
+returns-then-missing-eq0-clause-begun g c = (_, c.loop.invariant.taken)
+
+pub returns-in_err-take_part-clause-begun : goal.returns-in_err-take_part-clause-begun
+returns-in_err-take_part-clause-begun g c = (_, Consumes-trans _ _ _ _ _ c.loop.invariant.taken c.in_err-take_part.ensures.part.2)
+
+pub returns-then-not-branch-clause-begun : goal.returns-then-not-branch-clause-begun
+returns-then-not-branch-clause-begun g c = (_, Consumes-trans _ _ _ _ _ c.loop.invariant.taken c.in_ok-take_part.ensures.part.2)
+
+pub returns-clause-begun : goal.returns-clause-begun
+returns-clause-begun g c = (_, c.loop.invariant.taken)

@@ -1,12 +1,38 @@
-use Rattle.std.proofs.Common.{◌≡◌, length, eqb-true, arith}
+use Rattle.std.proofs.Common.{◌≡◌, ◌≤◌, ◌+◌, ◌++◌, length, take, eqb-true, ap, arith, length-append, length-take}
 use Rattle.std.proofs.lemmas.Bool.{not-false}
 use Rattle.std.proofs.BufReadLemmas.{Consumes_shown}
 use Rattle.lsp_message.proofs.Shown.{kept_shown}
+use Rattle.lsp_message.proofs.frame.body.take_part.Given.{Over}
 use Rattle.lsp_message.proofs.frame.body.take_part.Goals as goal
+
+appended : (g : Over) (c : goal.After-consume g) → c.extend_from_slice.new.self.items ≡ c.args.body.now.items ++ take c.min-count.result c.in-Ok.shown.now
+appended g c = rw c.unwrap.ensures at c.extend_from_slice.ensures.items
+
+within : (g : Over) (c : goal.After-consume g) → c.min-count.result ≤ length c.in-Ok.shown.now
+within g c = omega (arith, c.min-count.ensures)
+
+added : (g : Over) (c : goal.After-consume g) → length c.extend_from_slice.new.self.items ≡ length c.args.body.now.items + c.min-count.result
+added g c = omega (arith, within g c, ap length (appended g c), length-append c.args.body.now.items (take c.min-count.result c.in-Ok.shown.now), length-take c.min-count.result c.in-Ok.shown.now)
+
+pub returns-clause-part : goal.returns-clause-part
+returns-clause-part g c =
+    let kept = kept_shown _ _ _ _ _ c.in-Ok.is c.fill_buf.follows.holds-at-none in
+    (_, appended g c, (Consumes_shown _ _ _ _ _ c.min-count.result (within g c) c.in-Ok.ensures.front c.in-Ok.ensures.end kept.0 kept.1 c.consume.ensures.bytes).0)
+
+pub returns-clause-fits : goal.returns-clause-fits
+returns-clause-fits g c = omega (arith, added g c, c.min-count.ensures)
+
+pub returns-clause-room_kept : goal.returns-clause-room_kept
+returns-clause-room_kept g c = omega (arith, c.extend_from_slice.ensures.capacity)
 
 pub returns-clause-end : goal.returns-clause-end
 returns-clause-end g c = λ is.
     let kept = kept_shown _ _ _ _ _ c.in-Ok.is c.fill_buf.follows.holds-at-none in
     let none : c.min-count.result ≡ 0 = eqb-true _ _ (not-false _ (cc)) in
     let shown : length c.in-Ok.shown.now ≡ 0 = omega (arith, c.min-count.ensures, c.requires.some) in
-    (Consumes_shown _ _ _ _ _ c.min-count.result (omega (arith, c.min-count.ensures)) c.in-Ok.ensures.front c.in-Ok.ensures.end kept.0 kept.1 c.consume.ensures.bytes).1 shown
+    (Consumes_shown _ _ _ _ _ c.min-count.result (within g c) c.in-Ok.ensures.front c.in-Ok.ensures.end kept.0 kept.1 c.consume.ensures.bytes).1 shown
+
+pub returns-clause-short : goal.returns-clause-short
+returns-clause-short g c = λ is.
+    let none : c.min-count.result ≡ 0 = eqb-true _ _ (not-false _ (cc)) in
+    omega (arith, added g c)

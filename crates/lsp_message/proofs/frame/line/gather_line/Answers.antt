@@ -1,6 +1,6 @@
 use Rattle.std.proofs.Common.{Ok, Err, ap, ◌∙◌}
 use Rattle.std.proofs.lemmas.Result.{err_from_is_err_and}
-use Rattle.lsp_message.proofs.Takings.{TakesFront-trans, KeepsLine-trans, KeepsLine-known}
+use Rattle.lsp_message.proofs.Takings.{TakesFront-trans, KeepsLine-trans, KeepsLine-known, KeepsLine-stays, KeepsLine-ends, StaysInLine-same, OnErr-any}
 use Rattle.lsp_message.proofs.frame.line.gather_line.Goals as goal
 
 pub returns-in_err-gather_some-clause-begun : goal.returns-in_err-gather_some-clause-begun
@@ -19,3 +19,15 @@ pub returns-in_err-gather_some-clause-memory : goal.returns-in_err-gather_some-c
 returns-in_err-gather_some-clause-memory g c = λ is.
     let p = err_from_is_err_and c.from_residual.result c.from_residual.ensures.1 in
     KeepsLine-known _ _ _ _ _ c.loop.invariant.line (c.gather_some.ensures.memory (c.in_err-gather_some.was ∙ ap Err (cc (p.1, p.2, is))))
+
+pub returns-clause-begun : goal.returns-clause-begun
+returns-clause-begun g c = c.loop.invariant.begun
+
+pub returns-in_err-gather_some-clause-stays : goal.returns-in_err-gather_some-clause-stays
+returns-in_err-gather_some-clause-stays g c = OnErr-any _ (KeepsLine-stays _ _ _ _ _ c.loop.invariant.line c.in_err-gather_some.ensures.stays)
+
+pub returns-then-branch-clause-line : goal.returns-then-branch-clause-line
+returns-then-branch-clause-line g c = KeepsLine-ends _ _ _ _ _ _ c.loop.invariant.line (c.in_ok-gather_some.ensures.end (ap Ok c.if-branch.true))
+
+pub returns-clause-stays : goal.returns-clause-stays
+returns-clause-stays g c = KeepsLine-stays _ _ _ _ _ c.loop.invariant.line (StaysInLine-same _)

@@ -1,6 +1,7 @@
 use Rattle.std.proofs.Common.{Ok, Err, sym, ◌∙◌}
 use Rattle.lsp_message.proofs.Places.{placed_line, placed_begun}
 use Rattle.lsp_message.proofs.Shown.{kept_shown}
+use Rattle.lsp_message.proofs.Takings.{TakesFront-kept}
 use Rattle.lsp_message.proofs.Suffixes.{line_unread}
 use Rattle.lsp_message.proofs.frame.place.line_in_place.Goals as goal
 
@@ -26,3 +27,15 @@ pub returns-in-Err-line-clause-begun : goal.returns-in-Err-line-clause-begun
 returns-in-Err-line-clause-begun g c =
     let kept = kept_shown _ _ _ _ _ c.in-Ok.is c.fill_buf.follows.holds-at-none in
     placed_begun _ _ _ _ _ _ c.in-Some.ensures c.in-Ok.ensures.front c.in-Ok.ensures.end kept c.consume.ensures.bytes
+
+pub returns-in_default-clause-begun : goal.returns-in_default-clause-begun
+returns-in_default-clause-begun g c = TakesFront-kept _ _ c.fill_buf.follows.holds-at-none.0
+
+pub returns-in-Interrupted-clause-begun : goal.returns-in-Interrupted-clause-begun
+returns-in-Interrupted-clause-begun g c = TakesFront-kept _ _ c.fill_buf.follows.holds-at-none.0
+
+pub returns-in-None-clause-begun : goal.returns-in-None-clause-begun
+returns-in-None-clause-begun g c = TakesFront-kept _ _ c.fill_buf.follows.holds-at-none.0
+
+pub returns-in-None-2-clause-begun : goal.returns-in-None-2-clause-begun
+returns-in-None-2-clause-begun g c = TakesFront-kept _ _ c.fill_buf.follows.holds-at-none.0

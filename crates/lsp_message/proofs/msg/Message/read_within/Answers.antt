@@ -61,3 +61,12 @@ pub returns-then-count-limit-clause-exact : goal.returns-then-count-limit-clause
 returns-then-count-limit-clause-exact g c =
     let header = subst (λ r. IfSome (g.R.Read.remaining c.args.reader.now) (λ text. AnswersHeader (λ n. n) r (g.R.Read.remaining c.read_header.new.reader) (header_of text))) (c.in_ok-count.was ∙ ap Ok c.in-Some.is) c.read_header.ensures.exact in
     content_too_long body_means c.args.limit message_view _ _ _ c.if-count-limit.true header
+
+pub returns-in_err-count-clause-begun : goal.returns-in_err-count-clause-begun
+returns-in_err-count-clause-begun g c = c.read_header.ensures.begun
+
+pub returns-in-None-clause-begun : goal.returns-in-None-clause-begun
+returns-in-None-clause-begun g c = c.read_header.ensures.begun
+
+pub returns-then-count-limit-clause-begun : goal.returns-then-count-limit-clause-begun
+returns-then-count-limit-clause-begun g c = c.read_header.ensures.begun
