@@ -11,7 +11,7 @@ use Rattle.lsp_service.specs.Turning.{desk_at, settled_at}
 use Rattle.lsp_service.specs.View.{desk_of, seen}
 use Rattle.lsp_service.specs.declared.desk.QueuedServer.{QueuedServer}
 use Rattle.lsp_service.specs.declared.server.Server.{Ghosts as Stated}
-use Rattle.lsp_session.proofs.Ran.{Ran, reaches_ran, stops_by, IsNoRequest, Idle, early_request, early_note, unasked, uninvited, shuts, leaves, exits, stays, Row, at_initialize, at_initialized, at_served, idle, row, exit_no_request, initialized_no_request}
+use Rattle.lsp_session.proofs.Ran.{Ran, reaches_ran, stops_by, IsNoRequest, Idle, early_request, early_note, unasked, uninvited, shuts, leaves, exits, stays, Row, at_initialize, at_initialized, at_served, at_woken, idle, row, exit_no_request, initialized_no_request}
 use Rattle.lsp_session.specs.ProtocolError.{ProtocolFault, ShowsUnallowed, expected_initialize, expected_initialized, unexpected_in_shutdown}
 use Rattle.lsp_session.specs.Replies.{null_reply}
 use Rattle.lsp_session.specs.Session.{Exchange, letters_of, sends_of, SessionAnswer, Stop, decided, no_more, timed_out, refused, exhausted, Phase, starting, replied as in_reply, serving, asked, ended, phase_after, Step, Steps, Reaches, Stops}
@@ -21,7 +21,7 @@ use Rattle.std.proofs.Common.{◌≡◌, refl, sym, ◌∙◌, ap, inl, inr, ◌
 use Rattle.std.specs.FinMap as map
 use Rattle.std.specs.FinMap.{get-empty, get-insert, get-remove}
 use Rattle.std.specs.Ordering.{eq_by_cmp}
-use Rattle.std.specs.Prelude.{Result, Ok, Err, is_some}
+use Rattle.std.specs.Prelude.{Result, Ok, Err, is_some, IsSomeAnd}
 
 pub how_many-append : (p : Message → Bool) (xs ys : List Message) → how_many p (xs ++ ys) ≡ how_many p xs + how_many p ys
 how_many-append p [] ys = omega arith
@@ -136,25 +136,38 @@ module _ {S P : Type 0} (may : Stated S P) where
     Q = how_many (is_request_under id)
 
     -- the message is a request under the id, and the session ends since the lifecycle does not allow it
-    abbrev Unallowed : Message → Phase → Type 0
-    Unallowed m q = (is_request_under id m ≡ true) × (null : Option Message) × (fault : ProtocolFault) × (q ≡ ended null (Err fault)) × ShowsUnallowed fault
+    abbrev Unallowed : Option Message → Phase → Type 0
+    Unallowed letter q =
+        IsSomeAnd letter (λ m. is_request_under id m ≡ true) × (null : Option Message) × (fault : ProtocolFault) × (q ≡ ended null (Err fault)) × ShowsUnallowed fault
+
+    -- how many requests under the id came in an exchange
+    abbrev came : Option Message → ℕ
+    came None = 0
+    came (Some m) = one_if (is_request_under id m)
+
+    came_more : (x : Exchange) (xs : List Exchange) → Q (letters_of (x ∷ xs)) ≡ came x.letter + Q (letters_of xs)
+    came_more x xs = at x.letter
+      where
+        at : (letter : Option Message) → Q (letters_of (record { letter = letter; said = [] } ∷ xs)) ≡ came letter + Q (letters_of xs)
+        at None = omega arith
+        at (Some m) = refl
 
     -- one exchange
-    record Count (w w' : QueuedServer S P) (q : Phase) (m : Message) (said : List Message) : Type 0 where
-      most : R said + owed w' ≤ one_if (is_request_under id m) + owed w
-      least : 1 ≤ one_if (is_request_under id m) + owed w → (1 ≤ R said + owed w') ⊎ Unallowed m q
+    record Count (w w' : QueuedServer S P) (q : Phase) (m : Option Message) (said : List Message) : Type 0 where
+      most : R said + owed w' ≤ came m + owed w
+      least : 1 ≤ came m + owed w → (1 ≤ R said + owed w') ⊎ Unallowed m q
       clean : Clean q w'
 
     -- one reply for a request, or nothing for another message
-    count_even : (w w' : QueuedServer S P) (q : Phase) (m : Message) (said : List Message) → R said ≡ one_if (is_request_under id m) → owed w' ≡ owed w → Clean q w' → Count w w' q m said
+    count_even : (w w' : QueuedServer S P) (q : Phase) (m : Option Message) (said : List Message) → R said ≡ came m → owed w' ≡ owed w → Clean q w' → Count w w' q m said
     count_even w w' q m said one same clean = record { most = omega (arith, one, same); least = λ some. inl (omega (arith, one, same, some)); clean = clean }
 
     -- a fault ends the session
     count_fault : (w w' : QueuedServer S P) (q : Phase) (m : Message) (said : List Message) (null : Option Message) (fault : ProtocolFault) → said ≡ [] → q ≡ ended null (Err fault) → w' ≡ w
-        → (is_request_under id m ≡ true → ShowsUnallowed fault) → Count w w' q m said
+        → (is_request_under id m ≡ true → ShowsUnallowed fault) → Count w w' q (Some m) said
     count_fault w w' q m said null fault silent next same unallowed = rw (silent, next, same) (at (is_request_under id m) refl)
       where
-        at : (b : Bool) → is_request_under id m ≡ b → Count w w (ended null (Err fault)) m []
+        at : (b : Bool) → is_request_under id m ≡ b → Count w w (ended null (Err fault)) (Some m) []
         at true e = record { most = omega arith; least = λ some. inr (e, null, fault, refl, unallowed e); clean = tt }
         at false e = record { most = omega arith; least = λ some. inl (let n = (rw e at some) in omega (arith, n)); clean = tt }
 
@@ -164,21 +177,21 @@ module _ {S P : Type 0} (may : Stated S P) where
     none_under m mute = refl
 
     -- the server is not called
-    count_idle : (p q : Phase) (w : QueuedServer S P) (m : Message) (said : List Message) → Clean p w → Idle p m said q → Count w w q m said
+    count_idle : (p q : Phase) (w : QueuedServer S P) (m : Message) (said : List Message) → Clean p w → Idle p m said q → Count w w q (Some m) said
     count_idle p q w m said clean (early_request i method params reply begun is early sent next) =
-        rw (is, sent, early.is, next) (count_even w w starting (request i method params) (response i _ ∷ []) (omega arith) refl (rw begun at clean))
+        rw (is, sent, early.is, next) (count_even w w starting (Some (request i method params)) (response i _ ∷ []) (omega arith) refl (rw begun at clean))
     count_idle p q w m said clean (early_note begun mute e sent next) =
-        rw (sent, next) (count_even w w starting m [] (none_under m mute) refl (rw begun at clean))
+        rw (sent, next) (count_even w w starting (Some m) [] (none_under m mute) refl (rw begun at clean))
     count_idle p q w m said clean (unasked shown begun mute sent next) =
-        rw (sent, next) (count_even w w (ended None (Err (expected_initialize shown))) m [] (none_under m mute) refl tt)
+        rw (sent, next) (count_even w w (ended None (Err (expected_initialize shown))) (Some m) [] (none_under m mute) refl tt)
     count_idle p q w m said clean (uninvited shown begun e sent next) =
         count_fault w w q m said None (expected_initialized shown) sent next refl (λ is. inl (shown, refl))
     count_idle p q w m said clean (shuts i method params begun is e sent next) =
-        rw (is, sent, next) (count_even w w (asked i) (request i method params) (null_reply i ∷ []) (omega arith) refl tt)
+        rw (is, sent, next) (count_even w w (asked i) (Some (request i method params)) (null_reply i ∷ []) (omega arith) refl tt)
     count_idle p q w m said clean (leaves begun e sent next) =
-        rw (sent, next) (count_even w w (ended None (Ok Closed)) m [] (none_under m (exit_no_request m e)) refl tt)
+        rw (sent, next) (count_even w w (ended None (Ok Closed)) (Some m) [] (none_under m (exit_no_request m e)) refl tt)
     count_idle p q w m said clean (exits i begun e sent next) =
-        rw (sent, next) (count_even w w (ended (Some (null_reply i)) (Ok ShutDown)) m [] (none_under m (exit_no_request m e)) refl tt)
+        rw (sent, next) (count_even w w (ended (Some (null_reply i)) (Ok ShutDown)) (Some m) [] (none_under m (exit_no_request m e)) refl tt)
     count_idle p q w m said clean (stays i shown begun e sent next) =
         count_fault w w q m said (Some (null_reply i)) (unexpected_in_shutdown shown) sent next refl (λ is. inr (shown, refl))
 
@@ -186,27 +199,28 @@ module _ {S P : Type 0} (may : Stated S P) where
     clean_after (Ok result) w clear = clear
     clean_after (Err error) w clear = clear
 
-    count : (p q : Phase) (w w' : QueuedServer S P) (m : Message) (said : List Message) → Clean p w → Step (at_desk may) p w m said q w' → Count w w' q m said
-    count p q w w' m said clean step = by (row (at_desk may) p q w w' m said step)
+    count : (p q : Phase) (w w' : QueuedServer S P) (x : Option Message) (said : List Message) → Clean p w → Step (at_desk may) p w x said q w' → Count w w' q x said
+    count p q w w' x said clean step = by (row (at_desk may) p q w w' x said step)
       where
-        by : Row (at_desk may) p w m said q w' → Count w w' q m said
+        by : Row (at_desk may) p w x said q w' → Count w w' q x said
         by (at_initialize i method params outcome begun is e init sent next) =
-            rw (is, sent, next) (count_even w w' (phase_after outcome) (request i method params) (response i outcome ∷ []) (omega arith)
+            rw (is, sent, next) (count_even w w' (phase_after outcome) (Some (request i method params)) (response i outcome ∷ []) (omega arith)
             (ap (λ (d : Desk P). held_under id d.held) init.1) (clean_after outcome w' (clear_same may w w' init.1 (rw begun at clean))))
-        by (at_initialized begun e opened next) =
+        by (at_initialized m begun there e opened next) =
             let clear : Clear may w = (rw begun at clean) in
             let none = due_opened may id w w' said clear opened in
             let other = none_under m (initialized_no_request m e) in
             let empty = clear.none id in
-            rw next (record {
+            rw (there, next) (record {
               most = omega (arith, none);
               least = λ some. absurd (omega (arith, some, other, empty));
               clean = ap (λ (x : S × Desk P). x.1.said) opened.3;
             })
-        by (at_served begun e gives next) =
+        by (at_served m begun there e gives next) =
             let due = due_one may id w w' m said (rw begun at clean) gives in
-            rw next (record { most = due.most; least = λ some. inl (due.least some); clean = ap (λ (x : S × Desk P). x.1.said) gives.3 })
-        by (idle same any is) = rw same (count_idle p q w m said clean is)
+            rw (there, next) (record { most = due.most; least = λ some. inl (due.least some); clean = ap (λ (x : S × Desk P). x.1.said) gives.3 })
+        by (at_woken begun none woken next) = rw (none, woken.0, woken.1, next) (count_even w w serving None [] (omega arith) refl (rw begun at clean))
+        by (idle m there same any is) = rw (there, same) (count_idle p q w m said clean is)
 
     -- a beginning of the exchanges, the last of which may be cut off
     most_of : (stop : Stop) (before after xs : List Exchange) (p q : Phase) (w w' : QueuedServer S P) → Ran (at_desk may) stop p w xs q w' → Clean p w
@@ -220,7 +234,8 @@ module _ {S P : Type 0} (may : Stated S P) where
         let sent = how_many-append (is_reply_under id) x.said (sends_of bs) in
         let whole : R run.0 ≡ R x.said + R run.1 = ap R (sym run.2) ∙ how_many-append (is_reply_under id) x.said run.1 in
         let most = one.most in
-        rw (sym same) (omega (arith, more, sent, most, whole))
+        let came' = came_more x bs in
+        rw (sym same) (omega (arith, more, sent, most, whole, came'))
 
     pub never_more : (stop : Stop) (w w' : QueuedServer S P) (xs : List Exchange) (q : Phase) → Reaches (at_desk may) stop starting w xs q w'
         → Clean starting w → NeverMore id xs
@@ -250,7 +265,7 @@ module _ {S P : Type 0} (may : Stated S P) where
         at : (n : ℕ) → Q (letters_of xs) + owed run.1 ≡ n
             → (Clean run.0 run.1 → 1 ≤ Q (letters_of xs) + owed run.1 → (1 ≤ R (sends_of xs) + owed w') ⊎ EndsUnallowed xs q)
             → (1 ≤ R (x.said ++ sends_of xs) + owed w') ⊎ EndsUnallowed (x ∷ xs) q
-        at zero e more = elim (one.least (omega (arith, e, some))) [
+        at zero e more = elim (one.least (let came' = came_more x xs in omega (arith, e, some, came'))) [
           | inl found ↦ inl (let sent = how_many-append (is_reply_under id) x.said (sends_of xs) in omega (arith, sent, e, found))
           | inr unallowed ↦ (
               let rest = over xs q unallowed.1 (Err unallowed.2) run.1 w' (rw unallowed.3 at run.3) in

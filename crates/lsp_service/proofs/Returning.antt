@@ -11,7 +11,7 @@ use Rattle.lsp_message.specs.Id.{Id, id_cmp, number}
 use Rattle.lsp_message.specs.IdLaws.{id_total, id_decides}
 use Rattle.lsp_message.specs.Message.{Message, ErrorObject, request, notification, response}
 use Rattle.lsp_queue.specs.Queue.{Asked, pending_of, count_of}
-use Rattle.lsp_session.specs.Session.{Exchange, letters_of, sends_of, Stop, is_served}
+use Rattle.lsp_session.specs.Session.{Exchange, letters_of, Stop, is_served}
 use Rattle.lsp_service.specs.Desk.{Act, tells, asks, cancelled_by, Desk, is_spent, sends_request, does, does_all, ids_after, unsent, given, TakesBack}
 use Rattle.lsp_service.specs.Law.{is_reply_under, Sent, Turn, requests_in, request_of, ids_after_all, sent_by, all_sent, kept_under, acts_of, was_given, brings, GivesOwnPayloads, TakesTurns, IsUnserved, IsWhole, TakesPart}
 use Rattle.lsp_service.specs.QueuedServer.{WorksGiving, OpensSaying}
@@ -25,6 +25,18 @@ pub requests-append : (xs ys : List Message) → requests_in (xs ++ ys) ≡ requ
 requests-append [] ys = refl
 requests-append (request id method params ∷ xs) ys = ap (λ l. request id method params ∷ l) (requests-append xs ys)
 requests-append (x ∷ xs) ys = requests-append xs ys
+
+-- a message that the server was given, and what it said
+pub record Given : Type 0 where
+  pub letter : Message
+  pub said : List Message
+
+abbrev pub letters_in : List Given → List Message
+letters_in xs = map_list (λ (x : Given). x.letter) xs
+
+abbrev pub said_in : List Given → List Message
+said_in [] = []
+said_in (x ∷ xs) = x.said ++ said_in xs
 
 -- the second of two, where the first is nothing
 abbrev or_kept : {P : Type 0} → Option P → Option P → Option P
@@ -220,19 +232,19 @@ module _ {P : Type 0} where
 
 module _ {S P : Type 0} (may : Stated S P) where
   -- the server is given these messages, and this is sent for each
-  abbrev pub GivesAll : QueuedServer S P → List Exchange → QueuedServer S P → Type 0
+  abbrev pub GivesAll : QueuedServer S P → List Given → QueuedServer S P → Type 0
   GivesAll w [] w' = w' ≡ w
   GivesAll w (x ∷ xs) w' = (mid : QueuedServer S P) × WorksGiving may (seen w) x.letter x.said (seen mid) × GivesAll mid xs w'
 
-  -- exchanges are as many turns
-  pub record Turned (w w' : QueuedServer S P) (xs : List Exchange) (sent : List (Sent P)) (before : List (Turn P)) : Type 0 where
+  -- they are as many turns
+  pub record Turned (w w' : QueuedServer S P) (xs : List Given) (sent : List (Sent P)) (before : List (Turn P)) : Type 0 where
     pub turns : List (Turn P)
-    pub letters_are : map_list (λ (turn : Turn P). turn.letter) turns ≡ letters_of xs
+    pub letters_are : map_list (λ (turn : Turn P). turn.letter) turns ≡ letters_in xs
     pub took : TakesTurns may (count_of (desk_of w.client).asked) w.server turns w'.server
-    pub said : requests_in (sends_of xs) ≡ map_list request_of (all_sent (count_of (desk_of w.client).asked) (acts_of turns))
+    pub said : requests_in (said_in xs) ≡ map_list request_of (all_sent (count_of (desk_of w.client).asked) (acts_of turns))
     pub fits : Fits (count_of (desk_of w.client).asked) sent before turns
 
-  turn_all : (w w' : QueuedServer S P) (xs : List Exchange) (sent : List (Sent P)) (before : List (Turn P)) → (desk_of w.client).said ≡ []
+  turn_all : (w w' : QueuedServer S P) (xs : List Given) (sent : List (Sent P)) (before : List (Turn P)) → (desk_of w.client).said ≡ []
       → Agrees sent before (desk_of w.client).asked → GivesAll w xs w' → Turned w w' xs sent before
   turn_all w w' [] sent before silent agrees all = record {
     turns = [];
@@ -262,13 +274,13 @@ module _ {S P : Type 0} (may : Stated S P) where
       let now : requests_in x.said ≡ map_list request_of (all_sent n a.acts) =
       ap requests_in (said_so may (seen w) x.letter x.said (seen mid) a) ∙ said_all start acts
       ∙ (λ i. requests_in ((at_said d x.letter a.payload ∙ silent) i) ++ map_list request_of (sends i)) in
-      let later : requests_in (sends_of xs) ≡ map_list request_of (all_sent (ids_after_all n a.acts) (acts_of rest.turns)) =
+      let later : requests_in (said_in xs) ≡ map_list request_of (all_sent (ids_after_all n a.acts) (acts_of rest.turns)) =
       rest.said ∙ ap (λ k. map_list request_of (all_sent k (acts_of rest.turns))) count in
       record {
         turns = turn ∷ rest.turns;
         letters_are = ap (λ l. x.letter ∷ l) rest.letters_are;
         took = (a.did, mid.server, a.handed, a.back, subst (λ k. TakesTurns may k mid.server rest.turns w'.server) count rest.took);
-        said = requests-append x.said (sends_of xs) ∙ (λ i. now i ++ later i)
+        said = requests-append x.said (said_in xs) ∙ (λ i. now i ++ later i)
             ∙ sym (ap (λ l. map_list request_of l) (sent-append n a.acts (acts_of rest.turns))
             ∙ map-append request_of (all_sent n a.acts) (all_sent (ids_after_all n a.acts) (acts_of rest.turns)));
         fits = (
@@ -278,11 +290,11 @@ module _ {S P : Type 0} (may : Stated S P) where
       }
 
   -- The server's part: what it said to `initialized`, the messages that it was given, and what came after these.
-  pub part_whole : (w mid after : QueuedServer S P) (said : List Message) (xs rest : List Exchange) (stop : Stop) (requests more : List Message)
+  pub part_whole : (w mid after : QueuedServer S P) (said : List Message) (xs : List Given) (rest : List Exchange) (stop : Stop) (requests more : List Message)
       → (desk_of w.client).said ≡ [] → (desk_of w.client).asked ≡ (map.empty, 0) → OpensSaying may (seen w) said (seen mid)
-      → GivesAll mid xs after → list_all is_served (letters_of xs) ≡ true → IsUnserved (letters_of rest)
-      → requests_in said ++ requests_in (sends_of xs) ≡ requests ++ more → (IsWhole stop → more ≡ [])
-      → TakesPart may w.server after.server (letters_of xs ++ letters_of rest) stop requests
+      → GivesAll mid xs after → list_all is_served (letters_in xs) ≡ true → IsUnserved (letters_of rest)
+      → requests_in said ++ requests_in (said_in xs) ≡ requests ++ more → (IsWhole stop → more ≡ [])
+      → TakesPart may w.server after.server (letters_in xs ++ letters_of rest) stop requests
   part_whole w mid after said xs rest stop requests more silent unasked opened given served unserved sent whole =
       let d : Desk P = desk_of w.client in
       let begun = opened.1.0 in
@@ -297,7 +309,7 @@ module _ {S P : Type 0} (may : Stated S P) where
       ap requests_in opened.2 ∙ ap (λ (x : Desk P). requests_in x.said) opened.1.4 ∙ said_all d begun
       ∙ (λ i. requests_in (silent i) ++ map_list request_of (all_sent (none i) begun)) in
       let t = turn_all mid after xs (all_sent 0 begun) [] (ap (λ (x : S × Desk P). x.1.said) opened.3) agrees given in
-      let later : map_list request_of (all_sent (ids_after_all 0 begun) (acts_of t.turns)) ≡ requests_in (sends_of xs) =
+      let later : map_list request_of (all_sent (ids_after_all 0 begun) (acts_of t.turns)) ≡ requests_in (said_in xs) =
       sym (t.said ∙ ap (λ k. map_list request_of (all_sent k (acts_of t.turns))) count) in
       record {
         begun = begun;

@@ -3,7 +3,7 @@
 use Rattle.serde_json.specs.Data.{Data}
 use Rattle.std.specs.FinMap as map
 use Rattle.std.specs.Ordering.{eq_by_cmp}
-use Rattle.std.specs.Prelude.{◌≡◌, ◌≤◌, ◌⊎◌, ◌+◌, ◌||◌, ◌&&◌, ℕ, pos, Bool, true, false, List, [], ◌∷◌, ◌++◌, map as map_list, fold, Option, Some, None, is_some, Result, Ok, Err, IsErrAnd, if◌then◌else◌}
+use Rattle.std.specs.Prelude.{◌≡◌, ◌≤◌, ◌⊎◌, ◌+◌, ◌||◌, ◌&&◌, ℕ, pos, Bool, true, false, List, [], ◌∷◌, ◌++◌, map as map_list, fold, Option, Some, None, is_some, IsSomeAnd, Result, Ok, Err, IsErrAnd, if◌then◌else◌}
 use Rattle.std.specs.Bool.{MatchBool}
 use Rattle.std.specs.List.{list_all}
 use Rattle.lsp_message.specs.Id.{Id, id_cmp, number}
@@ -24,13 +24,11 @@ one_if false = 0
 
 abbrev pub is_request_under : Id → Message → Bool
 is_request_under id (request i method params) = eq_by_cmp id_cmp id i
-is_request_under id (notification method params) = false
-is_request_under id (response i outcome) = false
+is_request_under id m = false
 
 abbrev pub is_reply_under : Id → Message → Bool
-is_reply_under id (request i method params) = false
-is_reply_under id (notification method params) = false
 is_reply_under id (response i outcome) = eq_by_cmp id_cmp id i
+is_reply_under id m = false
 
 -- how many of the messages have the property
 abbrev pub how_many : (Message → Bool) → List Message → ℕ
@@ -51,7 +49,7 @@ NeverMore id exchanges =
 -- The last message is a request under this id. The lifecycle does not allow it, and it decided: the fault shows it.
 abbrev pub EndsAtRequest : Id → List Exchange → Stop → SessionAnswer → Type 0
 EndsAtRequest id exchanges stop answer =
-    ((before : List Exchange) × (last : Exchange) × (exchanges ≡ before ++ last ∷ []) × (is_request_under id last.letter ≡ true))
+    ((before : List Exchange) × (last : Exchange) × (exchanges ≡ before ++ last ∷ []) × IsSomeAnd last.letter (λ m. is_request_under id m ≡ true))
     × (stop ≡ decided) × IsErrAnd answer ShowsUnallowed
 
 -- A request under this id, which the client used once, has exactly one reply. Or it has none: it is still held, or the session
@@ -63,11 +61,9 @@ OnceOrEnded id exchanges stop held answer =
 
 -- the outbox refused no message, and memory did not run out
 abbrev pub IsWhole : Stop → Type 0
-IsWhole decided = Unit {0}
-IsWhole no_more = Unit {0}
-IsWhole timed_out = Unit {0}
 IsWhole (refused fault) = ⊥
 IsWhole exhausted = ⊥
+IsWhole stop = Unit {0}
 
 -- ---- the server's own requests, and what it keeps for their replies
 
@@ -87,8 +83,7 @@ pub record Turn (P : Type 0) : Type 0 where
 abbrev pub requests_in : List Message → List Message
 requests_in [] = []
 requests_in (request id method params ∷ ms) = request id method params ∷ requests_in ms
-requests_in (notification method params ∷ ms) = requests_in ms
-requests_in (response id outcome ∷ ms) = requests_in ms
+requests_in (m ∷ ms) = requests_in ms
 
 module _ {P : Type 0} where
   abbrev pub request_of : Sent P → Message
@@ -100,11 +95,9 @@ module _ {P : Type 0} where
 
   -- The request that an act sends, where so many ids were given out before: its id is the next of 0, 1, 2, ..
   abbrev pub sent_by : ℕ → Act P → List (Sent P)
-  sent_by count (tells method params) = []
   sent_by count (asks method params payload) =
       if is_spent count then [] else record { id = number (pos count); method = method; params = params; payload = payload } ∷ []
-  sent_by count (replies id outcome) = []
-  sent_by count (cancels z) = []
+  sent_by count act = []
 
   -- the requests that acts send, in order
   abbrev pub all_sent : ℕ → List (Act P) → List (Sent P)
@@ -140,10 +133,8 @@ module _ {P : Type 0} where
 
 -- a reply that is an error
 abbrev pub is_refusal : Message → Bool
-is_refusal (request i method params) = false
-is_refusal (notification method params) = false
-is_refusal (response i (Ok result)) = false
 is_refusal (response i (Err error)) = true
+is_refusal m = false
 
 -- `shutdown` or `exit` comes first, or nothing
 abbrev pub IsUnserved : List Message → Type 0
@@ -189,8 +180,8 @@ module _ {S P : Type 0} (may : Stated S P) where
   abbrev pub GoesOn : S → S → List Exchange → Stop → Type 0
   GoesOn start last [] stop = last ≡ start
   GoesOn start last (x ∷ later) stop =
-      MatchBool (is_initialized x.letter) (TakesPart start last (letters_of later) stop (requests_in (sends_of (x ∷ later))))
-      ((sends_of (x ∷ later) ≡ []) × (last ≡ start))
+      IsSomeAnd x.letter (λ m. MatchBool (is_initialized m) (TakesPart start last (letters_of later) stop (requests_in (sends_of (x ∷ later))))
+      ((sends_of (x ∷ later) ≡ []) × (last ≡ start)))
 
   -- the server answers this `initialize` by its stated meaning
   pub record Initializes (old : S) (m : Message) (said : List Message) (new : S) : Type 0 where
@@ -206,7 +197,7 @@ module _ {S P : Type 0} (may : Stated S P) where
   abbrev pub AnswersInitialize : S → List Exchange → S → Type 0
   AnswersInitialize old [] new = new ≡ old
   AnswersInitialize old (x ∷ xs) new =
-      (mid : S) × MatchBool (is_initialize x.letter) (Initializes old x.letter x.said mid) (mid ≡ old) × AnswersInitialize mid xs new
+      (mid : S) × IsSomeAnd x.letter (λ m. MatchBool (is_initialize m) (Initializes old m x.said mid) (mid ≡ old)) × AnswersInitialize mid xs new
 
   -- Nothing but errors is sent. Or errors first, then the result of `initialize`, and the session goes on from there.
   abbrev pub GivesPayloads : S → S → List Exchange → Stop → Type 0

@@ -24,9 +24,8 @@ module _ {P : Type 0} where
 
   -- what a reply of the client brings: what is kept with the request that waits under its id
   abbrev pub brought_by : Desk P → Message → Option P
-  brought_by d (request id method params) = None
-  brought_by d (notification method params) = None
   brought_by d (response id outcome) = map.get (pending_of d.asked) id
+  brought_by d m = None
 
   -- The desk when the server acts at a message: a request that came is held, and the payload of a reply was given out.
   abbrev pub desk_at : Desk P → Message → Option P → Desk P
@@ -42,9 +41,8 @@ module _ {P : Type 0} where
 
   -- the acts of the server at a message, and where the message cancels a request, the answer to that one, if it is still held
   abbrev pub settled_at : Message → List (Act P) → List (Act P)
-  settled_at (request id method params) acts = acts
   settled_at (notification method params) acts = acts ++ settled_by (cancelled_by method params)
-  settled_at (response id outcome) acts = acts
+  settled_at m acts = acts
 
 module _ {S P : Type 0} (may : Stated S P) where
   -- At a message the server, which stated what it may do, did this, and what these acts send is all that is sent. That is the desk

@@ -1,5 +1,5 @@
 -- A session over boxes: its parts one after another, and each of its steps.
-use Rattle.std.proofs.Common.{◌≡◌, refl, inl, inr, ◌≤◌, Bool, true, List, [], ◌∷◌, ◌++◌, length, length-append, append_assoc, arith, Some, None, Option, sym, ap, ◌⊎◌, ℕ, ◌+◌, ◌-◌, ◌^◌, false, append-nil, codes}
+use Rattle.std.proofs.Common.{◌≡◌, refl, inl, inr, ◌≤◌, Bool, true, List, [], ◌∷◌, ◌++◌, length, length-append, append_assoc, arith, Some, None, Option, sym, ◌∙◌, ap, ◌⊎◌, ℕ, ◌+◌, ◌-◌, ◌^◌, false, append-nil, codes}
 use Rattle.std.specs.List.{FoldsTo, list_all, filter_map}
 use Rattle.std.specs.Prelude.{Result, Ok, Err, IsErrAnd}
 use Rattle.std.proofs.lemmas.List.Elements.{filter_map-append}
@@ -7,10 +7,10 @@ use Rattle.std.proofs.lemmas.List.Folds.{list_all-append}
 use Rattle.lsp_message.specs.Message.{Message, request, notification, response}
 use Rattle.lsp_session.proofs.Waiting.{FoldsTo-append, list_all-push}
 use Rattle.lsp_session.specs.Boxes.{Takes, WaitsFor, is_timeout, Offers}
-use Rattle.lsp_session.specs.Event.{Event, message, timeout, closed}
-use Rattle.lsp_session.proofs.SessionSteps.{letters_both, sends_both, all_after, IsWhole, IsOpen, answer_at_end, of_open, steps_both, one_step, reaches_whole, from_after}
-use Rattle.lsp_session.specs.Session.{SessionAnswer, SessionPart, Exchange, letters_of, sends_of, Stop, decided, no_more, timed_out, refused, exhausted, Behavior, Phase, serving, asked, ended, null_of, is_served, Step, Steps, Stops, SessionFrom}
-use Rattle.lsp_session.specs.SessionRun.{message_in, is_open, Brings, OffersLast, Gets, AwaitsExit, Runs}
+use Rattle.lsp_session.specs.Event.{Event, message, timeout, closed, woken}
+use Rattle.lsp_session.proofs.Ran.{came_both, sends_both, all_after, IsWhole, IsOpen, answer_at_end, of_open, steps_both, one_step, reaches_whole, from_after}
+use Rattle.lsp_session.specs.Session.{SessionAnswer, SessionPart, Exchange, came_of, sends_of, Stop, decided, no_more, timed_out, refused, exhausted, Behavior, Phase, serving, asked, ended, null_of, is_served, Step, Steps, Stops, SessionFrom}
+use Rattle.lsp_session.specs.SessionRun.{came_in, is_open, Brings, OffersLast, Gets, AwaitsExit, Runs}
 use Rattle.lsp_session.specs.declared.lifecycle.SendFault.{SendFault}
 use Rattle.std.specs.Bool.{MatchBool}
 use Rattle.std.specs.Str.{bytes_eq}
@@ -24,44 +24,60 @@ use Rattle.lsp_session.specs.Shutdown.{ShutdownAnswer, IsNoExit, EventShutsDown,
 use Rattle.lsp_session.specs.declared.loops.handler.SessionEnd.TheVariants.{ShutDown, Closed}
 
 -- timeouts hold no message
-no_messages : (passed : List Event) → list_all is_timeout passed ≡ true → filter_map message_in passed ≡ []
+no_messages : (passed : List Event) → list_all is_timeout passed ≡ true → filter_map came_in passed ≡ []
 no_messages [] all = refl
-no_messages (message m ∷ events) all = cc
 no_messages (timeout ∷ events) all = no_messages events all
-no_messages (closed ∷ events) all = cc
+no_messages (event ∷ events) all = cc
 
 -- timeouts end nothing
 pub all_open : (passed : List Event) → list_all is_timeout passed ≡ true → list_all is_open passed ≡ true
 all_open [] all = refl
-all_open (message m ∷ events) all = cc
 all_open (timeout ∷ events) all = all_open events all
-all_open (closed ∷ events) all = cc
+all_open (event ∷ events) all = cc
 
 -- the letters of what a receive without limit took
-pub letters_waited : (passed : List Event) (event : Event) → list_all is_timeout passed ≡ true → filter_map message_in (passed ++ event ∷ []) ≡ filter_map message_in (event ∷ [])
-letters_waited passed event all = rw (filter_map-append message_in passed (event ∷ []), no_messages passed all) refl
+pub letters_waited : (passed : List Event) (event : Event) → list_all is_timeout passed ≡ true → filter_map came_in (passed ++ event ∷ []) ≡ filter_map came_in (event ∷ [])
+letters_waited passed event all = rw (filter_map-append came_in passed (event ∷ []), no_messages passed all) refl
 
-pub open_waited : (passed : List Event) (m : Message) → list_all is_timeout passed ≡ true → list_all is_open (passed ++ message m ∷ []) ≡ true
-open_waited passed m all = list_all-push is_open passed (message m) (all_open passed all) refl
+pub open_waited : (passed : List Event) (event : Event) → is_open event ≡ true → list_all is_timeout passed ≡ true → list_all is_open (passed ++ event ∷ []) ≡ true
+open_waited passed event still all = list_all-push is_open passed event (all_open passed all) still
+
+-- the event of an exchange
+abbrev pub arrived : Option Message → Event
+arrived None = woken
+arrived (Some m) = message m
+
+-- it brings the letter of the exchange, and ends nothing
+came_one : (letter : Option Message) → (filter_map came_in (arrived letter ∷ []) ≡ letter ∷ []) × (is_open (arrived letter) ≡ true)
+came_one None = (refl, refl)
+came_one (Some m) = (refl, refl)
+
+-- an allocation failed at it
+brings_none : (letter : Option Message) (passed : List Event) → list_all is_timeout passed ≡ true → Brings (passed ++ arrived letter ∷ []) [] exhausted
+brings_none letter passed all = (
+  letter,
+  letters_waited passed (arrived letter) all ∙ (came_one letter).0,
+  open_waited passed (arrived letter) (came_one letter).1 all,
+)
 
 pub open_both : (xs ys : List Event) → list_all is_open xs ≡ true → list_all is_open ys ≡ true → list_all is_open (xs ++ ys) ≡ true
 open_both xs ys first second = rw (list_all-append is_open xs ys, first, second) refl
 
 -- more letters, and what ended them, after some that came before
-pub brings_after : (events0 events : List Event) (letters0 letters : List Message) (stop : Stop)
-    → filter_map message_in events0 ≡ letters0 → list_all is_open events0 ≡ true → Brings events letters stop → Brings (events0 ++ events) (letters0 ++ letters) stop
-brings_after events0 events letters0 letters decided e o h = (rw (filter_map-append message_in events0 events, e, h.0) refl, open_both events0 events o h.1)
+pub brings_after : (events0 events : List Event) (letters0 letters : List (Option Message)) (stop : Stop)
+    → filter_map came_in events0 ≡ letters0 → list_all is_open events0 ≡ true → Brings events letters stop → Brings (events0 ++ events) (letters0 ++ letters) stop
+brings_after events0 events letters0 letters decided e o h = (rw (filter_map-append came_in events0 events, e, h.0) refl, open_both events0 events o h.1)
 brings_after events0 events letters0 letters no_more e o h = (
-  rw (filter_map-append message_in events0 events, e, h.0) refl,
+  rw (filter_map-append came_in events0 events, e, h.0) refl,
   elim h.1 [
     | inl last ↦ inl (events0 ++ last.0, rw (last.1, append_assoc) refl, open_both events0 last.0 o last.2)
     | inr many ↦ inr (rw (length-append events0 events) (omega (arith, many.0)), open_both events0 events o many.1)
   ],
 )
 brings_after events0 events letters0 letters timed_out e o h =
-    (rw (filter_map-append message_in events0 events, e, h.0) refl, (events0 ++ h.1.0, rw (h.1.1, append_assoc) refl, open_both events0 h.1.0 o h.1.2))
-brings_after events0 events letters0 letters (refused fault) e o h = (rw (filter_map-append message_in events0 events, e, h.0) refl, open_both events0 events o h.1)
-brings_after events0 events letters0 letters exhausted e o h = (h.0, rw (filter_map-append message_in events0 events, e, h.1, append_assoc) refl, open_both events0 events o h.2)
+    (rw (filter_map-append came_in events0 events, e, h.0) refl, (events0 ++ h.1.0, rw (h.1.1, append_assoc) refl, open_both events0 h.1.0 o h.1.2))
+brings_after events0 events letters0 letters (refused fault) e o h = (rw (filter_map-append came_in events0 events, e, h.0) refl, open_both events0 events o h.1)
+brings_after events0 events letters0 letters exhausted e o h = (h.0, rw (filter_map-append came_in events0 events, e, h.1, append_assoc) refl, open_both events0 events o h.2)
 
 -- what an outbox got after what it took before
 gets_after : {O : Type 0} (sends : O → Message → Result (Unit {0}) SendFault → O → Type 0) (old mid new : O) (output0 output : List Message) (null : Option Message) (stop : Stop)
@@ -81,7 +97,7 @@ module _ {I O : Type 0} (receives : I → Event → I → Type 0) (sends : O →
   -- a part of a session that goes on as another part
   pub runs_after : (P Q : SessionPart) (old mid new : I × O) (answer : SessionAnswer)
       (events0 : List Event) (xs0 : List Exchange)
-      → FoldsTo receives old.0 events0 mid.0 → filter_map message_in events0 ≡ letters_of xs0 → list_all is_open events0 ≡ true → FoldsTo (Takes sends) old.1 (sends_of xs0) mid.1
+      → FoldsTo receives old.0 events0 mid.0 → filter_map came_in events0 ≡ came_of xs0 → list_all is_open events0 ≡ true → FoldsTo (Takes sends) old.1 (sends_of xs0) mid.1
       → ((xs : List Exchange) (stop : Stop) (null : Option Message) → Q xs stop null answer → P (xs0 ++ xs) stop null answer)
       → Runs receives sends Q mid answer new → Runs receives sends P old answer new
   runs_after P Q old mid new answer events0 xs0 received brought still_open taken goes_on run = record {
@@ -89,7 +105,7 @@ module _ {I O : Type 0} (receives : I → Event → I → Type 0) (sends : O →
     received = FoldsTo-append receives events0 run.events old.0 mid.0 new.0 received run.received;
     exchanges = xs0 ++ run.exchanges;
     stop = run.stop;
-    brought = rw (letters_both xs0 run.exchanges) (brings_after events0 run.events (letters_of xs0) (letters_of run.exchanges) run.stop brought still_open run.brought);
+    brought = rw (came_both xs0 run.exchanges) (brings_after events0 run.events (came_of xs0) (came_of run.exchanges) run.stop brought still_open run.brought);
     output = sends_of xs0 ++ run.output;
     null = run.null;
     all = rw (all_after (sends_of xs0) run.output run.null, run.all, sends_both xs0 run.exchanges) refl;
@@ -105,7 +121,7 @@ module _ {I O : Type 0} (receives : I → Event → I → Type 0) (sends : O →
 
   -- an event was waited for, and nothing is sent
   pub waited : (P : SessionPart) (i i' : I) (o : O) (event : Event) (xs : List Exchange) (stop : Stop) (answer : SessionAnswer) → WaitsFor receives i event i'
-      → ((passed : List Event) → list_all is_timeout passed ≡ true → Brings (passed ++ event ∷ []) (letters_of xs) stop) → IsWhole stop → sends_of xs ≡ []
+      → ((passed : List Event) → list_all is_timeout passed ≡ true → Brings (passed ++ event ∷ []) (came_of xs) stop) → IsWhole stop → sends_of xs ≡ []
       → P xs stop None answer → Runs receives sends P (i, o) answer (i', o)
   waited P i i' o event xs stop answer waits brings whole silent part = record {
     events = waits.passed ++ event ∷ [];
@@ -142,23 +158,23 @@ module _ {S I O : Type 0} (may : Behavior S)
     pub still_open : list_all is_open events ≡ true
     pub received : FoldsTo receives old.0 events new.0
     pub exchanges : List Exchange
-    pub came : filter_map message_in events ≡ letters_of exchanges
+    pub came : filter_map came_in events ≡ came_of exchanges
     pub taken : FoldsTo (Takes sends) old.1 (sends_of exchanges) new.1
     pub steps : Steps may p s exchanges p' s'
 
   pub goes_none : (p : Phase) (s : S) (old : I × O) → Goes 0 p s old p s old
   goes_none p s old = record { events = []; many = omega arith; still_open = refl; received = refl; exchanges = []; came = refl; taken = refl; steps = (refl, refl) }
 
-  -- one message that is a step
-  pub goes_step : (p p' : Phase) (s s' : S) (i i' : I) (o o' : O) (m : Message) (sent : List Message)
-      → WaitsFor receives i (message m) i' → Step may p s m sent p' s' → FoldsTo (Takes sends) o sent o' → Goes 1 p s (i, o) p' s' (i', o')
+  -- one message or wake that is a step
+  pub goes_step : (p p' : Phase) (s s' : S) (i i' : I) (o o' : O) (m : Option Message) (sent : List Message)
+      → WaitsFor receives i (arrived m) i' → Step may p s m sent p' s' → FoldsTo (Takes sends) o sent o' → Goes 1 p s (i, o) p' s' (i', o')
   goes_step p p' s s' i i' o o' m sent waits step taken = record {
-    events = waits.passed ++ message m ∷ [];
-    many = rw (length-append waits.passed (message m ∷ [])) (omega arith);
-    still_open = open_waited waits.passed m waits.only_timeouts;
+    events = waits.passed ++ arrived m ∷ [];
+    many = rw (length-append waits.passed (arrived m ∷ [])) (omega arith);
+    still_open = open_waited waits.passed (arrived m) (came_one m).1 waits.only_timeouts;
     received = waits.received;
     exchanges = record { letter = m; said = sent } ∷ [];
-    came = letters_waited waits.passed (message m) waits.only_timeouts;
+    came = letters_waited waits.passed (arrived m) waits.only_timeouts ∙ (came_one m).0;
     taken = rw append-nil taken;
     steps = one_step may p p' s s' m sent step;
   }
@@ -171,7 +187,7 @@ module _ {S I O : Type 0} (may : Behavior S)
     still_open = open_both first.events second.events first.still_open second.still_open;
     received = FoldsTo-append receives first.events second.events old.0 mid.0 new.0 first.received second.received;
     exchanges = first.exchanges ++ second.exchanges;
-    came = rw (filter_map-append message_in first.events second.events, letters_both first.exchanges second.exchanges, first.came, second.came) refl;
+    came = rw (filter_map-append came_in first.events second.events, came_both first.exchanges second.exchanges, first.came, second.came) refl;
     taken = rw (sends_both first.exchanges second.exchanges)
         (FoldsTo-append (Takes sends) (sends_of first.exchanges) (sends_of second.exchanges) old.1 mid.1 new.1 first.taken second.taken);
     steps = steps_both may p p' p'' s s' s'' first.exchanges second.exchanges first.steps second.steps;
@@ -208,32 +224,34 @@ module _ {S I O : Type 0} (may : Behavior S)
       (λ passed all. (letters_waited passed closed all, inl (passed, refl, all_open passed all))) tt refl
       (record { last = p; after = s; reached = (refl, refl); null_is = (of_open may p s is_open').0; stopped = (of_open may p s is_open').1 })
 
-  -- an allocation fails at a message
-  pub ends_exhausted : (p : Phase) (s s' : S) (i i' : I) (o : O) (m : Message) → IsOpen p → WaitsFor receives i (message m) i' → Stops may p s exhausted (Err out_of_memory) s'
+  -- an allocation fails at a message or a wake
+  pub ends_exhausted : (p : Phase) (s s' : S) (i i' : I) (o : O) (m : Option Message) → IsOpen p → WaitsFor receives i (arrived m) i' → Stops may p s exhausted (Err out_of_memory) s'
       → Runs receives sends (From p s s') (i, o) (Err out_of_memory) (i', o)
   ends_exhausted p s s' i i' o m is_open' waits stops =
-      waited receives sends (From p s s') i i' o (message m) [] exhausted (Err out_of_memory) waits
-      (λ passed all. (m, letters_waited passed (message m) all, open_waited passed m all)) tt refl
+      waited receives sends (From p s s') i i' o (arrived m) [] exhausted (Err out_of_memory) waits (brings_none m) tt refl
       (record { last = p; after = s; reached = (refl, refl); null_is = (of_open may p s is_open').0; stopped = stops })
 
   -- a message ends the session
   pub ends_decided : (p : Phase) (s : S) (i i' : I) (o : O) (m : Message) (answer : SessionAnswer) → WaitsFor receives i (message m) i'
-      → Step may p s m [] (ended None answer) s → Runs receives sends (From p s s) (i, o) answer (i', o)
+      → Step may p s (Some m) [] (ended None answer) s → Runs receives sends (From p s s) (i, o) answer (i', o)
   ends_decided p s i i' o m answer waits step =
-      waited receives sends (From p s s) i i' o (message m) (record { letter = m; said = [] } ∷ []) decided answer waits
-      (λ passed all. (letters_waited passed (message m) all, open_waited passed m all)) tt refl
-      (record { last = ended None answer; after = s; reached = one_step may p (ended None answer) s s m [] step; null_is = refl; stopped = (refl, refl) })
+      waited receives sends (From p s s) i i' o (message m) (record { letter = Some m; said = [] } ∷ []) decided answer waits
+      (λ passed all. (letters_waited passed (message m) all, open_waited passed (message m) refl all)) tt refl
+      (record { last = ended None answer; after = s; reached = one_step may p (ended None answer) s s (Some m) [] step; null_is = refl; stopped = (refl, refl) })
 
   -- the outbox refuses one of the messages that are sent for it
-  pub ends_refused : (p p' : Phase) (s s' : S) (i i' : I) (o o' : O) (m : Message) (sent : List Message) (fault : ProtocolFault) → IsOpen p'
-      → WaitsFor receives i (message m) i' → Step may p s m sent p' s' → RefusesOne sends o sent fault o'
+  pub ends_refused : (p p' : Phase) (s s' : S) (i i' : I) (o o' : O) (m : Option Message) (sent : List Message) (fault : ProtocolFault) → IsOpen p'
+      → WaitsFor receives i (arrived m) i' → Step may p s m sent p' s' → RefusesOne sends o sent fault o'
       → Runs receives sends (From p s s') (i, o) (Err fault) (i', o')
   ends_refused p p' s s' i i' o o' m sent fault is_open' waits step lost = record {
-    events = waits.passed ++ message m ∷ [];
+    events = waits.passed ++ arrived m ∷ [];
     received = waits.received;
     exchanges = record { letter = m; said = lost.part ++ lost.unsent ∷ [] } ∷ [];
     stop = refused lost.refusal;
-    brought = (letters_waited waits.passed (message m) waits.only_timeouts, open_waited waits.passed m waits.only_timeouts);
+    brought = (
+      letters_waited waits.passed (arrived m) waits.only_timeouts ∙ (came_one m).0,
+      open_waited waits.passed (arrived m) (came_one m).1 waits.only_timeouts,
+    );
     output = lost.part ++ lost.unsent ∷ [];
     null = None;
     all = rw append-nil refl;
@@ -269,15 +287,15 @@ module _ {S I O : Type 0} (may : Behavior S)
     module _ (asks : bytes_eq method (codes "shutdown") ≡ true) (offers : Offers sends (null_reply id) o o') where
       -- what comes after the null
       exit_run : (event : Event) (answer : SessionAnswer) (later : List Exchange) (stop : Stop) (last : Phase) → receives i1 event i'
-          → Brings (event ∷ []) (letters_of later) stop → IsWhole stop → sends_of later ≡ [] → Steps may (asked id) s later last s → null_of last ≡ Some (null_reply id)
+          → Brings (event ∷ []) (came_of later) stop → IsWhole stop → sends_of later ≡ [] → Steps may (asked id) s later last s → null_of last ≡ Some (null_reply id)
           → Stops may last s stop answer s → Runs receives sends (From serving s s) (i, o) answer (i', o')
       exit_run event answer later stop last received brings whole silent steps kept stops = record {
         events = (waits.passed ++ message ask ∷ []) ++ event ∷ [];
         received = FoldsTo-append receives (waits.passed ++ message ask ∷ []) (event ∷ []) i i1 i' waits.received (i', received, refl);
-        exchanges = record { letter = ask; said = null_reply id ∷ [] } ∷ later;
+        exchanges = record { letter = Some ask; said = null_reply id ∷ [] } ∷ later;
         stop = stop;
-        brought = brings_after (waits.passed ++ message ask ∷ []) (event ∷ []) (ask ∷ []) (letters_of later) stop
-            (letters_waited waits.passed (message ask) waits.only_timeouts) (open_waited waits.passed ask waits.only_timeouts) brings;
+        brought = brings_after (waits.passed ++ message ask ∷ []) (event ∷ []) (Some ask ∷ []) (came_of later) stop
+            (letters_waited waits.passed (message ask) waits.only_timeouts) (open_waited waits.passed (message ask) refl waits.only_timeouts) brings;
         output = [];
         null = Some (null_reply id);
         all = rw silent refl;
@@ -286,7 +304,7 @@ module _ {S I O : Type 0} (may : Behavior S)
         part = record {
           last = last;
           after = s;
-          reached = reaches_whole may stop serving last s s (record { letter = ask; said = null_reply id ∷ [] } ∷ later) whole (asked id, s, rw asks ((refl, refl), refl), steps);
+          reached = reaches_whole may stop serving last s s (record { letter = Some ask; said = null_reply id ∷ [] } ∷ later) whole (asked id, s, rw asks ((refl, refl), refl), steps);
           null_is = sym kept;
           stopped = stops;
         };
@@ -295,14 +313,14 @@ module _ {S I O : Type 0} (may : Behavior S)
       exit_message : (m : Message) (answer : ShutdownAnswer) (b : Bool) → receives i1 (message m) i'
           → is_exit m ≡ b → MatchBool b (answer ≡ Ok true) (IsErrAnd answer IsNoExit) → Runs receives sends (From serving s s) (i, o) (shut_answer answer) (i', o')
       exit_message m answer true received e decides =
-          exit_run (message m) (shut_answer answer) (record { letter = m; said = [] } ∷ []) decided (ended (Some (null_reply id)) (Ok ShutDown)) received (refl, refl) tt refl
-          (one_step may (asked id) (ended (Some (null_reply id)) (Ok ShutDown)) s s m [] (rw e (refl, refl), refl)) refl (ap shut_answer decides, refl)
+          exit_run (message m) (shut_answer answer) (record { letter = Some m; said = [] } ∷ []) decided (ended (Some (null_reply id)) (Ok ShutDown)) received (refl, refl) tt refl
+          (one_step may (asked id) (ended (Some (null_reply id)) (Ok ShutDown)) s s (Some m) [] (rw e (refl, refl), refl)) refl (ap shut_answer decides, refl)
       exit_message m (Ok b) false received e decides = absurd decides
       exit_message m (Err fault) false received e decides = elim decides [
-        | inl shows ↦ exit_run (message m) (Err fault) (record { letter = m; said = [] } ∷ []) decided (ended (Some (null_reply id)) (Err fault)) received (refl, refl) tt refl
-            (one_step may (asked id) (ended (Some (null_reply id)) (Err fault)) s s m []
+        | inl shows ↦ exit_run (message m) (Err fault) (record { letter = Some m; said = [] } ∷ []) decided (ended (Some (null_reply id)) (Err fault)) received (refl, refl) tt refl
+            (one_step may (asked id) (ended (Some (null_reply id)) (Err fault)) s s (Some m) []
             (rw e (shows.0, refl, ap (λ (x : ProtocolFault). ended (Some (null_reply id)) (Err x)) shows.1), refl)) refl (refl, refl)
-        | inr memory ↦ exit_run (message m) (Err fault) [] exhausted (asked id) received (m, refl, refl) tt refl (refl, refl) refl (ap (λ (x : ProtocolFault). Err x) memory, refl)
+        | inr memory ↦ exit_run (message m) (Err fault) [] exhausted (asked id) received (Some m, refl, refl) tt refl (refl, refl) refl (ap (λ (x : ProtocolFault). Err x) memory, refl)
       ]
 
       exit_event : (event : Event) (answer : ShutdownAnswer) → receives i1 event i' → EventShutsDown event answer
@@ -312,6 +330,7 @@ module _ {S I O : Type 0} (may : Behavior S)
           exit_run timeout (shut_answer answer) [] timed_out (asked id) received (refl, ([], refl, refl)) tt refl (refl, refl) refl (ap shut_answer decides, refl)
       exit_event closed answer received decides =
           exit_run closed (shut_answer answer) [] no_more (asked id) received (refl, inl ([], refl, refl)) tt refl (refl, refl) refl (ap shut_answer decides, refl)
+      exit_event woken answer received decides = absurd decides
 
     ends_shut : (answer : ShutdownAnswer) (b : Bool) → bytes_eq method (codes "shutdown") ≡ b
         → (answer ≡ Ok false → ⊥)
@@ -320,7 +339,7 @@ module _ {S I O : Type 0} (may : Behavior S)
         → Runs receives sends (From serving s s) (i, o) (shut_answer answer) (i', o')
     ends_shut answer true e other shuts = elim shuts [
       | inl null ↦ exit_event e null.offered null.event answer null.received null.decides
-      | inr memory ↦ rw (ap (λ (p : I × O). p.0) memory.1, ap (λ (p : I × O). p.1) memory.1, ap shut_answer memory.0) (ends_exhausted serving s s i i1 o ask tt waits refl)
+      | inr memory ↦ rw (ap (λ (p : I × O). p.0) memory.1, ap (λ (p : I × O). p.1) memory.1, ap shut_answer memory.0) (ends_exhausted serving s s i i1 o (Some ask) tt waits refl)
     ]
     ends_shut answer false e other shuts = absurd (other shuts.0)
 
@@ -341,6 +360,7 @@ module _ {S I O : Type 0} (may : Behavior S)
             at true decides = cc (decides)
             at false decides = decides
         never_false timeout decides = let e : ◌≡◌ {A = ShutdownAnswer} (Ok false) (Err Rattle.lsp_session.specs.ProtocolError.shutdown_timeout) = decides in cc
+        never_false woken decides = decides
         never_false closed decides = let e : ◌≡◌ {A = ShutdownAnswer} (Ok false) (Err Rattle.lsp_session.specs.ProtocolError.shutdown_disconnected) = decides in cc
     passes_other false e shuts = (e, ap (λ (p : I × O). p.0) shuts.1, ap (λ (p : I × O). p.1) shuts.1)
 
@@ -357,8 +377,7 @@ module _ {S I O : Type 0} (may : Behavior S)
         → ShutsDownAt receives sends m (i1, o) answer (i', o') → Runs receives sends (From serving s s) (i, o) (shut_answer answer) (i', o')
     shuts_down (request id method params) answer other waits shuts =
         ends_shut s i i1 i' o o' id method params waits answer (bytes_eq method (codes "shutdown")) refl other shuts
-    shuts_down (notification method params) answer other waits shuts = absurd (other shuts.0)
-    shuts_down (response id outcome) answer other waits shuts = absurd (other shuts.0)
+    shuts_down m answer other waits shuts = absurd (other shuts.0)
 
     -- another message goes to the service
     pub is_served_by : (m : Message) → is_exit m ≡ false → WaitsFor receives i (message m) i1 → ShutsDownAt receives sends m (i1, o) (Ok false) (i', o')
@@ -370,7 +389,6 @@ module _ {S I O : Type 0} (may : Behavior S)
 
   pub ends_at_exit : (s : S) (i i' : I) (o : O) (m : Message) → WaitsFor receives i (message m) i' → is_exit m ≡ true
       → Runs receives sends (From serving s s) (i, o) (Ok Closed) (i', o)
-  ends_at_exit s i i' o (request id method params) waits exits = absurd (cc (exits))
   ends_at_exit s i i' o (notification method params) waits exits =
       ends_decided serving s i i' o (notification method params) (Ok Closed) waits (rw exits ((refl, refl), refl))
-  ends_at_exit s i i' o (response id outcome) waits exits = absurd (cc (exits))
+  ends_at_exit s i i' o m waits exits = absurd (cc (exits))

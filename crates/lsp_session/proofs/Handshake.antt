@@ -2,20 +2,20 @@
 use Rattle.lsp_message.specs.Id.{Id}
 use Rattle.lsp_message.specs.Message.{Message, ErrorObject, request, notification, response}
 use Rattle.lsp_session.proofs.Engine.{From, Goes, goes_step, goes_both, goes_run, goes_count, ends_closed, ends_exhausted, ends_decided, ends_refused}
-use Rattle.lsp_session.proofs.SessionSteps.{open_after}
+use Rattle.lsp_session.proofs.Ran.{open_after}
 use Rattle.lsp_session.proofs.Waiting.{FoldsTo-split, and-true, waits_none, FoldsTo-append, list_all-push}
 use Rattle.lsp_session.specs.Boxes.{Takes, WaitsFor, Sends, Receives}
 use Rattle.lsp_session.specs.Event.{Event, message, timeout, closed}
 use Rattle.lsp_session.specs.Finish.{FinishAnswer, IsUninvited, EventFinishes, FinishesAt, is_initialized, is_idle, Finishes, AwaitsWithin}
 use Rattle.lsp_session.specs.Outputs.{RefusesOne}
 use Rattle.lsp_session.specs.ProtocolError.{ProtocolFault, disconnected, out_of_memory}
-use Rattle.lsp_session.specs.Session.{Behavior, SessionAnswer, Exchange, letters_of, sends_of, starting, replied, serving, ended, phase_after, request_id, is_initialize, Step, Steps}
-use Rattle.lsp_session.specs.SessionRun.{message_in, is_open, Runs}
+use Rattle.lsp_session.specs.Session.{Behavior, SessionAnswer, Exchange, came_of, sends_of, starting, replied, serving, ended, phase_after, request_id, is_initialize, Step, Steps}
+use Rattle.lsp_session.specs.SessionRun.{came_in, is_open, Runs}
 use Rattle.lsp_session.specs.Start.{StartAnswer, is_early, is_undecided, request_of, IsEarlyReply, fault_of_refusal, PassesOver, RefusesReply, Decides, MessageDecides, StartsWithin, Ends}
 use Rattle.lsp_session.specs.Turns.{Turn, stopped, got, TakesTurn}
 use Rattle.lsp_session.specs.declared.lifecycle.SendFault.{SendFault}
 use Rattle.serde_json.specs.Data.{Data}
-use Rattle.std.proofs.Common.{◌≡◌, refl, sym, ap, inl, inr, ℕ, ◌-◌, ◌^◌, ◌≤◌, Bool, true, false, not, List, [], ◌∷◌, ◌++◌, length, suc, arith, Some, None, Option, codes, ◌+◌, ◌<◌, length-append}
+use Rattle.std.proofs.Common.{◌≡◌, refl, sym, ◌∙◌, ap, map, inl, inr, ℕ, ◌-◌, ◌^◌, ◌≤◌, Bool, true, false, not, List, [], ◌∷◌, ◌++◌, length, suc, arith, Some, None, Option, codes, ◌+◌, ◌<◌, length-append}
 use Rattle.std.proofs.lemmas.Fn.{FoldsTo-push}
 use Rattle.std.proofs.lemmas.List.Elements.{filter_map-append}
 use Rattle.std.proofs.lemmas.List.Folds.{list_all-append}
@@ -33,8 +33,12 @@ event_of stopped = None
 event_of (got e) = Some e
 
 -- the letters of some turns
+abbrev letter_of : Turn → Option Message
+letter_of (got (message m)) = Some m
+letter_of turn = None
+
 abbrev turn_letters : List Turn → List Message
-turn_letters turns = filter_map message_in (filter_map event_of turns)
+turn_letters turns = filter_map letter_of turns
 
 -- the answer of a gate that is always open
 abbrev AlwaysYes : {G : Type 0} → G → Bool → G → Type 0
@@ -43,14 +47,14 @@ AlwaysYes old answer new = answer ≡ true
 -- what is undecided are early letters, and ends nothing
 early_turns : (turns : List Turn) → list_all is_undecided turns ≡ true
     → (list_all is_early (turn_letters turns) ≡ true) × (list_all is_open (filter_map event_of turns) ≡ true)
-early_turns [] all = (refl, refl)
-early_turns (stopped ∷ turns) all = cc
-early_turns (got closed ∷ turns) all = cc
+    × (filter_map came_in (filter_map event_of turns) ≡ map Some (turn_letters turns))
+early_turns [] all = (refl, refl, refl)
 early_turns (got timeout ∷ turns) all = early_turns turns all
 early_turns (got (message m) ∷ turns) all =
     let both = and-true (is_early m) (list_all is_undecided turns) all in
     let rest = early_turns turns both.1 in
-    (rw (both.0, rest.0) refl, rest.1)
+    (rw (both.0, rest.0) refl, rest.1, ap (λ ms. Some m ∷ ms) rest.2)
+early_turns (turn ∷ turns) all = cc
 
 -- the requests of some turns are those of their letters
 requests_same : (turns : List Turn) → filter_map request_of turns ≡ filter_map request_id (turn_letters turns)
@@ -71,12 +75,12 @@ module _ {G I : Type 0} (receives : I → Event → I → Type 0) where
 module _ {S : Type 0} (may : Behavior S) where
   -- these messages and what is sent for them are steps before `initialize`
   abbrev Early : S → List Message → List Message → Type 0
-  Early s before replies = (xs : List Exchange) × (before ≡ letters_of xs) × (replies ≡ sends_of xs) × Steps may starting s xs starting s
+  Early s before replies = (xs : List Exchange) × (map Some before ≡ came_of xs) × (replies ≡ sends_of xs) × Steps may starting s xs starting s
 
   -- one more message before them
-  early_then : (s : S) (m : Message) (said before replies : List Message) → Step may starting s m said starting s → Early s before replies → Early s (m ∷ before) (said ++ replies)
+  early_then : (s : S) (m : Message) (said before replies : List Message) → Step may starting s (Some m) said starting s → Early s before replies → Early s (m ∷ before) (said ++ replies)
   early_then s m said before replies step more =
-      (record { letter = m; said = said } ∷ more.0, ap (λ ms. m ∷ ms) more.1, ap (λ ms. said ++ ms) more.2, (starting, s, step, more.3))
+      (record { letter = Some m; said = said } ∷ more.0, ap (λ ms. Some m ∷ ms) more.1, ap (λ ms. said ++ ms) more.2, (starting, s, step, more.3))
 
   -- early messages are steps, for which their replies are sent
   early_steps : (s : S) (before replies : List Message) → list_all is_early before ≡ true → AllZip IsEarlyReply (filter_map request_id before) replies → Early s before replies
@@ -101,8 +105,6 @@ decided_turn : (last : Turn) (id : Id) (params : Data) → Decides last (Ok (id,
     → (method : List ℕ) × (last ≡ got (message (request id method params))) × (is_initialize (request id method params) ≡ true)
 decided_turn stopped id params decides = let e : ◌≡◌ {A = StartAnswer} (Ok (id, params)) (Err Rattle.lsp_session.specs.ProtocolError.aborted) = decides in cc
 decided_turn (got closed) id params decides = let e : ◌≡◌ {A = StartAnswer} (Ok (id, params)) (Err disconnected) = decides in cc
-decided_turn (got timeout) id params decides = absurd decides
-decided_turn (got (message (response i1 outcome))) id params decides = absurd decides
 decided_turn (got (message (notification method params1))) id params decides = absurd decides.1
 decided_turn (got (message (request id1 method params1))) id params decides =
     let same : ◌≡◌ {A = Id × Data} (id, params) (id1, params1) = same_found (id, params) (id1, params1) decides.1 in
@@ -110,6 +112,7 @@ decided_turn (got (message (request id1 method params1))) id params decides =
   where
     same_found : (x y : Id × Data) → ◌≡◌ {A = StartAnswer} (Ok x) (Ok y) → x ≡ y
     same_found x y same = cc
+decided_turn last id params decides = absurd decides
 
 module _ {S I O : Type 0} (may : Behavior S)
     (receives : I → Event → I → Type 0) (sends : O → Message → Result (Unit {0}) SendFault → O → Type 0) where
@@ -148,7 +151,7 @@ module _ {S I O : Type 0} (may : Behavior S)
           still_open = (early_turns turns passed.undecided).1;
           received = (turns_receive receives turns g g' i i' taken).0;
           exchanges = early.0;
-          came = early.1;
+          came = (early_turns turns passed.undecided).2 ∙ early.1;
           taken = rw early.2 at passed.taken;
           steps = early.3;
         }
@@ -178,11 +181,6 @@ module _ {S I O : Type 0} (may : Behavior S)
     refused_run : (s : S) (g g' : G) (i i' : I) (o o' : O) (last : Turn) (fault : SendFault)
         → TakesTurn (AlwaysYes {G = G}) receives (g, i) last (g', i') → RefusesReply sends o last fault o'
         → Runs receives sends (From may receives sends starting s s) (i, o) (Err (fault_of_refusal fault)) (i', o')
-    refused_run s g g' i i' o o' stopped fault turn lost = cc (turn.0)
-    refused_run s g g' i i' o o' (got closed) fault turn lost = absurd (cc (lost.brings))
-    refused_run s g g' i i' o o' (got timeout) fault turn lost = absurd (cc (lost.brings))
-    refused_run s g g' i i' o o' (got (message (notification method params))) fault turn lost = absurd (cc (lost.brings))
-    refused_run s g g' i i' o o' (got (message (response id outcome))) fault turn lost = absurd (cc (lost.brings))
     refused_run s g g' i i' o o' (got (message (request id method params))) fault turn lost = at (bytes_eq method (codes "initialize")) refl lost.undecided
       where
         same : (a b : Id) → Some a ≡ Some b → a ≡ b
@@ -191,19 +189,20 @@ module _ {S I O : Type 0} (may : Behavior S)
         at : (b : Bool) → bytes_eq method (codes "initialize") ≡ b → not (bytes_eq method (codes "initialize")) ≡ true
             → Runs receives sends (From may receives sends starting s s) (i, o) (Err (fault_of_refusal fault)) (i', o')
         at true e other = let never : not true ≡ true = rw e at other in absurd (cc (never))
-        at false e other = ends_refused may receives sends starting starting s s i i' o o' (request id method params) (lost.reply ∷ []) (fault_of_refusal fault) tt
+        at false e other = ends_refused may receives sends starting starting s s i i' o o' (Some (request id method params)) (lost.reply ∷ []) (fault_of_refusal fault) tt
             (waits_none receives i i' _ turn.1) (rw e (lost.reply, rw (same id lost.id lost.brings) lost.replies, refl, refl, refl))
             (record { part = []; unsent = lost.reply; more = []; cut = refl; mid = o; taken = refl; refusal = fault; refuses = lost.refuses; is = refl })
+    refused_run s g g' i i' o o' last fault turn lost = absurd (cc (lost.brings))
 
     -- the last turn decides against the session
     ends_run : (s : S) (g g' : G) (i i' : I) (o : O) (last : Turn) (fault : ProtocolFault)
         → TakesTurn (AlwaysYes {G = G}) receives (g, i) last (g', i') → Decides last (Err fault)
         → Runs receives sends (From may receives sends starting s s) (i, o) (Err fault) (i', o)
     ends_run s g g' i i' o stopped fault turn decides = cc (turn.0)
-    ends_run s g g' i i' o (got timeout) fault turn decides = absurd decides
     ends_run s g g' i i' o (got closed) fault turn decides =
         rw (same_fault fault disconnected decides) (ends_closed may receives sends starting s i i' o tt (waits_none receives i i' closed turn.1))
     ends_run s g g' i i' o (got (message m)) fault turn decides = unexpected s i i' o m fault turn.1 decides
+    ends_run s g g' i i' o last fault turn decides = absurd decides
 
     -- the handshake failed
     pub started_err : (s : S) (g g' : G) (i i' : I) (o o' : O) (limit : ℕ) (fault : ProtocolFault)
@@ -228,7 +227,7 @@ module _ {S I O : Type 0} (may : Behavior S)
       where
         exhausted_run : (g g' : G) (i i' : I) (o : O) (m : Message) → TakesTurn (AlwaysYes {G = G}) receives (g, i) (got (message m)) (g', i')
             → Runs receives sends (From may receives sends starting s s) (i, o) (Err out_of_memory) (i', o)
-        exhausted_run g g' i i' o m turn = ends_exhausted may receives sends starting s s i i' o m tt (waits_none receives i i' (message m) turn.1) (refl, inl refl)
+        exhausted_run g g' i i' o m turn = ends_exhausted may receives sends starting s s i i' o (Some m) tt (waits_none receives i i' (message m) turn.1) (refl, inl refl)
 
     pub asked : (s : S) (g g' : G) (i i' : I) (o o' : O) (limit : ℕ) (id : Id) (params : Data)
         → StartsWithin (AlwaysYes {G = G}) receives sends limit (g, i, o) (Some (Ok (id, params))) (g', i', o') → Asked s i o id params i' o'
@@ -257,31 +256,31 @@ module _ {S I O : Type 0} (may : Behavior S)
 
   module _ (s s' : S) (i i' : I) (o o' : O) (id : Id) (params : Data) (ask : Asked s i o id params i' o') where
     answers : (outcome : Result Data ErrorObject) → may.initializes s params outcome s'
-        → Step may starting s (request id ask.method params) (response id outcome ∷ []) (phase_after outcome) s'
+        → Step may starting s (Some (request id ask.method params)) (response id outcome ∷ []) (phase_after outcome) s'
     answers outcome answered = rw ask.is (outcome, answered, refl, refl)
 
     pub ask_starved : may.starves s s' → Runs receives sends (From may receives sends starting s s') (i, o) (Err out_of_memory) (i', o')
     ask_starved starved = goes_run may receives sends 0 starting starting s s s' (i, o) (ask.at, o') (i', o') (Err out_of_memory) ask.goes
-        (ends_exhausted may receives sends starting s s' ask.at i' o' (request id ask.method params) tt ask.waits (refl, inr starved))
+        (ends_exhausted may receives sends starting s s' ask.at i' o' (Some (request id ask.method params)) tt ask.waits (refl, inr starved))
 
     -- it is answered with an error
     pub declined : (error : ErrorObject) (o'' : O) → may.initializes s params (Err error) s' → sends o' (response id (Err error)) (Ok tt) o''
         → Goes may receives sends 1 starting s (i, o) starting s' (i', o'')
     declined error o'' answered took = goes_both may receives sends 0 1 starting starting starting s s s' (i, o) (ask.at, o') (i', o'') ask.goes
-        (goes_step may receives sends starting starting s s' ask.at i' o' o'' (request id ask.method params) _ ask.waits (answers (Err error) answered) (o'', took, refl))
+        (goes_step may receives sends starting starting s s' ask.at i' o' o'' (Some (request id ask.method params)) _ ask.waits (answers (Err error) answered) (o'', took, refl))
 
     -- the outbox refuses the answer
     pub unanswered : (outcome : Result Data ErrorObject) (o'' : O) (fault : SendFault) → may.initializes s params outcome s' → sends o' (response id outcome) (Err fault) o''
         → Runs receives sends (From may receives sends starting s s') (i, o) (Err (fault_of_refusal fault)) (i', o'')
     unanswered outcome o'' fault answered refuses = goes_run may receives sends 0 starting starting s s s' (i, o) (ask.at, o') (i', o'') _ ask.goes
-        (ends_refused may receives sends starting (phase_after outcome) s s' ask.at i' o' o'' (request id ask.method params) _ _ (open_after outcome) ask.waits (answers outcome answered)
+        (ends_refused may receives sends starting (phase_after outcome) s s' ask.at i' o' o'' (Some (request id ask.method params)) _ _ (open_after outcome) ask.waits (answers outcome answered)
         (record { part = []; unsent = response id outcome; more = []; cut = refl; mid = o'; taken = refl; refusal = fault; refuses = refuses; is = refl }))
 
     module _ (result : Data) (answered : may.initializes s params (Ok result) s') where
       -- it is answered with a result, which was taken
       result_goes : (o'' : O) → sends o' (response id (Ok result)) (Ok tt) o'' → Goes may receives sends 1 starting s (i, o) replied s' (i', o'')
       result_goes o'' took = goes_both may receives sends 0 1 starting starting replied s s s' (i, o) (ask.at, o') (i', o'') ask.goes
-          (goes_step may receives sends starting replied s s' ask.at i' o' o'' (request id ask.method params) _ ask.waits (answers (Ok result) answered) (o'', took, refl))
+          (goes_step may receives sends starting replied s s' ask.at i' o' o'' (Some (request id ask.method params)) _ ask.waits (answers (Ok result) answered) (o'', took, refl))
 
       -- another message than `initialized` came
       uninvited : (i'' : I) (o : O) (m : Message) (fault : ProtocolFault) (b : Bool) → is_initialized m ≡ b
@@ -290,15 +289,15 @@ module _ {S I O : Type 0} (may : Behavior S)
       uninvited i'' o m fault true e waits decides = cc
       uninvited i'' o m fault false e waits decides = elim decides [
         | inl shows ↦ ends_decided may receives sends replied s' i' i'' o m (Err fault) waits (rw e ((shows.0, refl, ap (λ (x : ProtocolFault). ended None (Err x)) shows.1), refl))
-        | inr memory ↦ rw memory (ends_exhausted may receives sends replied s' s' i' i'' o m tt waits (refl, inl refl))
+        | inr memory ↦ rw memory (ends_exhausted may receives sends replied s' s' i' i'' o (Some m) tt waits (refl, inl refl))
       ]
 
       finish_run : (i'' : I) (o : O) (event : Event) (fault : ProtocolFault) → WaitsFor receives i' event i'' → EventFinishes event (Err fault)
           → Runs receives sends (From may receives sends replied s' s') (i', o) (Err fault) (i'', o)
       finish_run i'' o (message m) fault waits decides = uninvited i'' o m fault (is_initialized m) refl waits decides
-      finish_run i'' o timeout fault waits decides = absurd decides
       finish_run i'' o closed fault waits decides =
           rw (same_fault fault disconnected decides) (ends_closed may receives sends replied s' i' i'' o tt waits)
+      finish_run i'' o event fault waits decides = absurd decides
 
       -- `finish` fails
       pub finish_failed : (i'' : I) (o'' : O) (fault : ProtocolFault) → FinishesAt receives sends (response id (Ok result)) (i', o') (Err fault) (i'', o'')
@@ -322,8 +321,8 @@ module _ {S I O : Type 0} (may : Behavior S)
             at : (b : Bool) → is_initialized m ≡ b → MatchBool b (◌≡◌ {A = FinishAnswer} (Ok tt) (Ok tt)) ⊥ → Invited
             at true e same = record { goes = result_goes o'' took; letter = m; is = e; waits = waits }
             at false e none = absurd none
-        invited_by timeout waits decides took = absurd decides
         invited_by closed waits decides took = let e : ◌≡◌ {A = FinishAnswer} (Ok tt) (Err disconnected) = decides in cc
+        invited_by event waits decides took = absurd decides
 
         invited : Invited
         invited = elim finishes [
@@ -334,19 +333,19 @@ module _ {S I O : Type 0} (may : Behavior S)
         -- at `initialized` an allocation fails
         pub open_starved : (s'' : S) → may.starves s' s'' → Runs receives sends (From may receives sends starting s s'') (i, o) (Err out_of_memory) (i'', o'')
         open_starved s'' starved = goes_run may receives sends 1 starting replied s s' s'' (i, o) (i', o'') (i'', o'') (Err out_of_memory) invited.goes
-            (ends_exhausted may receives sends replied s' s'' i' i'' o'' invited.letter tt invited.waits (refl, inr starved))
+            (ends_exhausted may receives sends replied s' s'' i' i'' o'' (Some invited.letter) tt invited.waits (refl, inr starved))
 
         module _ (s'' : S) (sent : List Message) (o3 : O) (opens : may.opens s' sent s'') where
           -- what is said to it is refused
           pub open_refused : (fault : ProtocolFault) → RefusesOne sends o'' sent fault o3
               → Runs receives sends (From may receives sends starting s s'') (i, o) (Err fault) (i'', o3)
           open_refused fault lost = goes_run may receives sends 1 starting replied s s' s'' (i, o) (i', o'') (i'', o3) (Err fault) invited.goes
-              (ends_refused may receives sends replied serving s' s'' i' i'' o'' o3 invited.letter sent fault tt invited.waits (rw invited.is (opens, refl)) lost)
+              (ends_refused may receives sends replied serving s' s'' i' i'' o'' o3 (Some invited.letter) sent fault tt invited.waits (rw invited.is (opens, refl)) lost)
 
           -- it is taken
           pub opened : FoldsTo (Takes sends) o'' sent o3 → Goes may receives sends 2 starting s (i, o) serving s'' (i'', o3)
           opened taken = goes_both may receives sends 1 1 starting replied serving s s' s'' (i, o) (i', o'') (i'', o3) invited.goes
-              (goes_step may receives sends replied serving s' s'' i' i'' o'' o3 invited.letter sent invited.waits (rw invited.is (opens, refl)) taken)
+              (goes_step may receives sends replied serving s' s'' i' i'' o'' o3 (Some invited.letter) sent invited.waits (rw invited.is (opens, refl)) taken)
 
 -- Laws of the waits for `initialize` and for `initialized`.
 -- a relation place by place, of two lists each

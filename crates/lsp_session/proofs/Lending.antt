@@ -1,7 +1,7 @@
 -- A session of a handler, from that of the service that lends it.
 use Rattle.lsp_message.specs.Id.{Id}
 use Rattle.lsp_message.specs.Message.{Message, ErrorObject}
-use Rattle.lsp_session.proofs.Ran.{Row, row, at_initialize, at_initialized, at_served, idle, Idle, early_request, early_note, unasked, uninvited, shuts, leaves, exits, stays}
+use Rattle.lsp_session.proofs.Ran.{Row, row, at_initialize, at_initialized, at_served, at_woken, idle, Idle, early_request, early_note, unasked, uninvited, shuts, leaves, exits, stays}
 use Rattle.lsp_session.specs.Event.{Event}
 use Rattle.lsp_session.specs.HandlerService.{KeepsHandler, lent_handler}
 use Rattle.lsp_session.specs.HandlerSession.{initialize_result, of_handler}
@@ -40,16 +40,17 @@ module _ {H : Type 0} (answers : H → Id → List ℕ → Data → Result Data 
   has_idle p p' s s' m sent has same (exits i here is said next) = rw next tt
   has_idle p p' s s' m sent has same (stays i shown here other said next) = rw next tt
 
-  row_as : (p p' : Phase) (s s' : HandlerService H) (m : Message) (sent : List Message) → Has p s → Row lent p s m sent p' s'
-      → Step plain p s.handler.now m sent p' s'.handler.now × Has p' s' × (s'.handler.ghost_name ≡ s.handler.ghost_name)
-  row_as p p' s s' m sent has (at_initialize i method params outcome here is asks given said next) =
+  row_as : (p p' : Phase) (s s' : HandlerService H) (letter : Option Message) (sent : List Message) → Has p s → Row lent p s letter sent p' s'
+      → Step plain p s.handler.now letter sent p' s'.handler.now × Has p' s' × (s'.handler.ghost_name ≡ s.handler.ghost_name)
+  row_as p p' s s' letter sent has (at_initialize i method params outcome here is asks given said next) =
       let last : p' ≡ replied = next ∙ ap (λ (x : Result Data ErrorObject). phase_after x) given.0 in
       let outcome_is = given.0 ∙ ap (λ (x : Data). Ok (initialize_result x)) (rw here at has) in
       (rw (here, is, asks) (outcome, (outcome_is, given.1.0), said, next), rw last tt, given.1.1)
-  row_as p p' s s' m sent has (at_initialized here is given next) = (rw (here, is) ((given.0, given.1.0), next), rw next tt, given.1.1)
-  row_as p p' s s' m sent has (at_served here is given next) = (rw (here, is) (given.0, next), rw next tt, given.1)
-  row_as p p' s s' m sent has (idle same step row) = (
-    rw (ap (λ (x : HandlerService H). x.handler.now) same) (step H plain s.handler.now),
+  row_as p p' s s' letter sent has (at_initialized m here there is given next) = (rw (here, there, is) ((given.0, given.1.0), next), rw next tt, given.1.1)
+  row_as p p' s s' letter sent has (at_served m here there is given next) = (rw (here, there, is) (given.0, next), rw next tt, given.1)
+  row_as p p' s s' letter sent has (at_woken here none given next) = (rw (here, none) ((given.0, given.1.0), next), rw next tt, given.1.1)
+  row_as p p' s s' letter sent has (idle m there same step row) = (
+    rw (there, ap (λ (x : HandlerService H). x.handler.now) same) (step H plain s.handler.now),
     has_idle p p' s s' m sent has same row,
     ap (λ (x : HandlerService H). x.handler.ghost_name) same,
   )

@@ -2,12 +2,8 @@ pub mod Engine
 pub mod Handing
 pub mod Handshake
 pub mod Lending
-pub mod Listing
 pub mod Ordering
 pub mod Ran
 pub mod SameTexts
-pub mod SessionFacts
 pub mod SessionGives
 pub mod Waiting
-pub mod Writing
-pub mod SessionSteps

@@ -2,8 +2,7 @@
 use Rattle.lsp_message.specs.Id.{Id}
 use Rattle.lsp_message.specs.Message.{Message, ErrorObject, request, notification, response}
 use Rattle.lsp_message.specs.Methods.{is_initialize}
-use Rattle.lsp_session.proofs.Ran.{part_none, part_one, Ran, reaches_ran, stops_by, ended_by, Holds, after_outcome, holds, Row, row, at_initialize, at_initialized, at_served, idle, Idle, early_request, early_note, unasked, uninvited, shuts, leaves, exits, stays, IsNoRequest, initialized_no_request, exit_no_request, silent, one_reply}
-use Rattle.lsp_session.proofs.SessionSteps.{sends_both}
+use Rattle.lsp_session.proofs.Ran.{part_none, part_one, Ran, reaches_ran, stops_by, ended_by, Holds, after_outcome, holds, Row, row, at_initialize, at_initialized, at_served, at_woken, idle, Idle, early_request, early_note, unasked, uninvited, shuts, leaves, exits, stays, IsNoRequest, initialized_no_request, exit_no_request, silent, one_reply, letters_both, letters_more, sends_both}
 use Rattle.lsp_session.proofs.Handshake.{AllZip-append}
 use Rattle.lsp_session.specs.Answered.{IsReplied, RepliesTo, RepliesToEach, requests_of, AllReplied, AnswersRequests, LastUnanswered}
 use Rattle.lsp_session.specs.HandlerSession.{Handles, of_handler}
@@ -15,19 +14,18 @@ use Rattle.lsp_session.specs.declared.lifecycle.SendFault.TheVariants.{Closed as
 use Rattle.lsp_session.specs.declared.lifecycle.SendFault.{SendFault}
 use Rattle.lsp_session.specs.declared.loops.handler.SessionEnd.TheVariants.{Closed, ShutDown}
 use Rattle.serde_json.specs.Data.{Data}
-use Rattle.std.proofs.Common.{◌≡◌, refl, sym, ◌∙◌, ap, inl, inr, ◌⊎◌, ℕ, true, false, List, [], ◌∷◌, ◌++◌, Option, Some, None}
+use Rattle.std.proofs.Common.{◌≡◌, refl, sym, ◌∙◌, ap, subst, inl, inr, ◌⊎◌, ℕ, true, false, List, [], ◌∷◌, ◌++◌, Option, Some, None}
 use Rattle.std.proofs.lemmas.List.Elements.{filter_map-append}
+use Rattle.std.specs.List.{list_all}
 use Rattle.std.specs.Prelude.{Result, Ok, Err, IsErrAnd, MatchOption}
 
 served_no_shutdown : (m : Message) → is_served m ≡ true → is_no_shutdown m ≡ true
 served_no_shutdown (request i method params) served = (Rattle.lsp_session.proofs.Waiting.and-true (is_no_shutdown (request i method params)) true served).0
-served_no_shutdown (notification method params) served = refl
-served_no_shutdown (response i outcome) served = refl
+served_no_shutdown m served = refl
 
 no_request_no_shutdown : (m : Message) → IsNoRequest m → is_no_shutdown m ≡ true
 no_request_no_shutdown (request i method params) mute = absurd mute
-no_request_no_shutdown (notification method params) mute = refl
-no_request_no_shutdown (response i outcome) mute = refl
+no_request_no_shutdown m mute = refl
 
 memory_allowed : ShowsUnallowed out_of_memory → ⊥
 memory_allowed (inl shows) = let e : out_of_memory ≡ expected_initialized shows.0 = shows.1 in cc (e)
@@ -100,7 +98,7 @@ module _ {S : Type 0} (may : Behavior S) (stop : Stop) (null : Option Message) (
       rw over (early_before x [] one (record { early = []; rest = []; cut = refl; replied = tt; opened = inr (tt, none) }))
 
   -- the result of `initialize`, and what follows it
-  result_before : (x : Exchange) (xs : List Exchange) (i : Id) (method : List ℕ) (params result : Data) → x.letter ≡ request i method params
+  result_before : (x : Exchange) (xs : List Exchange) (i : Id) (method : List ℕ) (params result : Data) → x.letter ≡ Some (request i method params)
       → is_initialize (request i method params) ≡ true → x.said ≡ response i (Ok result) ∷ [] → Order in_reply xs → KeepsOrder (x ∷ xs) stop null answer
   result_before x xs i method params result is asks said rest = record {
     early = x ∷ [];
@@ -119,8 +117,8 @@ module _ {S : Type 0} (may : Behavior S) (stop : Stop) (null : Option Message) (
   }
 
   -- one more exchange from `initialized` on, in which no `shutdown` comes
-  later_before : (x : Exchange) (xs : List Exchange) → is_no_shutdown x.letter ≡ true → Later xs → Later (x ∷ xs)
-  later_before x xs passed (inl without) = inl (rw passed without.0, without.1, without.2)
+  later_before : (x : Exchange) (xs : List Exchange) → list_all is_no_shutdown (letters_of (x ∷ [])) ≡ true → Later xs → Later (x ∷ xs)
+  later_before x xs passed (inl without) = inl (letters_more is_no_shutdown x xs passed ∙ without.0, without.1, without.2)
   later_before x xs passed (inr last) = inr (record {
     before = x ∷ last.before;
     id = last.id;
@@ -128,7 +126,7 @@ module _ {S : Type 0} (may : Behavior S) (stop : Stop) (null : Option Message) (
     params = last.params;
     after = last.after;
     cut = ap (λ (l : List Exchange). x ∷ l) last.cut;
-    none_before = rw passed last.none_before;
+    none_before = letters_more is_no_shutdown x last.before passed ∙ last.none_before;
     asks = last.asks;
     is_null = last.is_null;
     after_null = last.after_null;
@@ -136,40 +134,41 @@ module _ {S : Type 0} (may : Behavior S) (stop : Stop) (null : Option Message) (
 
   module _ (p q : Phase) (s s' : S) (x : Exchange) (full : List Message) (xs : List Exchange)
       (one : (r : Message) → full ≡ r ∷ [] → x.said ≡ r ∷ []) (none : full ≡ [] → x.said ≡ []) (rest : Order q xs) where
-    order_idle : Idle p x.letter full q → Order p (x ∷ xs)
-    order_idle (early_request i method params reply here is early said next) =
-        rw here (early_before x xs (one_reply x i method params reply is (one reply said) (_, early.is)).0 (rw next at rest))
-    order_idle (early_note here mute early said next) = rw here (early_before x xs (silent x mute (none said)).0 (rw next at rest))
-    order_idle (unasked shown here mute said next) =
+    order_idle : (m : Message) → x.letter ≡ Some m → Idle p m full q → Order p (x ∷ xs)
+    order_idle m there (early_request i method params reply here is early said next) =
+        rw here (early_before x xs (one_reply x i method params reply (rw is at there) (one reply said) (_, early.is)).0 (rw next at rest))
+    order_idle m there (early_note here mute early said next) = rw here (early_before x xs (silent x m there mute (none said)).0 (rw next at rest))
+    order_idle m there (unasked shown here mute said next) =
         let over : Order (ended None (Err (expected_initialize shown))) xs = rw next at rest in
-        rw here (early_ended x xs (silent x mute (none said)).0 over.0 over.1)
-    order_idle (uninvited shown here other said next) =
+        rw here (early_ended x xs (silent x m there mute (none said)).0 over.0 over.1)
+    order_idle m there (uninvited shown here other said next) =
         let over : Order (ended None (Err (expected_initialized shown))) xs = rw next at rest in
-        rw here (inr ((over.0, none said, over.2, rw over.3 (shown, refl)), over.1))
-    order_idle (shuts i method params here is asks said next) =
+        rw here (inr ((over.0, rw there refl, none said, over.2, rw over.3 (shown, refl)), over.1))
+    order_idle m there (shuts i method params here is asks said next) =
         let after : Order (asked i) xs = rw next at rest in
         let sent : x.said ≡ null_reply i ∷ [] = one (null_reply i) said in
+        let came : x.letter ≡ Some (request i method params) = rw is at there in
         rw here (inr (record {
           before = [];
           id = i;
           method = method;
           params = params;
           after = xs;
-          cut = λ j. record { letter = is j; said = sent j } ∷ xs;
+          cut = λ j. record { letter = came j; said = sent j } ∷ xs;
           none_before = refl;
           asks = asks;
           is_null = after.1;
           after_null = after.0;
         }))
-    order_idle (leaves here is said next) =
+    order_idle m there (leaves here is said next) =
         let over : Order (ended None (Ok Closed)) xs = rw next at rest in
-        rw here (inl (rw (over.0, no_request_no_shutdown x.letter (exit_no_request x.letter is)) refl, over.1, λ shows. (rw over.3 at shows)))
-    order_idle (exits i here is said next) =
+        rw here (inl (rw (over.0, there, no_request_no_shutdown m (exit_no_request m is)) refl, over.1, λ shows. (rw over.3 at shows)))
+    order_idle m there (exits i here is said next) =
         let over : Order (ended (Some (null_reply i)) (Ok ShutDown)) xs = rw next at rest in
-        rw here ((over.0, none said, over.2, rw is over.3), over.1)
-    order_idle (stays i shown here other said next) =
+        rw here ((over.0, none said, over.2, rw (there, is) over.3), over.1)
+    order_idle m there (stays i shown here other said next) =
         let over : Order (ended (Some (null_reply i)) (Err (unexpected_in_shutdown shown))) xs = rw next at rest in
-        rw here ((over.0, none said, over.2, rw (other, over.3) (shown, refl)), over.1)
+        rw here ((over.0, none said, over.2, rw (there, other, over.3) (shown, refl)), over.1)
 
     order_row : Row may p s x.letter full q s' → Order p (x ∷ xs)
     order_row (at_initialize i method params outcome here is asks given said next) = rw here (first outcome (one _ said) (rw next at rest))
@@ -177,10 +176,11 @@ module _ {S : Type 0} (may : Behavior S) (stop : Stop) (null : Option Message) (
         first : (outcome : Result Data ErrorObject) → x.said ≡ response i outcome ∷ [] → Order (phase_after outcome) xs → KeepsOrder (x ∷ xs) stop null answer
         first (Ok result) said rest = result_before x xs i method params result is asks said rest
         first (Err error) said rest = early_before x xs (one_reply x i method params _ is said (_, refl)).0 rest
-    order_row (at_initialized here is given next) =
-        rw here (inl (is, later_before x xs (no_request_no_shutdown x.letter (initialized_no_request x.letter is)) (rw next at rest)))
-    order_row (at_served here is given next) = rw here (later_before x xs (served_no_shutdown x.letter is) (rw next at rest))
-    order_row (idle same step row) = order_idle row
+    order_row (at_initialized m here there is given next) =
+        rw here (inl (rw there is, later_before x xs (rw (there, no_request_no_shutdown m (initialized_no_request m is)) refl) (rw next at rest)))
+    order_row (at_served m here there is given next) = rw here (later_before x xs (rw (there, served_no_shutdown m is) refl) (rw next at rest))
+    order_row (at_woken here empty given next) = rw here (later_before x xs (rw empty refl) (rw next at rest))
+    order_row (idle m there same step row) = order_idle m there row
 
   order : (p q : Phase) (s after s' : S) (xs : List Exchange) → Ran may stop p s xs q after → Stops may q after stop answer s' → null ≡ null_of q → Order p xs
   order p q s after s' [] run stops kept = order_end p s s' (rw (run.0, run.1) at stops) (rw run.0 at kept)
@@ -217,8 +217,9 @@ no_null may s s' xs fault null answer out = out.null_is ∙ no_null_at may out.l
 each_replied : (xs : List Exchange) → AllReplied xs → RepliesToEach (requests_of (letters_of xs)) (sends_of xs)
 each_replied [] all = tt
 each_replied (x ∷ xs) all =
-    rw (filter_map-append request_id (x.letter ∷ []) (letters_of xs))
-    (AllZip-append RepliesTo (requests_of (x.letter ∷ [])) (requests_of (letters_of xs)) x.said (sends_of xs) all.0 (each_replied xs all.1))
+    let first = letters_of (x ∷ []) in
+    subst (λ ids. RepliesToEach ids (x.said ++ sends_of xs)) (sym (ap requests_of (letters_both (x ∷ []) xs) ∙ filter_map-append request_id first (letters_of xs)))
+    (AllZip-append RepliesTo (requests_of first) (requests_of (letters_of xs)) x.said (sends_of xs) all.0 (each_replied xs all.1))
 
 no_reply : (id : Id) (m : Message) → RepliesTo id m → is_reply m ≡ false → ⊥
 no_reply id m replies other = let e = (rw replies.1 at other) in cc (e)
@@ -244,7 +245,7 @@ never_none (r ∷ rest) more m e = cc (e)
 
 unopened_silent : (rest : List Exchange) (stop : Stop) (answer : SessionAnswer) → IsUnopened rest stop answer → sends_of rest ≡ []
 unopened_silent [] stop answer is = refl
-unopened_silent (x ∷ rest) stop answer is = rw (is.0, is.1) refl
+unopened_silent (x ∷ rest) stop answer is = rw (is.0, is.2) refl
 
 pub opened_before : (xs : List Exchange) (stop : Stop) (null : Option Message) (answer : SessionAnswer) (before more : List Message) (m : Message)
     → KeepsOrder xs stop null answer → sends_of xs ≡ before ++ m ∷ more → is_reply m ≡ false → OpenedBy xs before
@@ -281,22 +282,18 @@ module _ (stop : Stop) where
   ]
 
   -- a message that the lifecycle does not allow
-  unanswered : (x : Exchange) (fault : ProtocolFault) → x.said ≡ [] → ShowsUnallowed fault → Last (x ∷ []) (Err fault)
-  unanswered x fault none unallowed = λ decides. at decides x.letter refl
-    where
-      at : stop ≡ decided → (m : Message) → x.letter ≡ m → AllReplied (x ∷ []) ⊎ LastUnanswered (x ∷ []) stop (Err fault)
-      at decides (request i method params) is = inr (record {
-        before = [];
-        id = i;
-        method = method;
-        params = params;
-        cut = λ j. record { letter = is j; said = none j } ∷ [];
-        replied = tt;
-        decides = decides;
-        unallowed = unallowed;
-      })
-      at decides (notification method params) is = inl (silent x (rw is tt) none)
-      at decides (response i outcome) is = inl (silent x (rw is tt) none)
+  unanswered : (x : Exchange) (m : Message) (fault : ProtocolFault) → x.letter ≡ Some m → x.said ≡ [] → ShowsUnallowed fault → Last (x ∷ []) (Err fault)
+  unanswered x (request i method params) fault is none unallowed = λ decides. inr (record {
+    before = [];
+    id = i;
+    method = method;
+    params = params;
+    cut = λ j. record { letter = is j; said = none j } ∷ [];
+    replied = tt;
+    decides = decides;
+    unallowed = unallowed;
+  })
+  unanswered x m fault is none unallowed = λ decides. inl (silent x m is tt none)
 
   module _ {H : Type 0} (answers : H → Id → List ℕ → Data → Result Data ErrorObject → H → Type 0) (notes : H → List ℕ → Data → H → Type 0) (capabilities : Data) where
     abbrev plain : Behavior H
@@ -304,27 +301,28 @@ module _ (stop : Stop) where
 
     module _ (p q : Phase) (h h' : H) (x : Exchange) (full : List Message) (one : (r : Message) → full ≡ r ∷ [] → x.said ≡ r ∷ [])
         (none : full ≡ [] → x.said ≡ []) where
-      handled : (m : Message) → x.letter ≡ m → Handles answers notes h m full h' → AllReplied (x ∷ [])
+      handled : (m : Message) → x.letter ≡ Some m → Handles answers notes h m full h' → AllReplied (x ∷ [])
       handled (request i method params) is handles = one_reply x i method params _ is (one _ handles.2) (_, refl)
-      handled (notification method params) is handles = silent x (rw is tt) (none handles.1)
-      handled (response i outcome) is handles = silent x (rw is tt) (none handles.1)
+      handled m is handles = silent x m is tt (none handles.1)
 
-      unserved : Idle p x.letter full q → Holds plain stop AllReplied Last q (x ∷ [])
-      unserved (early_request i method params reply at is early said next) = rw next (one_reply x i method params reply is (one reply said) (_, early.is))
-      unserved (early_note at mute early said next) = rw next (silent x mute (none said))
-      unserved (unasked shown at mute said next) = rw next (λ decides. inl (silent x mute (none said)))
-      unserved (uninvited shown at other said next) = rw next (unanswered x _ (none said) (inl (shown, refl)))
-      unserved (shuts i method params at is asks said next) = rw next (one_reply x i method params _ is (one _ said) (_, refl))
-      unserved (leaves at is said next) = rw next (λ decides. inl (silent x (exit_no_request x.letter is) (none said)))
-      unserved (exits i at is said next) = rw next (λ decides. inl (silent x (exit_no_request x.letter is) (none said)))
-      unserved (stays i shown at other said next) = rw next (unanswered x _ (none said) (inr (shown, refl)))
+      unserved : (m : Message) → x.letter ≡ Some m → Idle p m full q → Holds plain stop AllReplied Last q (x ∷ [])
+      unserved m there (early_request i method params reply at is early said next) =
+          rw next (one_reply x i method params reply (rw is at there) (one reply said) (_, early.is))
+      unserved m there (early_note at mute early said next) = rw next (silent x m there mute (none said))
+      unserved m there (unasked shown at mute said next) = rw next (λ decides. inl (silent x m there mute (none said)))
+      unserved m there (uninvited shown at other said next) = rw next (unanswered x m _ there (none said) (inl (shown, refl)))
+      unserved m there (shuts i method params at is asks said next) = rw next (one_reply x i method params _ (rw is at there) (one _ said) (_, refl))
+      unserved m there (leaves at is said next) = rw next (λ decides. inl (silent x m there (exit_no_request m is) (none said)))
+      unserved m there (exits i at is said next) = rw next (λ decides. inl (silent x m there (exit_no_request m is) (none said)))
+      unserved m there (stays i shown at other said next) = rw next (unanswered x m _ there (none said) (inr (shown, refl)))
 
       replied_row : Row plain p h x.letter full q h' → Holds plain stop AllReplied Last q (x ∷ [])
       replied_row (at_initialize i method params outcome at is asks given said next) =
           rw next (after_outcome plain stop AllReplied Last outcome (x ∷ []) (one_reply x i method params _ is (one _ said) (_, refl)))
-      replied_row (at_initialized at is given next) = rw next (silent x (initialized_no_request x.letter is) (none given.0))
-      replied_row (at_served at is given next) = rw next (handled x.letter refl given)
-      replied_row (idle same step row) = unserved row
+      replied_row (at_initialized m at there is given next) = rw next (silent x m there (initialized_no_request m is) (none given.0))
+      replied_row (at_served m at there is given next) = rw next (handled m there given)
+      replied_row (at_woken at empty given next) = rw (next, empty, none given.0) (tt, tt)
+      replied_row (idle m there same step row) = unserved m there row
 
     -- what became of the requests of a session
     pub session_answers : (h h' : H) (xs : List Exchange) (null : Option Message) (answer : SessionAnswer) → SessionOut plain h h' xs stop null answer

@@ -1,17 +1,121 @@
--- Exchanges of a session, the last of which may be cut off, by the rows of the table of steps.
-use Rattle.lsp_message.specs.Id.{Id}
+-- Exchanges of a session, one after another: by the rows of the table of steps, the last of which may be cut off, and what they say of its answer.
 use Rattle.lsp_message.specs.Message.{Message, ErrorObject, request, notification, response}
-use Rattle.lsp_message.specs.Methods.{is_early, is_initialize, is_initialized, is_shutdown, is_exit}
-use Rattle.lsp_session.proofs.SessionSteps.{IsWhole}
-use Rattle.lsp_session.specs.Answered.{RepliesTo, AllReplied}
-use Rattle.lsp_session.specs.ProtocolError.{expected_initialize, expected_initialized, unexpected_in_shutdown}
-use Rattle.lsp_session.specs.Replies.{null_reply, IsEarlyReply}
-use Rattle.lsp_session.specs.Session.{Behavior, SessionAnswer, Exchange, Stop, decided, no_more, timed_out, refused, exhausted, Phase, starting, replied, serving, asked, ended, phase_after, Step, Steps, Reaches, Stops, is_served, Fails, Leaves}
+use Rattle.lsp_session.specs.ProtocolError.{disconnected, shutdown_disconnected, fault_of_refusal, expected_initialize, expected_initialized, unexpected_in_shutdown}
+use Rattle.lsp_session.specs.Session.{Behavior, Exchange, came_of, letters_of, SessionAnswer, Stop, decided, no_more, refused, Phase, starting, replied, serving, asked, ended, Reaches, Stops, SessionFrom, sends_of, null_of, phase_after, Step, Steps, timed_out, exhausted, is_served, Fails, Leaves, is_shutdown}
+use Rattle.lsp_session.specs.SessionRun.{all_of}
+use Rattle.lsp_session.specs.declared.lifecycle.SendFault.{SendFault}
 use Rattle.lsp_session.specs.declared.loops.handler.SessionEnd.TheVariants.{Closed, ShutDown}
 use Rattle.serde_json.specs.Data.{Data}
-use Rattle.std.proofs.Common.{◌≡◌, refl, sym, ◌∙◌, inl, inr, ◌⊎◌, List, [], ◌∷◌, ◌++◌, append_assoc, append-nil, Option, Some, None, ℕ, Bool, true, false, true≢false}
+use Rattle.std.proofs.Common.{◌≡◌, refl, Bool, true, ◌&&◌, List, [], ◌∷◌, Option, Some, None, sym, ◌∙◌, ap, ◌++◌, append_assoc, inl, inr, ◌⊎◌, append-nil, ℕ, false, true≢false, not, codes}
+use Rattle.std.proofs.lemmas.List.{map-append}
+use Rattle.std.proofs.lemmas.List.Elements.{filter_map-append}
+use Rattle.std.proofs.lemmas.List.Folds.{list_all-append}
+use Rattle.std.specs.List.{filter_map, list_all}
+use Rattle.std.specs.Prelude.{Result, Ok, Err, MatchOption}
+use Rattle.lsp_message.specs.Id.{Id}
+use Rattle.lsp_message.specs.Methods.{is_early, is_initialize, is_initialized, is_shutdown, is_exit}
+use Rattle.lsp_session.specs.Answered.{RepliesTo, AllReplied}
+use Rattle.lsp_session.specs.Replies.{null_reply, IsEarlyReply}
 use Rattle.std.specs.Bool.{MatchBool}
-use Rattle.std.specs.Prelude.{MatchOption, Result, Ok, Err}
+use Rattle.lsp_session.proofs.Waiting.{and-true}
+use Rattle.lsp_session.specs.SessionFault.{ran_out, came_to_no_more}
+use Rattle.std.proofs.lemmas.Slice.Eq.{bytes_eq-Decides}
+
+pub came_both : (xs ys : List Exchange) → came_of (xs ++ ys) ≡ came_of xs ++ came_of ys
+came_both xs ys = map-append (λ (x : Exchange). x.letter) xs ys
+
+pub letters_both : (xs ys : List Exchange) → letters_of (xs ++ ys) ≡ letters_of xs ++ letters_of ys
+letters_both xs ys = ap (λ cs. filter_map (λ (c : Option Message). c) cs) (came_both xs ys) ∙ filter_map-append (λ (c : Option Message). c) (came_of xs) (came_of ys)
+
+-- what the message of one more exchange passes, and those of the others
+pub letters_more : (p : Message → Bool) (x : Exchange) (xs : List Exchange) → list_all p (letters_of (x ∷ [])) ≡ true
+    → list_all p (letters_of (x ∷ xs)) ≡ list_all p (letters_of xs)
+letters_more p x xs first =
+    ap (list_all p) (letters_both (x ∷ []) xs) ∙ list_all-append p (letters_of (x ∷ [])) (letters_of xs) ∙ ap (λ b. b && list_all p (letters_of xs)) first
+
+pub sends_both : (xs ys : List Exchange) → sends_of (xs ++ ys) ≡ sends_of xs ++ sends_of ys
+sends_both [] ys = refl
+sends_both (x ∷ xs) ys = rw (sends_both xs ys, append_assoc) refl
+
+pub all_after : (before output : List Message) (null : Option Message) → all_of (before ++ output) null ≡ before ++ all_of output null
+all_after before output None = refl
+all_after before output (Some null) = append_assoc before output (null ∷ [])
+
+-- no message was refused
+abbrev pub IsWhole : Stop → Type 0
+IsWhole (refused fault) = ⊥
+IsWhole stop = Unit {0}
+
+-- neither `shutdown` came, nor a message that decided
+abbrev pub IsOpen : Phase → Type 0
+IsOpen (asked i) = ⊥
+IsOpen (ended null answer) = ⊥
+IsOpen phase = Unit {0}
+
+-- the answer where no further message comes
+abbrev pub answer_at_end : Phase → SessionAnswer
+answer_at_end starting = Err disconnected
+answer_at_end replied = Err disconnected
+answer_at_end serving = Ok Closed
+answer_at_end (asked i) = Err shutdown_disconnected
+answer_at_end (ended null answer) = answer
+
+pub open_after : (outcome : Result Data ErrorObject) → IsOpen (phase_after outcome)
+open_after (Ok result) = tt
+open_after (Err error) = tt
+
+module _ {S : Type 0} (may : Behavior S) where
+  -- what is known of an open phase: no null, the answer where no more comes, and the answer where a message is refused
+  pub of_open : (p : Phase) (s : S) → IsOpen p
+      → (None ≡ null_of p) × Stops may p s no_more (answer_at_end p) s
+      × ((refusal : SendFault) → Stops may p s (refused refusal) (Err (fault_of_refusal refusal)) s)
+  of_open (asked i) s is = absurd is
+  of_open (ended null answer) s is = absurd is
+  of_open p s is = (refl, (refl, refl), λ refusal. (refl, refl))
+
+  -- steps, one after another
+  pub steps_both : (p p' p'' : Phase) (s s' s'' : S) (xs ys : List Exchange)
+      → Steps may p s xs p' s' → Steps may p' s' ys p'' s'' → Steps may p s (xs ++ ys) p'' s''
+  steps_both p p' p'' s s' s'' [] ys first second = rw (sym first.0, sym first.1) second
+  steps_both p p' p'' s s' s'' (x ∷ xs) ys first second =
+      (first.0, first.1, first.2, steps_both first.0 p' p'' first.1 s' s'' xs ys first.3 second)
+
+  pub one_step : (p p' : Phase) (s s' : S) (m : Option Message) (said : List Message) → Step may p s m said p' s'
+      → Steps may p s (record { letter = m; said = said } ∷ []) p' s'
+  one_step p p' s s' m said step = (p', s', step, (refl, refl))
+
+  -- where no message was refused
+  pub reaches_whole : (stop : Stop) (p p' : Phase) (s s' : S) (xs : List Exchange) → IsWhole stop → Steps may p s xs p' s' → Reaches may stop p s xs p' s'
+  reaches_whole (refused fault) p p' s s' xs whole steps = absurd whole
+  reaches_whole stop p p' s s' xs whole steps = steps
+
+  -- the same, up to what ended the session
+  reaches_both : (stop : Stop) (p p' p'' : Phase) (s s' s'' : S) (xs ys : List Exchange)
+      → Steps may p s xs p' s' → Reaches may stop p' s' ys p'' s'' → Reaches may stop p s (xs ++ ys) p'' s''
+  reaches_both (refused fault) p p' p'' s s' s'' xs ys first second = record {
+    earlier = xs ++ second.earlier;
+    letter = second.letter;
+    part = second.part;
+    unsaid = second.unsaid;
+    more = second.more;
+    cut = rw (second.cut, append_assoc) refl;
+    next = second.next;
+    mid = second.mid;
+    steps = steps_both p p' second.next s s' second.mid xs second.earlier first second.steps;
+    step = second.step;
+  }
+  reaches_both stop p p' p'' s s' s'' xs ys first second = steps_both p p' p'' s s' s'' xs ys first second
+
+  -- a session from some phase on, after exchanges that lead to it
+  pub from_after : (p p' : Phase) (s s' s'' : S) (xs ys : List Exchange) (stop : Stop) (null : Option Message) (answer : SessionAnswer)
+      → Steps may p s xs p' s' → SessionFrom may p' s' s'' ys stop null answer → SessionFrom may p s s'' (xs ++ ys) stop null answer
+  from_after p p' s s' s'' xs ys stop null answer first later = record {
+    last = later.last;
+    after = later.after;
+    reached = reaches_both stop p p' later.last s s' later.after xs ys first later.reached;
+    null_is = later.null_is;
+    stopped = later.stopped;
+  }
 
 -- the message is no request
 abbrev pub IsNoRequest : Message → Type 0
@@ -32,14 +136,16 @@ pub data Idle (p : Phase) (m : Message) (said : List Message) (q : Phase) : Type
   stays : (i : Id) (shown : List ℕ) → p ≡ asked i → is_exit m ≡ false → said ≡ []
       → q ≡ ended (Some (null_reply i)) (Err (unexpected_in_shutdown shown)) → Idle p m said q
 
-pub data Row {S : Type 0} (may : Behavior S) (p : Phase) (s : S) (m : Message) (said : List Message) (q : Phase) (s' : S) : Type 1 where
-  at_initialize : (i : Id) (method : List ℕ) (params : Data) (outcome : Result Data ErrorObject) → p ≡ starting → m ≡ request i method params
+pub data Row {S : Type 0} (may : Behavior S) (p : Phase) (s : S) (letter : Option Message) (said : List Message) (q : Phase) (s' : S) : Type 1 where
+  at_initialize : (i : Id) (method : List ℕ) (params : Data) (outcome : Result Data ErrorObject) → p ≡ starting → letter ≡ Some (request i method params)
       → is_initialize (request i method params) ≡ true → may.initializes s params outcome s' → said ≡ response i outcome ∷ [] → q ≡ phase_after outcome
-      → Row may p s m said q s'
-  at_initialized : p ≡ replied → is_initialized m ≡ true → may.opens s said s' → q ≡ serving → Row may p s m said q s'
-  at_served : p ≡ serving → is_served m ≡ true → may.gives s m said s' → q ≡ serving → Row may p s m said q s'
+      → Row may p s letter said q s'
+  at_initialized : (m : Message) → p ≡ replied → letter ≡ Some m → is_initialized m ≡ true → may.opens s said s' → q ≡ serving → Row may p s letter said q s'
+  at_served : (m : Message) → p ≡ serving → letter ≡ Some m → is_served m ≡ true → may.gives s m said s' → q ≡ serving → Row may p s letter said q s'
+  at_woken : p ≡ serving → letter ≡ None → may.wakes s said s' → q ≡ serving → Row may p s letter said q s'
   -- of whatever service it is a step
-  idle : s' ≡ s → ((T : Type 0) (can : Behavior T) (t : T) → Step can p t m said q t) → Idle p m said q → Row may p s m said q s'
+  idle : (m : Message) → letter ≡ Some m → s' ≡ s → ((T : Type 0) (can : Behavior T) (t : T) → Step can p t (Some m) said q t) → Idle p m said q
+      → Row may p s letter said q s'
 
 left : (m : Message) (said : List Message) (q : Phase) → is_served m ≡ false → Leaves m said q → Idle serving m said q
 left (request i method params) said q other step = at (is_shutdown (request i method params)) refl other
@@ -57,66 +163,61 @@ left (response i outcome) said q other step = absurd (true≢false other)
 
 module _ {S : Type 0} (may : Behavior S) where
   -- each step is a row
-  pub row : (p q : Phase) (s s' : S) (m : Message) (said : List Message) → Step may p s m said q s' → Row may p s m said q s'
-  row starting q s s' (request i method params) said step = at (is_initialize (request i method params)) refl step
+  pub row : (p q : Phase) (s s' : S) (letter : Option Message) (said : List Message) → Step may p s letter said q s' → Row may p s letter said q s'
+  row starting q s s' (Some (request i method params)) said step = at (is_initialize (request i method params)) refl step
     where
       at : (b : Bool) → is_initialize (request i method params) ≡ b
           → MatchBool b
           ((outcome : Result Data ErrorObject) × may.initializes s params outcome s' × (said ≡ response i outcome ∷ []) × (q ≡ phase_after outcome))
           ((reply : Message) × IsEarlyReply i reply × (said ≡ reply ∷ []) × (q ≡ starting) × (s' ≡ s))
-          → Row may starting s (request i method params) said q s'
+          → Row may starting s (Some (request i method params)) said q s'
       at true e step = at_initialize i method params step.0 refl refl e step.1 step.2 step.3
-      at false e step = idle step.4 (λ T can t. rw e (step.0, step.1, step.2, step.3, refl))
+      at false e step = idle (request i method params) refl step.4 (λ T can t. rw e (step.0, step.1, step.2, step.3, refl))
           (early_request i method params step.0 refl refl step.1 step.2 step.3)
-  row starting q s s' (notification method params) said step = idle step.1 (λ T can t. (step.0, refl)) (at (is_early (notification method params)) refl step.0)
+  row starting q s s' (Some (notification method params)) said step = idle (notification method params) refl step.1 (λ T can t. (step.0, refl)) (at (is_early (notification method params)) refl step.0)
     where
       at : (b : Bool) → is_early (notification method params) ≡ b → MatchBool b ((said ≡ []) × (q ≡ starting)) (Fails expected_initialize starting said q)
           → Idle starting (notification method params) said q
       at true e step = early_note refl tt e step.0 step.1
       at false e step = unasked step.0 refl tt step.1 step.2
-  row starting q s s' (response i outcome) said step = idle step.1 (λ T can t. (step.0, refl)) (unasked step.0.0 refl tt step.0.1 step.0.2)
-  row replied q s s' m said step = at (is_initialized m) refl step
+  row starting q s s' (Some (response i outcome)) said step = idle (response i outcome) refl step.1 (λ T can t. (step.0, refl)) (unasked step.0.0 refl tt step.0.1 step.0.2)
+  row replied q s s' (Some m) said step = at (is_initialized m) refl step
     where
       at : (b : Bool) → is_initialized m ≡ b → MatchBool b (may.opens s said s' × (q ≡ serving)) (Fails expected_initialized replied said q × (s' ≡ s))
-          → Row may replied s m said q s'
-      at true e step = at_initialized refl e step.0 step.1
-      at false e step = idle step.1 (λ T can t. rw e (step.0, refl)) (uninvited step.0.0 refl e step.0.1 step.0.2)
-  row serving q s s' m said step = at (is_served m) refl step
+          → Row may replied s (Some m) said q s'
+      at true e step = at_initialized m refl refl e step.0 step.1
+      at false e step = idle m refl step.1 (λ T can t. rw e (step.0, refl)) (uninvited step.0.0 refl e step.0.1 step.0.2)
+  row serving q s s' (Some m) said step = at (is_served m) refl step
     where
-      at : (b : Bool) → is_served m ≡ b → MatchBool b (may.gives s m said s' × (q ≡ serving)) (Leaves m said q × (s' ≡ s)) → Row may serving s m said q s'
-      at true e step = at_served refl e step.0 step.1
-      at false e step = idle step.1 (λ T can t. rw e (step.0, refl)) (left m said q e step.0)
-  row (asked i) q s s' m said step = idle step.1 (λ T can t. (step.0, refl)) (at (is_exit m) refl step.0)
+      at : (b : Bool) → is_served m ≡ b → MatchBool b (may.gives s m said s' × (q ≡ serving)) (Leaves m said q × (s' ≡ s)) → Row may serving s (Some m) said q s'
+      at true e step = at_served m refl refl e step.0 step.1
+      at false e step = idle m refl step.1 (λ T can t. rw e (step.0, refl)) (left m said q e step.0)
+  row serving q s s' None said step = at_woken refl refl step.0 step.1
+  row (asked i) q s s' (Some m) said step = idle m refl step.1 (λ T can t. (step.0, refl)) (at (is_exit m) refl step.0)
     where
       at : (b : Bool) → is_exit m ≡ b
           → MatchBool b ((said ≡ []) × (q ≡ ended (Some (null_reply i)) (Ok ShutDown))) (Fails unexpected_in_shutdown (asked i) said q)
           → Idle (asked i) m said q
       at true e step = exits i refl e step.0 step.1
       at false e step = stays i step.0 refl e step.1 step.2
-  row (ended null answer) q s s' m said step = absurd step
+  row p q s s' letter said step = absurd step
 
 -- no request
 pub initialized_no_request : (m : Message) → is_initialized m ≡ true → IsNoRequest m
 initialized_no_request (request i method params) is = absurd (cc (is))
-initialized_no_request (notification method params) is = tt
-initialized_no_request (response i outcome) is = tt
+initialized_no_request m is = tt
 
 pub exit_no_request : (m : Message) → is_exit m ≡ true → IsNoRequest m
 exit_no_request (request i method params) is = absurd (cc (is))
-exit_no_request (notification method params) is = tt
-exit_no_request (response i outcome) is = tt
+exit_no_request m is = tt
 
 -- no request, and nothing is sent
-pub silent : (x : Exchange) → IsNoRequest x.letter → x.said ≡ [] → AllReplied (x ∷ [])
-silent x mute said = at x.letter refl mute
-  where
-    at : (m : Message) → x.letter ≡ m → IsNoRequest m → AllReplied (x ∷ [])
-    at (request i method params) is mute = absurd mute
-    at (notification method params) is mute = rw (is, said) (tt, tt)
-    at (response i outcome) is mute = rw (is, said) (tt, tt)
+pub silent : (x : Exchange) (m : Message) → x.letter ≡ Some m → IsNoRequest m → x.said ≡ [] → AllReplied (x ∷ [])
+silent x (request i method params) is mute said = absurd mute
+silent x m is mute said = rw (is, said) (tt, tt)
 
 -- a request and its reply
-pub one_reply : (x : Exchange) (i : Id) (method : List ℕ) (params : Data) (reply : Message) → x.letter ≡ request i method params → x.said ≡ reply ∷ []
+pub one_reply : (x : Exchange) (i : Id) (method : List ℕ) (params : Data) (reply : Message) → x.letter ≡ Some (request i method params) → x.said ≡ reply ∷ []
     → RepliesTo i reply → AllReplied (x ∷ [])
 one_reply x i method params reply is said replies = rw (is, said) ((replies, tt), tt)
 
@@ -149,7 +250,7 @@ module _ {S : Type 0} (may : Behavior S) (stop : Stop) where
   ran_steps p q s s' (x ∷ xs) steps =
       (x.said, [], append-nil x.said, (λ e. e), steps.0, steps.1, steps.2, inl refl, ran_steps steps.0 q steps.1 s' xs steps.3)
 
-  ran_cut : (IsWhole stop → ⊥) → (p next q : Phase) (s mid s' : S) (earlier : List Exchange) (m : Message) (part more : List Message) (unsaid : Message) → Steps may p s earlier next mid
+  ran_cut : (IsWhole stop → ⊥) → (p next q : Phase) (s mid s' : S) (earlier : List Exchange) (m : Option Message) (part more : List Message) (unsaid : Message) → Steps may p s earlier next mid
       → Step may next mid m (part ++ unsaid ∷ more) q s' → Ran p s (earlier ++ record { letter = m; said = part ++ unsaid ∷ [] } ∷ []) q s'
   ran_cut broken p next q s mid s' [] m part more unsaid steps step = (
     part ++ unsaid ∷ more,
@@ -215,3 +316,93 @@ pub stops_by : {S : Type 0} (may : Behavior S) (p : Phase) (s s' : S) (stop : St
 stops_by may (ended n by) s s' decided answer stops = (refl, stops.0)
 stops_by may (ended n by) s s' stop answer stops = absurd stops
 stops_by may p s s' stop answer stops = λ e. (rw e at stops)
+
+abbrev pub is_no_exit : Message → Bool
+is_no_exit m = not (is_exit m)
+
+-- what is known of an answer: none for want of messages comes of a message that is no `exit`
+abbrev pub Facts : Stop → List Message → SessionAnswer → Type 0
+Facts decided letters answer = (ran_out answer ≡ false) × (came_to_no_more answer ≡ true → list_all is_no_exit letters ≡ false)
+Facts no_more letters answer = (ran_out answer ≡ false) × (came_to_no_more answer ≡ true) × (list_all is_no_exit letters ≡ true)
+Facts exhausted letters answer = ran_out answer ≡ true
+Facts stop letters answer = Unit {0}
+
+served_is_no_exit : (m : Message) → is_served m ≡ true → is_no_exit m ≡ true
+served_is_no_exit m served = (and-true (not (is_shutdown m)) (is_no_exit m) served).1
+
+initialized_is_no_exit : (m : Message) → is_initialized m ≡ true → is_no_exit m ≡ true
+initialized_is_no_exit (notification method params) initialized =
+    rw ((bytes_eq-Decides method (codes "initialized")).0 initialized) refl
+initialized_is_no_exit m initialized = refl
+
+early_no_exit : (m : Message) → IsNoRequest m → is_early m ≡ true → is_no_exit m ≡ true
+early_no_exit (notification method params) mute early = early
+early_no_exit m mute early = refl
+
+-- no `exit` came
+abbrev Passed : List Exchange → Type 0
+Passed xs = list_all is_no_exit (letters_of xs) ≡ true
+
+-- a message decided: where the answer is that no more came, it was no `exit`
+abbrev Last : List Exchange → SessionAnswer → Type 0
+Last xs answer = (ran_out answer ≡ false) × (came_to_no_more answer ≡ true → list_all is_no_exit (letters_of xs) ≡ false)
+
+more_known : (by : Option SessionAnswer) (x : Exchange) (xs : List Exchange) → Passed (x ∷ []) → MatchOption by (Passed xs) (λ answer. Last xs answer)
+    → MatchOption by (Passed (x ∷ xs)) (λ answer. Last (x ∷ xs) answer)
+more_known by x xs first rest = rw (letters_more is_no_exit x xs first) rest
+
+module _ {S : Type 0} (may : Behavior S) (stop : Stop) where
+  abbrev Known : Phase → List Exchange → Type 0
+  Known q xs = Holds may stop Passed Last q xs
+
+  passed : (x : Exchange) (m : Message) → x.letter ≡ Some m → is_no_exit m ≡ true → Passed (x ∷ [])
+  passed x m there is = rw (there, is) refl
+
+  known_idle : (p q : Phase) (x : Exchange) (m : Message) (full : List Message) → x.letter ≡ Some m → Idle p m full q → Known q (x ∷ [])
+  known_idle p q x m full there (early_request i method params reply at is early said next) = rw next (passed x m there (rw is refl))
+  known_idle p q x m full there (early_note at mute early said next) = rw next (passed x m there (early_no_exit m mute early))
+  known_idle p q x m full there (unasked shown at mute said next) = rw next (refl, λ closed. absurd (cc (closed)))
+  known_idle p q x m full there (uninvited shown at other said next) = rw next (refl, λ closed. absurd (cc (closed)))
+  known_idle p q x m full there (shuts i method params at is asks said next) = rw next (passed x m there (rw is refl))
+  known_idle p q x m full there (leaves at is said next) = rw next (refl, λ closed. (rw (there, is) refl))
+  known_idle p q x m full there (exits i at is said next) = rw next (refl, λ closed. absurd (cc (closed)))
+  known_idle p q x m full there (stays i shown at other said next) = rw next (refl, λ closed. absurd (cc (closed)))
+
+  known_row : (p q : Phase) (s s' : S) (x : Exchange) (full : List Message) → Row may p s x.letter full q s' → Known q (x ∷ [])
+  known_row p q s s' x full (at_initialize i method params outcome at is asks given said next) =
+      rw next (after_outcome may stop Passed Last outcome (x ∷ []) (passed x (request i method params) is refl))
+  known_row p q s s' x full (at_initialized m at there is given next) = rw next (passed x m there (initialized_is_no_exit m is))
+  known_row p q s s' x full (at_served m at there is given next) = rw next (passed x m there (served_is_no_exit m is))
+  known_row p q s s' x full (at_woken at none given next) = rw (next, none) refl
+  known_row p q s s' x full (idle m there same step row) = known_idle p q x m full there row
+
+  known : (p q : Phase) (s s' : S) (xs : List Exchange) → ended_by p ≡ None → Reaches may stop p s xs q s' → Known q xs
+  known p q s s' xs on reached =
+      holds may stop Passed Last refl (λ p q s s' x full row one none. known_row p q s s' x full row)
+      (λ q x rest first more. more_known (ended_by q) x rest first more)
+      p q s s' xs on (reaches_ran may stop p q s s' xs reached)
+
+module _ {S : Type 0} (may : Behavior S) where
+  at_no_more : (q : Phase) (s s' : S) (xs : List Exchange) (answer : SessionAnswer) → Known may no_more q xs → Stops may q s no_more answer s'
+      → Facts no_more (letters_of xs) answer
+  at_no_more (ended null by) s s' xs answer is stops = absurd stops
+  at_no_more q s s' xs answer is stops = rw stops.0 (refl, refl, is)
+
+  at_exhausted : (q : Phase) (s s' : S) (answer : SessionAnswer) → Stops may q s exhausted answer s' → ran_out answer ≡ true
+  at_exhausted (ended null by) s s' answer stops = absurd stops
+  at_exhausted serving s s' answer stops = rw stops refl
+  at_exhausted q s s' answer stops = rw stops.0 refl
+
+  pub session_facts : (p : Phase) (s s' : S) → ended_by p ≡ None → (xs : List Exchange) (stop : Stop) (null : Option Message) (answer : SessionAnswer)
+      → SessionFrom may p s s' xs stop null answer → Facts stop (letters_of xs) answer
+  session_facts p s s' on xs decided null answer out =
+      at (ended_by out.last) (stops_by may out.last out.after s' decided answer out.stopped) (known may decided p out.last s out.after xs on out.reached)
+    where
+      at : (by : Option SessionAnswer) → MatchOption by (decided ≡ decided → ⊥) (λ by. (decided ≡ decided) × (answer ≡ by))
+          → MatchOption by (Passed xs) (λ answer. Last xs answer) → Facts decided (letters_of xs) answer
+      at None none is = absurd (none refl)
+      at (Some by) stops is = rw stops.1 is
+  session_facts p s s' on xs no_more null answer out = at_no_more out.last out.after s' xs answer
+      (known may no_more p out.last s out.after xs on out.reached) out.stopped
+  session_facts p s s' on xs exhausted null answer out = at_exhausted out.last out.after s' answer out.stopped
+  session_facts p s s' on xs stop null answer out = tt

@@ -9,19 +9,18 @@ use Rattle.lsp_message.specs.declared.frame.ReadFault.TheVariants.{Input, Memory
 use Rattle.lsp_message.specs.declared.frame.ReadFault.{ReadFault}
 use Rattle.lsp_message.specs.declared.frame.WriteFault.TheVariants.{Output, Memory as NoMemory}
 use Rattle.lsp_message.specs.declared.frame.WriteFault.{WriteFault}
-use Rattle.lsp_session.proofs.Handing.{begins}
-use Rattle.lsp_session.proofs.SessionFacts.{is_no_exit, Facts}
+use Rattle.lsp_session.proofs.Handing.{begins, AreFramesOf-push, breaks_off, taken_frames, taken_keeps, Appends-Keeps}
+use Rattle.lsp_session.proofs.Ran.{is_no_exit, Facts}
 use Rattle.lsp_session.proofs.Waiting.{FoldsTo-split}
-use Rattle.lsp_session.proofs.Writing.{AreFramesOf-push, breaks_off, taken_frames, taken_keeps, Appends-Keeps}
 use Rattle.lsp_session.specs.Boxes.{Sends, Takes}
 use Rattle.lsp_session.specs.Event.{Event, closed, message, timeout}
 use Rattle.lsp_session.specs.Finish.{FinishAnswer, FinishesAt}
 use Rattle.lsp_session.specs.FrameBoxes.{FrameOutboxSends, Told, kept_write}
 use Rattle.lsp_session.specs.ProtocolError.{out_of_memory}
-use Rattle.lsp_session.specs.Session.{Exchange, letters_of, sends_of, SessionAnswer, SessionPart, Stop, decided, no_more, timed_out, refused, exhausted}
+use Rattle.lsp_session.specs.Session.{Exchange, came_of, letters_of, sends_of, SessionAnswer, SessionPart, Stop, decided, no_more, timed_out, refused, exhausted}
 use Rattle.lsp_session.specs.SessionBytes.{BeginsWith, IsUnsent, LeftAfter, Ends, Wrote, Gives, GetsFirst}
 use Rattle.lsp_session.specs.SessionFault.{ran_out, came_to_no_more, plain_answer, read_fault, read_answer, session_answer}
-use Rattle.lsp_session.specs.SessionRun.{message_in, is_open, Brings, Runs, all_of, OffersLast, RefusesLast, Gets}
+use Rattle.lsp_session.specs.SessionRun.{came_in, is_open, Brings, Runs, all_of, OffersLast, RefusesLast, Gets}
 use Rattle.lsp_session.specs.StreamBoxes.{stream_of, StreamInboxGives}
 use Rattle.lsp_session.specs.Streams.{Stream, StreamGives, StreamReads, Reads}
 use Rattle.lsp_session.specs.declared.lifecycle.SendFault.TheVariants.{Closed as Shut, Memory as Full}
@@ -63,9 +62,13 @@ module _ {R : Type 0} (remaining : R → Option (List ℕ)) (limit : ℕ) where
         rw (named (ap (λ (s : StreamInbox R). s.reader.ghost_name) lost.3), ← same)
         (new.end, inr (lost.0, lost.1, lost.2, ap (λ (s : StreamInbox R). stream_of remaining s) lost.3))
 
+-- the messages of what came
+abbrev letters_in : List (Option Message) → List Message
+letters_in came = filter_map (λ (c : Option Message). c) came
+
 module _ (limit : ℕ) where
   -- an inbox that has ended brings nothing more
-  ended_brings : (events : List Event) (end : ReadEnd) (old new : Stream) → old.end ≡ Some end → FoldsTo (StreamGives limit) old events new → filter_map message_in events ≡ []
+  ended_brings : (events : List Event) (end : ReadEnd) (old new : Stream) → old.end ≡ Some end → FoldsTo (StreamGives limit) old events new → filter_map came_in events ≡ []
   ended_brings [] end old new is run = refl
   ended_brings (event ∷ events) end old new is run =
       let step = rw is at run.1 in
@@ -86,8 +89,8 @@ module _ (limit : ℕ) where
   module _ (m : Message) (text : List ℕ) (mid new : Stream) (events : List Event) (run : FoldsTo (StreamGives limit) mid events new) (still_open : list_all is_open events ≡ true) where
     open_then : (b : Bool) → is_exit m ≡ b → mid.end ≡ (if b then Some Exit else None)
         → Reads limit (Some text) (Ok (Some m)) mid.remaining
-        → ((rest : List ℕ) → mid.end ≡ None → mid.remaining ≡ Some rest → Brought rest (filter_map message_in events) new)
-        → Brought text (m ∷ filter_map message_in events) new
+        → ((rest : List ℕ) → mid.end ≡ None → mid.remaining ≡ Some rest → Brought rest (letters_in (filter_map came_in events)) new)
+        → Brought text (m ∷ letters_in (filter_map came_in events)) new
     open_then true exits is reads later = rw (ended_brings events Exit mid new is run, sym (ended_closes events Exit mid new is run still_open)) (record {
       at = (reading_within limit text).rest;
       read = ((reading_within limit text).rest, begins limit text m reads.0.0, refl);
@@ -99,14 +102,14 @@ module _ (limit : ℕ) where
         record { at = more.at; read = ((reading_within limit text).rest, begins limit text m reads.0.0, more.read); left = more.left; end = rw exits more.end }
 
   pub brought_open : (events : List Event) (text : List ℕ) (old new : Stream) → old.end ≡ None → old.remaining ≡ Some text → FoldsTo (StreamGives limit) old events new
-      → list_all is_open events ≡ true → Brought text (filter_map message_in events) new
+      → list_all is_open events ≡ true → Brought text (letters_in (filter_map came_in events)) new
   brought_open [] text old new unended known run still_open = record { at = text; read = refl; left = rw (sym run) known; end = rw (sym run) unended }
-  brought_open (timeout ∷ events) text old new unended known run still_open = absurd (rw unended at run.1)
   brought_open (closed ∷ events) text old new unended known run still_open = absurd (cc (still_open))
   brought_open (message m ∷ events) text old new unended known run still_open =
       let step = rw (unended, known) at run.1 in
       open_then m text run.0 new events run.2 still_open (is_exit m) refl step.0 step.1
       (λ rest still left. brought_open events rest run.0 new still left run.2 still_open)
+  brought_open (event ∷ events) text old new unended known run still_open = absurd (rw unended at run.1)
 
   -- an inbox that reads has no timeouts
   pub no_timeout : (earlier : List Event) (old new : Stream) → FoldsTo (StreamGives limit) old (earlier ++ timeout ∷ []) new → ⊥
@@ -288,61 +291,65 @@ module _ (limit : ℕ) where
       pub read : BeginsWith limit text letters at
       pub reads : StreamReads limit (Some at) closed new.end new.remaining
 
-    closed_at : (earlier : List Event) (letters : List Message) → events ≡ earlier ++ closed ∷ [] → list_all is_open earlier ≡ true → filter_map message_in events ≡ letters
-        → list_all is_no_exit letters ≡ true → ClosedAt letters
-    closed_at earlier letters cut still_open brings no_exit =
+    closed_at : (earlier : List Event) (came : List (Option Message)) → events ≡ earlier ++ closed ∷ [] → list_all is_open earlier ≡ true → filter_map came_in events ≡ came
+        → list_all is_no_exit (letters_in came) ≡ true → ClosedAt (letters_in came)
+    closed_at earlier came cut still_open brings no_exit =
         let last = last_event earlier closed old new (rw cut at run) in
-        let same : filter_map message_in earlier ≡ letters = rw (sym brings, cut, filter_map-append message_in earlier (closed ∷ []), append-nil) refl in
+        let same : filter_map came_in earlier ≡ came = rw (sym brings, cut, filter_map-append came_in earlier (closed ∷ []), append-nil) refl in
         let brought = rw same at (brought_open limit earlier text old last.0 unended known last.1 still_open) in
         let unended' : last.0.end ≡ None = rw (brought.end, no_exit) refl in
         record { at = brought.at; read = brought.read; reads = rw (unended', brought.left) at last.2 }
+
+    open_brought : (came : List (Option Message)) → filter_map came_in events ≡ came → list_all is_open events ≡ true → Brought limit text (letters_in came) new
+    open_brought came brings still_open = rw brings at (brought_open limit events text old new unended known run still_open)
 
     open_within : (letters : List Message) → Brought limit text letters new → (at : List ℕ) × BeginsWith limit text letters at × StopsWithin new.remaining (reading_within limit at)
     open_within letters brought = (brought.at, brought.read, rw brought.left (frame_unread body_means limit brought.at))
 
     -- the letters that were used, and what is left after them
-    pub left_within : (letters : List Message) (stop : Stop) (answer : SessionAnswer) → Brings events letters stop → Facts stop letters answer
-        → (at : List ℕ) × BeginsWith limit text letters at × StopsWithin new.remaining (reading_within limit at)
-    left_within letters decided answer brought facts = open_within letters (rw brought.0 at (brought_open limit events text old new unended known run brought.1))
-    left_within letters no_more answer brought facts = elim brought.1 [
-      | inl last ↦ let closed' = closed_at last.0 letters last.1 last.2 brought.0 facts.2 in (closed'.at, closed'.read, reads_within closed'.at new.end new.remaining closed'.reads)
-      | inr many ↦ open_within letters (rw brought.0 at (brought_open limit events text old new unended known run many.1))
+    pub left_within : (came : List (Option Message)) (stop : Stop) (answer : SessionAnswer) → Brings events came stop → Facts stop (letters_in came) answer
+        → (at : List ℕ) × BeginsWith limit text (letters_in came) at × StopsWithin new.remaining (reading_within limit at)
+    left_within came no_more answer brought facts = elim brought.1 [
+      | inl last ↦ let closed' = closed_at last.0 came last.1 last.2 brought.0 facts.2 in (closed'.at, closed'.read, reads_within closed'.at new.end new.remaining closed'.reads)
+      | inr many ↦ open_within (letters_in came) (open_brought came brought.0 many.1)
     ]
-    left_within letters timed_out answer brought facts = absurd (no_timeout limit brought.1.0 old new (rw brought.1.1 at run))
-    left_within letters (refused fault) answer brought facts = open_within letters (rw brought.0 at (brought_open limit events text old new unended known run brought.1))
-    left_within letters exhausted answer brought facts =
-        let all = rw brought.1 at (brought_open limit events text old new unended known run brought.2) in
-        let parts = FoldsTo-split (Begins limit) letters (brought.0 ∷ []) text all.at all.read in
+    left_within came timed_out answer brought facts = absurd (no_timeout limit brought.1.0 old new (rw brought.1.1 at run))
+    left_within came exhausted answer (None, brought, still_open) facts =
+        let all = open_within (letters_in (came ++ None ∷ [])) (open_brought (came ++ None ∷ []) brought still_open) in
+        let same : letters_in (came ++ None ∷ []) ≡ letters_in came = filter_map-append (λ (c : Option Message). c) came (None ∷ []) ∙ append-nil (letters_in came) in
+        subst (λ letters. (at : List ℕ) × BeginsWith limit text letters at × StopsWithin new.remaining (reading_within limit at)) same all
+    left_within came exhausted answer (Some next, brought, still_open) facts =
+        let all = open_brought (came ++ Some next ∷ []) brought still_open in
+        let read = subst (λ letters. BeginsWith limit text letters all.at) (filter_map-append (λ (c : Option Message). c) came (Some next ∷ [])) all.read in
+        let parts = FoldsTo-split (Begins limit) (letters_in came) (next ∷ []) text all.at read in
         let after : (reading_within limit parts.0).rest ≡ all.at = ap (λ (r : Reading Message). r.rest) parts.2.1 ∙ parts.2.2 in
         (parts.0, parts.1, ([], rw after all.left))
+    left_within came stop answer brought facts = open_within (letters_in came) (open_brought came brought.0 brought.1)
 
-    open_brought : (letters : List Message) → filter_map message_in events ≡ letters → list_all is_open events ≡ true → Brought limit text letters new
-    open_brought letters brings still_open = rw brings at (brought_open limit events text old new unended known run still_open)
-
-    module _ (letters : List Message) (null : Option Message) (answer : SessionAnswer) where
+    module _ (came : List (Option Message)) (null : Option Message) (answer : SessionAnswer) where
       -- where a message was not sent, nothing after the last one was taken, but for what is awaited after the null
-      left_unsent : (kind : ErrorKind) (null : Option Message) (stop : Stop) → Brings events letters stop → Facts stop letters answer → IsUnsent stop null
-          → (at : List ℕ) × BeginsWith limit text letters at × Ends limit new.remaining (Err (Write (Output kind))) answer stop null at
-      left_unsent kind (Some null) stop brought facts unsent = left_within letters stop answer brought facts
-      left_unsent kind None (refused fault) brought facts unsent = let all = open_brought letters brought.0 brought.1 in (all.at, all.read, all.left)
+      left_unsent : (kind : ErrorKind) (null : Option Message) (stop : Stop) → Brings events came stop → Facts stop (letters_in came) answer → IsUnsent stop null
+          → (at : List ℕ) × BeginsWith limit text (letters_in came) at × Ends limit new.remaining (Err (Write (Output kind))) answer stop null at
+      left_unsent kind (Some null) stop brought facts unsent = left_within came stop answer brought facts
+      left_unsent kind None (refused fault) brought facts unsent = let all = open_brought came brought.0 brought.1 in (all.at, all.read, all.left)
       left_unsent kind None stop brought facts unsent = absurd unsent
 
       -- no write failed
-      pub stop_ends : (sends : List Message) (a b : Option (List ℕ)) → GetsFrames sends a b → (stop : Stop) → Brings events letters stop → NotRefused stop
-          → Facts stop letters answer
-          → (at : List ℕ) × BeginsWith limit text letters at × Ended null sends a b new.remaining (read_answer answer new.end) answer stop at
+      pub stop_ends : (sends : List Message) (a b : Option (List ℕ)) → GetsFrames sends a b → (stop : Stop) → Brings events came stop → NotRefused stop
+          → Facts stop (letters_in came) answer
+          → (at : List ℕ) × BeginsWith limit text (letters_in came) at × Ended null sends a b new.remaining (read_answer answer new.end) answer stop at
       stop_ends sends a b wrote decided brought taken facts =
-          let all = open_brought letters brought.0 brought.1 in
-          (all.at, all.read, decided_ends null sends a b wrote answer letters text new all facts (list_all is_no_exit letters) refl)
+          let all = open_brought came brought.0 brought.1 in
+          (all.at, all.read, decided_ends null sends a b wrote answer (letters_in came) text new all facts (list_all is_no_exit (letters_in came)) refl)
       stop_ends sends a b wrote no_more brought taken facts = elim brought.1 [
-        | inl last ↦ let closed' = closed_at last.0 letters last.1 last.2 brought.0 facts.2 in
-            (closed'.at, closed'.read, closed_ends null sends a b wrote answer letters facts new.end new.remaining closed'.at closed'.reads)
-        | inr many ↦ let all = open_brought letters brought.0 many.1 in (all.at, all.read, many_ends null sends a b wrote answer letters text new all facts)
+        | inl last ↦ let closed' = closed_at last.0 came last.1 last.2 brought.0 facts.2 in
+            (closed'.at, closed'.read, closed_ends null sends a b wrote answer (letters_in came) facts new.end new.remaining closed'.at closed'.reads)
+        | inr many ↦ let all = open_brought came brought.0 many.1 in (all.at, all.read, many_ends null sends a b wrote answer (letters_in came) text new all facts)
       ]
       stop_ends sends a b wrote timed_out brought taken facts = absurd (no_timeout limit brought.1.0 old new (rw brought.1.1 at run))
       stop_ends sends a b wrote (refused fault) brought taken facts = absurd taken
       stop_ends sends a b wrote exhausted brought taken facts =
-          let left = left_within letters exhausted answer brought facts in
+          let left = left_within came exhausted answer brought facts in
           (left.0, left.1, exhausted_ends null sends a b wrote answer facts new.end new.remaining left.0 left.2)
 
   module _ {R W : Type 0} (remaining : R → Option (List ℕ)) (contents : W → Option (List ℕ))
@@ -385,17 +392,17 @@ module _ (limit : ℕ) where
             → Gives limit P text (remaining inbox'.reader.now) (contents outbox.writer.now) (contents outbox'.writer.now) (session_answer answer inbox'.end fault)
         at None written =
             let all = stop_ends text (stream_of remaining inbox) (stream_of remaining inbox') unended known runs.events run
-            (letters_of runs.exchanges) runs.null answer
+            (came_of runs.exchanges) runs.null answer
             (sends_of runs.exchanges) (contents outbox.writer.now) (contents outbox'.writer.now) written.1 runs.stop runs.brought written.0 facts in
             gives (read_answer answer inbox'.end) all.0 all.1 all.2
         at (Some (Output kind)) unwritten =
             let all = left_unsent text (stream_of remaining inbox) (stream_of remaining inbox') unended known runs.events run
-            (letters_of runs.exchanges) runs.null answer
+            (came_of runs.exchanges) runs.null answer
             kind runs.null runs.stop runs.brought facts unwritten.0 in
             gives (Err (Write (Output kind))) all.0 all.1 (all.2, (tt, unwritten.0, unwritten.1.0, unwritten.1.1, unwritten.1.2, unwritten.1.3))
         at (Some NoMemory) unwritten =
             let all = left_within text (stream_of remaining inbox) (stream_of remaining inbox') unended known runs.events run
-            (letters_of runs.exchanges) runs.stop answer runs.brought facts in
+            (came_of runs.exchanges) runs.stop answer runs.brought facts in
             gives (Err Memory) all.0 all.1 (all.2, unwritten.1)
 
     -- the same of the reader and the writer that were lent

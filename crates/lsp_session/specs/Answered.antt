@@ -1,12 +1,12 @@
 -- Which requests of a session get which replies (JSON-RPC 2.0, section 5).
 use Rattle.serde_json.specs.Data.{Data}
 use Rattle.std.specs.List.{AllZip, filter_map}
-use Rattle.std.specs.Prelude.{◌≡◌, ◌⊎◌, ℕ, List, [], ◌∷◌, ◌++◌, Result, IsErrAnd}
+use Rattle.std.specs.Prelude.{◌≡◌, ◌⊎◌, ℕ, List, [], ◌∷◌, ◌++◌, Some, Result, IsErrAnd}
 use Rattle.lsp_message.specs.Id.{Id}
 use Rattle.lsp_message.specs.Message.{Message, ErrorObject, request, response}
 use Rattle.lsp_message.specs.Methods.{request_id}
 use Rattle.lsp_session.specs.ProtocolError.{ShowsUnallowed}
-use Rattle.lsp_session.specs.Session.{Exchange, SessionAnswer, SessionPart, Stop, decided}
+use Rattle.lsp_session.specs.Session.{Exchange, letters_of, SessionAnswer, SessionPart, Stop, decided}
 
 -- the message is a reply under this id
 abbrev pub RepliesTo : Id → Message → Type 0
@@ -19,9 +19,9 @@ RepliesToEach = AllZip RepliesTo
 abbrev pub requests_of : List Message → List Id
 requests_of letters = filter_map request_id letters
 
--- for this message, where it is a request, one reply is sent, and nothing else
+-- for this message, where it is a request, one reply is sent, and nothing else; nothing for a wake
 abbrev pub IsReplied : Exchange → Type 0
-IsReplied x = RepliesToEach (requests_of (x.letter ∷ [])) x.said
+IsReplied x = RepliesToEach (requests_of (letters_of (x ∷ []))) x.said
 
 -- the same for each of these messages
 abbrev pub AllReplied : List Exchange → Type 0
@@ -34,7 +34,7 @@ pub record LastUnanswered (exchanges : List Exchange) (stop : Stop) (answer : Se
   pub id : Id
   pub method : List ℕ
   pub params : Data
-  pub cut : exchanges ≡ before ++ record { letter = request id method params; said = [] } ∷ []
+  pub cut : exchanges ≡ before ++ record { letter = Some (request id method params); said = [] } ∷ []
   pub replied : AllReplied before
   pub decides : stop ≡ decided
   pub unallowed : IsErrAnd answer ShowsUnallowed

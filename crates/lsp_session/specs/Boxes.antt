@@ -3,7 +3,7 @@ use Rattle.std.specs.List.{FoldsTo, list_all}
 use Rattle.std.specs.Prelude.{◌≡◌, Bool, true, false, List, [], ◌∷◌, ◌++◌, Result, Ok}
 use Rattle.lsp_message.specs.Message.{Message}
 use Rattle.lsp_message.specs.declared.msg.Message as msg
-use Rattle.lsp_session.specs.Event.{Event, message, timeout, closed}
+use Rattle.lsp_session.specs.Event.{Event, timeout}
 use Rattle.lsp_session.specs.declared.lifecycle.SendFault.{SendFault}
 use Rattle.lsp_session.specs.declared.lifecycle.SendFault.TheVariants.{Closed, Memory}
 
@@ -30,9 +30,8 @@ pub record Offers {O : Type 0} (sends : Sends O) (m : Message) (old new : O) : T
   pub sent : sends old m outcome new
 
 abbrev pub is_timeout : Event → Bool
-is_timeout (message m) = false
 is_timeout timeout = true
-is_timeout closed = false
+is_timeout event = false
 
 -- Some receives gave nothing but timeouts. For private clauses.
 pub record PassesTimeouts {I : Type 0} (receives : Receives I) (old new : I) : Type 0 where

@@ -27,8 +27,8 @@ IsUninvited fault = Shows expected_initialized fault ⊎ (fault ≡ out_of_memor
 -- the answer of an event that decides
 abbrev pub EventFinishes : Event → FinishAnswer → Type 0
 EventFinishes (message m) answer = MatchBool (is_initialized m) (answer ≡ Ok tt) (IsErrAnd answer IsUninvited)
-EventFinishes timeout answer = ⊥
 EventFinishes closed answer = answer ≡ Err disconnected
+EventFinishes event answer = ⊥
 
 -- the answer of a turn that decides
 abbrev pub Finishes : Turn → FinishAnswer → Type 0

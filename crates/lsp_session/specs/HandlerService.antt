@@ -19,5 +19,6 @@ module _ {H : Type 0} where
     initializes = λ old params outcome new. (outcome ≡ Ok (initialize_result (view old.capabilities.now))) × KeepsHandler old new;
     opens = λ old said new. (said ≡ []) × KeepsHandler old new;
     gives = λ old m said new. Handles answers notes old.handler.now m said new.handler.now × (new.handler.ghost_name ≡ old.handler.ghost_name);
+    wakes = λ old said new. (said ≡ []) × KeepsHandler old new;
     starves = KeepsHandler;
   }

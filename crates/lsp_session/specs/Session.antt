@@ -1,7 +1,8 @@
 -- A session of a server (LSP 3.17, "Server lifecycle"): what is sent for which message, and where a session may stop.
 use Rattle.serde_json.specs.Data.{Data}
 use Rattle.std.specs.Bool.{MatchBool}
-use Rattle.std.specs.Prelude.{◌≡◌, ◌⊎◌, ℕ, Bool, not, ◌&&◌, List, [], ◌∷◌, ◌++◌, Option, Some, None, Result, Ok, Err}
+use Rattle.std.specs.List.{filter_map}
+use Rattle.std.specs.Prelude.{◌≡◌, ◌⊎◌, ℕ, Bool, not, ◌&&◌, List, [], ◌∷◌, ◌++◌, map, Option, Some, None, Result, Ok, Err}
 use Rattle.lsp_message.specs.Id.{Id}
 use Rattle.lsp_message.specs.Message.{Message, ErrorObject, request, response}
 use Rattle.lsp_message.specs.Methods.{is_early, is_initialized, is_exit}
@@ -20,18 +21,23 @@ pub record Behavior (S : Type 0) : Type 1 where
   pub opens : S → List Message → S → Type 0
   -- at a message it may give these, in order, and change so
   pub gives : S → Message → List Message → S → Type 0
+  -- woken, since something that it waits for is ready, it may give these, in order, and change so
+  pub wakes : S → List Message → S → Type 0
   -- what it may be where an allocation failed in `initialize` or at `initialized`
   pub starves : S → S → Type 0
 
--- A message that came, and what the outbox was offered for it, in order. It took all of that, unless the session stopped there
--- since the outbox refused the last one, or that one is the null of `shutdown`, which may get lost.
+-- A message that came, or none where the service was woken, and what the outbox was offered for it, in order. It took all of that,
+-- unless the session stopped there since the outbox refused the last one, or that one is the null of `shutdown`, which may get lost.
 pub record Exchange : Type 0 where
-  pub letter : Message
+  pub letter : Option Message
   pub said : List Message
 
+-- what came, and the messages of that
+abbrev pub came_of : List Exchange → List (Option Message)
+came_of exchanges = map (λ (x : Exchange). x.letter) exchanges
+
 abbrev pub letters_of : List Exchange → List Message
-letters_of [] = []
-letters_of (x ∷ xs) = x.letter ∷ letters_of xs
+letters_of exchanges = filter_map (λ (came : Option Message). came) (came_of exchanges)
 
 abbrev pub sends_of : List Exchange → List Message
 sends_of [] = []
@@ -50,7 +56,7 @@ pub data Stop : Type 0 where
   timed_out : Stop
   -- the outbox refused the last message that it was offered
   refused : SendFault → Stop
-  -- an allocation failed at the message that came next
+  -- an allocation failed at the message that came next, or at a wake
   exhausted : Stop
 
 -- What is said of a session: its exchanges, where it stopped, the null of `shutdown`, which is the last message that is sent, and
@@ -99,19 +105,21 @@ Leaves m said next = (said ≡ []) × (next ≡ ended None (Ok Closed))
 
 module _ {S : Type 0} (may : Behavior S) where
   -- In this phase this message comes; this is sent for it; this is the next phase, and the service then. Before `initialize`
-  -- each other request is answered with an error, and a notification but `exit` is dropped.
-  abbrev pub Step : Phase → S → Message → List Message → Phase → S → Type 0
-  Step starting s (request i method params) said next s' =
+  -- each other request is answered with an error, and a notification but `exit` is dropped. With no message the service is woken:
+  -- from `initialized` up to `shutdown`, and nowhere else.
+  abbrev pub Step : Phase → S → Option Message → List Message → Phase → S → Type 0
+  Step starting s (Some (request i method params)) said next s' =
       MatchBool (is_initialize (request i method params))
       ((outcome : Result Data ErrorObject) × may.initializes s params outcome s' × (said ≡ response i outcome ∷ []) × (next ≡ phase_after outcome))
       ((reply : Message) × IsEarlyReply i reply × (said ≡ reply ∷ []) × (next ≡ starting) × (s' ≡ s))
-  Step starting s m said next s' = MatchBool (is_early m) ((said ≡ []) × (next ≡ starting)) (Fails expected_initialize starting said next) × (s' ≡ s)
-  Step replied s m said next s' =
+  Step starting s (Some m) said next s' = MatchBool (is_early m) ((said ≡ []) × (next ≡ starting)) (Fails expected_initialize starting said next) × (s' ≡ s)
+  Step replied s (Some m) said next s' =
       MatchBool (is_initialized m) (may.opens s said s' × (next ≡ serving)) (Fails expected_initialized replied said next × (s' ≡ s))
-  Step serving s m said next s' = MatchBool (is_served m) (may.gives s m said s' × (next ≡ serving)) (Leaves m said next × (s' ≡ s))
-  Step (asked i) s m said next s' =
+  Step serving s (Some m) said next s' = MatchBool (is_served m) (may.gives s m said s' × (next ≡ serving)) (Leaves m said next × (s' ≡ s))
+  Step serving s None said next s' = may.wakes s said s' × (next ≡ serving)
+  Step (asked i) s (Some m) said next s' =
       MatchBool (is_exit m) ((said ≡ []) × (next ≡ ended (Some (null_reply i)) (Ok ShutDown))) (Fails unexpected_in_shutdown (asked i) said next) × (s' ≡ s)
-  Step (ended null by) s m said next s' = ⊥
+  Step phase s letter said next s' = ⊥
 
   -- exchanges, one after another
   abbrev pub Steps : Phase → S → List Exchange → Phase → S → Type 0
@@ -121,7 +129,7 @@ module _ {S : Type 0} (may : Behavior S) where
   -- The outbox refused what was offered last, and what was to follow it for the same message was not offered.
   pub record CutsOff (phase : Phase) (s : S) (exchanges : List Exchange) (phase' : Phase) (s' : S) : Type 0 where
     pub earlier : List Exchange
-    pub letter : Message
+    pub letter : Option Message
     pub part : List Message
     pub unsaid : Message
     pub more : List Message
@@ -136,7 +144,7 @@ module _ {S : Type 0} (may : Behavior S) where
   Reaches stop phase s exchanges phase' s' = Steps phase s exchanges phase' s'
 
   -- In this phase, with this service, a session may stop so, give this answer, and leave the service as this. That the null is
-  -- refused is no matter. Where an allocation failed, the service may have been called for the message that came next.
+  -- refused is no matter. Where an allocation failed, the service may have been called for the message or the wake that came next.
   abbrev pub Stops : Phase → S → Stop → SessionAnswer → S → Type 0
   Stops (ended null by) s decided answer s' = (answer ≡ by) × (s' ≡ s)
   Stops (ended null by) s stop answer s' = ⊥

@@ -2,7 +2,7 @@
 use Rattle.serde_json.specs.Data.{Data}
 use Rattle.std.specs.Bool.{MatchBool}
 use Rattle.std.specs.List.{list_all}
-use Rattle.std.specs.Prelude.{◌≡◌, ◌⊎◌, ℕ, Bool, true, false, not, List, [], ◌∷◌, ◌++◌, Option, Some, None, Ok, IsErrAnd}
+use Rattle.std.specs.Prelude.{◌≡◌, ◌⊎◌, ℕ, Bool, true, false, not, List, [], ◌∷◌, ◌++◌, Option, Some, None, IsSome, IsSomeAnd, Ok, IsErrAnd}
 use Rattle.lsp_message.specs.Id.{Id}
 use Rattle.lsp_message.specs.Message.{Message, request, notification, response}
 use Rattle.lsp_message.specs.Methods.{is_initialize, is_initialized, is_shutdown, is_exit}
@@ -24,23 +24,24 @@ pub record EndsWithResult (exchanges : List Exchange) : Type 0 where
   pub params : Data
   pub result : Data
   pub asks : is_initialize (request id method params) ≡ true
-  pub cut : exchanges ≡ before ++ record { letter = request id method params; said = response id (Ok result) ∷ [] } ∷ []
+  pub cut : exchanges ≡ before ++ record { letter = Some (request id method params); said = response id (Ok result) ∷ [] } ∷ []
 
 -- `initialized` comes first
 abbrev pub IsInvited : List Exchange → Type 0
 IsInvited [] = ⊥
-IsInvited (x ∷ rest) = is_initialized x.letter ≡ true
+IsInvited (x ∷ rest) = IsSomeAnd x.letter (λ m. is_initialized m ≡ true)
 
 -- No message is left, or the one that decided: it came in the place of `initialized`, nothing is sent for it, and the fault shows it.
 abbrev pub IsUnopened : List Exchange → Stop → SessionAnswer → Type 0
 IsUnopened [] stop answer = Unit {0}
-IsUnopened (x ∷ rest) stop answer = (rest ≡ []) × (x.said ≡ []) × (stop ≡ decided) × IsErrAnd answer (Shows expected_initialized)
+IsUnopened (x ∷ rest) stop answer = (rest ≡ []) × IsSome x.letter × (x.said ≡ []) × (stop ≡ decided) × IsErrAnd answer (Shows expected_initialized)
 
 -- After the null no message comes, or one that decides, and nothing is sent for it.
 abbrev pub AfterNull : List Exchange → Stop → SessionAnswer → Type 0
 AfterNull [] stop answer = Unit {0}
 AfterNull (x ∷ rest) stop answer =
-    (rest ≡ []) × (x.said ≡ []) × (stop ≡ decided) × MatchBool (is_exit x.letter) (answer ≡ Ok ShutDown) (IsErrAnd answer (Shows unexpected_in_shutdown))
+    (rest ≡ []) × (x.said ≡ []) × (stop ≡ decided)
+    × IsSomeAnd x.letter (λ m. MatchBool (is_exit m) (answer ≡ Ok ShutDown) (IsErrAnd answer (Shows unexpected_in_shutdown)))
 
 abbrev pub is_no_shutdown : Message → Bool
 is_no_shutdown m = not (is_shutdown m)
@@ -52,7 +53,7 @@ pub record EndsWithNull (exchanges : List Exchange) (stop : Stop) (null : Option
   pub method : List ℕ
   pub params : Data
   pub after : List Exchange
-  pub cut : exchanges ≡ before ++ record { letter = request id method params; said = null_reply id ∷ [] } ∷ after
+  pub cut : exchanges ≡ before ++ record { letter = Some (request id method params); said = null_reply id ∷ [] } ∷ after
   pub none_before : list_all is_no_shutdown (letters_of before) ≡ true
   pub asks : is_shutdown (request id method params) ≡ true
   pub is_null : null ≡ Some (null_reply id)
@@ -75,9 +76,8 @@ pub record KeepsOrder (exchanges : List Exchange) (stop : Stop) (null : Option M
       ⊎ (IsUnopened rest stop answer × (null ≡ None))
 
 abbrev pub is_reply : Message → Bool
-is_reply (request i method params) = false
-is_reply (notification method params) = false
 is_reply (response i outcome) = true
+is_reply m = false
 
 -- `initialize` came and then `initialized`, and these messages, which were sent, hold all that was sent up to the result of `initialize`.
 abbrev pub OpenedBy : List Exchange → List Message → Type 0

@@ -1,36 +1,35 @@
--- A session over boxes: what was received are the messages of its exchanges, and what the outbox got is all that it sent.
+-- A session over boxes: what was received are the messages and wakes of its exchanges, and what the outbox got is all that it sent.
 use Rattle.std.specs.List.{FoldsTo, list_all, filter_map}
 use Rattle.std.specs.Prelude.{◌≡◌, ◌≤◌, ◌-◌, ◌^◌, ◌⊎◌, Bool, true, false, List, [], ◌∷◌, ◌++◌, length, Option, Some, None, Err}
 use Rattle.lsp_message.specs.Message.{Message}
 use Rattle.lsp_session.specs.Boxes.{Sends, Receives, Offers, Takes}
-use Rattle.lsp_session.specs.Event.{Event, message, timeout, closed}
-use Rattle.lsp_session.specs.Session.{SessionAnswer, SessionPart, Exchange, letters_of, sends_of, is_shutdown, Stop, decided, no_more, timed_out, refused, exhausted}
+use Rattle.lsp_session.specs.Event.{Event, message, timeout, closed, woken}
+use Rattle.lsp_session.specs.Session.{SessionAnswer, SessionPart, Exchange, came_of, sends_of, is_shutdown, Stop, decided, no_more, timed_out, refused, exhausted}
 use Rattle.lsp_session.specs.declared.lifecycle.SendFault.{SendFault}
 
--- the message that an event brings
-abbrev pub message_in : Event → Option Message
-message_in (message m) = Some m
-message_in timeout = None
-message_in closed = None
+-- what an event brings to a session: a message, or none where it is a wake
+abbrev pub came_in : Event → Option (Option Message)
+came_in (message m) = Some (Some m)
+came_in woken = Some None
+came_in event = None
 
 -- more may come after the event
 abbrev pub is_open : Event → Bool
-is_open (message m) = true
-is_open timeout = true
 is_open closed = false
+is_open event = true
 
--- The events brought these letters and no other message, and ended as the letters did. At a failed allocation one more
--- message came. After 2^64 - 1 events or more a session may end as if no more came.
-abbrev pub Brings : List Event → List Message → Stop → Type 0
-Brings events letters decided = (filter_map message_in events ≡ letters) × (list_all is_open events ≡ true)
-Brings events letters no_more =
-    (filter_map message_in events ≡ letters)
+-- The events brought these messages and wakes, in order, and no other, and ended as these did. At a failed allocation one more
+-- message or wake came. After 2^64 - 1 events or more a session may end as if no more came.
+abbrev pub Brings : List Event → List (Option Message) → Stop → Type 0
+Brings events came decided = (filter_map came_in events ≡ came) × (list_all is_open events ≡ true)
+Brings events came no_more =
+    (filter_map came_in events ≡ came)
     × (((earlier : List Event) × (events ≡ earlier ++ closed ∷ []) × (list_all is_open earlier ≡ true))
     ⊎ ((2 ^ 64 - 1 ≤ length events) × (list_all is_open events ≡ true)))
-Brings events letters timed_out =
-    (filter_map message_in events ≡ letters) × ((earlier : List Event) × (events ≡ earlier ++ timeout ∷ []) × (list_all is_open earlier ≡ true))
-Brings events letters (refused fault) = (filter_map message_in events ≡ letters) × (list_all is_open events ≡ true)
-Brings events letters exhausted = (next : Message) × (filter_map message_in events ≡ letters ++ next ∷ []) × (list_all is_open events ≡ true)
+Brings events came timed_out =
+    (filter_map came_in events ≡ came) × ((earlier : List Event) × (events ≡ earlier ++ timeout ∷ []) × (list_all is_open earlier ≡ true))
+Brings events came (refused fault) = (filter_map came_in events ≡ came) × (list_all is_open events ≡ true)
+Brings events came exhausted = (next : Option Message) × (filter_map came_in events ≡ came ++ next ∷ []) × (list_all is_open events ≡ true)
 
 -- After the message `shutdown`, which is answered with null, exactly one event was awaited.
 abbrev pub AwaitsExit : List Event → Option Message → Type 0
@@ -66,7 +65,7 @@ module _ {I O : Type 0} (receives : Receives I) (sends : Sends O) where
     pub received : FoldsTo receives old.0 events new.0
     pub exchanges : List Exchange
     pub stop : Stop
-    pub brought : Brings events (letters_of exchanges) stop
+    pub brought : Brings events (came_of exchanges) stop
     pub output : List Message
     pub null : Option Message
     pub all : all_of output null ≡ sends_of exchanges

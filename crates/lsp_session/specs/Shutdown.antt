@@ -6,7 +6,7 @@ use Rattle.lsp_message.specs.Id.{Id}
 use Rattle.lsp_message.specs.Message.{Message, request}
 use Rattle.lsp_message.specs.Methods.{is_exit}
 use Rattle.lsp_session.specs.Boxes.{Sends, Receives, Offers}
-use Rattle.lsp_session.specs.Event.{Event, message, timeout, closed}
+use Rattle.lsp_session.specs.Event.{Event, message, timeout, closed, woken}
 use Rattle.lsp_session.specs.ProtocolError.{ProtocolFault, unexpected_in_shutdown, shutdown_timeout, shutdown_disconnected, out_of_memory, Shows}
 use Rattle.lsp_session.specs.Replies.{null_reply}
 
@@ -22,6 +22,7 @@ abbrev pub EventShutsDown : Event → ShutdownAnswer → Type 0
 EventShutsDown (message m) answer = MatchBool (is_exit m) (answer ≡ Ok true) (IsErrAnd answer IsNoExit)
 EventShutsDown timeout answer = answer ≡ Err shutdown_timeout
 EventShutsDown closed answer = answer ≡ Err shutdown_disconnected
+EventShutsDown woken answer = ⊥
 
 module _ {I O : Type 0} (receives : Receives I) (sends : Sends O) where
   -- The null is offered, whatever the outbox answers, and one event gives the answer.

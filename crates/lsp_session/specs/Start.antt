@@ -28,10 +28,9 @@ start_view (Err fault) = Err fault
 
 -- the turn leaves the handshake undecided
 abbrev pub is_undecided : Turn → Bool
-is_undecided stopped = false
-is_undecided (got closed) = false
 is_undecided (got timeout) = true
 is_undecided (got (message m)) = is_early m
+is_undecided turn = false
 
 -- the answer of a message that decides
 abbrev pub MessageDecides : Message → StartAnswer → Type 0
@@ -43,8 +42,8 @@ MessageDecides (response i outcome) answer = IsErrAnd answer (Shows expected_ini
 abbrev pub Decides : Turn → StartAnswer → Type 0
 Decides stopped answer = answer ≡ Err aborted
 Decides (got closed) answer = answer ≡ Err disconnected
-Decides (got timeout) answer = ⊥
 Decides (got (message m)) answer = MessageDecides m answer
+Decides turn answer = ⊥
 
 -- the id of the request that a turn brings, where it brings one
 abbrev pub request_of : Turn → Option Id

@@ -9,8 +9,8 @@ mod loops;
 
 pub use error::ProtocolError;
 pub use lifecycle::{
-    CallGate, Event, Gate, Inbox, ListGate, ListInbox, ListOutbox, OpenGate, Outbox, SendFault,
-    finish, finish_within, is_exit, shutdown, start_within, wait_within,
+    Arrival, CallGate, Event, Gate, Inbox, ListGate, ListInbox, ListOutbox, OpenGate, Outbox,
+    SendFault, finish, finish_within, is_exit, shutdown, start_within, wait_within,
 };
 pub use loops::{
     FrameOutbox, Handler, HandlerService, Output, ReadEnd, Service, SessionEnd, SessionFault,

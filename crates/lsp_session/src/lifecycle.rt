@@ -19,7 +19,7 @@
 ghost use Rattle.std.specs.Prelude.{◌≡◌, ◌≢◌, IfErr};
 ghost use Rattle.lsp_message.specs.View.{message_view};
 ghost use Rattle.lsp_session.specs.Boxes.{handed_back, WaitsFor};
-ghost use Rattle.lsp_session.specs.Event.{event_view, timeout};
+ghost use Rattle.lsp_session.specs.Event.{arrival_view, event_view, timeout};
 
 use lsp_message::Message;
 
@@ -49,6 +49,17 @@ pub enum Event {
     Closed,
 }
 
+/// What a session that serves its client waits for.
+#[derive(Debug, Drop)]
+pub enum Arrival {
+    /// A message came.
+    Message(Message),
+    /// Something that the service waits for is ready.
+    Woken,
+    /// Nothing will come any more.
+    Closed,
+}
+
 /// Gives messages one after another.
 pub trait Inbox {
     ghost use Rattle.lsp_session.specs.Event.{Event};
@@ -64,6 +75,18 @@ pub trait Inbox {
     fn receive(&mut self) -> Event
         ensures receives { WaitsFor receives self.old (event_view result) self.new }
         ensures never_timeout { event_view result ≢ timeout };
+
+    /// Waits for a message or a wake, without limit. A session calls it from `initialized` up to `shutdown` and nowhere else, so that
+    /// no service is woken before or after. An inbox that wakes writes it; any other one leaves it as it is, and gives no wake.
+    fn receive_or_woken(&mut self) -> Arrival
+        ensures { WaitsFor receives self.old (arrival_view result) self.new }
+    {
+        match self.receive() {
+            Event::Message(message) => Arrival::Message(message),
+            Event::Timeout => unreachable!(),
+            Event::Closed => Arrival::Closed,
+        }
+    }
 }
 
 /// Why a message was not taken. Each variant gives it back.

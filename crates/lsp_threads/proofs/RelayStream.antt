@@ -1,31 +1,119 @@
--- The inbox of a relay, over the messages that a thread read, gives what an inbox over the text itself gives.
-use Rattle.std.proofs.Common.{◌≡◌, ℕ, Bool, true, false, true≢false, List, [], ◌∷◌, ◌++◌, ◌∙◌, ap, sym, refl, map, append_assoc, append-nil, Option, Some, None, Ok, subst}
+-- What boxes over a relay of messages did: its inbox, over the messages that a thread read, gives what an inbox over the text itself gives.
+use Rattle.std.proofs.Common.{◌≡◌, List, [], ◌∷◌, ◌++◌, ◌∙◌, ℕ, ap, sym, refl, map, append_assoc, append-nil, Option, Some, None, IfSome, OnSome, Result, Ok, Err, subst, Bool, true, false, true≢false}
+use Rattle.std.proofs.KnownBytes.{Appends-trans}
+use Rattle.std.proofs.lemmas.Fn.{FoldsTo-push}
+use Rattle.std.specs.List.{FoldsTo}
+use Rattle.lsp_message.specs.Message as plain
+use Rattle.lsp_message.specs.View.{message_view}
+use Rattle.lsp_message.specs.Written.{GetsFrames, Writes}
+use Rattle.lsp_message.specs.declared.frame.WriteFault.{WriteFault}
+use Rattle.lsp_message.specs.declared.msg.Message.{Message}
+use Rattle.lsp_relay.specs.Relay.{Sending, ended, has_end}
+use Rattle.lsp_relay.specs.declared.ends.Parcel.{Parcel}
+use Rattle.lsp_relay.specs.declared.ends.Parcel.TheVariants as parcel
+use Rattle.lsp_session.proofs.Handing.{AreFramesOf-push, breaks_off}
+use Rattle.lsp_session.proofs.SessionGives.{NotRefused}
+use Rattle.lsp_session.specs.Boxes.{Takes}
+use Rattle.lsp_session.specs.Event.{Event, message, closed}
+use Rattle.lsp_session.specs.FrameBoxes.{kept_write}
+use Rattle.lsp_session.specs.ReadLoop.{Hands}
+use Rattle.lsp_session.specs.Session.{Stop, refused}
+use Rattle.lsp_session.specs.SessionRun.{all_of, Gets, OffersLast}
+use Rattle.lsp_session.specs.WriteLoop.{OffersAll}
+use Rattle.lsp_session.specs.declared.lifecycle.SendFault.{SendFault}
+use Rattle.lsp_session.specs.declared.loops.ReadEnd.{ReadEnd}
+use Rattle.lsp_threads.specs.RelayBoxes.{HandsOn, RelaySends, RelayGives, Receiving, WritesAll}
 use Rattle.std.proofs.lemmas.List.{append_cancel_left}
 use Rattle.std.specs.Bool.{MatchBool}
-use Rattle.std.specs.List.{FoldsTo}
 use Rattle.std.specs.Io.KnownBytes.{Keeps}
 use mathlib.Core.List.{IsPrefix}
 use Rattle.lsp_message.proofs.Contents.{frame_unread}
 use Rattle.lsp_message.specs.Frame.{body_means, reading_within}
 use Rattle.lsp_message.specs.Gathering.{TakesFront}
 use Rattle.lsp_message.specs.Letters.{Begins, is_exit}
-use Rattle.lsp_message.specs.Message as plain
 use Rattle.lsp_message.specs.Reading.{Reading}
-use Rattle.lsp_message.specs.View.{message_view}
 use Rattle.lsp_message.specs.declared.frame.ReadFault.TheVariants.{Input, Memory as NoMemory}
-use Rattle.lsp_message.specs.declared.msg.Message.{Message}
 use Rattle.lsp_relay.proofs.Parcels.{has_end_closed, has_end_push}
-use Rattle.lsp_relay.specs.Relay.{ended, has_end, Sending}
-use Rattle.lsp_relay.specs.declared.ends.Parcel.{Parcel}
-use Rattle.lsp_relay.specs.declared.ends.Parcel.TheVariants as parcel
-use Rattle.lsp_session.specs.Event.{Event, message, timeout, closed}
 use Rattle.lsp_session.specs.Streams.{Stream, StreamGives, StreamReads, Reads}
-use Rattle.lsp_session.specs.declared.loops.ReadEnd.{ReadEnd}
 use Rattle.lsp_session.specs.declared.loops.ReadEnd.TheVariants.{Exit, End, Fault, Closed, Memory}
 use Rattle.lsp_threads.proofs.Handed.{EndsAt, ReadsTo, After, handed_on}
-use Rattle.lsp_threads.proofs.RelayLemmas.{posted}
-use Rattle.lsp_threads.specs.RelayBoxes.{HandsOn, RelaySends, RelayGives, Receiving}
 use Rattle.lsp_threads.specs.Threads.{session_end}
+
+-- ---- what was sent
+sends_relay : (old : Sending Message) (m : plain.Message) (outcome : Result (Unit {0}) SendFault) (new : Sending Message) → RelaySends old m outcome new → new.relay ≡ old.relay
+sends_relay old m (Ok done) new sent = sent.0
+sends_relay old m (Err fault) new sent = absurd sent
+
+-- an outbox keeps the relay
+pub offered_relay : (old new : Sending Message) (ms : List plain.Message) → OffersAll RelaySends old ms new → new.relay ≡ old.relay
+offered_relay old new [] run = sym (ap (λ (s : Sending Message). s.relay) run)
+offered_relay old new (m ∷ ms) run = offered_relay run.0 new ms run.2 ∙ sends_relay old m run.1.outcome run.0 run.1.sent
+
+-- these messages were sent, in order
+pub record Posted (old : Sending Message) (ms : List plain.Message) (new : Sending Message) : Type 0 where
+  pub same_relay : new.relay ≡ old.relay
+  pub xs : List Message
+  pub views : map message_view xs ≡ ms
+  pub sent : new.sent ≡ old.sent ++ map parcel.Message xs
+
+pub posted : (old new : Sending Message) (ms : List plain.Message) → FoldsTo (Takes RelaySends) old ms new → Posted old ms new
+posted old new [] run = rw (sym run) (record { same_relay = refl; xs = []; views = refl; sent = sym (append-nil old.sent) })
+posted old new (m ∷ ms) run =
+    let later = posted run.0 new ms run.2 in
+    let x = run.1.1.0 in
+    let first : message_view x ≡ m = run.1.1.1 in
+    record {
+      same_relay = later.same_relay ∙ run.1.0;
+      xs = x ∷ later.xs;
+      views = λ i. first i ∷ later.views i;
+      sent = later.sent ∙ ap (λ l. l ++ map parcel.Message later.xs) run.1.1.2 ∙ append_assoc old.sent (parcel.Message x ∷ []) (map parcel.Message later.xs);
+    }
+
+-- what a loop handed on, and then End
+pub handed_parcels : (limit : ℕ) (known : Option (List ℕ)) (tx old mid : Sending Message) (left : Option (List ℕ)) (sent : List (Parcel Message)) (end : ReadEnd) → old ≡ tx
+    → IfSome known (λ text. Hands limit RelaySends text old mid left end) → sent ≡ mid.sent ++ parcel.End ∷ [] → IfSome known (λ text. HandsOn limit text tx end sent)
+handed_parcels limit None tx old mid left sent end same hands finished = tt
+handed_parcels limit (Some text) tx old mid left sent end same hands finished =
+    (mid, left, subst (λ (s : Sending Message). Hands limit RelaySends text s mid left end) same hands, finished)
+
+module _ (old new : Sending Message) (output : List plain.Message) (mid : Sending Message) (run : FoldsTo (Takes RelaySends) old output mid) where
+  null_posted : (null : plain.Message) (outcome : Result (Unit {0}) SendFault) → RelaySends mid null outcome new → Posted old (output ++ null ∷ []) new
+  null_posted null (Ok done) sent = posted old new (output ++ null ∷ []) (FoldsTo-push (Takes RelaySends) old output mid null new run sent)
+  null_posted null (Err fault) sent = absurd sent
+
+  last_posted : (null : Option plain.Message) → OffersLast RelaySends mid null new → Posted old (all_of output null) new
+  last_posted None same = rw same (posted old mid output run)
+  last_posted (Some null) offers = null_posted null offers.outcome offers.sent
+
+-- a relay's outbox takes all of the output
+pub all_posted : (old new : Sending Message) (output : List plain.Message) (null : Option plain.Message) (stop : Stop) → Gets RelaySends old output null stop new
+    → NotRefused stop × Posted old (all_of output null) new
+all_posted old new output null (refused fault) got = absurd got.0.5
+all_posted old new output null stop got = (tt, last_posted old new output got.0 got.1 null got.2)
+
+-- ---- what was taken
+-- an inbox keeps the relay
+pub gives_relay : (events : List Event) (old new : Receiving Message) → FoldsTo RelayGives old events new → new.relay ≡ old.relay
+gives_relay [] old new run = sym (ap (λ (t : Receiving Message). t.relay) run)
+gives_relay (message m ∷ events) old new run = gives_relay events run.0 new run.2 ∙ run.1.0
+gives_relay (closed ∷ events) old new run = gives_relay events run.0 new run.2 ∙ run.1.0
+gives_relay (event ∷ events) old new run = absurd run.1
+
+-- ---- what was written
+module _ (ms : List plain.Message) (m : plain.Message) (a b c : Option (List ℕ)) where
+  -- one message more, or a beginning of its frame
+  written_more : (fault : Option WriteFault) → GetsFrames ms a b → Writes m b (kept_write fault) c → WritesAll (ms ++ m ∷ []) fault a c
+  written_more None got writes = (got.0 ++ writes.0, AreFramesOf-push ms got.0 m writes.0 got.1 writes.1, Appends-trans a b c got.0 writes.0 got.2 writes.2)
+  written_more (Some fault) got writes = (ms, m, [], refl, breaks_off ms m fault a b c got writes)
+
+module _ {V : Type 0} (contents : V → Option (List ℕ)) (first mid last : V) (ms : List plain.Message) (m : plain.Message) where
+  -- a message was taken, and written unless a write had failed
+  pub message_taken : (before after : Option WriteFault) → WritesAll ms before (contents first) (contents mid)
+      → (before ≡ None → Writes m (contents mid) (kept_write after) (contents last)) → OnSome before ((after ≡ before) × (last ≡ mid))
+      → WritesAll (ms ++ m ∷ []) after (contents first) (contents last)
+  message_taken None after so_far next same = written_more ms m (contents first) (contents mid) (contents last) after so_far (next refl)
+  message_taken (Some fault) after (whole, broken, unwritten, cut, got) next same =
+      rw (same.0, same.1) (whole, broken, unwritten ++ m ∷ [], ap (λ l. l ++ m ∷ []) cut ∙ append_assoc whole (broken ∷ unwritten) (m ∷ []), got)
 
 -- what an inbox took stays taken
 grows : (events : List Event) (old new : Receiving Message) → FoldsTo RelayGives old events new → IsPrefix old.taken new.taken
@@ -33,12 +121,12 @@ grows [] old new run = ([], append-nil old.taken ∙ ap (λ (t : Receiving Messa
 grows (message m ∷ events) old new run =
     let later = grows events run.0 new run.2 in
     (parcel.Message run.1.3.0 ∷ later.0, sym (append_assoc old.taken (parcel.Message run.1.3.0 ∷ []) later.0) ∙ ap (λ l. l ++ later.0) (sym run.1.3.2) ∙ later.1)
-grows (timeout ∷ events) old new run = absurd run.1
 grows (closed ∷ events) old new run = at (has_end old.taken) run.1.2 (grows events run.0 new run.2)
   where
     at : (b : Bool) → MatchBool b (run.0.taken ≡ old.taken) (run.0.taken ≡ old.taken ++ parcel.End ∷ []) → IsPrefix run.0.taken new.taken → IsPrefix old.taken new.taken
     at true same later = (later.0, ap (λ l. l ++ later.0) (sym same) ∙ later.1)
     at false more later = (parcel.End ∷ later.0, sym (append_assoc old.taken (parcel.End ∷ []) later.0) ∙ ap (λ l. l ++ later.0) (sym more) ∙ later.1)
+grows (event ∷ events) old new run = absurd run.1
 
 module _ (limit : ℕ) where
   -- bytes that were read are the first
@@ -99,22 +187,22 @@ module _ (limit : ℕ) where
     after_end : (events : List Event) (old : Receiving Message) (left : Option (List ℕ)) → has_end old.taken ≡ true → FoldsTo RelayGives old events new → Over events (done left) (done left)
     after_end [] old left ends run = (refl, rw (sym run, ends) refl)
     after_end (message m ∷ events) old left ends run = absurd (true≢false (sym ends ∙ run.1.1))
-    after_end (timeout ∷ events) old left ends run = absurd run.1
     after_end (closed ∷ events) old left ends run =
         let same : run.0.taken ≡ old.taken = rw ends at run.1.2 in
         let later = after_end events run.0 left (ap has_end same ∙ ends) run.2 in
         ((done left, (refl, refl, keeps left), later.0), later.1)
+    after_end (event ∷ events) old left ends run = absurd run.1
 
     after_exit : (events : List Event) (old : Receiving Message) (left : Option (List ℕ)) → read ≡ Exit → old.exited ≡ true → has_end old.taken ≡ false → ToCome old (parcel.End ∷ [])
         → FoldsTo RelayGives old events new → Over events (done left) (done left)
     after_exit [] old left exit exited still_open to_come run = (refl, rw (sym run, still_open, exited, exit) refl)
     after_exit (message m ∷ events) old left exit exited still_open to_come run =
         absurd (cc ((comes events old run.0 (parcel.Message run.1.3.0) (parcel.End ∷ []) run.1.3.2 run.2 to_come).1))
-    after_exit (timeout ∷ events) old left exit exited still_open to_come run = absurd run.1
     after_exit (closed ∷ events) old left exit exited still_open to_come run =
         let last : run.0.taken ≡ old.taken ++ parcel.End ∷ [] = rw still_open at run.1.2 in
         let later = after_end events run.0 left (ap has_end last ∙ has_end_closed old.taken) run.2 in
         ((done left, (refl, refl, keeps left), later.0), later.1)
+    after_exit (event ∷ events) old left exit exited still_open to_come run = absurd run.1
 
     none_left : (more : List Message) → map message_view more ≡ [] → more ≡ []
     none_left [] none = refl
@@ -138,7 +226,6 @@ module _ (limit : ℕ) where
     goes_on : (events : List Event) (old : Receiving Message) (at : List ℕ) (more : List Message) → has_end old.taken ≡ false → old.exited ≡ false → ToCome old (ended more)
         → ReadsTo limit at read (map message_view more) → NotFull read → FoldsTo RelayGives old events new → (s : Stream) × Over events (going at) s
     goes_on [] old at more still_open unexited to_come reads taken run = (going at, (refl, rw (sym run, still_open, unexited) refl))
-    goes_on (timeout ∷ events) old at more still_open unexited to_come reads taken run = absurd run.1
     goes_on (message m ∷ events) old at [] still_open unexited to_come reads taken run =
         absurd (cc ((comes events old run.0 (parcel.Message run.1.3.0) (ended []) run.1.3.2 run.2 to_come).1))
     goes_on (message m ∷ events) old at (y ∷ more) still_open unexited to_come reads taken run =
@@ -159,6 +246,7 @@ module _ (limit : ℕ) where
         let left = closes read at reads taken in
         let later = after_end events run.0 left.0 (ap has_end last ∙ has_end_closed old.taken) run.2 in
         (done left.0, ((done left.0, left.1, later.0), later.1))
+    goes_on (event ∷ events) old at more still_open unexited to_come reads taken run = absurd run.1
 
   -- the outbox of the thread that reads takes each message
   never_full : (read : ReadEnd) (mid new : Sending Message) → After limit RelaySends mid read new → (new ≡ mid) × NotFull read

@@ -2,7 +2,7 @@
 use Rattle.std.proofs.Common.{◌≡◌, refl, ◌∙◌, ap, subst, ℕ, false, List, [], ◌∷◌, ◌++◌, map, Some, None, Option, IfSome}
 use Rattle.std.specs.Bool.{MatchBool}
 use Rattle.std.specs.List.{FoldsTo}
-use Rattle.std.specs.Prelude.{Result, Ok, Err}
+use Rattle.std.specs.Prelude.{Result, Ok, Err, IfOk}
 use mathlib.Core.List.{IsPrefix}
 use Rattle.lsp_message.proofs.Contents.{frame_unread}
 use Rattle.lsp_message.specs.Frame.{body_means, reading_within}
@@ -16,9 +16,9 @@ use Rattle.lsp_relay.proofs.Parcels.{same_messages}
 use Rattle.lsp_relay.specs.Relay.{ended, has_end, Sending}
 use Rattle.lsp_relay.specs.declared.ends.Parcel.{Parcel}
 use Rattle.lsp_relay.specs.declared.ends.Parcel.TheVariants as parcel
-use Rattle.lsp_session.proofs.SessionFacts.{Facts}
+use Rattle.lsp_session.proofs.Ran.{Facts}
 use Rattle.lsp_session.proofs.SessionGives.{left_within, stop_ends, NotRefused}
-use Rattle.lsp_session.specs.Session.{Exchange, letters_of, sends_of, SessionAnswer, SessionPart, Stop}
+use Rattle.lsp_session.specs.Session.{Exchange, came_of, letters_of, sends_of, SessionAnswer, SessionPart, Stop}
 use Rattle.lsp_session.specs.SessionBytes.{BeginsWith, Wrote}
 use Rattle.lsp_session.specs.SessionFault.{read_answer, session_answer}
 use Rattle.lsp_session.specs.SessionRun.{all_of, Runs}
@@ -27,10 +27,10 @@ use Rattle.lsp_session.specs.declared.loops.ReadEnd.{ReadEnd}
 use Rattle.lsp_session.specs.declared.loops.handler.SessionEnd.{SessionEnd}
 use Rattle.lsp_session.specs.declared.loops.stream_session.SessionFault.{SessionFault}
 use Rattle.lsp_session.specs.declared.loops.stream_session.SessionFault.TheVariants.{Write, Memory}
-use Rattle.lsp_threads.proofs.RelayLemmas.{Posted, all_posted}
-use Rattle.lsp_threads.proofs.RelayStream.{as_stream}
+use Rattle.lsp_threads.proofs.RelayStream.{Posted, all_posted, as_stream}
 use Rattle.lsp_threads.specs.RelayBoxes.{HandsOn, RelayGives, RelaySends, Receiving, WritesAll, WritesTaken}
 use Rattle.lsp_threads.specs.Threads.{EndsInThreads, ThreadsGive, WroteInThreads, session_end}
+use Rattle.lsp_session.proofs.Lending.{over_as}
 
 -- what was written of a session over bytes, as one in threads says it
 wrote_so : (a b : Option (List ℕ)) (result : Result SessionEnd SessionFault) (stop : Stop) (null : Option Sent) (sends : List Sent) → Wrote a b result stop null sends
@@ -73,12 +73,12 @@ module _ (limit : ℕ) (P : SessionPart)
 
     gives : (fault : Option WriteFault) → WritesAll (sends_of runs.exchanges) fault a b → ThreadsGive limit P text a b (session_answer answer s.end fault)
     gives None written =
-        let all = stop_ends limit text _ s refl refl runs.events run (letters_of runs.exchanges) runs.null answer (sends_of runs.exchanges) a b written runs.stop runs.brought posts.0 facts in
+        let all = stop_ends limit text _ s refl refl runs.events run (came_of runs.exchanges) runs.null answer (sends_of runs.exchanges) a b written runs.stop runs.brought posts.0 facts in
         over (read_answer answer s.end) all.0 all.1 (s.remaining, all.2.0) (wrote_so a b (read_answer answer s.end) runs.stop runs.null (sends_of runs.exchanges) all.2.1)
     gives (Some fault) written = at fault written
       where
         read : (at : List ℕ) × BeginsWith limit text (letters_of runs.exchanges) at × StopsWithin s.remaining (reading_within limit at)
-        read = left_within limit text _ s refl refl runs.events run (letters_of runs.exchanges) runs.stop answer runs.brought facts
+        read = left_within limit text _ s refl refl runs.events run (came_of runs.exchanges) runs.stop answer runs.brought facts
 
         at : (fault : WriteFault) → WritesAll (sends_of runs.exchanges) (Some fault) a b → ThreadsGive limit P text a b (session_answer answer s.end (Some fault))
         at (Output kind) (whole, next, others, cut, got) =
@@ -105,3 +105,14 @@ module _ (limit : ℕ) (P : SessionPart)
     threads_give (Some text) handed =
         let s = as_stream limit inbox inbox' none unexited runs.events runs.received taken sent drained settled tx empty read text handed in
         subst (λ end. ThreadsGive limit P text a b (session_answer answer end fault)) s.1.1 (gives text s.0 s.1.0 fault output_written)
+
+-- A session in threads that is described otherwise.
+module _ (P Q : SessionPart)
+    (to : (xs : List Exchange) (stop : Stop) (null : Option Sent) (answer : SessionAnswer) → P xs stop null answer → Q xs stop null answer) (limit : ℕ) where
+  -- where the bytes are known, and both threads were started
+  pub started_as : {T F : Type 0} (contents : T → Option (List ℕ)) (answer_of : T → Result SessionEnd SessionFault) (known old : Option (List ℕ)) (result : Result T F)
+      → IfSome known (λ text. IfOk result (λ done. ThreadsGive limit P text old (contents done) (answer_of done)))
+      → IfSome known (λ text. IfOk result (λ done. ThreadsGive limit Q text old (contents done) (answer_of done)))
+  started_as contents answer_of None old result gives = tt
+  started_as contents answer_of (Some text) old (Ok done) gives = over_as P Q to limit text _ _ gives
+  started_as contents answer_of (Some text) old (Err fault) gives = tt

@@ -7,7 +7,7 @@ use Rattle.lsp_message.specs.View.{message_view}
 use Rattle.lsp_message.specs.Written.{GetsFrames}
 use Rattle.lsp_message.specs.declared.frame.WriteFault.{WriteFault}
 use Rattle.lsp_message.specs.declared.msg.Message.{Message}
-use Rattle.lsp_session.specs.Event.{Event, message, timeout, closed}
+use Rattle.lsp_session.specs.Event.{Event, message, closed}
 use Rattle.lsp_session.specs.ReadLoop.{Hands}
 use Rattle.lsp_session.specs.WriteLoop.{BreaksOffAt}
 use Rattle.lsp_session.specs.declared.lifecycle.SendFault.{SendFault}
@@ -36,9 +36,9 @@ abbrev pub RelayGives : Receiving Message → Event → Receiving Message → Ty
 RelayGives old (message m) new =
     (new.relay ≡ old.relay) × (has_end old.taken ≡ false) × (new.exited ≡ (if is_exit m then true else old.exited))
     × ((x : Message) × (message_view x ≡ m) × (new.taken ≡ old.taken ++ parcel.Message x ∷ []))
-RelayGives old timeout new = ⊥
 RelayGives old closed new =
     (new.relay ≡ old.relay) × (new.exited ≡ old.exited) × MatchBool (has_end old.taken) (new.taken ≡ old.taken) (new.taken ≡ old.taken ++ parcel.End ∷ [])
+RelayGives old event new = ⊥
 
 -- of these messages, the writer got frames of all, or of the first and then what the failed write of one left
 abbrev pub WritesAll : List plain.Message → Option WriteFault → Option (List ℕ) → Option (List ℕ) → Type 0

@@ -266,6 +266,7 @@ impl<R: Wait + Drop> Inbox for RelayInbox<R, Message> {
         self.next_event()
     }
 
+    #[tactic(auto, using(lsp_session::proofs::Waiting::waits_none))]
     fn receive(&mut self) -> Event {
         self.next_event()
     }

@@ -9,7 +9,7 @@ ghost use Rattle.lsp_session.specs.SessionRun.{Runs};
 ghost use Rattle.lsp_session.specs.Shutdown.{ShutsDownAt};
 
 use crate::error::ProtocolError;
-use crate::lifecycle::{Event, Inbox, OpenGate, Outbox, finish, is_exit, shutdown, start_within};
+use crate::lifecycle::{Arrival, Inbox, OpenGate, Outbox, finish, is_exit, shutdown, start_within};
 use crate::loops::handler::SessionEnd;
 use crate::loops::service::{Output, Service};
 use lsp_message::{Message, RequestId, Response, ResponseError};
@@ -21,10 +21,10 @@ use std::alloc::{AllocError, Global};
 /// Before `initialize` each request is answered with `ServerNotInitialized`, and each notification but `exit` is dropped.
 /// `initialize` is answered with the service's result. Where the service gives an error, that is the reply, and the session
 /// goes on as before `initialize`: a client may send it again (LSP 3.17, "Initialize Request", `retry`). When `initialized`
-/// came, what the service gives for it is sent. From then on each message goes to the service, a reply too, and what it gives is
-/// sent in order (before the next message is received: that is tested, and no part of the contract). `shutdown` is answered
-/// with null, and nothing follows it; `exit` then gives `ShutDown`. `Closed` comes where, from `initialized` on, `exit` comes
-/// without a `shutdown` or no more messages come. What comes at the wrong time is in the table of `lifecycle`.
+/// came, what the service gives for it is sent. From then on each message goes to the service, a reply too, and each wake of the inbox,
+/// up to `shutdown`. What it gives is sent in order (before the next message is received: that is tested, and no part of the contract).
+/// `shutdown` is answered with null, and nothing follows it; `exit` then gives `ShutDown`. `Closed` comes where, from `initialized` on,
+/// `exit` comes without a `shutdown` or no more messages come. What comes at the wrong time is in the table of `lifecycle`.
 ///
 /// An outbox that is closed to a message ends the session with `disconnected channel`, and a failed allocation with
 /// `out of memory`; what was to follow for that message is not sent. That the null could not be sent is ignored. After
@@ -56,8 +56,8 @@ pub fn serve_service<I: Inbox, O: Outbox, S: Service>(
     Err(ProtocolError::disconnected())
 }
 
-/// The session from `initialized` on: each message goes to the service, up to the first `shutdown` or `exit`, and what it gives
-/// is sent in order. That this is before the next message is received is tested, and no part of the contract.
+/// The session from `initialized` on: each message goes to the service, up to the first `shutdown` or `exit`, and so does each
+/// wake. What it gives is sent in order. That this is before the next message is received is tested, and no part of the contract.
 fn serve_messages<I: Inbox, O: Outbox, S: Service>(
     alloc: Global,
     inbox: &mut I,
@@ -68,10 +68,14 @@ fn serve_messages<I: Inbox, O: Outbox, S: Service>(
         (inbox.old, outbox.old) result (inbox.new, outbox.new) }
 {
     for _turn in 0..u64::MAX {
-        let message = match inbox.receive() {
-            Event::Message(message) => message,
-            Event::Timeout => unreachable!(),
-            Event::Closed => return Ok(SessionEnd::Closed),
+        let message = match inbox.receive_or_woken() {
+            Arrival::Message(message) => message,
+            Arrival::Woken => {
+                let output = service.woken()?;
+                send_output(outbox, output)?;
+                continue;
+            }
+            Arrival::Closed => return Ok(SessionEnd::Closed),
         };
         if is_exit(&message) {
             return Ok(SessionEnd::Closed);

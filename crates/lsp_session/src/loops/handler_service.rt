@@ -57,4 +57,8 @@ impl<'a, H: Handler> Service for HandlerService<'a, H> {
     fn response(&mut self, _response: Response) -> Result<Output, AllocError> {
         Ok(Output::Nothing)
     }
+
+    fn woken(&mut self) -> Result<Output, AllocError> {
+        Ok(Output::Nothing)
+    }
 }

@@ -20,7 +20,7 @@ pub enum Output {
 }
 
 /// What a session runs: it answers `initialize`, speaks first after `initialized`, and gives messages to send for each message
-/// after that. An outer `Err` is a failed allocation, and ends the session; nothing is sent for that message.
+/// after that, and for each wake. An outer `Err` is a failed allocation, and ends the session; nothing is sent for that message.
 pub trait Service {
     ghost use Rattle.lsp_session.specs.Session.{Behavior};
 
@@ -49,4 +49,9 @@ pub trait Service {
     /// The same of a response.
     fn response(&mut self, response: Response) -> Result<Output, AllocError>
         ensures { IfOk result (λ output. behavior.gives self.old (response_view response) (output_view output) self.new) };
+
+    /// What comes of a wake: something that it waits for is ready, and the inbox told so. It comes from `initialized` up to
+    /// `shutdown`, and nowhere else. A service that waits for nothing gives `Output::Nothing`.
+    fn woken(&mut self) -> Result<Output, AllocError>
+        ensures { IfOk result (λ output. behavior.wakes self.old (output_view output) self.new) };
 }

@@ -1,7 +1,7 @@
 use Rattle.lsp_session.proofs.Lending.{over_as}
 use Rattle.lsp_service.specs.Law.{LawfulSession}
 use Rattle.lsp_service.specs.QueuedServer.{ServerSession}
-use Rattle.lsp_service.proofs.Lawful.{keeps_laws, lawful}
+use Rattle.lsp_service.proofs.Taking.{keeps_laws, lawful}
 use Rattle.lsp_service.proofs.laws.server_keeps_laws.Goals as goal
 
 pub returns : goal.returns

@@ -1,7 +1,7 @@
 use Rattle.lsp_session.proofs.Lending.{runs_as}
 use Rattle.lsp_service.specs.Law.{LawfulSession}
 use Rattle.lsp_service.specs.QueuedServer.{ServerSession}
-use Rattle.lsp_service.proofs.Lawful.{lawful}
+use Rattle.lsp_service.proofs.Taking.{lawful}
 use Rattle.lsp_service.proofs.laws.server_over_boxes_keeps_laws.Goals as goal
 
 pub returns : goal.returns

@@ -1,7 +1,7 @@
 use Rattle.lsp_session.specs.Session.{SessionOut}
 use Rattle.lsp_session.proofs.Lending.{runs_as}
 use Rattle.lsp_service.specs.QueuedServer.{at_desk, ServerSession}
-use Rattle.lsp_service.proofs.Lawful.{session_of}
+use Rattle.lsp_service.proofs.Taking.{session_of}
 use Rattle.lsp_service.proofs.sessions.serve_with.Goals as goal
 
 pub returns : goal.returns

@@ -4,8 +4,7 @@ use Rattle.lsp_message.specs.Letters.{is_exit}
 use Rattle.lsp_message.specs.Reading.{Answers}
 use Rattle.lsp_message.specs.View.{message_view}
 use Rattle.lsp_session.specs.ReadLoop.{Hands}
-use Rattle.lsp_session.proofs.Writing.{offers_more}
-use Rattle.lsp_session.proofs.Handing.{Handed-more, hands_exit, hands_refused, hands_end, hands_fault, hands_on}
+use Rattle.lsp_session.proofs.Handing.{offers_more, Handed-more, hands_exit, hands_refused, hands_end, hands_fault, hands_on}
 use Rattle.lsp_session.proofs.loops.read_loop_within.Goals as goal
 
 pub returns-in-Ok-None-clause-handed : goal.returns-in-Ok-None-clause-handed

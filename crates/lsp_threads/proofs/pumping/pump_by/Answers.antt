@@ -3,7 +3,7 @@ use denote.Param.Send.{param_send, arg_send}
 use Rattle.std.proofs.Common.{subst, IfSome}
 use Rattle.std.proofs.MapsCrossing.{String-send}
 use Rattle.lsp_threads.specs.Framing.{HandsFrames}
-use Rattle.lsp_threads.proofs.Pumped.{pumped_over}
+use Rattle.lsp_threads.proofs.Frames.{pumped_over}
 use Rattle.lsp_threads.proofs.pumping.pump_by.Goals as goal
 
 pub start_reader-requires-send-M : goal.start_reader-requires-send-M

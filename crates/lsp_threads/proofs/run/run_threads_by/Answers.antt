@@ -5,7 +5,7 @@ use Rattle.lsp_session.specs.HandlerSession.{of_handler}
 use Rattle.lsp_session.specs.Session.{SessionOut}
 use Rattle.lsp_session.proofs.Lending.{session_as}
 use Rattle.lsp_threads.specs.declared.run.Threaded.{Threaded}
-use Rattle.lsp_threads.proofs.ThreadsAs.{started_as}
+use Rattle.lsp_threads.proofs.Sessions.{started_as}
 use Rattle.lsp_threads.proofs.run.run_threads_by.Goals as goal
 
 pub returns : goal.returns

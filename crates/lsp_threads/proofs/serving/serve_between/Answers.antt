@@ -1,12 +1,12 @@
 use Rattle.std.proofs.Common.{◌∙◌, ap, refl, sym}
 use Rattle.lsp_message.specs.declared.msg.Message.{Message}
-use Rattle.lsp_session.proofs.SessionFacts.{session_facts}
+use Rattle.lsp_session.proofs.Ran.{session_facts}
 use Rattle.lsp_session.specs.Session.{starting, SessionOut}
 use Rattle.lsp_session.specs.SessionFault.{session_answer}
 use Rattle.lsp_relay.specs.Relay.{Sending}
 use Rattle.lsp_threads.specs.RelayBoxes.{Receiving}
 use Rattle.lsp_threads.specs.Threads.{session_end}
-use Rattle.lsp_threads.proofs.RelayLemmas.{gives_relay, all_posted}
+use Rattle.lsp_threads.proofs.RelayStream.{gives_relay, all_posted}
 use Rattle.lsp_threads.proofs.Sessions.{threads_give}
 use Rattle.lsp_threads.proofs.serving.serve_between.Goals as goal
 

@@ -3,7 +3,7 @@ use Rattle.std.proofs.KnownBytes.{Appends-nil}
 use Rattle.std.proofs.lemmas.List.{map-append}
 use Rattle.lsp_message.specs.View.{message_view}
 use Rattle.lsp_relay.specs.declared.ends.Parcel.TheVariants as parcel
-use Rattle.lsp_threads.proofs.RelayLemmas.{message_taken}
+use Rattle.lsp_threads.proofs.RelayStream.{message_taken}
 use Rattle.lsp_threads.proofs.workers.write_messages.Goals as goal
 
 pub loop-init : goal.loop-init

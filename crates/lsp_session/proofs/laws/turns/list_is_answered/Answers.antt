@@ -1,4 +1,4 @@
-use Rattle.lsp_session.proofs.Listing.{start_decides, wait_decides, finish_decides}
+use Rattle.lsp_session.proofs.Waiting.{start_decides, wait_decides, finish_decides}
 use Rattle.lsp_session.proofs.laws.turns.list_is_answered.Goals as goal
 
 pub returns-clause-start : goal.returns-clause-start

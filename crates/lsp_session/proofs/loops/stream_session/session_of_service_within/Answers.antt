@@ -1,6 +1,6 @@
 use Rattle.std.proofs.Common.{refl, sym, ◌∙◌}
 use Rattle.lsp_session.specs.Session.{starting, SessionOut}
-use Rattle.lsp_session.proofs.SessionFacts.{session_facts}
+use Rattle.lsp_session.proofs.Ran.{session_facts}
 use Rattle.lsp_session.proofs.SessionGives.{session_gives}
 use Rattle.lsp_session.proofs.loops.stream_session.session_of_service_within.Goals as goal
 

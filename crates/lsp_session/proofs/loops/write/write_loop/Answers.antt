@@ -1,4 +1,4 @@
-use Rattle.lsp_session.proofs.Writing.{carries_more, writes_until_closed, writes_until_fault}
+use Rattle.lsp_session.proofs.Handing.{carries_more, writes_until_closed, writes_until_fault}
 use Rattle.lsp_session.proofs.loops.write.write_loop.Goals as goal
 
 pub returns-in-Closed : goal.returns-in-Closed

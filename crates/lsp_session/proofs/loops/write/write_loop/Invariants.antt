@@ -1,4 +1,4 @@
-use Rattle.lsp_session.proofs.Writing.{Carries}
+use Rattle.lsp_session.proofs.Handing.{Carries}
 use Rattle.lsp_session.proofs.loops.write.write_loop.Given as goal
 
 -- so many messages were written and offered so far

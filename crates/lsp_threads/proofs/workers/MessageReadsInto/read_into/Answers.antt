@@ -1,7 +1,7 @@
 use Rattle.std.proofs.Common.{◌∙◌, ap}
 use Rattle.lsp_message.specs.declared.msg.Message.{Message}
 use Rattle.lsp_relay.specs.Relay.{Sending}
-use Rattle.lsp_threads.proofs.RelayLemmas.{handed_parcels, offered_relay}
+use Rattle.lsp_threads.proofs.RelayStream.{handed_parcels, offered_relay}
 use Rattle.lsp_threads.proofs.workers.MessageReadsInto.read_into.Goals as goal
 
 pub returns-clause-relay : goal.returns-clause-relay

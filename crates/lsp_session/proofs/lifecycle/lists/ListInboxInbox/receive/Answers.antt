@@ -1,6 +1,5 @@
 use Rattle.std.proofs.Common.{arith}
-use Rattle.lsp_session.proofs.Listing.{gives_next, gives_closed}
-use Rattle.lsp_session.proofs.Waiting.{waits_after}
+use Rattle.lsp_session.proofs.Waiting.{gives_next, gives_closed, waits_after}
 use Rattle.lsp_session.proofs.lifecycle.lists.ListInboxInbox.receive.Goals as goal
 
 pub returns-in-Message-clause-receives : goal.returns-in-Message-clause-receives

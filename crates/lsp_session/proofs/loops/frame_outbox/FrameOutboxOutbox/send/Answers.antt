@@ -1,5 +1,5 @@
 use Rattle.std.proofs.Common.{refl, sym, ◌∙◌}
-use Rattle.lsp_session.proofs.Writing.{sent_while_open}
+use Rattle.lsp_session.proofs.Handing.{sent_while_open}
 use Rattle.lsp_session.proofs.loops.frame_outbox.FrameOutboxOutbox.send.Goals as goal
 
 pub returns-in-Ok-clause-sends : goal.returns-in-Ok-clause-sends
