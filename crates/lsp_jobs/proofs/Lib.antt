@@ -1,0 +1,4 @@
+pub mod AssignmentSend
+mod OneTask
+pub mod OrderSend
+pub mod Tables

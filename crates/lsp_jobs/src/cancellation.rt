@@ -1,0 +1,60 @@
+// How a job is told that nobody waits for its outcome any more.
+use std::alloc::{AllocError, Global};
+use std::sync::Arc;
+use std::sync::atomic::{AtomicBool, Ordering};
+
+/// Tells a job that nobody waits for its outcome any more (LSP 3.17, "Cancellation Support").
+#[derive(Drop)]
+pub struct CancellationToken {
+    request: Arc<AtomicBool, Global>,
+    pool: Arc<AtomicBool, Global>,
+}
+
+impl CancellationToken {
+    /// A token that is not cancelled. The error means that an allocation failed.
+    pub fn new(alloc: Global) -> Result<CancellationToken, AllocError> {
+        Ok(CancellationToken {
+            request: flag(alloc)?,
+            pool: flag(alloc)?,
+        })
+    }
+
+    /// The token of another request of the same pool.
+    pub(crate) fn of_pool(&self, alloc: Global) -> Result<CancellationToken, AllocError> {
+        Ok(CancellationToken {
+            request: flag(alloc)?,
+            pool: Arc::try_clone(&self.pool)?,
+        })
+    }
+
+    /// The same token, for another thread.
+    pub(crate) fn share(&self) -> Result<CancellationToken, AllocError> {
+        Ok(CancellationToken {
+            request: Arc::try_clone(&self.request)?,
+            pool: Arc::try_clone(&self.pool)?,
+        })
+    }
+
+    /// Whether the request was forgotten, another job was taken on under its id, or the pool ended. What the job comes to is dropped
+    /// then, so it may stop.
+    pub fn is_cancelled(&self) -> bool {
+        self.request.load(Ordering::SeqCst) || self.pool.load(Ordering::SeqCst)
+    }
+
+    /// Cancels the request of this token.
+    pub fn cancel(&self) {
+        self.request.store(true, Ordering::SeqCst);
+    }
+
+    /// Cancels all tokens of the pool.
+    pub(crate) fn cancel_all(&self) {
+        self.pool.store(true, Ordering::SeqCst);
+    }
+}
+
+fn flag(alloc: Global) -> Result<Arc<AtomicBool, Global>, AllocError> {
+    match Arc::new(alloc, AtomicBool::new(false)) {
+        Ok(flag) => Ok(flag),
+        Err(_) => Err(AllocError),
+    }
+}

@@ -1,0 +1,125 @@
+// The threads that run jobs. Each is started for any such task, since the check finds that it may own its ends only where it need not
+// look into the types.
+use crate::assignment::{Assignment, Task};
+use crate::cancellation::CancellationToken;
+use crate::job::{Job, Ran};
+use crossbeam_channel::{Receiver, Sender};
+use lsp_message::RequestId;
+use lsp_threads::StartFault;
+use std::sync::Wait;
+use std::thread::{JoinHandle, Threads, spawn};
+
+/// What a worker is given.
+pub(crate) trait Errand: Drop {
+    /// Whether somebody waits for what comes of it.
+    fn is_wanted(&self) -> bool;
+
+    /// Runs it to its end, and says for which request that was.
+    fn run<T: Wait>(self, rt: &T) -> RequestId;
+}
+
+/// A task for a worker.
+#[derive(Drop)]
+pub(crate) struct Order<J: Task<R>, R: Drop> {
+    pub(crate) id: RequestId,
+    pub(crate) assignment: Assignment<J, R>,
+    pub(crate) token: CancellationToken,
+}
+
+impl<J: Task<R>, R: Drop> Errand for Order<J, R> {
+    fn is_wanted(&self) -> bool {
+        !self.token.is_cancelled()
+    }
+
+    fn run<T: Wait>(self, rt: &T) -> RequestId {
+        let Order {
+            id,
+            assignment,
+            token,
+        } = self;
+        assignment.perform(rt, &token);
+        id
+    }
+}
+
+/// Runs errands until no more come, and tells of each that it ended.
+fn work<T: Wait + Drop, E: Errand>(rt: T, errands: Receiver<E>, ended: Sender<RequestId>) {
+    for _ in rt.forever() {
+        let Ok(errand) = errands.recv(&rt) else {
+            return;
+        };
+        if errand.is_wanted() {
+            let _ = ended.send(&rt, errand.run(&rt));
+        }
+    }
+}
+
+/// Starts a worker.
+fn start_worker<T, E>(
+    rt: &T,
+    errands: &Receiver<E>,
+    ended: &Sender<RequestId>,
+) -> Result<JoinHandle<()>, StartFault>
+where
+    T: Threads + Wait + Copy + Drop + Send + 'static,
+    E: Errand + Send + 'static,
+{
+    let Ok(errands) = errands.clone() else {
+        return Err(StartFault::Memory);
+    };
+    let Ok(ended) = ended.clone() else {
+        return Err(StartFault::Memory);
+    };
+    let theirs = *rt;
+    match spawn(rt, move || work(theirs, errands, ended)) {
+        Ok(handle) => Ok(handle),
+        Err(_) => Err(StartFault::Thread),
+    }
+}
+
+/// Starts this many workers. Those that were started before a fault are left in `workers`, which has room for all before the first
+/// starts.
+pub(crate) fn start_workers<T, E>(
+    rt: &T,
+    count: usize,
+    errands: Receiver<E>,
+    ended: &Sender<RequestId>,
+    workers: &mut Vec<JoinHandle<()>>,
+) -> Result<(), StartFault>
+where
+    T: Threads + Wait + Copy + Drop + Send + 'static,
+    E: Errand + Send + 'static,
+{
+    if workers.try_reserve(count).is_err() {
+        return Err(StartFault::Memory);
+    }
+    for _ in 0..count {
+        let worker = start_worker(rt, &errands, ended)?;
+        if workers.push(worker).is_err() {
+            return Err(StartFault::Memory);
+        }
+    }
+    Ok(())
+}
+
+/// The same, of jobs.
+pub(crate) fn start_job_workers<T, J>(
+    rt: &T,
+    count: usize,
+    orders: Receiver<Order<J, Ran>>,
+    ended: &Sender<RequestId>,
+    workers: &mut Vec<JoinHandle<()>>,
+) -> Result<(), StartFault>
+where
+    T: Threads + Wait + Copy + Drop + Send + 'static,
+    J: Job + Send + 'static,
+{
+    start_workers::<T, Order<J, Ran>>(rt, count, orders, ended, workers)
+}
+
+/// Joins threads.
+pub(crate) fn join_all<T: Threads>(rt: &T, workers: Vec<JoinHandle<()>>) {
+    for worker in workers {
+        worker.join(rt);
+    }
+}
