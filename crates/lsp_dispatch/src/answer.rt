@@ -1,5 +1,6 @@
 //! The answers of a dispatcher.
 use lsp_message::{Message, Notification, Request, Response};
+use std::error::Error;
 use std::fmt;
 
 /// What a dispatcher answers to a call: what to send, and what to do.
@@ -89,3 +90,5 @@ impl fmt::Display for DispatchFault {
         write!(f, "dispatch fault {}", self.number())
     }
 }
+
+impl Error for DispatchFault {}

@@ -208,6 +208,3 @@ fn not_found(alloc: Global, id: &RequestId) -> Result<Response, AllocError>
 {
     Response::method_not_found(alloc, id.clone()?)
 }
-
-#[cfg(test)]
-mod tests;

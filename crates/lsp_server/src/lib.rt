@@ -13,6 +13,7 @@ pub mod laws;
 mod memory;
 mod relays;
 mod servers;
+mod serving_thread;
 mod socket;
 mod stdio;
 mod transport;
@@ -32,10 +33,10 @@ pub use lsp_service::{
     session_of_service_within, session_with, session_with_within,
 };
 pub use lsp_session::{
-    CallGate, Event, FrameOutbox, Gate, Handler, Inbox, ListGate, ListInbox, ListOutbox, OpenGate,
-    Outbox, ProtocolError, ReadEnd, SendFault, SessionEnd, SessionFault, StreamInbox, WriteEnd,
-    finish, finish_within, read_loop, read_loop_within, serve, session, session_within, shutdown,
-    start_within, wait_within, write_loop,
+    Arrival, CallGate, Event, FrameOutbox, Gate, Handler, Inbox, ListGate, ListInbox, ListOutbox,
+    OpenGate, Outbox, ProtocolError, ReadEnd, SendFault, SessionEnd, SessionFault, StreamInbox,
+    WriteEnd, finish, finish_within, read_loop, read_loop_within, serve, session, session_within,
+    shutdown, start_within, wait_within, write_loop,
 };
 pub use lsp_threads::{
     Builders, PumpFault, StartFault, Threaded, pump, pump_within, run_threads,
@@ -44,3 +45,4 @@ pub use lsp_threads::{
 pub use memory::keep_freed_memory;
 pub use relays::{Parcel, RelayRx, RelayTx, relay};
 pub use servers::{run_threads_with, run_threads_with_by, run_threads_with_within};
+pub use serving_thread::{spawn, spawn_with};

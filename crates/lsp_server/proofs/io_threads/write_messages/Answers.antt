@@ -3,7 +3,7 @@ use Rattle.std.proofs.KnownBytes.{Appends-nil, Appends-trans}
 use Rattle.lsp_message.specs.Message.{Message}
 use Rattle.lsp_message.specs.Written.{GetsFrames, Writes}
 use Rattle.lsp_message.specs.declared.frame.WriteFault.{WriteFault}
-use Rattle.lsp_session.proofs.Writing.{AreFramesOf-push, breaks_off}
+use Rattle.lsp_session.proofs.Handing.{AreFramesOf-push, breaks_off}
 use Rattle.lsp_session.specs.WriteLoop.{BreaksOffAt}
 use Rattle.lsp_server.proofs.io_threads.write_messages.Goals as goal
 

@@ -1,5 +1,5 @@
 use Rattle.lsp_session.proofs.Lending.{over_as}
-use Rattle.lsp_service.proofs.Lawful.{lawful}
+use Rattle.lsp_service.proofs.Taking.{lawful}
 use Rattle.lsp_service.specs.Law.{LawfulSession}
 use Rattle.lsp_service.specs.QueuedServer.{ServerSession}
 use Rattle.lsp_server.proofs.laws.server_in_threads_keeps_laws.Goals as goal

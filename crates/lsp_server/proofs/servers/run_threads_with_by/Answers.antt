@@ -1,8 +1,8 @@
 use Rattle.lsp_session.specs.Session.{SessionOut}
-use Rattle.lsp_service.proofs.Lawful.{session_of}
+use Rattle.lsp_service.proofs.Taking.{session_of}
 use Rattle.lsp_service.specs.QueuedServer.{at_desk, ServerSession}
 use Rattle.lsp_threads.specs.declared.run.Threaded.{Threaded}
-use Rattle.lsp_threads.proofs.ThreadsAs.{started_as}
+use Rattle.lsp_threads.proofs.Sessions.{started_as}
 use Rattle.lsp_server.proofs.servers.run_threads_with_by.Goals as goal
 
 pub returns : goal.returns
