@@ -3,9 +3,6 @@
 /// The notification `exit`.
 pub const EXIT: &str = "Content-Length: 33\r\n\r\n{\"jsonrpc\":\"2.0\",\"method\":\"exit\"}";
 
-/// How many bytes that frame has.
-pub const EXIT_LENGTH: usize = 55;
-
 /// The same frame twice.
 pub const TWO_EXITS: &str =
     "Content-Length: 33\r\n\r\n{\"jsonrpc\":\"2.0\",\"method\":\"exit\"}Content-Length: 33\r\n\r\n{\"jsonrpc\":\"2.0\",\"method\":\"exit\"}";
@@ -27,9 +24,6 @@ pub const SHUTDOWN: &str =
 pub const SESSION: &str =
     "Content-Length: 46\r\n\r\n{\"jsonrpc\":\"2.0\",\"id\":1,\"method\":\"initialize\"}Content-Length: 40\r\n\r\n{\"jsonrpc\":\"2.0\",\"method\":\"initialized\"}Content-Length: 44\r\n\r\n{\"jsonrpc\":\"2.0\",\"id\":2,\"method\":\"shutdown\"}Content-Length: 33\r\n\r\n{\"jsonrpc\":\"2.0\",\"method\":\"exit\"}";
 
-/// How many bytes that session has.
-pub const SESSION_LENGTH: usize = 251;
-
 /// The reply to `initialize`, with no capabilities. It has 75 bytes.
 pub const CAPABILITIES: &str =
     "Content-Length: 53\r\n\r\n{\"jsonrpc\":\"2.0\",\"id\":1,\"result\":{\"capabilities\":{}}}";
@@ -49,17 +43,5 @@ pub const ECHO: &str =
 pub const ECHO_REPLY: &str =
     "Content-Length: 37\r\n\r\n{\"jsonrpc\":\"2.0\",\"id\":5,\"result\":[1]}";
 
-/// A request of id "x" and a method that no server knows.
-pub const UNKNOWN: &str =
-    "Content-Length: 41\r\n\r\n{\"jsonrpc\":\"2.0\",\"id\":\"x\",\"method\":\"foo\"}";
-
-/// The reply to it.
-pub const UNKNOWN_REPLY: &str =
-    "Content-Length: 79\r\n\r\n{\"jsonrpc\":\"2.0\",\"id\":\"x\",\"error\":{\"code\":-32601,\"message\":\"method not found\"}}";
-
 /// A notification of the method `x`.
 pub const NOTE: &str = "Content-Length: 30\r\n\r\n{\"jsonrpc\":\"2.0\",\"method\":\"x\"}";
-
-/// A reply that nobody asked for.
-pub const STRAY_REPLY: &str =
-    "Content-Length: 38\r\n\r\n{\"jsonrpc\":\"2.0\",\"id\":3,\"result\":null}";

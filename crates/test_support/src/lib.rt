@@ -9,7 +9,6 @@ pub mod handlers;
 pub mod messages;
 pub mod peer;
 pub mod shared;
-pub mod texts;
 
 /// How many seconds a test waits for the other side at most.
 pub const PATIENCE: u64 = 20;

@@ -1,6 +1,6 @@
 // What is sent before a call waits, and for how long it waits.
-use crate::calls::inbox_of;
-use crate::devices::{LaterInbox, TellingOutbox};
+use crate::sessions::calls::inbox_of;
+use crate::sessions::devices::{LaterInbox, TellingOutbox};
 use anyhow::Result;
 use lsp_message::{Request, RequestId};
 use lsp_session::{

@@ -1,9 +1,9 @@
-// Boxes that know of each other, and a handler that keeps its requests.
+// Boxes that know of each other, a handler that keeps its requests, and a service that is woken.
 ghost use Rattle.std.specs.Prelude.{◌≢◌};
 ghost use Rattle.lsp_session.specs.Event.{event_view, timeout};
 
 use lsp_message::{Message, Notification, Request, Response, ResponseError};
-use lsp_session::{Event, Handler, Inbox, Outbox, SendFault};
+use lsp_session::{Arrival, Event, Handler, Inbox, ListInbox, Outbox, Output, SendFault, Service};
 use serde_json::Value;
 use std::alloc::{AllocError, Global};
 use std::cell::Cell;
@@ -90,5 +90,82 @@ impl Handler for Returns {
             id: request.id,
             response_result: Ok(request.params),
         })
+    }
+}
+
+/// Gives the events of a list. Before each of them, the first too, it is ready to wake whoever asks for that.
+#[derive(Drop)]
+pub struct WakingInbox {
+    pub events: ListInbox,
+    pub is_ready: bool,
+}
+
+impl Inbox for WakingInbox {
+    ghost use Rattle.std.specs.Prelude.{⊤};
+
+    ghost receives = { λ _ _ _. ⊤ };
+
+    fn receive_for(&mut self, seconds: u64) -> Event {
+        self.is_ready = true;
+        self.events.receive_for(seconds)
+    }
+
+    fn receive(&mut self) -> Event {
+        self.is_ready = true;
+        self.events.receive()
+    }
+
+    fn receive_or_woken(&mut self) -> Arrival {
+        if self.is_ready {
+            self.is_ready = false;
+            return Arrival::Woken;
+        }
+        self.is_ready = true;
+        self.events.receive_or_woken()
+    }
+}
+
+/// Answers each request with null, and tells of each wake.
+#[derive(Drop)]
+pub struct Waits {
+    pub alloc: Global,
+}
+
+impl Service for Waits {
+    ghost use Rattle.std.specs.Prelude.{⊤};
+
+    ghost behavior = { record {
+      initializes = λ _ _ _ _. ⊤;
+      opens = λ _ _ _. ⊤;
+      gives = λ _ _ _ _. ⊤;
+      wakes = λ _ _ _. ⊤;
+      starves = λ _ _. ⊤;
+    } };
+
+    fn initialize(&mut self, _params: Value) -> Result<Result<Value, ResponseError>, AllocError> {
+        Ok(Ok(Value::Null))
+    }
+
+    fn initialized(&mut self) -> Result<Output, AllocError> {
+        Ok(Output::Nothing)
+    }
+
+    fn request(&mut self, request: Request) -> Result<Output, AllocError> {
+        Ok(Output::One(Message::Response(Response {
+            id: request.id,
+            response_result: Ok(Value::Null),
+        })))
+    }
+
+    fn notification(&mut self, _notification: Notification) -> Result<Output, AllocError> {
+        Ok(Output::Nothing)
+    }
+
+    fn response(&mut self, _response: Response) -> Result<Output, AllocError> {
+        Ok(Output::Nothing)
+    }
+
+    fn woken(&mut self) -> Result<Output, AllocError> {
+        Ok(Output::One(note(self.alloc, "woken")?))
     }
 }

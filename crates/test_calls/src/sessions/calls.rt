@@ -1,9 +1,10 @@
 // The calls of the lifecycle over lists.
+use crate::sessions::devices::{Waits, WakingInbox};
 use anyhow::{Context, Result};
 use lsp_message::{Request, RequestId};
 use lsp_session::{
-    Event, ListGate, ListInbox, ListOutbox, ProtocolError, finish, finish_within, serve, shutdown,
-    start_within, wait_within,
+    Event, ListGate, ListInbox, ListOutbox, ProtocolError, finish, finish_within, serve,
+    serve_service, shutdown, start_within, wait_within,
 };
 use serde_json::{Map, Value};
 use std::alloc::{AllocError, Global};
@@ -155,4 +156,20 @@ pub fn run_session(alloc: Global, row: &str) -> Result<String> {
         echo.asked, echo.told
     )?;
     Ok(text)
+}
+
+/// The same of a service that is woken, by an inbox that is ready to wake it before each event.
+pub fn run_woken(alloc: Global, row: &str) -> Result<String> {
+    let (room, events) = row.split_once(" | ").context("no events")?;
+    let mut inbox = WakingInbox {
+        events: inbox_of(alloc, events)?,
+        is_ready: true,
+    };
+    let mut outbox = ListOutbox::new(alloc, room.parse()?);
+    let text = match serve_service(alloc, &mut inbox, &mut outbox, &mut Waits { alloc }) {
+        Ok(end) => format!(in alloc; "{end:?}")?,
+        Err(error) => format!(in alloc; "{error}")?,
+    };
+    let sent = member_texts(alloc, outbox.sent.as_slice())?;
+    Ok(format!(in alloc; "{text}; sent {sent}")?)
 }

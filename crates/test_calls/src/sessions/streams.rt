@@ -1,6 +1,6 @@
 // Boxes, loops and sessions over readers and writers that cut, wait and fail.
-use crate::calls::inbox_of;
-use crate::devices::Returns;
+use crate::sessions::calls::inbox_of;
+use crate::sessions::devices::Returns;
 use anyhow::{Context, Result};
 use lsp_session::{
     FrameOutbox, Inbox, ListOutbox, Outbox, SendFault, StreamInbox, read_loop, read_loop_within,

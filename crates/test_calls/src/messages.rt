@@ -1,7 +1,4 @@
-//! Calls on messages, ids, queues and links that no table of rows reaches. Each line of standard input names a part, and below it stands what
-//! came. What has to come is worked out from JSON-RPC 2.0, LSP 3.17 and the doc comments of the faults.
-#![tactic(auto)]
-
+// Calls on messages, ids, queues and links.
 mod faults;
 mod ids;
 mod links;
@@ -10,19 +7,9 @@ mod streams;
 
 use anyhow::{Result, bail};
 use std::alloc::Global;
-use std::io;
 
-fn main(rt: HostRuntime) -> Result<()> {
-    let alloc = rt.alloc();
-    let table = io::read_to_string(alloc, rt.reader())?;
-    for part in table.as_str().lines() {
-        rt.println(part)?;
-        rt.println(came_of(alloc, part)?.as_str())?;
-    }
-    Ok(())
-}
-
-fn came_of(alloc: Global, part: &str) -> Result<String> {
+/// What came of a part.
+pub fn came_of(alloc: Global, part: &str) -> Result<String> {
     match part {
         "codes" => Ok(faults::codes(alloc)?),
         "read faults" => Ok(faults::read_faults(alloc)?),

@@ -1,9 +1,11 @@
 // The numbers and texts of codes and faults.
 use lsp_message::{ErrorCode, ReadFault, WriteFault};
 use lsp_queue::RegisterFault;
+use lsp_server::dispatch::DispatchFault;
 use std::alloc::{AllocError, Global};
 use std::fmt::Write;
 use std::io::ErrorKind;
+use test_support::messages::note;
 
 // The document that defines a code. Each code stands here, without `_`.
 fn source_of(code: ErrorCode) -> &'static str {
@@ -74,7 +76,7 @@ pub fn read_faults(alloc: Global) -> Result<String, AllocError> {
     Ok(text)
 }
 
-/// The number and the text of each fault of writing, and of registering.
+/// The number and the text of each fault of writing, of registering, and of a dispatcher.
 pub fn other_faults(alloc: Global) -> Result<String, AllocError> {
     let mut text = String::new(alloc);
     for fault in [WriteFault::Output(ErrorKind::WriteZero), WriteFault::Memory] {
@@ -84,6 +86,12 @@ pub fn other_faults(alloc: Global) -> Result<String, AllocError> {
         RegisterFault::Memory('x'),
         RegisterFault::Unwritable('x'),
         RegisterFault::Spent('x'),
+    ] {
+        write!(text, "{} {fault}, ", fault.number())?;
+    }
+    for fault in [
+        DispatchFault::Memory(note(alloc, "a")?),
+        DispatchFault::Spent(note(alloc, "a")?),
     ] {
         write!(text, "{} {fault}, ", fault.number())?;
     }
