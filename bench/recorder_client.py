@@ -1,5 +1,5 @@
 #!/usr/bin/env python3
-"""A client, `example_recorder` and a server, over TCP on 127.0.0.1: what is recorded, and what a replay says.
+"""A client, `example_recorder` and a server, over TCP on 127.0.0.1 and through pipes: what is recorded, and what a replay says.
 
 Each recording, each reply and each exit status is compared. It ends in status 1 at the first difference.
 """
@@ -8,6 +8,7 @@ import socket
 import subprocess
 import sys
 import tempfile
+import threading
 import time
 from pathlib import Path
 
@@ -45,9 +46,9 @@ def free_port():
 class Started:
     """A program, with the port at which it listens."""
 
-    def __init__(self, words, port=None):
+    def __init__(self, words, port=None, stdin=subprocess.DEVNULL):
         self.port = port
-        self.process = subprocess.Popen(words, stdin=subprocess.DEVNULL, stdout=subprocess.PIPE, stderr=subprocess.PIPE)
+        self.process = subprocess.Popen(words, stdin=stdin, stdout=subprocess.PIPE, stderr=subprocess.PIPE)
 
     def __enter__(self):
         return self
@@ -97,6 +98,10 @@ def recorder(server_port, log):
     return Started([RECORDER, "record", f"{HOST}:{port}", f"{HOST}:{server_port}", log], port)
 
 
+def piped_recorder(server_port, log):
+    return Started([RECORDER, "record", "-", f"{HOST}:{server_port}", log], stdin=subprocess.PIPE)
+
+
 def replay(log, demo):
     return Started([RECORDER, "replay", log, f"{HOST}:{demo.port}"])
 
@@ -107,6 +112,16 @@ def receive(client, wanted):
     while len(came) < len(wanted) and (piece := client.recv(len(wanted) - len(came))):
         came += piece
     expect("what came", came, wanted)
+
+
+def read_pipe(process, count=-1):
+    """So many bytes of what a program prints, or all up to its end."""
+    patience = threading.Timer(PATIENCE, process.kill)
+    patience.start()
+    try:
+        return process.stdout.read(count)
+    finally:
+        patience.cancel()
 
 
 def read_all(client):
@@ -158,6 +173,28 @@ def check_last_words(log):
     expect("the recording", log.read_bytes(), b"<- " + LAST_WORDS + b"\n")
 
 
+def check_pipes(log):
+    print("a session through pipes is recorded")
+    with server() as demo, piped_recorder(demo.port, log) as recording:
+        pipe = recording.process
+        for sent, wanted in SESSION:
+            pipe.stdin.write(frame(sent))
+            pipe.stdin.flush()
+            if wanted:
+                expect("what came", read_pipe(pipe, len(frame(wanted))), frame(wanted))
+        expect("what followed, and the end of the recorder", recording.end(), (0, b"", b""))
+        expect("the end of the server", demo.end(), (0, b"", b""))
+    expect("the recording", log.read_bytes(), lines_of(SESSION))
+    print("a client at a pipe learns that the server is gone")
+    with socket.create_server((HOST, 0)) as listener, piped_recorder(listener.getsockname()[1], log) as recording:
+        listener.settimeout(PATIENCE)
+        with listener.accept()[0] as theirs:
+            theirs.sendall(frame(LAST_WORDS))
+        expect("what came", read_pipe(recording.process), frame(LAST_WORDS))
+        expect("the end of the recorder", recording.end(), (0, b"", b""))
+    expect("the recording", log.read_bytes(), b"<- " + LAST_WORDS + b"\n")
+
+
 def check_replay(log):
     print("a recording is compared, and another answer is told")
     log.write_bytes(lines_of(SESSION))
@@ -179,7 +216,7 @@ def main():
             return 2
     try:
         with tempfile.TemporaryDirectory() as folder:
-            for check in [check_session, check_early_close, check_last_words, check_replay]:
+            for check in [check_session, check_early_close, check_last_words, check_pipes, check_replay]:
                 check(Path(folder) / "session.log")
     except Difference as difference:
         print(f"recorder_client.py: FAILED: {difference}", file=sys.stderr)

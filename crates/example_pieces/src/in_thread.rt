@@ -1,13 +1,11 @@
 //! A server in a thread of its own, and its client in memory: a test needs no socket and no second program.
 use crate::client::hold_session;
 use crate::handshake::{answer_initialize, answer_until_shutdown};
-use anyhow::{Result, bail};
-use crossbeam_channel::{Receiver, Sender};
-use lsp_server::{Connection, Message, ResponseError};
+use anyhow::Result;
+use lsp_server::{Connection, ResponseError, spawn};
 use serde_json::Value;
 use std::sync::Wait;
-use std::thread;
-use std::thread::{JoinHandle, Threads};
+use std::thread::Threads;
 use std::time::Clock;
 
 /// Starts a server in a thread, asks it one thing between the handshake and the shutdown, and gives what it answered.
@@ -16,58 +14,18 @@ where
     R: Threads + Wait + Clock + AllocGlobal + Copy + Drop + Send + 'static,
 {
     let (client, server) = Connection::memory(rt.alloc())?;
-    let thread = start_messages(rt, server.sender, server.receiver)?;
+    let thread = spawn(rt, server, serve)?;
     let answer = hold_session(rt, &client, method, params)?;
     // The server would wait for more.
     drop(client);
-    if !thread.join(rt) {
-        bail!("the server failed");
-    }
+    thread.join(rt)?;
     Ok(answer)
 }
 
-/// What the server's channels carry. The thread is started for any such type, since the check finds that it may own the ends of
-/// the channels only where it need not look into the type.
-trait Served {
-    /// The thread: whether the session ended as it should.
-    fn serve<R: Wait + Clock + AllocGlobal + Drop>(
-        rt: R,
-        sender: Sender<Self>,
-        receiver: Receiver<Self>,
-    ) -> bool;
-}
-
-impl Served for Message {
-    fn serve<R: Wait + Clock + AllocGlobal + Drop>(
-        rt: R,
-        sender: Sender<Message>,
-        receiver: Receiver<Message>,
-    ) -> bool {
-        let connection = Connection { sender, receiver };
-        answer_initialize(&rt, &connection).is_ok()
-            && answer_until_shutdown(&rt, &connection).is_ok()
-    }
-}
-
-/// Starts the server's thread.
-fn start_messages<R>(
-    rt: &R,
-    sender: Sender<Message>,
-    receiver: Receiver<Message>,
-) -> Result<JoinHandle<bool>>
-where
-    R: Threads + Wait + Clock + AllocGlobal + Copy + Drop + Send + 'static,
-{
-    start::<Message, R>(rt, sender, receiver)
-}
-
-fn start<M, R>(rt: &R, sender: Sender<M>, receiver: Receiver<M>) -> Result<JoinHandle<bool>>
-where
-    M: Served + Drop + Send + 'static,
-    R: Threads + Wait + Clock + AllocGlobal + Copy + Drop + Send + 'static,
-{
-    let theirs = *rt;
-    Ok(thread::spawn(rt, move || M::serve(theirs, sender, receiver))?)
+/// The server: the handshake, and then null for each request until the client shuts it down.
+fn serve<R: Wait + Clock + AllocGlobal + Drop>(rt: R, connection: Connection) -> Result<()> {
+    answer_initialize(&rt, &connection)?;
+    answer_until_shutdown(&rt, &connection)
 }
 
 #[cfg(test)]

@@ -1,11 +1,12 @@
-//! A recorder that sits between an editor and a language server, over TCP, and plays a recording again.
+//! A recorder that sits between an editor and a language server, and plays a recording again.
 //!
 //!     example_recorder record LISTEN SERVER FILE    pass all messages of one session on, and write them into the file
+//!     example_recorder record - SERVER FILE         the same for an editor that starts programs
 //!     example_recorder replay FILE                  write the client's messages of a recording to standard output, as frames
 //!     example_recorder replay FILE SERVER           send them to a server, and compare what it answers
 //!
-//! LISTEN and SERVER are addresses, such as 127.0.0.1:9257. A line of a recording is `->` and a body for a message to the
-//! server, `<-` and a body for one to the client.
+//! LISTEN and SERVER are addresses, such as 127.0.0.1:9257, and `-` is standard input and output. A line of a recording is `->` and a
+//! body for a message to the server, `<-` and a body for one to the client.
 #![tactic(auto)]
 
 mod line;
@@ -14,7 +15,7 @@ mod replay;
 
 use anyhow::{Result, bail};
 use lsp_server::Connection;
-use record::record;
+use record::{Until, record};
 use replay::{compare, write_frames};
 use std::io::BufWriter;
 use std::{fs, io};
@@ -24,9 +25,12 @@ fn main(rt: HostRuntime) -> Result<()> {
     match words.as_slice() {
         [word, listen, server, file] if word.as_str() == "record" => {
             let mut log = BufWriter::new(rt.alloc(), fs::create(&rt, file.as_str())?)?;
-            let client = Connection::listen(&rt, listen.as_str())?;
+            let (client, until) = match listen.as_str() {
+                "-" => (Connection::stdio(&rt)?, Until::ServerCloses),
+                addr => (Connection::listen(&rt, addr)?, Until::BothClose),
+            };
             let server = Connection::connect(&rt, server.as_str())?;
-            record(&rt, client, server, &mut log)
+            record(&rt, client, server, &mut log, until)
         }
         [word, file] if word.as_str() == "replay" => {
             let recording = fs::read_to_string(&rt, file.as_str())?;
@@ -39,6 +43,6 @@ fn main(rt: HostRuntime) -> Result<()> {
             threads.join(&rt)?;
             Ok(println!(rt; "{count} answers, each as recorded")?)
         }
-        _ => bail!("usage: example_recorder record LISTEN SERVER FILE | replay FILE [SERVER]"),
+        _ => bail!("usage: example_recorder record LISTEN|- SERVER FILE | replay FILE [SERVER]"),
     }
 }

@@ -2,21 +2,32 @@
 use crate::line::Way;
 use anyhow::Result;
 use crossbeam_channel::{Receiver, Sender, bounded};
-use lsp_server::{CHANNEL_ROOM, Connection, IoThreads, Message};
-use std::alloc::{AllocError, Global};
+use lsp_server::{CHANNEL_ROOM, Connection, IoThreads, spawn};
+use std::alloc::AllocError;
 use std::io::Write;
 use std::sync::Wait;
-use std::thread;
-use std::thread::{JoinHandle, Threads};
+use std::thread::Threads;
 
-/// A message that passed.
-#[derive(Drop)]
-struct Passed {
-    way: Way,
-    body: String,
+/// When a recording is over.
+#[derive(Clone, Copy, PartialEq, Eq)]
+pub enum Until {
+    /// Both sides have closed.
+    BothClose,
+    /// The server has closed. A client that reads standard output learns of it only when the program ends, so what it still sends is
+    /// let go.
+    ServerCloses,
 }
 
-/// Passes the messages of the two sides on to each other, and writes a line for each, until both have ended.
+/// What the threads tell the log.
+#[derive(Drop)]
+enum Entry {
+    /// This message passes.
+    Message { way: Way, body: String },
+    /// The side that sends this way has closed.
+    End(Way),
+}
+
+/// Passes the messages of the two sides on to each other, and writes a line for each, until the recording is over.
 ///
 /// A message is in the log before it is sent on, so an answer never stands before its request. Each way ends by itself: when
 /// a side has closed, the rest of what it sent is passed on, and then the other side reads the end. So nothing is lost, also
@@ -26,94 +37,94 @@ pub fn record<R, W: Write>(
     (client, client_threads): (Connection, IoThreads),
     (server, server_threads): (Connection, IoThreads),
     log: &mut W,
+    until: Until,
 ) -> Result<()>
 where
     R: Threads + Wait + AllocGlobal + Copy + Drop + Send + 'static,
 {
-    let (passed, entries) = bounded(rt.alloc(), CHANNEL_ROOM)?;
-    let also_passed = passed.clone()?;
-    let upward = start_messages(
+    let (told, entries) = bounded(rt.alloc(), CHANNEL_ROOM)?;
+    let also_told = told.clone()?;
+    let (upward, downward) = crossed(client, server);
+    let upward = spawn(
         rt,
-        Way::ToServer,
-        client.receiver,
-        server.sender,
-        also_passed,
+        upward,
+        move |rt, between| pass(rt, Way::ToServer, between, also_told),
     )?;
-    let downward = start_messages(rt, Way::ToClient, server.receiver, client.sender, passed)?;
-    for entry in entries.iter(rt) {
-        write_line(log, entry)?;
-    }
-    upward.join(rt)?;
+    let downward = spawn(
+        rt,
+        downward,
+        move |rt, between| pass(rt, Way::ToClient, between, told),
+    )?;
+    write_lines(rt, &entries, log, until)?;
     downward.join(rt)?;
-    client_threads.join(rt)?;
-    server_threads.join(rt)?;
-    Ok(())
-}
-
-fn write_line<W: Write>(log: &mut W, entry: Passed) -> Result<()> {
-    let mark = entry.way.mark();
-    let body = entry.body;
-    writeln!(log, "{mark} {body}")?;
-    log.flush()?;
-    Ok(())
-}
-
-/// What can be logged. The threads are started for any such type, since the check finds that they may own the ends of its
-/// channels only where it need not look into the type.
-trait Logged {
-    /// The text for the log.
-    fn body(&self, alloc: Global) -> Result<String, AllocError>;
-}
-
-impl Logged for Message {
-    fn body(&self, alloc: Global) -> Result<String, AllocError> {
-        self.body_text(alloc)
+    let client_threads = client_threads.flush(rt);
+    if until == Until::BothClose {
+        upward.join(rt)?;
+        client_threads.join(rt)?;
+        server_threads.join(rt)?;
     }
+    Ok(())
 }
 
-/// Starts the thread of one way.
-fn start_messages<R>(
+/// The two ways: each gives what one side sends, and takes it to the other side.
+fn crossed(client: Connection, server: Connection) -> (Connection, Connection) {
+    let upward = Connection {
+        sender: server.sender,
+        receiver: client.receiver,
+    };
+    let downward = Connection {
+        sender: client.sender,
+        receiver: server.receiver,
+    };
+    (upward, downward)
+}
+
+/// Writes a line for each message that passes.
+fn write_lines<R: Wait, W: Write>(
     rt: &R,
-    way: Way,
-    receiver: Receiver<Message>,
-    sender: Sender<Message>,
-    log: Sender<Passed>,
-) -> Result<JoinHandle<Result<(), AllocError>>>
-where
-    R: Threads + Wait + AllocGlobal + Copy + Drop + Send + 'static,
-{
-    start::<Message, R>(rt, way, receiver, sender, log)
+    entries: &Receiver<Entry>,
+    log: &mut W,
+    until: Until,
+) -> Result<()> {
+    for entry in entries.iter(rt) {
+        match entry {
+            Entry::Message { way, body } => {
+                let mark = way.mark();
+                writeln!(log, "{mark} {body}")?;
+                log.flush()?;
+            }
+            Entry::End(Way::ToClient) if until == Until::ServerCloses => return Ok(()),
+            Entry::End(_way) => {}
+        }
+    }
+    Ok(())
 }
 
-fn start<M, R>(
-    rt: &R,
-    way: Way,
-    receiver: Receiver<M>,
-    sender: Sender<M>,
-    log: Sender<Passed>,
-) -> Result<JoinHandle<Result<(), AllocError>>>
-where
-    M: Logged + Drop + Send + 'static,
-    R: Threads + Wait + AllocGlobal + Copy + Drop + Send + 'static,
-{
-    let theirs = *rt;
-    Ok(thread::spawn(rt, move || pass(theirs, way, receiver, sender, log))?)
-}
-
-/// Passes one side's messages on, until that side has ended or nobody keeps the log any more.
-fn pass<M: Logged + Drop, R: Wait + AllocGlobal + Drop>(
+/// Passes one side's messages on until that side has closed, and tells the log so.
+fn pass<R: Wait + AllocGlobal + Drop>(
     rt: R,
     way: Way,
-    receiver: Receiver<M>,
-    sender: Sender<M>,
-    log: Sender<Passed>,
+    between: Connection,
+    log: Sender<Entry>,
 ) -> Result<(), AllocError> {
-    for message in receiver.iter(&rt) {
-        let body = message.body(rt.alloc())?;
-        if log.send(&rt, Passed { way, body }).is_err() {
+    let passed = pass_messages(&rt, way, &between, &log);
+    let _ = log.send(&rt, Entry::End(way));
+    passed
+}
+
+/// Passes one side's messages on, until that side has closed or nobody keeps the log any more.
+fn pass_messages<R: Wait + AllocGlobal>(
+    rt: &R,
+    way: Way,
+    between: &Connection,
+    log: &Sender<Entry>,
+) -> Result<(), AllocError> {
+    for message in between.receiver.iter(rt) {
+        let body = message.body_text(rt.alloc())?;
+        if log.send(rt, Entry::Message { way, body }).is_err() {
             return Ok(());
         }
-        let _ = sender.send(&rt, message);
+        let _ = between.sender.send(rt, message);
     }
     Ok(())
 }
