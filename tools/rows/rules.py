@@ -607,3 +607,10 @@ def relay_answers(method):
     """What was sent comes first, then the end, then nothing."""
     note = text_of({"method": method})
     return [f"sent true, ended true, taken {note}, settled the end, settled again nothing"]
+
+
+def waker_answers(method):
+    """A wake is passed over, and one behind the note is found, since nothing else stands before the end."""
+    note = text_of({"method": method})
+    sent = "woken true, sent true, woken true, ended true"
+    return [f"{sent}, taken {note}, found a wake, settled the end, woken false"]

@@ -1,13 +1,14 @@
 -- Each step keeps the rule of the relay.
-use Rattle.std.proofs.Common.{◌≡◌, ◌≢◌, ℕ, zero, suc, true, false, true≢false, List, [], ◌∷◌, ◌++◌, length, set, sym, refl, ap, ◌∙◌, subst, ⊎_elim, append_assoc}
+use Rattle.std.proofs.Common.{◌≡◌, ◌≢◌, ℕ, zero, suc, true, false, true≢false, List, [], ◌∷◌, ◌++◌, length, set, sym, refl, ap, ◌∙◌, subst, ⊎_elim, append_assoc, append-nil, Option, Some, None}
 use mathlib.Core.Option.{some, some-ne-none}
 use lib.ListN.{get_elem?}
 use Rattle.crossbeam_channel.specs.Fifo.{Pushes, Pops, Forks, Merges}
 use Rattle.atomic_table.proofs.Lists.{at_set, at_snoc}
+use Rattle.std.proofs.lemmas.List.Elements.{filter_map-append}
 use Rattle.lsp_relay.specs.declared.account.Account.{Account}
 use Rattle.lsp_relay.specs.declared.ends.Parcel.{Parcel}
 use Rattle.lsp_relay.specs.declared.ends.Parcel.TheVariants as parcel
-use Rattle.lsp_relay.specs.Relay.{sender_account, receiver_account, both_account, no_account, sends_one, takes_one, Agrees, IsOpen, has_end, EndsAtMostOnce, TakenThenHeldIsSent}
+use Rattle.lsp_relay.specs.Relay.{sender_account, receiver_account, both_account, no_account, parcels_of, sends_one, takes_one, Agrees, IsOpen, has_end, EndsAtMostOnce, TakenThenHeldIsSent}
 
 -- no pass may do what the flag is false for
 never : {A : Type 0} → false ≡ true → A
@@ -40,7 +41,10 @@ module _ {M : Type 0} where
         (λ j u other e. absurd (other (at_end [] _ u j (λ x. some-ne-none u (sym x)) e)));
   }
 
-  pub sends : (room pass : ℕ) (v : Account M) (x : Parcel M) → v.sends ≡ true → Pushes TakenThenHeldIsSent room pass v x (sends_one v x)
+  parcels_append : (held more : List (Option (Parcel M))) → parcels_of (held ++ more) ≡ parcels_of held ++ parcels_of more
+  parcels_append held more = filter_map-append (λ (item : Option (Parcel M)). item) held more
+
+  pub sends : (room pass : ℕ) (v : Account M) (x : Parcel M) → v.sends ≡ true → Pushes TakenThenHeldIsSent room pass v (Some x) (sends_one v (Some x))
   sends room pass v x may held accounts _ h at =
       let w : Account M = record v { sent = v.sent ++ x ∷ [] } in let mine = h.agree pass v at in let sent = h.sent ++ x ∷ [] in (
         w,
@@ -49,28 +53,58 @@ module _ {M : Type 0} where
           receiver = h.receiver;
           sent = sent;
           taken = h.taken;
-          whole = ap (λ l. l ++ x ∷ []) h.whole ∙ append_assoc h.taken held (x ∷ []);
+          whole = ap (λ l. l ++ x ∷ []) h.whole ∙ append_assoc h.taken (parcels_of held) (x ∷ []) ∙ ap (λ l. h.taken ++ l) (sym (parcels_append held (Some x ∷ [])));
           agree = each_set (Agrees h.sender h.receiver sent h.taken) accounts pass w ((λ _. ((mine.0 may).0, ap (λ l. l ++ x ∷ []) (mine.0 may).1)), mine.1)
               (λ j u other e. ((λ p. absurd (other (((h.agree j u e).0 p).0 ∙ sym (mine.0 may).0))), (h.agree j u e).1));
         },
         refl,
       )
 
+  -- a wake changes no account, whatever the pass may do
+  pub wakes : (room pass : ℕ) (v : Account M) → Pushes TakenThenHeldIsSent room pass v None (λ w. w ≡ v)
+  wakes room pass v held accounts _ h at = (
+    v,
+    record {
+      sender = h.sender;
+      receiver = h.receiver;
+      sent = h.sent;
+      taken = h.taken;
+      whole = h.whole ∙ ap (λ l. h.taken ++ l) (sym (parcels_append held (None ∷ []) ∙ append-nil (parcels_of held)));
+      agree = each_set (Agrees h.sender h.receiver h.sent h.taken) accounts pass v (h.agree pass v at) (λ j u other e. h.agree j u e);
+    },
+    refl,
+  )
+
   pub takes : (pass : ℕ) (v : Account M) → v.takes ≡ true → Pops TakenThenHeldIsSent pass v (takes_one v)
-  takes pass v may x held accounts h at =
-      let w : Account M = record v { taken = v.taken ++ x ∷ [] } in let mine = h.agree pass v at in let taken = h.taken ++ x ∷ [] in (
+  takes pass v may item held accounts h at =
+      let came = parcels_of (item ∷ []) in let w : Account M = record v { taken = v.taken ++ came } in let mine = h.agree pass v at in let taken = h.taken ++ came in (
         w,
         record {
           sender = h.sender;
           receiver = h.receiver;
           sent = h.sent;
           taken = taken;
-          whole = h.whole ∙ sym (append_assoc h.taken (x ∷ []) held);
-          agree = each_set (Agrees h.sender h.receiver h.sent taken) accounts pass w (mine.0, λ _. ((mine.1 may).0, ap (λ l. l ++ x ∷ []) (mine.1 may).1))
+          whole = h.whole ∙ ap (λ l. h.taken ++ l) (parcels_append (item ∷ []) held) ∙ sym (append_assoc h.taken came (parcels_of held));
+          agree = each_set (Agrees h.sender h.receiver h.sent taken) accounts pass w (mine.0, λ _. ((mine.1 may).0, ap (λ l. l ++ came) (mine.1 may).1))
               (λ j u other e. ((h.agree j u e).0, λ p. absurd (other (((h.agree j u e).1 p).0 ∙ sym (mine.1 may).0))));
         },
         refl,
       )
+
+  -- a new pass without a role
+  pub admits : (pass : ℕ) (v : Account M) → Forks TakenThenHeldIsSent pass v v no_account
+  admits pass v held accounts h at =
+      let new : Account M = no_account in let now : List (Account M) = set accounts pass v in
+      let same = each_set (Agrees h.sender h.receiver h.sent h.taken) accounts pass v (h.agree pass v at) (λ j u other e. h.agree j u e) in record {
+        sender = h.sender;
+        receiver = h.receiver;
+        sent = h.sent;
+        taken = h.taken;
+        whole = h.whole;
+        agree = λ j u e. ⊎_elim (λ x. same j u x)
+            (λ (is : new ≡ u). ((λ p. never (ap (λ (y : Account M). y.sends) is ∙ p)), λ p. never (ap (λ (y : Account M). y.takes) is ∙ p)))
+            (at_snoc now new u j e);
+      }
 
   -- one pass with both roles becomes a sender and a receiver
   pub parts : (pass : ℕ) (v : Account M) → v.sends ≡ true → v.takes ≡ true → Forks TakenThenHeldIsSent pass v (sender_account v.sent) (receiver_account v.taken)
@@ -130,7 +164,7 @@ module _ {M : Type 0} where
   ends_after (parcel.End ∷ rest) x h = absurd h
 
   -- the sender's account stays one after a send
-  pub sender_after : (before after : Account M) (x : Parcel M) → before ≡ sender_account before.sent → sends_one before x after → after ≡ sender_account after.sent
+  pub sender_after : (before after : Account M) (x : Parcel M) → before ≡ sender_account before.sent → sends_one before (Some x) after → after ≡ sender_account after.sent
   sender_after before after x is step =
       step ∙ ap (λ (v : Account M). record v { sent = before.sent ++ x ∷ [] }) is ∙ ap sender_account (sym (ap (λ (v : Account M). v.sent) step))
 

@@ -1,5 +1,6 @@
--- A relay between two threads: what was taken, and then what is held, is what was sent.
-use Rattle.std.specs.Prelude.{◌≡◌, ℕ, Bool, true, false, List, [], ◌∷◌, ◌++◌, map}
+-- A relay between two threads: what was taken, and then the parcels that are held, is what was sent.
+use Rattle.std.specs.List.{filter_map}
+use Rattle.std.specs.Prelude.{◌≡◌, ℕ, Bool, true, false, List, [], ◌∷◌, ◌++◌, map, Option}
 use mathlib.Core.Option.{some}
 use lib.ListN.{get_elem?}
 use Rattle.atomic_table.specs.Seated.{TableId}
@@ -8,11 +9,13 @@ use Rattle.crossbeam_channel.specs.declared.flavors.array.Key.{Key}
 use Rattle.crossbeam_channel.specs.Claims.{Pass}
 use Rattle.lsp_relay.specs.declared.ends.Parcel.{Parcel}
 use Rattle.lsp_relay.specs.declared.ends.Parcel.TheVariants as parcel
+use Rattle.lsp_relay.specs.declared.ends.Taken as front
+use Rattle.lsp_relay.specs.declared.ends.Taken.TheVariants as taken
 use Rattle.lsp_relay.specs.declared.account.Account.{Account}
 
 -- which relay an end belongs to
 abbrev pub Relay : Type 0 → Type 0
-Relay M = TableId × Badge (Key (Parcel M))
+Relay M = TableId × Badge (Key (Option (Parcel M)))
 
 module _ {M : Type 0} where
   abbrev pub sender_account : List (Parcel M) → Account M
@@ -27,26 +30,35 @@ module _ {M : Type 0} where
   abbrev pub no_account : Account M
   no_account = record { sends = false; takes = false; sent = []; taken = [] }
 
-  -- a send tells that the parcel joined what was sent
-  abbrev pub sends_one : Account M → Parcel M → Account M → Type 0
-  sends_one before x after = after ≡ record before { sent = before.sent ++ x ∷ [] }
+  -- the parcels among what a channel holds: the others are wakes
+  abbrev pub parcels_of : List (Option (Parcel M)) → List (Parcel M)
+  parcels_of held = filter_map (λ (item : Option (Parcel M)). item) held
 
-  -- a take tells that the parcel joined what was taken
-  abbrev pub takes_one : Account M → Parcel M → Account M → Type 0
-  takes_one before x after = after ≡ record before { taken = before.taken ++ x ∷ [] }
+  -- a send tells that the parcel joined what was sent
+  abbrev pub sends_one : Account M → Option (Parcel M) → Account M → Type 0
+  sends_one before item after = after ≡ record before { sent = before.sent ++ parcels_of (item ∷ []) }
+
+  -- a take tells that the parcel joined what was taken, and of a wake that nothing did
+  abbrev pub takes_one : Account M → Option (Parcel M) → Account M → Type 0
+  takes_one before item after = after ≡ record before { taken = before.taken ++ parcels_of (item ∷ []) }
+
+  -- what a take found, and what was taken before and after it: a parcel joined that, a wake did not
+  abbrev pub TakenIs : front.Taken M → List (Parcel M) → List (Parcel M) → Type 0
+  TakenIs (taken.Parcel x) old new = new ≡ old ++ x ∷ []
+  TakenIs found old new = new ≡ old
 
   -- one pass at most may send, and its account has what was sent; the same for takes
   abbrev pub Agrees : ℕ → ℕ → List (Parcel M) → List (Parcel M) → ℕ → Account M → Type 0
   Agrees sender receiver sent taken pass account =
       (account.sends ≡ true → (pass ≡ sender) × (account.sent ≡ sent)) × (account.takes ≡ true → (pass ≡ receiver) × (account.taken ≡ taken))
 
-  -- The rule of a relay: what was taken, and then what is held, is what was sent.
-  pub record TakenThenHeldIsSent (held : List (Parcel M)) (accounts : List (Account M)) : Type 0 where
+  -- The rule of a relay: what was taken, and then the parcels that are held, is what was sent. A wake is in no account.
+  pub record TakenThenHeldIsSent (held : List (Option (Parcel M))) (accounts : List (Account M)) : Type 0 where
     pub sender : ℕ
     pub receiver : ℕ
     pub sent : List (Parcel M)
     pub taken : List (Parcel M)
-    pub whole : sent ≡ taken ++ held
+    pub whole : sent ≡ taken ++ parcels_of held
     pub agree : (pass : ℕ) (account : Account M) → get_elem? accounts pass ≡ some account → Agrees sender receiver sent taken pass account
 
   -- no End was sent
@@ -72,10 +84,10 @@ module _ {M : Type 0} where
   has_end (parcel.End ∷ rest) = true
 
   -- what a pass knows
-  abbrev pub account_of : Pass (Parcel M) (Account M) → Account M
+  abbrev pub account_of : Pass (Option (Parcel M)) (Account M) → Account M
   account_of pass = pass.me.0.client
 
-  abbrev pub relay_of : Pass (Parcel M) (Account M) → Relay M
+  abbrev pub relay_of : Pass (Option (Parcel M)) (Account M) → Relay M
   relay_of pass = (pass.table_id, pass.me.0.of)
 
 -- the sender's end, as callers see it

@@ -15,10 +15,10 @@ pub struct Account<M> {
     pub taken: LinkedList<Parcel<M>>,
 }
 
-/// The rule of a relay: what was taken, and then what is held, is what was sent.
+/// The rule of a relay: what was taken, and then the parcels that are held, is what was sent. The channel holds `None` for a wake.
 pub(crate) struct InOrder;
 
-impl<M> Protocol<Parcel<M>, Account<M>> for InOrder {
+impl<M> Protocol<Option<Parcel<M>>, Account<M>> for InOrder {
     ghost use Rattle.lsp_relay.specs.Relay.{both_account, TakenThenHeldIsSent};
     ghost use Rattle.std.specs.Prelude.{[]};
 
@@ -57,37 +57,62 @@ impl<M> Split<Account<M>> for Lend {
     ghost right = { λ v. receiver_account v.taken };
 }
 
+/// A pass without a role is made, and this one stays as it is.
+pub(crate) struct Admit;
+
+impl<M> Split<Account<M>> for Admit {
+    ghost use Rattle.lsp_relay.specs.Relay.{no_account};
+
+    ghost left = { λ v. v };
+
+    ghost right = { λ v. no_account };
+}
+
 /// A parcel was added at the back.
 pub(crate) struct Sent;
 
-impl<M> Outcome<Parcel<M>, Account<M>> for Sent {
+impl<M> Outcome<Option<Parcel<M>>, Account<M>> for Sent {
     ghost use Rattle.lsp_relay.specs.Relay.{sends_one};
 
     ghost then = { sends_one };
 }
 
-impl<M> Lesson<Parcel<M>, Account<M>> for Sent {
+impl<M> Lesson<Option<Parcel<M>>, Account<M>> for Sent {
     ghost fact = { λ v items. Unit {0} };
 }
 
-/// The parcel at the front was taken.
-pub(crate) struct Taken;
+/// A wake was added at the back. No account changes.
+pub(crate) struct Woken;
 
-impl<M> Outcome<Parcel<M>, Account<M>> for Taken {
+impl<M> Outcome<Option<Parcel<M>>, Account<M>> for Woken {
+    ghost use Rattle.std.specs.Prelude.{◌≡◌};
+
+    ghost then = { λ v item w. w ≡ v };
+}
+
+impl<M> Lesson<Option<Parcel<M>>, Account<M>> for Woken {
+    ghost fact = { λ v items. Unit {0} };
+}
+
+/// The parcel or the wake at the front was taken.
+pub(crate) struct Received;
+
+impl<M> Outcome<Option<Parcel<M>>, Account<M>> for Received {
     ghost use Rattle.lsp_relay.specs.Relay.{takes_one};
 
     ghost then = { takes_one };
 }
 
-impl<M> Lesson<Parcel<M>, Account<M>> for Taken {
+impl<M> Lesson<Option<Parcel<M>>, Account<M>> for Received {
     ghost fact = { λ v items. Unit {0} };
 }
 
-/// What was sent is what was taken and what is held.
+/// What was sent is what was taken and the parcels that are held.
 pub(crate) struct Whole;
 
-impl<M> Lesson<Parcel<M>, Account<M>> for Whole {
+impl<M> Lesson<Option<Parcel<M>>, Account<M>> for Whole {
     ghost use Rattle.std.specs.Prelude.{◌≡◌, ◌++◌};
+    ghost use Rattle.lsp_relay.specs.Relay.{parcels_of};
 
-    ghost fact = { λ v items. v.sent ≡ v.taken ++ items };
+    ghost fact = { λ v items. v.sent ≡ v.taken ++ parcels_of items };
 }

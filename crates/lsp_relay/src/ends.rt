@@ -1,8 +1,9 @@
-//! The two ends of a relay: a bounded channel with one sender and one receiver, each of which keeps account of its parcels.
+//! The two ends of a relay: a bounded channel with one sender and one receiver, each of which keeps account of its parcels. The
+//! channel holds a parcel as `Some`, and a wake, which is in no account, as `None`.
 ghost use Rattle.std.specs.Prelude.{◌≡◌, ◌<◌, [], ◌∷◌, ◌++◌, IfErr, IfNone, IfOk, IfSome, OnOk};
 ghost use mathlib.Core.List.{IsPrefix};
 
-use crate::account::{Account, InOrder, Lend, Roles, Sent, Taken, Whole};
+use crate::account::{Account, Admit, InOrder, Lend, Received, Roles, Sent, Whole, Woken};
 use crossbeam_channel::{Pass, RuledReceiver, RuledSender, bounded_with};
 use std::alloc::{AllocError, Global};
 use std::marker::Model;
@@ -17,14 +18,25 @@ pub enum Parcel<M> {
     End,
 }
 
+/// What a take found at the front of a relay.
+#[derive(Debug, Drop)]
+pub enum Taken<M> {
+    /// A parcel, which was taken.
+    Parcel(Parcel<M>),
+    /// A wake, which was taken. It carries nothing.
+    Wake,
+    /// Nothing was taken.
+    Nothing,
+}
+
 /// The sender's end of a relay. Contracts see which relay it belongs to and the parcels that were sent, in order.
 #[derive(Drop)]
 #[derive_where(Debug)]
 pub struct RelayTx<M: Drop> {
     #[derive_where(skip)]
-    sender: RuledSender<Parcel<M>, Account<M>, InOrder>,
+    sender: RuledSender<Option<Parcel<M>>, Account<M>, InOrder>,
     #[derive_where(skip)]
-    pass: Pass<Parcel<M>, Account<M>>,
+    pass: Pass<Option<Parcel<M>>, Account<M>>,
 }
 
 impl<M: Drop> Model for RelayTx<M> {
@@ -45,9 +57,9 @@ impl<M: Drop> Model for RelayTx<M> {
 #[derive_where(Debug)]
 pub struct RelayRx<M: Drop> {
     #[derive_where(skip)]
-    receiver: RuledReceiver<Parcel<M>, Account<M>, InOrder>,
+    receiver: RuledReceiver<Option<Parcel<M>>, Account<M>, InOrder>,
     #[derive_where(skip)]
-    pass: Pass<Parcel<M>, Account<M>>,
+    pass: Pass<Option<Parcel<M>>, Account<M>>,
 }
 
 impl<M: Drop> Model for RelayRx<M> {
@@ -63,7 +75,29 @@ impl<M: Drop> Model for RelayRx<M> {
     ghost invariant = { λ r. IsSeatAt (receives_on r.receiver) r.pass × (account_of r.pass ≡ receiver_account (account_of r.pass).taken) };
 }
 
-/// Makes a relay with room for this many parcels, at least one. The error means that an allocation failed.
+/// Wakes the thread that takes from a relay. Contracts see which relay it belongs to. It sends no parcel.
+#[derive(Drop)]
+#[derive_where(Debug)]
+pub struct RelayWaker<M: Drop> {
+    #[derive_where(skip)]
+    sender: RuledSender<Option<Parcel<M>>, Account<M>, InOrder>,
+    #[derive_where(skip)]
+    pass: Pass<Option<Parcel<M>>, Account<M>>,
+}
+
+impl<M: Drop> Model for RelayWaker<M> {
+    ghost use Rattle.crossbeam_channel.specs.Claims.{IsSeatAt};
+    ghost use Rattle.crossbeam_channel.specs.Ends.{sends_on};
+    ghost use Rattle.lsp_relay.specs.Relay.{Relay, relay_of};
+
+    ghost Value = { Relay M };
+
+    ghost view = { λ w. relay_of w.pass };
+
+    ghost invariant = { λ w. IsSeatAt (sends_on w.sender) w.pass };
+}
+
+/// Makes a relay with room for this many parcels and wakes, at least one. The error means that an allocation failed.
 pub fn relay<M: Drop>(alloc: Global, room: usize) -> Result<(RelayTx<M>, RelayRx<M>), AllocError>
     requires { 0 < room }
     ensures one_relay { IfOk result (λ ends. ends.1.relay ≡ ends.0.relay) }
@@ -94,41 +128,104 @@ impl<M: Drop> RelayTx<M> {
         ensures sent { OnOk result (self.new.sent ≡ self.old.sent ++ parcel ∷ []) }
         ensures refused { IfErr result (λ back. (back ≡ parcel) × (self.new.sent ≡ self.old.sent)) }
     {
-        match self.sender.send_as::<Sent, R>(rt, &mut self.pass, parcel) {
+        match self
+            .sender
+            .send_as::<Sent, R>(rt, &mut self.pass, Some(parcel))
+        {
             Ok(()) => Ok(()),
-            Err(refused) => Err(refused.into_inner()),
+            Err(refused) => match refused.into_inner() {
+                Some(back) => Err(back),
+                None => unreachable!(),
+            },
         }
+    }
+
+    /// Makes a waker of the thread that takes. The error means that an allocation failed.
+    pub fn waker(&mut self) -> Result<RelayWaker<M>, AllocError>
+        ensures relay { IfOk result (λ waker. waker ≡ self.old.relay) }
+        ensures same { self.new ≡ self.old }
+    {
+        let sender = self.sender.try_clone()?;
+        let pass = self.sender.another::<Admit>(&mut self.pass);
+        Ok(RelayWaker { sender, pass })
+    }
+}
+
+impl<M: Drop> RelayWaker<M> {
+    /// Makes another one, for another thread. The error means that an allocation failed.
+    pub fn another(&mut self) -> Result<RelayWaker<M>, AllocError>
+        ensures relay { IfOk result (λ waker. waker ≡ self.old) }
+        ensures same { self.new ≡ self.old }
+    {
+        let sender = self.sender.try_clone()?;
+        let pass = self.sender.another::<Admit>(&mut self.pass);
+        Ok(RelayWaker { sender, pass })
+    }
+
+    /// Wakes the thread that takes. A wake takes room in the relay as a parcel does, and while the relay is full this waits. So the
+    /// thread that takes should not wake itself.
+    ///
+    /// False means that nobody is woken, since the receiver's end is gone.
+    pub fn wake<R: Wait>(&mut self, rt: &R) -> bool
+        ensures { self.new ≡ self.old }
+    {
+        self.sender
+            .send_as::<Woken, R>(rt, &mut self.pass, None)
+            .is_ok()
     }
 }
 
 impl<M: Drop> RelayRx<M> {
     ghost use Rattle.std.specs.Prelude.{true};
-    ghost use Rattle.lsp_relay.specs.Relay.{has_end};
+    ghost use Rattle.lsp_relay.specs.Relay.{TakenIs, has_end};
 
-    /// Takes the parcel at the front in one step. It waits while the relay is empty.
+    /// Takes the parcel at the front in one step. It waits while the relay is empty, and passes over wakes.
     ///
-    /// `None` means that nothing was taken. It comes if the relay is empty and the sender's end is gone; no contract says so.
+    /// `None` means that no parcel was taken. It comes if the relay is empty and the sender's end and all wakers are gone; no contract
+    /// says so.
     pub fn take<R: Wait>(&mut self, rt: &R) -> Option<Parcel<M>>
         ensures relay { self.new.relay ≡ self.old.relay }
         ensures some { IfSome result (λ parcel. self.new.taken ≡ self.old.taken ++ parcel ∷ []) }
         ensures none { IfNone result (self.new.taken ≡ self.old.taken) }
     {
-        self.receiver.recv_as::<Taken, R>(rt, &mut self.pass).ok()
+        for _ in rt.forever() {
+            match self.take_or_wake(rt) {
+                Taken::Parcel(parcel) => return Some(parcel),
+                Taken::Wake => {}
+                Taken::Nothing => return None,
+            }
+        }
+        unreachable!()
     }
 
-    /// Takes without waiting.
+    /// Takes the parcel or the wake at the front in one step. It waits while the relay is empty. `Taken::Nothing` comes where
+    /// `take` gives `None`.
+    pub fn take_or_wake<R: Wait>(&mut self, rt: &R) -> Taken<M>
+        ensures relay { self.new.relay ≡ self.old.relay }
+        ensures taken { TakenIs result self.old.taken self.new.taken }
+    {
+        match self.receiver.recv_as::<Received, R>(rt, &mut self.pass) {
+            Ok(Some(parcel)) => Taken::Parcel(parcel),
+            Ok(None) => Taken::Wake,
+            Err(_) => Taken::Nothing,
+        }
+    }
+
+    /// Takes without waiting. `None` means that no parcel was taken: nothing or a wake stood at the front.
     fn take_at_once<R: Wait>(&mut self, rt: &R) -> Option<Parcel<M>>
         ensures relay { self.new.relay ≡ self.old.relay }
         ensures some { IfSome result (λ parcel. self.new.taken ≡ self.old.taken ++ parcel ∷ []) }
         ensures none { IfNone result (self.new.taken ≡ self.old.taken) }
     {
         self.receiver
-            .try_recv_as::<Taken, R>(rt, &mut self.pass)
-            .ok()
+            .try_recv_as::<Received, R>(rt, &mut self.pass)
+            .unwrap_or(None)
     }
 
     /// Takes a parcel without waiting, when both ends are in one thread again. Afterwards what was taken is a beginning of what
     /// was sent, in order, and all of it if `Parcel::End` was taken.
+    ///
+    /// `None` means that no parcel was taken. It comes if the relay is empty, and where a wake stood at the front, which is taken then.
     pub fn settle<R: Wait>(&mut self, rt: &R, tx: &mut RelayTx<M>) -> Option<Parcel<M>>
         requires same_relay { self.old.relay ≡ tx.old.relay }
         ensures relay { self.new.relay ≡ self.old.relay }

@@ -1,7 +1,8 @@
-//! A relay: a channel that hands messages from one thread to another in order, and then says that there are no more.
+//! A relay: a channel that hands messages from one thread to another in order, and then says that there are no more. Other threads can
+//! wake the one that takes.
 #![tactic(auto)]
 
 mod account;
 mod ends;
 
-pub use ends::{Parcel, RelayRx, RelayTx, relay, settle_all};
+pub use ends::{Parcel, RelayRx, RelayTx, RelayWaker, Taken, relay, settle_all};

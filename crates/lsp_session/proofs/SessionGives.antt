@@ -13,7 +13,7 @@ use Rattle.lsp_session.proofs.Handing.{begins, AreFramesOf-push, breaks_off, tak
 use Rattle.lsp_session.proofs.Ran.{is_no_exit, Facts}
 use Rattle.lsp_session.proofs.Waiting.{FoldsTo-split}
 use Rattle.lsp_session.specs.Boxes.{Sends, Takes}
-use Rattle.lsp_session.specs.Event.{Event, closed, message, timeout}
+use Rattle.lsp_session.specs.Event.{Event, closed, message, timeout, woken}
 use Rattle.lsp_session.specs.Finish.{FinishAnswer, FinishesAt}
 use Rattle.lsp_session.specs.FrameBoxes.{FrameOutboxSends, Told, kept_write}
 use Rattle.lsp_session.specs.ProtocolError.{out_of_memory}
@@ -67,17 +67,34 @@ abbrev letters_in : List (Option Message) → List Message
 letters_in came = filter_map (λ (c : Option Message). c) came
 
 module _ (limit : ℕ) where
-  -- an inbox that has ended brings nothing more
-  ended_brings : (events : List Event) (end : ReadEnd) (old new : Stream) → old.end ≡ Some end → FoldsTo (StreamGives limit) old events new → filter_map came_in events ≡ []
+  -- what an inbox over a reader gives where others may wake it
+  abbrev pub WakingGives : Stream → Event → Stream → Type 0
+  WakingGives old woken new = new ≡ old
+  WakingGives old event new = StreamGives limit old event new
+
+  -- an inbox that nobody wakes is one of these
+  waking : (events : List Event) (old new : Stream) → FoldsTo (StreamGives limit) old events new → FoldsTo WakingGives old events new
+  waking [] old new run = run
+  waking (woken ∷ events) old new run = absurd (at old.end run.1)
+    where
+      at : (end : Option ReadEnd) → MatchOption end (StreamReads limit old.remaining woken run.0.end run.0.remaining) (λ end. (woken ≡ closed) × (run.0.end ≡ Some end) × Keeps old.remaining run.0.remaining) → ⊥
+      at None gives = gives
+      at (Some end) gives = cc (gives.0)
+  waking (event ∷ events) old new run = (run.0, run.1, waking events run.0 new run.2)
+
+  -- an inbox that has ended brings no message more
+  ended_brings : (events : List Event) (end : ReadEnd) (old new : Stream) → old.end ≡ Some end → FoldsTo WakingGives old events new → letters_in (filter_map came_in events) ≡ []
   ended_brings [] end old new is run = refl
-  ended_brings (event ∷ events) end old new is run =
-      let step = rw is at run.1 in
-      rw step.0 (ended_brings events end run.0 new step.1 run.2)
+  ended_brings (woken ∷ events) end old new is run = ended_brings events end old new is (rw run.1 at run.2)
+  ended_brings (closed ∷ events) end old new is run = ended_brings events end run.0 new (rw is at run.1).1 run.2
+  ended_brings (event ∷ events) end old new is run = absurd (cc ((rw is at run.1).0))
 
   -- and its next event is that no more come
-  ended_closes : (events : List Event) (end : ReadEnd) (old new : Stream) → old.end ≡ Some end → FoldsTo (StreamGives limit) old events new → list_all is_open events ≡ true → old ≡ new
+  ended_closes : (events : List Event) (end : ReadEnd) (old new : Stream) → old.end ≡ Some end → FoldsTo WakingGives old events new → list_all is_open events ≡ true → old ≡ new
   ended_closes [] end old new is run still_open = run
-  ended_closes (event ∷ events) end old new is run still_open = let step = rw is at run.1 in absurd (cc (rw step.0 at still_open))
+  ended_closes (woken ∷ events) end old new is run still_open = ended_closes events end old new is (rw run.1 at run.2) still_open
+  ended_closes (closed ∷ events) end old new is run still_open = absurd (cc (still_open))
+  ended_closes (event ∷ events) end old new is run still_open = absurd (cc ((rw is at run.1).0))
 
   -- what an inbox brought that may bring more, what it has left, and whether an `exit` came
   pub record Brought (text : List ℕ) (letters : List Message) (new : Stream) : Type 0 where
@@ -86,7 +103,7 @@ module _ (limit : ℕ) where
     pub left : new.remaining ≡ Some at
     pub end : new.end ≡ (if list_all is_no_exit letters then None else Some Exit)
 
-  module _ (m : Message) (text : List ℕ) (mid new : Stream) (events : List Event) (run : FoldsTo (StreamGives limit) mid events new) (still_open : list_all is_open events ≡ true) where
+  module _ (m : Message) (text : List ℕ) (mid new : Stream) (events : List Event) (run : FoldsTo WakingGives mid events new) (still_open : list_all is_open events ≡ true) where
     open_then : (b : Bool) → is_exit m ≡ b → mid.end ≡ (if b then Some Exit else None)
         → Reads limit (Some text) (Ok (Some m)) mid.remaining
         → ((rest : List ℕ) → mid.end ≡ None → mid.remaining ≡ Some rest → Brought rest (letters_in (filter_map came_in events)) new)
@@ -101,7 +118,7 @@ module _ (limit : ℕ) where
         let more = later (reading_within limit text).rest is reads.0.1 in
         record { at = more.at; read = ((reading_within limit text).rest, begins limit text m reads.0.0, more.read); left = more.left; end = rw exits more.end }
 
-  pub brought_open : (events : List Event) (text : List ℕ) (old new : Stream) → old.end ≡ None → old.remaining ≡ Some text → FoldsTo (StreamGives limit) old events new
+  pub brought_open : (events : List Event) (text : List ℕ) (old new : Stream) → old.end ≡ None → old.remaining ≡ Some text → FoldsTo WakingGives old events new
       → list_all is_open events ≡ true → Brought text (letters_in (filter_map came_in events)) new
   brought_open [] text old new unended known run still_open = record { at = text; read = refl; left = rw (sym run) known; end = rw (sym run) unended }
   brought_open (closed ∷ events) text old new unended known run still_open = absurd (cc (still_open))
@@ -109,10 +126,11 @@ module _ (limit : ℕ) where
       let step = rw (unended, known) at run.1 in
       open_then m text run.0 new events run.2 still_open (is_exit m) refl step.0 step.1
       (λ rest still left. brought_open events rest run.0 new still left run.2 still_open)
+  brought_open (woken ∷ events) text old new unended known run still_open = brought_open events text old new unended known (rw run.1 at run.2) still_open
   brought_open (event ∷ events) text old new unended known run still_open = absurd (rw unended at run.1)
 
   -- an inbox that reads has no timeouts
-  pub no_timeout : (earlier : List Event) (old new : Stream) → FoldsTo (StreamGives limit) old (earlier ++ timeout ∷ []) new → ⊥
+  pub no_timeout : (earlier : List Event) (old new : Stream) → FoldsTo WakingGives old (earlier ++ timeout ∷ []) new → ⊥
   no_timeout [] old new run = at old.end run.1
     where
       at : (end : Option ReadEnd) → MatchOption end (StreamReads limit old.remaining timeout run.0.end run.0.remaining) (λ end. (timeout ≡ closed) × (run.0.end ≡ Some end) × Keeps old.remaining run.0.remaining) → ⊥
@@ -267,9 +285,9 @@ module _ (limit : ℕ) where
         closed_ends facts (Some end) left at reads = absurd reads
 
   -- the last of several events
-  last_event : (earlier : List Event) (event : Event) (old new : Stream) → FoldsTo (StreamGives limit) old (earlier ++ event ∷ []) new
-      → (mid : Stream) × FoldsTo (StreamGives limit) old earlier mid × StreamGives limit mid event new
-  last_event earlier event old new run = let parts = FoldsTo-split (StreamGives limit) earlier (event ∷ []) old new run in (parts.0, parts.1, rw parts.2.2 at parts.2.1)
+  last_event : (earlier : List Event) (event : Event) (old new : Stream) → FoldsTo (WakingGives limit) old (earlier ++ event ∷ []) new
+      → (mid : Stream) × FoldsTo (WakingGives limit) old earlier mid × WakingGives limit mid event new
+  last_event earlier event old new run = let parts = FoldsTo-split (WakingGives limit) earlier (event ∷ []) old new run in (parts.0, parts.1, rw parts.2.2 at parts.2.1)
 
   -- no byte after the message that was read last was taken
   reads_within : (at : List ℕ) (end : Option ReadEnd) (left : Option (List ℕ)) → StreamReads limit (Some at) closed end left → StopsWithin left (reading_within limit at)
@@ -284,7 +302,7 @@ module _ (limit : ℕ) where
   reads_within at (Some end) left reads = absurd reads
 
   module _ (text : List ℕ) (old new : Stream) (unended : old.end ≡ None) (known : old.remaining ≡ Some text)
-      (events : List Event) (run : FoldsTo (StreamGives limit) old events new) where
+      (events : List Event) (run : FoldsTo (WakingGives limit) old events new) where
     -- what was left when an inbox told that no more come
     pub record ClosedAt (letters : List Message) : Type 0 where
       pub at : List ℕ
@@ -364,8 +382,8 @@ module _ (limit : ℕ) where
         at outbox'.fault (subst (λ sends. MatchOption outbox'.fault (NotRefused runs.stop × GetsFrames sends (contents outbox.writer.now) (contents outbox'.writer.now))
         (λ f. IsUnsent runs.stop runs.null × GetsPart f sends (contents outbox.writer.now) (contents outbox'.writer.now))) runs.all (gets_written contents outbox outbox' runs.output runs.null unfailed runs.stop runs.got))
       where
-        run : FoldsTo (StreamGives limit) (stream_of remaining inbox) runs.events (stream_of remaining inbox')
-        run = (streams_of remaining limit runs.events inbox inbox' limited runs.received).0
+        run : FoldsTo (WakingGives limit) (stream_of remaining inbox) runs.events (stream_of remaining inbox')
+        run = waking limit runs.events _ _ (streams_of remaining limit runs.events inbox inbox' limited runs.received).0
 
         facts : Facts runs.stop (letters_of runs.exchanges) answer
         facts = knows runs.exchanges runs.stop runs.null answer runs.part

@@ -12,9 +12,9 @@ use Rattle.lsp_relay.specs.Relay.{Sending, ended, has_end}
 use Rattle.lsp_relay.specs.declared.ends.Parcel.{Parcel}
 use Rattle.lsp_relay.specs.declared.ends.Parcel.TheVariants as parcel
 use Rattle.lsp_session.proofs.Handing.{AreFramesOf-push, breaks_off}
-use Rattle.lsp_session.proofs.SessionGives.{NotRefused}
+use Rattle.lsp_session.proofs.SessionGives.{NotRefused, WakingGives}
 use Rattle.lsp_session.specs.Boxes.{Takes}
-use Rattle.lsp_session.specs.Event.{Event, message, closed}
+use Rattle.lsp_session.specs.Event.{Event, message, closed, woken}
 use Rattle.lsp_session.specs.FrameBoxes.{kept_write}
 use Rattle.lsp_session.specs.ReadLoop.{Hands}
 use Rattle.lsp_session.specs.Session.{Stop, refused}
@@ -34,7 +34,7 @@ use Rattle.lsp_message.specs.Letters.{Begins, is_exit}
 use Rattle.lsp_message.specs.Reading.{Reading}
 use Rattle.lsp_message.specs.declared.frame.ReadFault.TheVariants.{Input, Memory as NoMemory}
 use Rattle.lsp_relay.proofs.Parcels.{has_end_closed, has_end_push}
-use Rattle.lsp_session.specs.Streams.{Stream, StreamGives, StreamReads, Reads}
+use Rattle.lsp_session.specs.Streams.{Stream, StreamReads, Reads}
 use Rattle.lsp_session.specs.declared.loops.ReadEnd.TheVariants.{Exit, End, Fault, Closed, Memory}
 use Rattle.lsp_threads.proofs.Handed.{EndsAt, ReadsTo, After, handed_on}
 use Rattle.lsp_threads.specs.Threads.{session_end}
@@ -97,6 +97,7 @@ pub gives_relay : (events : List Event) (old new : Receiving Message) → FoldsT
 gives_relay [] old new run = sym (ap (λ (t : Receiving Message). t.relay) run)
 gives_relay (message m ∷ events) old new run = gives_relay events run.0 new run.2 ∙ run.1.0
 gives_relay (closed ∷ events) old new run = gives_relay events run.0 new run.2 ∙ run.1.0
+gives_relay (woken ∷ events) old new run = gives_relay events old new (rw run.1 at run.2)
 gives_relay (event ∷ events) old new run = absurd run.1
 
 -- ---- what was written
@@ -126,6 +127,7 @@ grows (closed ∷ events) old new run = at (has_end old.taken) run.1.2 (grows ev
     at : (b : Bool) → MatchBool b (run.0.taken ≡ old.taken) (run.0.taken ≡ old.taken ++ parcel.End ∷ []) → IsPrefix run.0.taken new.taken → IsPrefix old.taken new.taken
     at true same later = (later.0, ap (λ l. l ++ later.0) (sym same) ∙ later.1)
     at false more later = (parcel.End ∷ later.0, sym (append_assoc old.taken (parcel.End ∷ []) later.0) ∙ ap (λ l. l ++ later.0) (sym more) ∙ later.1)
+grows (woken ∷ events) old new run = grows events old new (rw run.1 at run.2)
 grows (event ∷ events) old new run = absurd run.1
 
 module _ (limit : ℕ) where
@@ -172,7 +174,7 @@ module _ (limit : ℕ) where
 
     -- an inbox over a text did the same, and ended so
     abbrev Over : List Event → Stream → Stream → Type 0
-    Over events old s = FoldsTo (StreamGives limit) old events s × (s.end ≡ session_end (has_end new.taken) new.exited read)
+    Over events old s = FoldsTo (WakingGives limit) old events s × (s.end ≡ session_end (has_end new.taken) new.exited read)
 
     abbrev going : List ℕ → Stream
     going at = record { remaining = Some at; end = None }
@@ -191,6 +193,7 @@ module _ (limit : ℕ) where
         let same : run.0.taken ≡ old.taken = rw ends at run.1.2 in
         let later = after_end events run.0 left (ap has_end same ∙ ends) run.2 in
         ((done left, (refl, refl, keeps left), later.0), later.1)
+    after_end (woken ∷ events) old left ends run = let later = after_end events old left ends (rw run.1 at run.2) in ((done left, refl, later.0), later.1)
     after_end (event ∷ events) old left ends run = absurd run.1
 
     after_exit : (events : List Event) (old : Receiving Message) (left : Option (List ℕ)) → read ≡ Exit → old.exited ≡ true → has_end old.taken ≡ false → ToCome old (parcel.End ∷ [])
@@ -202,6 +205,8 @@ module _ (limit : ℕ) where
         let last : run.0.taken ≡ old.taken ++ parcel.End ∷ [] = rw still_open at run.1.2 in
         let later = after_end events run.0 left (ap has_end last ∙ has_end_closed old.taken) run.2 in
         ((done left, (refl, refl, keeps left), later.0), later.1)
+    after_exit (woken ∷ events) old left exit exited still_open to_come run =
+        let later = after_exit events old left exit exited still_open to_come (rw run.1 at run.2) in ((done left, refl, later.0), later.1)
     after_exit (event ∷ events) old left exit exited still_open to_come run = absurd run.1
 
     none_left : (more : List Message) → map message_view more ≡ [] → more ≡ []
@@ -246,6 +251,8 @@ module _ (limit : ℕ) where
         let left = closes read at reads taken in
         let later = after_end events run.0 left.0 (ap has_end last ∙ has_end_closed old.taken) run.2 in
         (done left.0, ((done left.0, left.1, later.0), later.1))
+    goes_on (woken ∷ events) old at more still_open unexited to_come reads taken run =
+        let later = goes_on events old at more still_open unexited to_come reads taken (rw run.1 at run.2) in (later.0, ((going at, refl, later.1.0), later.1.1))
     goes_on (event ∷ events) old at more still_open unexited to_come reads taken run = absurd run.1
 
   -- the outbox of the thread that reads takes each message
@@ -265,7 +272,7 @@ module _ (limit : ℕ) where
       (settled : IsPrefix taken sent) (tx : Sending Message) (empty : tx.sent ≡ []) (read : ReadEnd) where
     -- what the inbox did over the relay, as an inbox over the text
     pub as_stream : (text : List ℕ) → HandsOn limit text tx read sent
-        → (s : Stream) × (FoldsTo (StreamGives limit) (record { remaining = Some text; end = None }) events s × (s.end ≡ session_end (has_end inbox'.taken) inbox'.exited read))
+        → (s : Stream) × (FoldsTo (WakingGives limit) (record { remaining = Some text; end = None }) events s × (s.end ≡ session_end (has_end inbox'.taken) inbox'.exited read))
     as_stream text (mid, left, handed, finished) =
         let on = handed_on limit RelaySends (λ old m back new refused. refused) text tx mid left read handed in
         let whole = never_full read on.mid mid on.after in

@@ -17,12 +17,12 @@ use Rattle.lsp_relay.specs.Relay.{ended, has_end, Sending}
 use Rattle.lsp_relay.specs.declared.ends.Parcel.{Parcel}
 use Rattle.lsp_relay.specs.declared.ends.Parcel.TheVariants as parcel
 use Rattle.lsp_session.proofs.Ran.{Facts}
-use Rattle.lsp_session.proofs.SessionGives.{left_within, stop_ends, NotRefused}
+use Rattle.lsp_session.proofs.SessionGives.{left_within, stop_ends, NotRefused, WakingGives}
 use Rattle.lsp_session.specs.Session.{Exchange, came_of, letters_of, sends_of, SessionAnswer, SessionPart, Stop}
 use Rattle.lsp_session.specs.SessionBytes.{BeginsWith, Wrote}
 use Rattle.lsp_session.specs.SessionFault.{read_answer, session_answer}
 use Rattle.lsp_session.specs.SessionRun.{all_of, Runs}
-use Rattle.lsp_session.specs.Streams.{Stream, StreamGives}
+use Rattle.lsp_session.specs.Streams.{Stream}
 use Rattle.lsp_session.specs.declared.loops.ReadEnd.{ReadEnd}
 use Rattle.lsp_session.specs.declared.loops.handler.SessionEnd.{SessionEnd}
 use Rattle.lsp_session.specs.declared.loops.stream_session.SessionFault.{SessionFault}
@@ -48,7 +48,7 @@ module _ (limit : ℕ) (P : SessionPart)
   posts = all_posted outbox outbox' runs.output runs.null runs.stop runs.got
 
   -- what came in, as an inbox over the text brings it
-  module _ (text : List ℕ) (s : Stream) (run : FoldsTo (StreamGives limit) (record { remaining = Some text; end = None }) runs.events s) where
+  module _ (text : List ℕ) (s : Stream) (run : FoldsTo (WakingGives limit) (record { remaining = Some text; end = None }) runs.events s) where
     facts : Facts runs.stop (letters_of runs.exchanges) answer
     facts = knows runs.exchanges runs.stop runs.null answer runs.part
 

@@ -7,7 +7,7 @@ use Rattle.lsp_message.specs.View.{message_view}
 use Rattle.lsp_message.specs.Written.{GetsFrames}
 use Rattle.lsp_message.specs.declared.frame.WriteFault.{WriteFault}
 use Rattle.lsp_message.specs.declared.msg.Message.{Message}
-use Rattle.lsp_session.specs.Event.{Event, message, closed}
+use Rattle.lsp_session.specs.Event.{Event, message, closed, woken}
 use Rattle.lsp_session.specs.ReadLoop.{Hands}
 use Rattle.lsp_session.specs.WriteLoop.{BreaksOffAt}
 use Rattle.lsp_session.specs.declared.lifecycle.SendFault.{SendFault}
@@ -31,13 +31,14 @@ RelaySends old m (Err fault) new = ⊥
 abbrev pub HandsOn : ℕ → List ℕ → Sending Message → ReadEnd → List (Parcel Message) → Type 0
 HandsOn limit text old end sent = (mid : Sending Message) × (left : Option (List ℕ)) × Hands limit RelaySends text old mid left end × (sent ≡ mid.sent ++ parcel.End ∷ [])
 
--- the relay's inbox gives the front parcel, and is closed once End was taken
+-- the relay's inbox gives the front parcel, and is closed once End was taken; a wake is no parcel
 abbrev pub RelayGives : Receiving Message → Event → Receiving Message → Type 0
 RelayGives old (message m) new =
     (new.relay ≡ old.relay) × (has_end old.taken ≡ false) × (new.exited ≡ (if is_exit m then true else old.exited))
     × ((x : Message) × (message_view x ≡ m) × (new.taken ≡ old.taken ++ parcel.Message x ∷ []))
 RelayGives old closed new =
     (new.relay ≡ old.relay) × (new.exited ≡ old.exited) × MatchBool (has_end old.taken) (new.taken ≡ old.taken) (new.taken ≡ old.taken ++ parcel.End ∷ [])
+RelayGives old woken new = new ≡ old
 RelayGives old event new = ⊥
 
 -- of these messages, the writer got frames of all, or of the first and then what the failed write of one left

@@ -16,6 +16,7 @@ mod workers;
 pub use pumping::{PumpFault, pump, pump_by, pump_within};
 pub use run::{
     Builders, Threaded, run_threads, run_threads_by, run_threads_of_service,
-    run_threads_of_service_by, run_threads_of_service_within, run_threads_within,
+    run_threads_of_service_by, run_threads_of_service_over, run_threads_of_service_within,
+    run_threads_within,
 };
 pub use workers::StartFault;

@@ -1,15 +1,15 @@
 //! The ends of a relay of messages, as an outbox and as an inbox.
-ghost use Rattle.std.specs.Prelude.{◌≡◌, ◌++◌, ◌∷◌, [], List, true, false, if◌then◌else◌, MatchBool};
+ghost use Rattle.std.specs.Prelude.{◌≡◌, ◌++◌, ◌∷◌, [], List, true, false, if◌then◌else◌, IfNone, IfSome, MatchBool};
 ghost use Rattle.lsp_message.specs.Letters.{is_exit as exit_spec};
 ghost use Rattle.lsp_message.specs.View.{message_view};
-ghost use Rattle.lsp_session.specs.Event.{event_view};
+ghost use Rattle.lsp_session.specs.Event.{arrival_view, event_view};
 ghost use Rattle.lsp_threads.specs.RelayBoxes.{RelayGives};
 ghost use Rattle.lsp_relay.specs.Relay.{ended, has_end, IsOpen};
 
 use crate::spent::Spent;
 use lsp_message::Message;
-use lsp_relay::{Parcel, RelayRx, RelayTx};
-use lsp_session::{Event, Inbox, Outbox, SendFault, is_exit};
+use lsp_relay::{Parcel, RelayRx, RelayTx, Taken};
+use lsp_session::{Arrival, Event, Inbox, Outbox, SendFault, is_exit};
 use std::marker::Model;
 use std::sync::Wait;
 
@@ -29,7 +29,7 @@ pub fn deliver<R: Wait, M: Drop>(rt: &R, tx: &mut RelayTx<M>, parcel: Parcel<M>)
     unreachable!()
 }
 
-/// Takes a parcel, however often it has to be tried.
+/// Takes a parcel, however often it has to be tried. Wakes are passed over.
 pub fn collect<R: Wait, M: Drop>(rt: &R, rx: &mut RelayRx<M>) -> Parcel<M>
     ensures relay { rx.new.relay ≡ rx.old.relay }
     ensures taken { rx.new.taken ≡ rx.old.taken ++ result ∷ [] }
@@ -37,6 +37,22 @@ pub fn collect<R: Wait, M: Drop>(rt: &R, rx: &mut RelayRx<M>) -> Parcel<M>
     for _ in rt.forever() {
         if let Some(parcel) = rx.take(rt) {
             return parcel;
+        }
+    }
+    unreachable!()
+}
+
+/// Takes a parcel, or a wake, which is `None`, however often it has to be tried.
+fn collect_or_wake<R: Wait, M: Drop>(rt: &R, rx: &mut RelayRx<M>) -> Option<Parcel<M>>
+    ensures relay { rx.new.relay ≡ rx.old.relay }
+    ensures parcel { IfSome result (λ parcel. rx.new.taken ≡ rx.old.taken ++ parcel ∷ []) }
+    ensures wake { IfNone result (rx.new.taken ≡ rx.old.taken) }
+{
+    for _ in rt.forever() {
+        match rx.take_or_wake(rt) {
+            Taken::Parcel(parcel) => return Some(parcel),
+            Taken::Wake => return None,
+            Taken::Nothing => {}
         }
     }
     unreachable!()
@@ -138,7 +154,8 @@ impl<R: Wait + Drop> Outbox for ReplyOutbox<R, Message> {
     }
 }
 
-/// The receiver's end of a relay, as an inbox. It waits for each parcel, and End closes it. It has no timeouts.
+/// The receiver's end of a relay, as an inbox. It waits for each parcel, and End closes it. It has no timeouts. A wake of the relay wakes
+/// the service, where the session asks for that.
 #[derive(Drop)]
 pub struct RelayInbox<R: Wait + Drop, M: Drop> {
     rt: R,
@@ -237,27 +254,43 @@ fn exits(message: &Message, before: bool) -> bool
     before
 }
 
-impl<R: Wait + Drop> RelayInbox<R, Message> {
+impl<R: Wait + Copy + Drop> RelayInbox<R, Message> {
+    fn next_arrival(&mut self) -> Arrival
+        ensures { RelayGives self.old (arrival_view result) self.new }
+    {
+        if self.closed {
+            return Arrival::Closed;
+        }
+        match collect_or_wake(&self.rt, &mut self.rx) {
+            Some(Parcel::Message(message)) => {
+                self.exited = exits(&message, self.exited);
+                Arrival::Message(message)
+            }
+            Some(Parcel::End) => {
+                self.closed = true;
+                Arrival::Closed
+            }
+            None => Arrival::Woken,
+        }
+    }
+
+    /// Passes over wakes.
     fn next_event(&mut self) -> Event
         ensures { RelayGives self.old (event_view result) self.new }
     {
-        if self.closed {
-            return Event::Closed;
-        }
-        match collect(&self.rt, &mut self.rx) {
-            Parcel::Message(message) => {
-                self.exited = exits(&message, self.exited);
-                Event::Message(message)
-            }
-            Parcel::End => {
-                self.closed = true;
-                Event::Closed
+        let rt = self.rt;
+        for _ in rt.forever() {
+            match self.next_arrival() {
+                Arrival::Message(message) => return Event::Message(message),
+                Arrival::Woken => {}
+                Arrival::Closed => return Event::Closed,
             }
         }
+        unreachable!()
     }
 }
 
-impl<R: Wait + Drop> Inbox for RelayInbox<R, Message> {
+impl<R: Wait + Copy + Drop> Inbox for RelayInbox<R, Message> {
     ghost use Rattle.lsp_threads.specs.RelayBoxes.{RelayGives};
 
     ghost receives = { RelayGives };
@@ -269,5 +302,10 @@ impl<R: Wait + Drop> Inbox for RelayInbox<R, Message> {
     #[tactic(auto, using(lsp_session::proofs::Waiting::waits_none))]
     fn receive(&mut self) -> Event {
         self.next_event()
+    }
+
+    #[tactic(auto, using(lsp_session::proofs::Waiting::waits_none))]
+    fn receive_or_woken(&mut self) -> Arrival {
+        self.next_arrival()
     }
 }

@@ -1,13 +1,15 @@
 //! Sessions whose reader and writer run in threads of their own: of a handler, and of any service.
 ghost use Rattle.serde_json.specs.View.{view};
-ghost use Rattle.std.specs.Prelude.{IfOk, IfSome};
+ghost use Rattle.std.specs.Prelude.{◌≡◌, [], IfOk, IfSome};
 ghost use Rattle.lsp_message.specs.Frame.{no_limit};
 ghost use Rattle.lsp_session.specs.HandlerSession.{of_handler};
 ghost use Rattle.lsp_session.specs.Session.{SessionOut};
 ghost use Rattle.lsp_threads.specs.Threads.{ThreadsGive};
 
 use crate::serving::{serve_between, start_both};
-use crate::workers::StartFault;
+use crate::workers::{ROOM, StartFault};
+use lsp_message::Message;
+use lsp_relay::{RelayRx, RelayTx, relay};
 use lsp_session::{Handler, HandlerService, Service, SessionEnd, SessionFault};
 use serde_json::Value;
 use std::alloc::Global;
@@ -187,7 +189,39 @@ where
         ThreadsGive limit (SessionOut S.behavior service.old service.new)
         text (W.contents writer) (W.contents done.writer) done.answer)) }
 {
-    match start_both(rt, builders, alloc, reader, limit, writer) {
+    let Ok(ends) = relay::<Message>(alloc, ROOM) else {
+        return Err(StartFault::Memory);
+    };
+    run_threads_of_service_over(rt, builders, alloc, ends, reader, writer, service, limit)
+}
+
+/// As `run_threads_of_service_by`, over a relay that the caller made, which no message has passed. Wakers of the relay wake the
+/// service, from `initialized` up to `shutdown`; a wake before or after is passed over.
+///
+/// Both ends of the relay are gone when this returns, also after a fault: a wake gives false from then on, and one that waits for
+/// room gives up. `service` runs on the caller's thread, and should not wake itself: the relay may be full.
+pub fn run_threads_of_service_over<T, R, W, S>(
+    rt: &T,
+    builders: Builders,
+    alloc: Global,
+    ends: (RelayTx<Message>, RelayRx<Message>),
+    reader: R,
+    writer: W,
+    service: &mut S,
+    limit: u64,
+) -> Result<Threaded<W>, StartFault>
+where
+    T: Threads + Wait + Copy + Drop + Send + 'static,
+    R: BufRead + Drop + Send + 'static,
+    W: Write + Drop + Send + 'static,
+    S: Service,
+    requires fresh { (ends.0.sent ≡ []) × (ends.1.taken ≡ []) }
+    requires same { ends.1.relay ≡ ends.0.relay }
+    ensures { IfSome (R.remaining reader) (λ text. IfOk result (λ done.
+        ThreadsGive limit (SessionOut S.behavior service.old service.new)
+        text (W.contents writer) (W.contents done.writer) done.answer)) }
+{
+    match start_both(rt, builders, alloc, ends, reader, limit, writer) {
         Ok(workers) => Ok(serve_between(rt, alloc, workers, service)),
         Err(fault) => Err(fault),
     }

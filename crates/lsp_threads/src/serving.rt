@@ -32,11 +32,12 @@ pub(crate) struct Workers<R: BufRead + Drop, W: Write + Drop> {
     >,
 }
 
-/// Starts the thread that writes and then the one that reads.
+/// Starts the thread that writes and then the one that reads. After a fault both ends of the relay, and the thread, are gone.
 pub(crate) fn start_both<T, R, W>(
     rt: &T,
     builders: Builders,
     alloc: Global,
+    ends: (RelayTx<Message>, RelayRx<Message>),
     reader: R,
     limit: u64,
     writer: W,
@@ -45,6 +46,8 @@ where
     T: Threads + Wait + Copy + Drop + Send + 'static,
     R: BufRead + Drop + Send + 'static,
     W: Write + Drop + Send + 'static,
+    requires fresh { (ends.0.sent ≡ []) × (ends.1.taken ≡ []) }
+    requires same { ends.1.relay ≡ ends.0.relay }
     ensures reading { IfOk result (λ workers. (workers.rx.taken ≡ []) × (workers.reading.promise.tx.value.relay ≡ workers.rx.relay)
         × (workers.reading.promise.tx.value.sent ≡ []) × (workers.reading.promise.reader.value ≡ reader) × (workers.reading.promise.limit ≡ limit)) }
     ensures writing { IfOk result (λ workers. (workers.replies.sent ≡ []) × (workers.writing.promise.rx.value.relay ≡ workers.replies.relay)
@@ -53,9 +56,7 @@ where
     let Ok((replies, replies_rx)) = relay::<Message>(alloc, ROOM) else {
         return Err(StartFault::Memory);
     };
-    let Ok((tx, rx)) = relay::<Message>(alloc, ROOM) else {
-        return Err(StartFault::Memory);
-    };
+    let (tx, rx) = ends;
     let Ok((back, spent)) = way_back::<Message>(alloc, SPENT_ROOM) else {
         return Err(StartFault::Memory);
     };
@@ -129,6 +130,8 @@ where
     let closed = inbox.is_closed();
     let exited = inbox.gave_exit();
     let replies = outbox.finish();
+    // Nobody waits for ever for room in the relay: draining makes room for the thread that reads, and `settle_all` drops both ends, so
+    // that a wake which waits gives up.
     let rx = inbox.drain();
     let (tx, read) = reading.join(rt);
     let (replies_rx, writer, unwritten) = writing.join(rt);

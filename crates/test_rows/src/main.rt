@@ -6,7 +6,7 @@
 //!   many times, and `pauses` says where a reader waits (`table.rt`).
 //! - `body`: what a content part means. `id`: how an id prints. `values`: a message that is cloned, converted and written.
 //! - `handshake`, `handshake_within`: the calls of the lifecycle over lists.
-//! - `queues`, `dispatch`, `replay`: calls of the request queues and of a dispatcher. `relay`: a relay alone.
+//! - `queues`, `dispatch`, `replay`: calls of the request queues and of a dispatcher. `relay`, `waker`: a relay alone.
 //! - The name of a call that reads: a case (`table.rt`).
 //!
 //! If an allocation or the start of a thread fails in a call, its line is `refused: ..`, and it is made once more. The program
@@ -104,6 +104,7 @@ fn whole_of<R: Wait>(rt: &R, alloc: Global, word: &str, rest: &str) -> Result<At
         "handshake_within" => handshake(alloc, Finishing::Asks, rest),
         "replay" => dispatching::replayed(alloc, rest),
         "relay" => relays::relayed(rt, alloc, rest),
+        "waker" => relays::woken(rt, alloc, rest),
         _ => Err(Stop::Table),
     }
 }

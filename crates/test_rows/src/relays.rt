@@ -1,7 +1,7 @@
 // A relay alone.
 use crate::attempt::{Attempt, Stop};
 use lsp_message::{Message, Notification};
-use lsp_relay::{Parcel, relay};
+use lsp_relay::{Parcel, Taken, relay};
 use serde_json::Value;
 use std::alloc::{AllocError, Global};
 use std::sync::Wait;
@@ -25,6 +25,34 @@ pub fn relayed<R: Wait>(rt: &R, alloc: Global, method: &str) -> Result<Attempt, 
     let again = name_of(alloc, rx.settle(rt, &mut tx))?;
     Ok(Attempt::Came(format!(in alloc;
         "sent {is_sent}, ended {is_ended}, taken {taken}, settled {settled}, settled again {again}"
+    )?))
+}
+
+/// A notification of this method is sent between two wakes, and the end behind them. One wake is passed over, and the other found. A wake
+/// fails once the receiver's end is gone.
+pub fn woken<R: Wait>(rt: &R, alloc: Global, method: &str) -> Result<Attempt, Stop> {
+    let (mut tx, mut rx) = relay::<Message>(alloc, 4)?;
+    let mut waker = tx.waker()?;
+    let mut other = waker.another()?;
+    let note = Message::Notification(Notification {
+        method: String::from_str(alloc, method)?,
+        params: Value::Null,
+    });
+    let is_woken = waker.wake(rt);
+    let is_sent = tx.send(rt, Parcel::Message(note)).is_ok();
+    let is_woken_again = other.wake(rt);
+    let is_ended = tx.send(rt, Parcel::End).is_ok();
+    let taken = name_of(alloc, rx.take(rt))?;
+    let found = match rx.take_or_wake(rt) {
+        Taken::Parcel(parcel) => name_of(alloc, Some(parcel))?,
+        Taken::Wake => String::from_str(alloc, "a wake")?,
+        Taken::Nothing => name_of(alloc, None)?,
+    };
+    let settled = name_of(alloc, rx.settle(rt, &mut tx))?;
+    drop(rx);
+    let is_woken_late = waker.wake(rt);
+    Ok(Attempt::Came(format!(in alloc;
+        "woken {is_woken}, sent {is_sent}, woken {is_woken_again}, ended {is_ended}, taken {taken}, found {found}, settled {settled}, woken {is_woken_late}"
     )?))
 }
 

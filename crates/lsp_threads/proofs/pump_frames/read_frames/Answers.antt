@@ -1,7 +1,5 @@
-use Rattle.std.proofs.Common.{◌≡◌, Ok, IfSome, false, true, sym, ap, subst, ◌∙◌}
-use Rattle.lsp_message.specs.Frame.{reading_within}
+use Rattle.std.proofs.Common.{◌≡◌, false, true, sym, ap, ◌∙◌}
 use Rattle.lsp_message.specs.Letters.{is_exit}
-use Rattle.lsp_message.specs.Reading.{Answers}
 use Rattle.lsp_message.specs.View.{message_view}
 use Rattle.lsp_session.specs.declared.lifecycle.SendFault.TheVariants.{Memory}
 use Rattle.lsp_session.proofs.Handing.{Handed-more, hands_exit, hands_refused, hands_end, hands_fault, hands_on}
@@ -11,33 +9,26 @@ use Rattle.lsp_threads.proofs.pump_frames.read_frames.Goals as goal
 
 pub returns-in-Ok-None-clause-handed : goal.returns-in-Ok-None-clause-handed
 returns-in-Ok-None-clause-handed g c =
-    let read = subst (λ r. IfSome (g.S.Read.remaining c.loop.reader.inner) (λ at. Answers message_view r (g.S.Read.remaining c.read_within.new.reader.inner) (reading_within c.args.limit at)))
-    (c.in-Ok-None.is ∙ ap Ok c.in-Ok-None.field-0-is) c.read_within.ensures.exact in
-    hands_end c.args.limit FramingSends message_view _ _ _ _ _ c.loop.invariant.handed read
+    hands_end c.args.limit FramingSends message_view _ _ _ _ _ c.loop.invariant.handed (rw (c.in-Ok-None.is, c.in-Ok-None.field-0-is) at c.read_within.ensures.exact)
 
 pub returns-in-Err-clause-handed : goal.returns-in-Err-clause-handed
 returns-in-Err-clause-handed g c =
-    let read = subst (λ r. IfSome (g.S.Read.remaining c.loop.reader.inner) (λ at. Answers message_view r (g.S.Read.remaining c.read_within.new.reader.inner) (reading_within c.args.limit at)))
-    c.in-Err.is c.read_within.ensures.exact in
-    hands_fault c.args.limit FramingSends message_view _ _ _ c.in-Err.fault _ _ c.loop.invariant.handed read
+    hands_fault c.args.limit FramingSends message_view _ _ _ c.in-Err.fault _ _ c.loop.invariant.handed (rw c.in-Err.is at c.read_within.ensures.exact)
 
 pub returns-in-Err-add-clause-handed : goal.returns-in-Err-add-clause-handed
 returns-in-Err-add-clause-handed g c =
-    let read = subst (λ r. IfSome (g.S.Read.remaining c.loop.reader.inner) (λ at. Answers message_view r (g.S.Read.remaining c.read_within.new.reader.inner) (reading_within c.args.limit at)))
-    (c.in-Ok-Some.is ∙ ap Ok c.in-Ok-Some.field-0-is) c.read_within.ensures.exact in
+    let read = rw (c.in-Ok-Some.is, c.in-Ok-Some.field-0-is) at c.read_within.ensures.exact in
     hands_refused c.args.limit FramingSends message_view _ _ _ _ _ _ c.in-Ok-Some.message c.loop.invariant.handed read (Memory c.in-Ok-Some.message) c.in-Err-add.ensures.err
 
 pub returns-then-is_last-clause-handed : goal.returns-then-is_last-clause-handed
 returns-then-is_last-clause-handed g c =
-    let read = subst (λ r. IfSome (g.S.Read.remaining c.loop.reader.inner) (λ at. Answers message_view r (g.S.Read.remaining c.read_within.new.reader.inner) (reading_within c.args.limit at)))
-    (c.in-Ok-Some.is ∙ ap Ok c.in-Ok-Some.field-0-is) c.read_within.ensures.exact in
+    let read = rw (c.in-Ok-Some.is, c.in-Ok-Some.field-0-is) at c.read_within.ensures.exact in
     let last : is_exit (message_view c.in-Ok-Some.message) ≡ true = sym c.is_exit-is_last.ensures ∙ c.if-is_last.true in
     hands_exit c.args.limit FramingSends message_view _ _ _ _ _ _ c.in-Ok-Some.message c.loop.invariant.handed read c.in-Ok.ensures.ok last
 
 pub loop-preserved : goal.loop-preserved
 loop-preserved g c =
-    let read = subst (λ r. IfSome (g.S.Read.remaining c.loop.reader.inner) (λ at. Answers message_view r (g.S.Read.remaining c.read_within.new.reader.inner) (reading_within c.args.limit at)))
-    (c.in-Ok-Some.is ∙ ap Ok c.in-Ok-Some.field-0-is) c.read_within.ensures.exact in
+    let read = rw (c.in-Ok-Some.is, c.in-Ok-Some.field-0-is) at c.read_within.ensures.exact in
     let goes : is_exit (message_view c.in-Ok-Some.message) ≡ false = sym c.is_exit-is_last.ensures ∙ c.if-is_last.false in
     let more = Handed-more c.args.limit FramingSends message_view _ _ _ _ _ _ c.in-Ok-Some.message c.loop.invariant.handed read c.in-Ok.ensures.ok goes in
     let kept = Handed-kept c.args.limit _ _ _ _ _ more c.shows_frame.ensures in

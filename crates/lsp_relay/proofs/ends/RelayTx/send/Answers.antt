@@ -3,7 +3,7 @@ use Rattle.lsp_relay.specs.declared.account.Account.{Account}
 use Rattle.lsp_relay.specs.Relay.{Sending, IsOpen, EndsAtMostOnce, sender_account}
 use Rattle.lsp_relay.proofs.Accounts.{sends, ends_after, sender_after}
 use Rattle.lsp_relay.proofs.ends.RelayTx.send.Goals as goal
-use Rattle.lsp_relay.proofs.ends.RelayTx.send.Goals.{in-Ok, in-Err}
+use Rattle.lsp_relay.proofs.ends.RelayTx.send.Goals.{in-Ok, in-Err+in-Some}
 
 pub send_as-requires-clause-rule : goal.send_as-requires-clause-rule
 send_as-requires-clause-rule g c = (sends _ _ _ _ (ap (λ (v : Account _). v.sends) c.self.invariant.1), λ held accounts h at. tt)
@@ -15,7 +15,7 @@ invariant_of-self g c = elim c.match-send_as.branch [
     sender_after _ _ _ c.self.invariant.1 step,
     subst EndsAtMostOnce (sym (ap (λ (v : Account _). v.sent) step)) (ends_after c.self.inside.pass.me.0.client.sent c.args.parcel unended),
   )
-  | in-Err w ↦ let same = w.in-Err.ensures.rule.1 in (
+  | in-Err+in-Some w ↦ let same = w.in-Err.ensures.rule.1 in (
     search rules,
     same ∙ c.self.invariant.1 ∙ ap sender_account (sym (ap (λ (v : Account _). v.sent) same)),
     subst EndsAtMostOnce (sym (ap (λ (v : Account _). v.sent) same)) c.self.invariant.2,
