@@ -1,4 +1,4 @@
--- What the server does at a message is all that is sent.
+-- What the server does at a message or a wake is all that is sent.
 use Rattle.lsp_message.specs.Id.{Id, id_cmp}
 use Rattle.lsp_message.specs.IdKeys.{id_antisymmetric}
 use Rattle.lsp_message.specs.IdLaws.{id_total, id_decides}
@@ -30,20 +30,20 @@ module _ {P : Type 0} where
   does-append d [] ys = refl
   does-append d (x ∷ xs) ys = does-append (does d x) xs ys
 
-  pub at_count : (d : Desk P) (m : Message) (payload : Option P) → count_of (desk_at d m payload).asked ≡ count_of d.asked
-  at_count d (response id outcome) (Some payload) = refl
+  pub at_count : (d : Desk P) (m : Option Message) (payload : Option P) → count_of (desk_at d m payload).asked ≡ count_of d.asked
+  at_count d (Some (response id outcome)) (Some payload) = refl
   at_count d m payload = refl
 
   settled_so : (d : Desk P) (cancelled : Option Id) → settles d cancelled ≡ does_all d (settled_by cancelled)
   settled_so d None = refl
   settled_so d (Some id) = refl
 
-  pub at_said : (d : Desk P) (m : Message) (payload : Option P) → (desk_at d m payload).said ≡ d.said
-  at_said d (response id outcome) (Some payload) = refl
+  pub at_said : (d : Desk P) (m : Option Message) (payload : Option P) → (desk_at d m payload).said ≡ d.said
+  at_said d (Some (response id outcome)) (Some payload) = refl
   at_said d m payload = refl
 
 module _ {S P : Type 0} (may : Stated S P) where
-  acts_so : (old : S × Desk P) (m : Message) (said : List Message) (new : S × Desk P) (payload : Option P) (acts : List (Act P)) (did : S)
+  acts_so : (old : S × Desk P) (m : Option Message) (said : List Message) (new : S × Desk P) (payload : Option P) (acts : List (Act P)) (did : S)
       (after : S × Desk P) → payload ≡ brought_by old.1 m → Handed may old.0 m payload acts did
       → TakesBack may.takes_back did (unsent (count_of old.1.asked) acts) after.0
       → after.1 ≡ does_all (desk_at old.1 m payload) (settled_at m acts) → said ≡ after.1.said → new ≡ (after.0, cleared after.1)
@@ -61,34 +61,37 @@ module _ {S P : Type 0} (may : Stated S P) where
   }
 
   -- all that was sent, as the desk had it
-  pub said_so : (old : S × Desk P) (m : Message) (said : List Message) (new : S × Desk P) (a : ActsAt may old m said new)
+  pub said_so : (old : S × Desk P) (m : Option Message) (said : List Message) (new : S × Desk P) (a : ActsAt may old m said new)
       → said ≡ (does_all (desk_at old.1 m a.payload) (settled_at m a.acts)).said
   said_so old m said new a =
       a.sent ∙ ap (λ (l : List Message). l ++ all_sends (desk_at old.1 m a.payload) (settled_at m a.acts)) (sym (at_said old.1 m a.payload))
       ∙ sym (said_all (desk_at old.1 m a.payload) (settled_at m a.acts))
 
-  pub acts_at : (old : S × Desk P) (m : Message) (said : List Message) (new : S × Desk P) → WorksGiving may old m said new
+  pub acts_at : (old : S × Desk P) (m : Option Message) (said : List Message) (new : S × Desk P) → WorksGiving may old m said new
       → ActsAt may old m said new
-  acts_at old (request id method params) said new gives =
+  acts_at old (Some (request id method params)) said new gives =
       let w = gives.1 in
-      acts_so old (request id method params) said new None w.0 w.1 gives.0 refl (w.2, refl) w.3 w.4 gives.2 gives.3
-  acts_at old (notification method params) said new gives =
+      acts_so old (Some (request id method params)) said new None w.0 w.1 gives.0 refl (w.2, refl) w.3 w.4 gives.2 gives.3
+  acts_at old (Some (notification method params)) said new gives =
       let w = gives.1 in
       let desk : gives.0.1 ≡ does_all old.1 (w.1.0 ++ settled_by (cancelled_by method params)) =
       ap (λ (x : S × Desk P). x.1) w.2 ∙ settled_so w.0.1 (cancelled_by method params)
       ∙ ap (λ (d : Desk P). does_all d (settled_by (cancelled_by method params))) w.1.4 ∙ sym (does-append old.1 w.1.0 (settled_by (cancelled_by method params))) in
-      acts_so old (notification method params) said new None w.1.0 w.1.1 gives.0 refl (w.1.2, refl) (rw (ap (λ (x : S × Desk P). x.0) w.2) w.1.3) desk
+      acts_so old (Some (notification method params)) said new None w.1.0 w.1.1 gives.0 refl (w.1.2, refl) (rw (ap (λ (x : S × Desk P). x.0) w.2) w.1.3) desk
       gives.2 gives.3
-  acts_at old (response id outcome) said new gives = at (map.get (pending_of old.1.asked) id) refl gives.1
+  acts_at old (Some (response id outcome)) said new gives = at (map.get (pending_of old.1.asked) id) refl gives.1
     where
       at : (o : Option P) → map.get (pending_of old.1.asked) id ≡ o
           → MatchOption o (gives.0 ≡ old) (λ payload. Acts may.takes_back (may.replied old.0 payload outcome) (given old.1 id) gives.0)
-          → ActsAt may old (response id outcome) said new
+          → ActsAt may old (Some (response id outcome)) said new
       at None kept same =
-          acts_so old (response id outcome) said new None [] old.0 gives.0 (sym kept) (refl, refl) (ap (λ (x : S × Desk P). x.0) same)
+          acts_so old (Some (response id outcome)) said new None [] old.0 gives.0 (sym kept) (refl, refl) (ap (λ (x : S × Desk P). x.0) same)
           (ap (λ (x : S × Desk P). x.1) same) gives.2 gives.3
       at (Some payload) kept w =
-          acts_so old (response id outcome) said new (Some payload) w.0 w.1 gives.0 (sym kept) w.2 w.3 w.4 gives.2 gives.3
+          acts_so old (Some (response id outcome)) said new (Some payload) w.0 w.1 gives.0 (sym kept) w.2 w.3 w.4 gives.2 gives.3
+  acts_at old None said new gives =
+      let w = gives.1 in
+      acts_so old None said new None w.0 w.1 gives.0 refl (w.2, refl) w.3 w.4 gives.2 gives.3
 
 -- What a desk is after a message.
 -- one act more
@@ -128,7 +131,7 @@ module _ {S P : Type 0} (may : Stated S P) where
   pub drops_reply : (s : S) (d d' : Desk P) (id : Id) (outcome : Result Data ErrorObject) (asked : Asked P)
       → map.get (pending_of d.asked) id ≡ None → asked ≡ (map.remove (pending_of d.asked) id, count_of d.asked)
       → d' ≡ record { held = d.held; asked = asked; said = d.said }
-      → Works may (s, d) (response id outcome) (s, d')
+      → Works may (s, d) (Some (response id outcome)) (s, d')
   drops_reply s d d' id outcome asked none removed is =
       rw none (ap (λ (x : Desk P). (s, x)) (is ∙ same))
     where

@@ -4,8 +4,8 @@ use Rattle.lsp_message.specs.IdLaws.{id_total, id_decides}
 use Rattle.lsp_message.specs.Message.{Message, ErrorObject, request, response}
 use Rattle.lsp_queue.specs.Queue.{Pending}
 use Rattle.lsp_service.proofs.Acting.{acts_at, said_so}
-use Rattle.lsp_service.specs.Desk.{Desk, Act, replies, does, does_all}
-use Rattle.lsp_service.specs.Law.{one_if, is_request_under, is_reply_under, how_many, held_under, IsWhole, NeverMore, OnceOrEnded}
+use Rattle.lsp_service.specs.Desk.{Desk, Act, replies, does, does_all, empty_desk}
+use Rattle.lsp_service.specs.Law.{one_if, came_with, is_request_under, is_reply_under, how_many, held_under, IsWhole, NeverMore, OnceOrEnded}
 use Rattle.lsp_service.specs.QueuedServer.{at_desk, WorksGiving}
 use Rattle.lsp_service.specs.Turning.{desk_at, settled_at}
 use Rattle.lsp_service.specs.View.{desk_of, seen}
@@ -14,7 +14,7 @@ use Rattle.lsp_service.specs.declared.server.Server.{Ghosts as Stated}
 use Rattle.lsp_session.proofs.Ran.{Ran, reaches_ran, stops_by, IsNoRequest, Idle, early_request, early_note, unasked, uninvited, shuts, leaves, exits, stays, Row, at_initialize, at_initialized, at_served, at_woken, idle, row, exit_no_request, initialized_no_request}
 use Rattle.lsp_session.specs.ProtocolError.{ProtocolFault, ShowsUnallowed, expected_initialize, expected_initialized, unexpected_in_shutdown}
 use Rattle.lsp_session.specs.Replies.{null_reply}
-use Rattle.lsp_session.specs.Session.{Exchange, letters_of, sends_of, SessionAnswer, Stop, decided, no_more, timed_out, refused, exhausted, Phase, starting, replied as in_reply, serving, asked, ended, phase_after, Step, Steps, Reaches, Stops}
+use Rattle.lsp_session.specs.Session.{Behavior, Exchange, letters_of, sends_of, SessionAnswer, Stop, decided, timed_out, refused, exhausted, Phase, starting, replied as in_reply, serving, asked, ended, phase_after, Step, Steps, Reaches, Stops}
 use Rattle.lsp_session.specs.declared.loops.handler.SessionEnd.TheVariants.{Closed, ShutDown}
 use Rattle.serde_json.specs.Data.{Data}
 use Rattle.std.proofs.Common.{◌≡◌, refl, sym, ◌∙◌, ap, inl, inr, ◌⊎◌, ℕ, zero, suc, ◌+◌, ◌≤◌, Bool, true, false, List, [], ◌∷◌, ◌++◌, append-nil, arith, Option, Some, None, cond}
@@ -54,74 +54,34 @@ module _ {P : Type 0} (id : Id) where
   due_acts d [] = refl
   due_acts d (act ∷ acts) = due_acts (does d act) acts ∙ due_act d act
 
--- What was due after a message: no more than there were requests, and none is lost.
-pub record Due (id : Id) (m : Message) (said : List Message) (held held' : Pending (Unit {0})) : Type 0 where
-  pub most : how_many (is_reply_under id) said + held_under id held' ≤ one_if (is_request_under id m) + held_under id held
-  pub least : 1 ≤ one_if (is_request_under id m) + held_under id held → 1 ≤ how_many (is_reply_under id) said + held_under id held'
-
-module _ {S P : Type 0} (may : Stated S P) (id : Id) where
-  -- when the server acts at a message, one reply more is due where it is a request under the id
-  due_at : (d : Desk P) (m : Message) (payload : Option P)
-      → due id (desk_at d m payload) ≡ how_many (is_reply_under id) d.said + cond (is_request_under id m) 1 (held_under id d.held)
-  due_at d (request i method params) payload = ap (λ n. how_many (is_reply_under id) d.said + n) (held_insert id d.held i)
-  due_at d (response i outcome) (Some payload) = refl
+  -- when the server acts, one reply more is due where a request under the id came
+  due_at : (d : Desk P) (m : Option Message) (payload : Option P)
+      → due id (desk_at d m payload) ≡ how_many (is_reply_under id) d.said + cond (came_with (is_request_under id) m) 1 (held_under id d.held)
+  due_at d (Some (request i method params)) payload = ap (λ n. how_many (is_reply_under id) d.said + n) (held_insert id d.held i)
+  due_at d (Some (response i outcome)) (Some payload) = refl
   due_at d m payload = refl
 
-  pub due_one : (w w' : QueuedServer S P) (m : Message) (said : List Message) → (desk_of w.client).said ≡ [] → WorksGiving may (seen w) m said (seen w')
-      → Due id m said (desk_of w.client).held (desk_of w'.client).held
-  due_one w w' m said silent step =
-      let a = acts_at may (seen w) m said (seen w') step in
-      let start = desk_at (desk_of w.client) m a.payload in
-      let all = due_acts id start (settled_at m a.acts) ∙ due_at (desk_of w.client) m a.payload in
-      let none : how_many (is_reply_under id) (desk_of w.client).said ≡ 0 = ap (how_many (is_reply_under id)) silent in
-      let kept = ap (λ (d : Desk P). held_under id d.held) a.desk in
-      let sent = ap (how_many (is_reply_under id)) (said_so may (seen w) m said (seen w') a) in
-      let both = counted (is_request_under id m) (how_many (is_reply_under id) said) (held_under id (desk_of w'.client).held)
-      (held_under id (desk_of w.client).held) (omega (arith, all, none, kept, sent)) in
-      record { most = both.0; least = both.1 }
-    where
-      counted : (b : Bool) (r h' h : ℕ) → r + h' ≡ cond b 1 h → (r + h' ≤ one_if b + h) × (1 ≤ one_if b + h → 1 ≤ r + h')
-      counted true r h' h e = (omega (arith, e), λ some. omega (arith, e))
-      counted false r h' h e = (omega (arith, e), λ some. omega (arith, e, some))
+-- the last state is that after the last exchange, unless an allocation failed
+pub kept_to_last : {T : Type 0} (can : Behavior T) (p : Phase) (s s' : T) (stop : Stop) (answer : SessionAnswer) → Stops can p s stop answer s'
+    → (stop ≡ exhausted) ⊎ (s' ≡ s)
+kept_to_last can p s s' exhausted answer stops = inl refl
+kept_to_last can (ended null by) s s' decided answer stops = inr stops.1
+kept_to_last can (ended null by) s s' stop answer stops = absurd stops
+kept_to_last can p s s' decided answer stops = absurd stops
+kept_to_last can (asked i) s s' (refused fault) answer stops = absurd stops
+kept_to_last can (asked i) s s' stop answer stops = inr stops.1
+kept_to_last can p s s' timed_out answer stops = absurd stops
+kept_to_last can p s s' stop answer stops = inr stops.1
 
 module _ {S P : Type 0} (may : Stated S P) where
-  -- nothing was asked
-  abbrev pub Unasked : QueuedServer S P → Type 0
-  Unasked w = (desk_of w.client).asked ≡ (map.empty, 0)
+  -- nothing was asked or held, and nothing is to be sent
+  abbrev pub Fresh : QueuedServer S P → Type 0
+  Fresh w = desk_of w.client ≡ empty_desk
 
-  -- nothing is held and nothing is to be sent
-  pub record Clear (w : QueuedServer S P) : Type 0 where
-    pub silent : (desk_of w.client).said ≡ []
-    pub none : (id : Id) → held_under id (desk_of w.client).held ≡ 0
-
-  pub clear_fresh : (w : QueuedServer S P) → desk_of w.client ≡ record { held = map.empty; asked = (map.empty, 0); said = [] } → Clear w
-  clear_fresh w fresh = record {
-    silent = ap (λ (d : Desk P). d.said) fresh;
-    none = λ id. ap (λ (d : Desk P). held_under id d.held) fresh ∙ ap (λ o. one_if (is_some o)) (get-empty id_cmp id);
-  }
-
-  pub clear_same : (w w' : QueuedServer S P) → desk_of w'.client ≡ desk_of w.client → Clear w → Clear w'
-  clear_same w w' same clear = record {
-    silent = ap (λ (d : Desk P). d.said) same ∙ clear.silent;
-    none = λ id. ap (λ (d : Desk P). held_under id d.held) same ∙ clear.none id;
-  }
-
-  -- what is said at `initialized` answers nothing
-  pub due_opened : (id : Id) (w w' : QueuedServer S P) (said : List Message) → Clear w → (at_desk may).opens w said w'
-      → how_many (is_reply_under id) said + held_under id (desk_of w'.client).held ≡ 0
-  due_opened id w w' said clear opened =
-      let after = opened.0 in
-      let kept : held_under id (desk_of w'.client).held ≡ held_under id after.1.held = ap (λ (x : S × Desk P). held_under id x.1.held) opened.3 in
-      let none : due id after.1 ≡ due id (desk_of w.client) = ap (due id) opened.1.4 ∙ due_acts id (desk_of w.client) opened.1.0 in
-      let silent : how_many (is_reply_under id) (desk_of w.client).said ≡ 0 = ap (how_many (is_reply_under id)) clear.silent in
-      let sent : how_many (is_reply_under id) said ≡ how_many (is_reply_under id) after.1.said = ap (how_many (is_reply_under id)) opened.2 in
-      omega (arith, kept, none, silent, sent, clear.none id)
-
-module _ {S P : Type 0} (may : Stated S P) where
   -- nothing is to be sent, and before `initialized` nothing is held
   abbrev Clean : Phase → QueuedServer S P → Type 0
-  Clean starting w = Clear may w
-  Clean in_reply w = Clear may w
+  Clean starting w = Fresh w
+  Clean in_reply w = Fresh w
   Clean serving w = (desk_of w.client).said ≡ []
   Clean phase w = Unit {0}
 
@@ -135,15 +95,9 @@ module _ {S P : Type 0} (may : Stated S P) where
     abbrev Q : List Message → ℕ
     Q = how_many (is_request_under id)
 
-    -- the message is a request under the id, and the session ends since the lifecycle does not allow it
-    abbrev Unallowed : Option Message → Phase → Type 0
-    Unallowed letter q =
-        IsSomeAnd letter (λ m. is_request_under id m ≡ true) × (null : Option Message) × (fault : ProtocolFault) × (q ≡ ended null (Err fault)) × ShowsUnallowed fault
-
     -- how many requests under the id came in an exchange
     abbrev came : Option Message → ℕ
-    came None = 0
-    came (Some m) = one_if (is_request_under id m)
+    came m = one_if (came_with (is_request_under id) m)
 
     came_more : (x : Exchange) (xs : List Exchange) → Q (letters_of (x ∷ xs)) ≡ came x.letter + Q (letters_of xs)
     came_more x xs = at x.letter
@@ -151,6 +105,38 @@ module _ {S P : Type 0} (may : Stated S P) where
         at : (letter : Option Message) → Q (letters_of (record { letter = letter; said = [] } ∷ xs)) ≡ came letter + Q (letters_of xs)
         at None = omega arith
         at (Some m) = refl
+
+    unowed : (w : QueuedServer S P) → Fresh w → owed w ≡ 0
+    unowed w fresh = ap (λ (d : Desk P). held_under id d.held) fresh ∙ ap (λ o. one_if (is_some o)) (get-empty id_cmp id)
+
+    -- What is due after the server acted: no more than requests came, and none is lost.
+    due_one : (w w' : QueuedServer S P) (m : Option Message) (said : List Message) → (desk_of w.client).said ≡ [] → WorksGiving may (seen w) m said (seen w')
+        → (R said + owed w' ≤ came m + owed w) × (1 ≤ came m + owed w → 1 ≤ R said + owed w')
+    due_one w w' m said silent step =
+        let a = acts_at may (seen w) m said (seen w') step in
+        let all = due_acts id (desk_at (desk_of w.client) m a.payload) (settled_at m a.acts) ∙ due_at id (desk_of w.client) m a.payload in
+        let none : R (desk_of w.client).said ≡ 0 = ap R silent in
+        let kept = ap (λ (d : Desk P). held_under id d.held) a.desk in
+        let sent = ap R (said_so may (seen w) m said (seen w') a) in
+        counted (came_with (is_request_under id) m) (R said) (owed w') (owed w) (omega (arith, all, none, kept, sent))
+      where
+        counted : (b : Bool) (r h' h : ℕ) → r + h' ≡ cond b 1 h → (r + h' ≤ one_if b + h) × (1 ≤ one_if b + h → 1 ≤ r + h')
+        counted true r h' h e = (omega (arith, e), λ some. omega (arith, e))
+        counted false r h' h e = (omega (arith, e), λ some. omega (arith, e, some))
+
+    -- what is said at `initialized` answers nothing
+    due_opened : (w w' : QueuedServer S P) (said : List Message) → Fresh w → (at_desk may).opens w said w' → R said + owed w' ≡ 0
+    due_opened w w' said fresh opened =
+        let kept : owed w' ≡ held_under id opened.0.1.held = ap (λ (x : S × Desk P). held_under id x.1.held) opened.3 in
+        let none : due id opened.0.1 ≡ due id (desk_of w.client) = ap (due id) opened.1.4 ∙ due_acts id (desk_of w.client) opened.1.0 in
+        let silent : R (desk_of w.client).said ≡ 0 = ap (λ (d : Desk P). R d.said) fresh in
+        let sent : R said ≡ R opened.0.1.said = ap R opened.2 in
+        omega (arith, kept, none, silent, sent, unowed w fresh)
+
+    -- the message is a request under the id, and the session ends since the lifecycle does not allow it
+    abbrev Unallowed : Option Message → Phase → Type 0
+    Unallowed letter q =
+        IsSomeAnd letter (λ m. is_request_under id m ≡ true) × (null : Option Message) × (fault : ProtocolFault) × (q ≡ ended null (Err fault)) × ShowsUnallowed fault
 
     -- one exchange
     record Count (w w' : QueuedServer S P) (q : Phase) (m : Option Message) (said : List Message) : Type 0 where
@@ -195,31 +181,34 @@ module _ {S P : Type 0} (may : Stated S P) where
     count_idle p q w m said clean (stays i shown begun e sent next) =
         count_fault w w q m said (Some (null_reply i)) (unexpected_in_shutdown shown) sent next refl (λ is. inr (shown, refl))
 
-    clean_after : (outcome : Result Data ErrorObject) (w : QueuedServer S P) → Clear may w → Clean (phase_after outcome) w
+    clean_after : (outcome : Result Data ErrorObject) (w : QueuedServer S P) → Fresh w → Clean (phase_after outcome) w
     clean_after (Ok result) w clear = clear
     clean_after (Err error) w clear = clear
 
     count : (p q : Phase) (w w' : QueuedServer S P) (x : Option Message) (said : List Message) → Clean p w → Step (at_desk may) p w x said q w' → Count w w' q x said
     count p q w w' x said clean step = by (row (at_desk may) p q w w' x said step)
       where
+        called : (m : Option Message) → Clean serving w → WorksGiving may (seen w) m said (seen w') → Count w w' serving m said
+        called m silent gives =
+            let due = due_one w w' m said silent gives in
+            record { most = due.0; least = λ some. inl (due.1 some); clean = ap (λ (x : S × Desk P). x.1.said) gives.3 }
+
         by : Row (at_desk may) p w x said q w' → Count w w' q x said
         by (at_initialize i method params outcome begun is e init sent next) =
             rw (is, sent, next) (count_even w w' (phase_after outcome) (Some (request i method params)) (response i outcome ∷ []) (omega arith)
-            (ap (λ (d : Desk P). held_under id d.held) init.1) (clean_after outcome w' (clear_same may w w' init.1 (rw begun at clean))))
+            (ap (λ (d : Desk P). held_under id d.held) init.1) (clean_after outcome w' (init.1 ∙ (rw begun at clean))))
         by (at_initialized m begun there e opened next) =
-            let clear : Clear may w = (rw begun at clean) in
-            let none = due_opened may id w w' said clear opened in
+            let fresh : Fresh w = (rw begun at clean) in
+            let none = due_opened w w' said fresh opened in
             let other = none_under m (initialized_no_request m e) in
-            let empty = clear.none id in
+            let empty = unowed w fresh in
             rw (there, next) (record {
               most = omega (arith, none);
               least = λ some. absurd (omega (arith, some, other, empty));
               clean = ap (λ (x : S × Desk P). x.1.said) opened.3;
             })
-        by (at_served m begun there e gives next) =
-            let due = due_one may id w w' m said (rw begun at clean) gives in
-            rw (there, next) (record { most = due.most; least = λ some. inl (due.least some); clean = ap (λ (x : S × Desk P). x.1.said) gives.3 })
-        by (at_woken begun none woken next) = rw (none, woken.0, woken.1, next) (count_even w w serving None [] (omega arith) refl (rw begun at clean))
+        by (at_served m begun there e gives next) = rw (there, next) (called (Some m) (rw begun at clean) gives)
+        by (at_woken begun none gives next) = rw (none, next) (called None (rw begun at clean) gives)
         by (idle m there same any is) = rw (there, same) (count_idle p q w m said clean is)
 
     -- a beginning of the exchanges, the last of which may be cut off
@@ -241,7 +230,7 @@ module _ {S P : Type 0} (may : Stated S P) where
         → Clean starting w → NeverMore id xs
     never_more stop w w' xs q reached clean before after e =
         let most = most_of stop before after xs starting q w w' (reaches_ran (at_desk may) stop starting q w w' xs reached) clean e in
-        let none = clean.none id in
+        let none = unowed w clean in
         omega (arith, most, none)
 
     -- the last of these is a request under the id that the lifecycle does not allow
@@ -278,16 +267,6 @@ module _ {S P : Type 0} (may : Stated S P) where
           | inr ends ↦ inr (x ∷ ends.0, ends.1, ap (λ (l : List Exchange). x ∷ l) ends.2, ends.3)
         ]
 
-    left_in : (q : Phase) (stop : Stop) (answer : SessionAnswer) (w w' : QueuedServer S P) → IsWhole stop
-        → Stops (at_desk may) q w stop answer w' → w' ≡ w
-    left_in q (refused f) answer w w' whole stops = absurd whole
-    left_in q exhausted answer w w' whole stops = absurd whole
-    left_in (ended null by) decided answer w w' whole stops = stops.1
-    left_in (ended null by) stop answer w w' whole stops = absurd stops
-    left_in (asked i) timed_out answer w w' whole stops = stops.1
-    left_in q no_more answer w w' whole stops = stops.1
-    left_in q stop answer w w' whole stops = absurd stops
-
     run_of : (stop : Stop) (w w' : QueuedServer S P) (xs : List Exchange) (q : Phase) → IsWhole stop → Reaches (at_desk may) stop starting w xs q w'
         → Steps (at_desk may) starting w xs q w'
     run_of (refused f) w w' xs q whole run = absurd whole
@@ -312,7 +291,10 @@ module _ {S P : Type 0} (may : Stated S P) where
         at zero e = inr (
           e,
           elim (least_of xs starting q w after (run_of stop w after xs q whole reached) clean (omega (arith, one))) [
-            | inl found ↦ inl (ap owed (left_in q stop answer after w' whole stops) ∙ is_one _ (omega (arith, e, found)))
+            | inl found ↦ inl (elim (kept_to_last (at_desk may) q after w' stop answer stops) [
+              | inl out ↦ absurd (rw out at whole)
+              | inr same ↦ ap owed same ∙ is_one _ (omega (arith, e, found))
+            ])
             | inr ends ↦ inr (
                 let by = stops_by {S = QueuedServer S P} (at_desk may) q after w' stop answer stops in
                 let so = (rw ends.3.3 at by) in

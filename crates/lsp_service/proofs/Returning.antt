@@ -4,17 +4,16 @@ use Rattle.std.proofs.lemmas.List.{map-append}
 use Rattle.std.specs.FinMap as map
 use Rattle.std.specs.FinMap.{get-insert, get-remove, get-empty}
 use Rattle.std.specs.Ordering.{eq_by_cmp}
-use Rattle.std.specs.List.{list_all}
 use Rattle.std.specs.Prelude.{Result, pos, map as map_list, if◌then◌else◌}
 use Rattle.serde_json.specs.Data.{Data}
 use Rattle.lsp_message.specs.Id.{Id, id_cmp, number}
 use Rattle.lsp_message.specs.IdLaws.{id_total, id_decides}
 use Rattle.lsp_message.specs.Message.{Message, ErrorObject, request, notification, response}
 use Rattle.lsp_queue.specs.Queue.{Asked, pending_of, count_of}
-use Rattle.lsp_session.specs.Session.{Exchange, letters_of, Stop, is_served}
-use Rattle.lsp_service.specs.Desk.{Act, tells, asks, cancelled_by, Desk, is_spent, sends_request, does, does_all, ids_after, unsent, given, TakesBack}
-use Rattle.lsp_service.specs.Law.{is_reply_under, Sent, Turn, requests_in, request_of, ids_after_all, sent_by, all_sent, kept_under, acts_of, was_given, brings, GivesOwnPayloads, TakesTurns, IsUnserved, IsWhole, TakesPart}
-use Rattle.lsp_service.specs.QueuedServer.{WorksGiving, OpensSaying}
+use Rattle.lsp_session.specs.Session.{Exchange, came_of, sends_of}
+use Rattle.lsp_service.specs.Desk.{Act, tells, asks, cancelled_by, Desk, is_spent, sends_request, does, does_all, ids_after}
+use Rattle.lsp_service.specs.Law.{came_with, is_reply_under, Sent, Turn, requests_in, request_of, ids_after_all, sent_by, all_sent, kept_under, acts_of, was_given, brings, GivesOwnPayloads, TakesTurns}
+use Rattle.lsp_service.specs.QueuedServer.{WorksGiving}
 use Rattle.lsp_service.specs.View.{seen, desk_of}
 use Rattle.lsp_service.specs.declared.desk.QueuedServer.{QueuedServer}
 use Rattle.lsp_service.specs.Turning.{brought_by, desk_at, settled_by, settled_at}
@@ -25,18 +24,6 @@ pub requests-append : (xs ys : List Message) → requests_in (xs ++ ys) ≡ requ
 requests-append [] ys = refl
 requests-append (request id method params ∷ xs) ys = ap (λ l. request id method params ∷ l) (requests-append xs ys)
 requests-append (x ∷ xs) ys = requests-append xs ys
-
--- a message that the server was given, and what it said
-pub record Given : Type 0 where
-  pub letter : Message
-  pub said : List Message
-
-abbrev pub letters_in : List Given → List Message
-letters_in xs = map_list (λ (x : Given). x.letter) xs
-
-abbrev pub said_in : List Given → List Message
-said_in [] = []
-said_in (x ∷ xs) = x.said ++ said_in xs
 
 -- the second of two, where the first is nothing
 abbrev or_kept : {P : Type 0} → Option P → Option P → Option P
@@ -51,11 +38,11 @@ other_number : (n m : ℕ) → m + 1 ≤ n → eq_by_cmp id_cmp (number (pos n))
 other_number n m more = let same = same_number n m in grind (arith, same, more)
 
 module _ {P : Type 0} where
-  ids_all : (d : Desk P) (acts : List (Act P)) → count_of (does_all d acts).asked ≡ ids_after_all (count_of d.asked) acts
+  pub ids_all : (d : Desk P) (acts : List (Act P)) → count_of (does_all d acts).asked ≡ ids_after_all (count_of d.asked) acts
   ids_all d [] = refl
   ids_all d (act ∷ acts) = ids_all (does d act) acts ∙ ap (λ n. ids_after_all n acts) (ids_counted d act)
 
-  sent-append : (count : ℕ) (xs ys : List (Act P)) → all_sent count (xs ++ ys) ≡ all_sent count xs ++ all_sent (ids_after_all count xs) ys
+  pub sent-append : (count : ℕ) (xs ys : List (Act P)) → all_sent count (xs ++ ys) ≡ all_sent count xs ++ all_sent (ids_after_all count xs) ys
   sent-append count [] ys = refl
   sent-append count (x ∷ xs) ys =
       ap (λ l. sent_by count x ++ l) (sent-append (ids_after count x) xs ys)
@@ -81,7 +68,8 @@ module _ {P : Type 0} where
   kept-append id [] ys = refl
   kept-append id (x ∷ xs) ys = let more = kept-append id xs ys in grind (arith, more)
 
-  given-push : (id : Id) (turns : List (Turn P)) (turn : Turn P) → was_given id (turns ++ turn ∷ []) ≡ (was_given id turns || (is_some turn.payload && is_reply_under id turn.letter))
+  given-push : (id : Id) (turns : List (Turn P)) (turn : Turn P)
+      → was_given id (turns ++ turn ∷ []) ≡ (was_given id turns || (is_some turn.payload && came_with (is_reply_under id) turn.letter))
   given-push id [] turn = grind arith
   given-push id (t ∷ turns) turn = let more = given-push id turns turn in grind (arith, more)
 
@@ -91,7 +79,7 @@ module _ {P : Type 0} where
     pub fresh : (n : ℕ) → count_of asked ≤ n → kept_under (number (pos n)) sent ≡ None
     pub ungiven : (n : ℕ) → count_of asked ≤ n → was_given (number (pos n)) before ≡ false
 
-  agrees_start : Agrees [] [] (map.empty, 0)
+  pub agrees_start : Agrees [] [] (map.empty, 0)
   agrees_start = record { pending = λ id. get-empty id_cmp id; fresh = λ n more. refl; ungiven = λ n more. refl }
 
   agrees_none : (sent : List (Sent P)) (before : List (Turn P)) (asked asked' : Asked P) → asked' ≡ asked → Agrees sent before asked
@@ -136,7 +124,7 @@ module _ {P : Type 0} where
       at false = agrees_asked sent before d.asked method params payload agrees
   agrees_act sent before d act agrees = agrees_none sent before d.asked (does d act).asked (grind arith) agrees
 
-  agrees_acts : (sent : List (Sent P)) (before : List (Turn P)) (d : Desk P) (acts : List (Act P)) → Agrees sent before d.asked
+  pub agrees_acts : (sent : List (Sent P)) (before : List (Turn P)) (d : Desk P) (acts : List (Act P)) → Agrees sent before d.asked
       → Agrees (sent ++ all_sent (count_of d.asked) acts) before (does_all d acts).asked
   agrees_acts sent before d [] agrees = agrees_none sent before d.asked d.asked refl agrees
   agrees_acts sent before d (act ∷ acts) agrees =
@@ -144,10 +132,10 @@ module _ {P : Type 0} where
       let more = agrees_acts (sent ++ one) before (does d act) acts (agrees_act sent before d act agrees) in
       rw (sym (append_assoc sent one (all_sent (ids_after (count_of d.asked) act) acts))) (rw (ids_counted d act) at more)
 
-  abbrev FitsOne : List (Sent P) → List (Turn P) → Turn P → Type 0
-  FitsOne sent before turn = (id : Id) → is_reply_under id turn.letter ≡ true → turn.payload ≡ brings id sent before
+  abbrev pub FitsOne : List (Sent P) → List (Turn P) → Turn P → Type 0
+  FitsOne sent before turn = (id : Id) → came_with (is_reply_under id) turn.letter ≡ true → turn.payload ≡ brings id sent before
 
-  abbrev Fits : ℕ → List (Sent P) → List (Turn P) → List (Turn P) → Type 0
+  abbrev pub Fits : ℕ → List (Sent P) → List (Turn P) → List (Turn P) → Type 0
   Fits count sent before [] = Unit {0}
   Fits count sent before (turn ∷ turns) =
       FitsOne sent before turn × Fits (ids_after_all count turn.acts) (sent ++ all_sent count turn.acts) (before ++ turn ∷ []) turns
@@ -164,7 +152,7 @@ module _ {P : Type 0} where
         sym (append_assoc before (t ∷ []) between),
       ) more
 
-  own_payloads : (begun : List (Act P)) (turns : List (Turn P)) → Fits (ids_after_all 0 begun) (all_sent 0 begun) [] turns → GivesOwnPayloads begun turns
+  pub own_payloads : (begun : List (Act P)) (turns : List (Turn P)) → Fits (ids_after_all 0 begun) (all_sent 0 begun) [] turns → GivesOwnPayloads begun turns
   own_payloads begun turns fits before after turn id cut under =
       rw (sent-append 0 begun (acts_of before)) (fits_at (ids_after_all 0 begun) (all_sent 0 begun) [] before after turn (rw cut at fits) id under)
 
@@ -182,7 +170,7 @@ module _ {P : Type 0} where
 
   -- a turn in which a reply came
   agrees_given : (sent : List (Sent P)) (before : List (Turn P)) (asked : Asked P) (turn : Turn P) (i : Id) (outcome : Result Data ErrorObject) (payload : P)
-      → turn.letter ≡ response i outcome → turn.payload ≡ Some payload → map.get (pending_of asked) i ≡ Some payload → Agrees sent before asked
+      → turn.letter ≡ Some (response i outcome) → turn.payload ≡ Some payload → map.get (pending_of asked) i ≡ Some payload → Agrees sent before asked
       → Agrees sent (before ++ turn ∷ []) (map.remove (pending_of asked) i, count_of asked)
   agrees_given sent before asked turn i outcome payload letter came kept agrees = record {
     pending = λ id. let got = get-remove id_total (pending_of asked) i id in let had = agrees.pending id in let now = now id in grind (arith, got, had, now);
@@ -209,42 +197,42 @@ module _ {P : Type 0} where
   settled_none count (act ∷ acts) cancelled =
       let more = settled_none (ids_after count act) acts cancelled in (more.0, ap (λ l. sent_by count act ++ l) more.1)
 
-  settled : (count : ℕ) (m : Message) (acts : List (Act P))
+  settled : (count : ℕ) (m : Option Message) (acts : List (Act P))
       → (ids_after_all count (settled_at m acts) ≡ ids_after_all count acts) × (all_sent count (settled_at m acts) ≡ all_sent count acts)
-  settled count (notification method params) acts = settled_none count acts (cancelled_by method params)
+  settled count (Some (notification method params)) acts = settled_none count acts (cancelled_by method params)
   settled count m acts = (refl, refl)
 
-  -- a turn in which the server is handed a message
-  agrees_at : (sent : List (Sent P)) (before : List (Turn P)) (d : Desk P) (m : Message) (payload : Option P) (acts : List (Act P))
+  -- one more turn
+  agrees_at : (sent : List (Sent P)) (before : List (Turn P)) (d : Desk P) (m : Option Message) (payload : Option P) (acts : List (Act P))
       → payload ≡ brought_by d m → Agrees sent before d.asked
       → Agrees sent (before ++ record { letter = m; payload = payload; acts = acts } ∷ []) (desk_at d m payload).asked
-  agrees_at sent before d (response i outcome) None acts is agrees = agrees_other sent before d.asked _ refl agrees
-  agrees_at sent before d (response i outcome) (Some payload) acts is agrees =
+  agrees_at sent before d (Some (response i outcome)) None acts is agrees = agrees_other sent before d.asked _ refl agrees
+  agrees_at sent before d (Some (response i outcome)) (Some payload) acts is agrees =
       agrees_given sent before d.asked _ i outcome payload refl refl (sym is) agrees
   agrees_at sent before d m payload acts is agrees = agrees_other sent before d.asked _ is agrees
 
-  fits_one : (sent : List (Sent P)) (before : List (Turn P)) (d : Desk P) (m : Message) (payload : Option P) (acts : List (Act P))
+  fits_one : (sent : List (Sent P)) (before : List (Turn P)) (d : Desk P) (m : Option Message) (payload : Option P) (acts : List (Act P))
       → payload ≡ brought_by d m → Agrees sent before d.asked → FitsOne sent before (record { letter = m; payload = payload; acts = acts })
-  fits_one sent before d (response i outcome) payload acts is agrees id under =
+  fits_one sent before d (Some (response i outcome)) payload acts is agrees id under =
       let same : id ≡ i = (id_decides id i).0 under in
       is ∙ sym (ap (λ j. map.get (pending_of d.asked) j) same) ∙ agrees.pending id
   fits_one sent before d m payload acts is agrees id under = absurd (cc (under))
 
 module _ {S P : Type 0} (may : Stated S P) where
-  -- the server is given these messages, and this is sent for each
-  abbrev pub GivesAll : QueuedServer S P → List Given → QueuedServer S P → Type 0
+  -- the server has these turns, and this is sent at each
+  abbrev pub GivesAll : QueuedServer S P → List Exchange → QueuedServer S P → Type 0
   GivesAll w [] w' = w' ≡ w
   GivesAll w (x ∷ xs) w' = (mid : QueuedServer S P) × WorksGiving may (seen w) x.letter x.said (seen mid) × GivesAll mid xs w'
 
   -- they are as many turns
-  pub record Turned (w w' : QueuedServer S P) (xs : List Given) (sent : List (Sent P)) (before : List (Turn P)) : Type 0 where
+  pub record Turned (w w' : QueuedServer S P) (xs : List Exchange) (sent : List (Sent P)) (before : List (Turn P)) : Type 0 where
     pub turns : List (Turn P)
-    pub letters_are : map_list (λ (turn : Turn P). turn.letter) turns ≡ letters_in xs
+    pub letters_are : map_list (λ (turn : Turn P). turn.letter) turns ≡ came_of xs
     pub took : TakesTurns may (count_of (desk_of w.client).asked) w.server turns w'.server
-    pub said : requests_in (said_in xs) ≡ map_list request_of (all_sent (count_of (desk_of w.client).asked) (acts_of turns))
+    pub said : requests_in (sends_of xs) ≡ map_list request_of (all_sent (count_of (desk_of w.client).asked) (acts_of turns))
     pub fits : Fits (count_of (desk_of w.client).asked) sent before turns
 
-  turn_all : (w w' : QueuedServer S P) (xs : List Given) (sent : List (Sent P)) (before : List (Turn P)) → (desk_of w.client).said ≡ []
+  pub turn_all : (w w' : QueuedServer S P) (xs : List Exchange) (sent : List (Sent P)) (before : List (Turn P)) → (desk_of w.client).said ≡ []
       → Agrees sent before (desk_of w.client).asked → GivesAll w xs w' → Turned w w' xs sent before
   turn_all w w' [] sent before silent agrees all = record {
     turns = [];
@@ -274,60 +262,17 @@ module _ {S P : Type 0} (may : Stated S P) where
       let now : requests_in x.said ≡ map_list request_of (all_sent n a.acts) =
       ap requests_in (said_so may (seen w) x.letter x.said (seen mid) a) ∙ said_all start acts
       ∙ (λ i. requests_in ((at_said d x.letter a.payload ∙ silent) i) ++ map_list request_of (sends i)) in
-      let later : requests_in (said_in xs) ≡ map_list request_of (all_sent (ids_after_all n a.acts) (acts_of rest.turns)) =
+      let later : requests_in (sends_of xs) ≡ map_list request_of (all_sent (ids_after_all n a.acts) (acts_of rest.turns)) =
       rest.said ∙ ap (λ k. map_list request_of (all_sent k (acts_of rest.turns))) count in
       record {
         turns = turn ∷ rest.turns;
         letters_are = ap (λ l. x.letter ∷ l) rest.letters_are;
         took = (a.did, mid.server, a.handed, a.back, subst (λ k. TakesTurns may k mid.server rest.turns w'.server) count rest.took);
-        said = requests-append x.said (said_in xs) ∙ (λ i. now i ++ later i)
+        said = requests-append x.said (sends_of xs) ∙ (λ i. now i ++ later i)
             ∙ sym (ap (λ l. map_list request_of l) (sent-append n a.acts (acts_of rest.turns))
             ∙ map-append request_of (all_sent n a.acts) (all_sent (ids_after_all n a.acts) (acts_of rest.turns)));
         fits = (
           fits_one sent before d x.letter a.payload a.acts a.brought agrees,
           subst (λ k. Fits k (sent ++ all_sent n a.acts) (before ++ turn ∷ []) rest.turns) count rest.fits,
         );
-      }
-
-  -- The server's part: what it said to `initialized`, the messages that it was given, and what came after these.
-  pub part_whole : (w mid after : QueuedServer S P) (said : List Message) (xs : List Given) (rest : List Exchange) (stop : Stop) (requests more : List Message)
-      → (desk_of w.client).said ≡ [] → (desk_of w.client).asked ≡ (map.empty, 0) → OpensSaying may (seen w) said (seen mid)
-      → GivesAll mid xs after → list_all is_served (letters_in xs) ≡ true → IsUnserved (letters_of rest)
-      → requests_in said ++ requests_in (said_in xs) ≡ requests ++ more → (IsWhole stop → more ≡ [])
-      → TakesPart may w.server after.server (letters_in xs ++ letters_of rest) stop requests
-  part_whole w mid after said xs rest stop requests more silent unasked opened given served unserved sent whole =
-      let d : Desk P = desk_of w.client in
-      let begun = opened.1.0 in
-      let none : count_of d.asked ≡ 0 = ap count_of unasked in
-      let asked : (desk_of mid.client).asked ≡ (does_all d begun).asked =
-      ap (λ (x : S × Desk P). x.1.asked) opened.3 ∙ ap (λ (x : Desk P). x.asked) opened.1.4 in
-      let count : count_of (desk_of mid.client).asked ≡ ids_after_all 0 begun = ap count_of asked ∙ ids_all d begun ∙ ap (λ n. ids_after_all n begun) none in
-      let agrees : Agrees (all_sent 0 begun) [] (desk_of mid.client).asked =
-      subst (Agrees (all_sent 0 begun) []) (sym asked) (subst (λ n. Agrees (all_sent n begun) [] (does_all d begun).asked) none
-      (agrees_acts [] [] d begun (subst (Agrees [] []) (sym unasked) agrees_start))) in
-      let first : requests_in said ≡ map_list request_of (all_sent 0 begun) =
-      ap requests_in opened.2 ∙ ap (λ (x : Desk P). requests_in x.said) opened.1.4 ∙ said_all d begun
-      ∙ (λ i. requests_in (silent i) ++ map_list request_of (all_sent (none i) begun)) in
-      let t = turn_all mid after xs (all_sent 0 begun) [] (ap (λ (x : S × Desk P). x.1.said) opened.3) agrees given in
-      let later : map_list request_of (all_sent (ids_after_all 0 begun) (acts_of t.turns)) ≡ requests_in (said_in xs) =
-      sym (t.said ∙ ap (λ k. map_list request_of (all_sent k (acts_of t.turns))) count) in
-      record {
-        begun = begun;
-        turns = t.turns;
-        rest = letters_of rest;
-        cut = ap (λ l. l ++ letters_of rest) (sym t.letters_are);
-        served = rw t.letters_are served;
-        ended = unserved;
-        did = opened.1.1;
-        first = mid.server;
-        began = opened.1.2;
-        took_back = subst (λ (s : S). TakesBack may.takes_back opened.1.1 (unsent 0 begun) s) (sym (ap (λ (x : S × Desk P). x.0) opened.3))
-            (subst (λ n. TakesBack may.takes_back opened.1.1 (unsent n begun) opened.0.0) none opened.1.3);
-        took_turns = subst (λ k. TakesTurns may k mid.server t.turns after.server) count t.took;
-        unsaid = more;
-        sent = ap (λ l. map_list request_of l) (sent-append 0 begun (acts_of t.turns))
-            ∙ map-append request_of (all_sent 0 begun) (all_sent (ids_after_all 0 begun) (acts_of t.turns))
-            ∙ (λ i. sym first i ++ later i) ∙ sent;
-        all = whole;
-        payloads = own_payloads begun t.turns (subst (λ k. Fits k (all_sent 0 begun) [] t.turns) count t.fits);
       }

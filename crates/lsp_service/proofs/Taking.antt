@@ -4,21 +4,23 @@ use Rattle.std.proofs.lemmas.List.Folds.{list_all-append}
 use Rattle.std.specs.Bool.{MatchBool}
 use Rattle.std.specs.List.{list_all}
 use Rattle.serde_json.specs.Data.{Data}
-use Rattle.std.specs.Prelude.{Result, Ok, Err, IsSomeAnd}
+use Rattle.std.specs.Prelude.{Result, Ok, Err, IsSomeAnd, map as map_list}
+use Rattle.std.proofs.lemmas.List.{map-append}
+use Rattle.lsp_queue.specs.Queue.{count_of}
 use Rattle.lsp_message.specs.Id.{Id}
-use Rattle.lsp_message.specs.Message.{Message, ErrorObject, request, notification, response}
+use Rattle.lsp_message.specs.Message.{Message, ErrorObject, request, response}
 use Rattle.lsp_message.specs.Methods.{is_initialize, is_initialized, is_exit}
 use Rattle.lsp_session.proofs.Ran.{part_none, part_one, Ran, reaches_ran, early_request, early_note, unasked as unasked_for, uninvited, shuts, leaves as goes, exits, stays, Row, at_initialize, at_initialized, at_served, at_woken, idle, row, IsWhole as IsSent}
 use Rattle.lsp_session.specs.ProtocolError.{expected_initialize, expected_initialized, unexpected_in_shutdown}
 use Rattle.lsp_session.specs.Replies.{null_reply, IsEarlyReply}
-use Rattle.lsp_session.specs.Session.{Behavior, Exchange, letters_of, sends_of, SessionAnswer, Stop, decided, timed_out, refused, exhausted, Phase, starting, replied as in_reply, serving, asked, ended, phase_after, is_served, Fails, Leaves, Reaches, Step, Stops, SessionOut}
+use Rattle.lsp_session.specs.Session.{Exchange, came_of, sends_of, SessionAnswer, Stop, refused, Phase, starting, replied as in_reply, serving, asked, ended, phase_after, is_served, Fails, Leaves, Step, SessionOut}
 use Rattle.lsp_session.specs.declared.loops.handler.SessionEnd.TheVariants.{Closed, ShutDown}
-use Rattle.lsp_service.specs.Desk.{Desk, empty_desk}
-use Rattle.lsp_service.specs.Law.{IsWhole, requests_in, IsUnserved, TakesPart, GivesPayloads, is_refusal, GoesOn, Initializes, KeepsLaws, LawfulSession}
-use Rattle.lsp_service.specs.QueuedServer.{at_desk, held_by, ServerSession}
+use Rattle.lsp_service.specs.Desk.{Desk, TakesBack, does_all, empty_desk, unsent}
+use Rattle.lsp_service.specs.Law.{IsWhole, requests_in, request_of, ids_after_all, all_sent, acts_of, is_turn, IsUnserved, TakesTurns, TakesPart, GivesPayloads, is_refusal, GoesOn, Initializes, KeepsLaws, LawfulSession}
+use Rattle.lsp_service.specs.QueuedServer.{at_desk, held_by, OpensSaying, ServerSession, WorksGiving}
 use Rattle.lsp_service.specs.declared.desk.QueuedServer.{QueuedServer}
-use Rattle.lsp_service.proofs.Counting.{Unasked, never_more, answered_once, clear_fresh}
-use Rattle.lsp_service.proofs.Returning.{requests-append, Given, letters_in, said_in, GivesAll, part_whole}
+use Rattle.lsp_service.proofs.Counting.{Fresh, kept_to_last, never_more, answered_once}
+use Rattle.lsp_service.proofs.Returning.{requests-append, ids_all, sent-append, said_all, Agrees, agrees_start, agrees_acts, Fits, own_payloads, GivesAll, turn_all}
 use Rattle.lsp_service.specs.View.{desk_of, seen}
 use Rattle.lsp_service.specs.declared.server.Server.{Ghosts as Stated}
 use Rattle.lsp_session.proofs.Ordering.{keeps_order}
@@ -56,23 +58,23 @@ module _ {S P : Type 0} (may : Stated S P) (stop : Stop) where
       by None step = absurd step
       by (Some m) step = at (is_exit m) step.0 step.1
 
-  -- the messages that the server was given, and those after them
+  -- the server's turns, and what came after them
   record Served (w w' : QueuedServer S P) (xs : List Exchange) : Type 0 where
-    served : List Given
-    rest : List Exchange
+    served : List Exchange
+    rest : List (Option Message)
     given : GivesAll may w served w'
-    all_served : list_all is_served (letters_in served) ≡ true
-    unserved : IsUnserved (letters_of rest)
-    cut : letters_of xs ≡ letters_in served ++ letters_of rest
+    all_served : list_all is_turn (came_of served) ≡ true
+    unserved : IsUnserved rest
+    cut : came_of xs ≡ came_of served ++ rest
     more : List Message
-    sent : requests_in (said_in served) ≡ requests_in (sends_of xs) ++ more
+    sent : requests_in (sends_of served) ≡ requests_in (sends_of xs) ++ more
     whole : IsWhole stop → more ≡ []
 
   -- `shutdown` or `exit` comes, or nothing
-  abbrev serve_left : (w w' : QueuedServer S P) (xs : List Exchange) → IsUnserved (letters_of xs) → (requests_in (sends_of xs) ≡ []) × (w' ≡ w) → Served w w' xs
+  abbrev serve_left : (w w' : QueuedServer S P) (xs : List Exchange) → IsUnserved (came_of xs) → (requests_in (sends_of xs) ≡ []) × (w' ≡ w) → Served w w' xs
   serve_left w w' xs unserved (silent, same) = record {
     served = [];
-    rest = xs;
+    rest = came_of xs;
     given = same;
     all_served = refl;
     unserved = unserved;
@@ -82,11 +84,11 @@ module _ {S P : Type 0} (may : Stated S P) (stop : Stop) where
     whole = λ is. refl;
   }
 
-  -- What is sent for one more message, and then to those that the server was given: where a part of that is left, it was given no more.
+  -- What is sent at one more turn, and then at the later ones: where a part of that is left, there are none.
   record Sends (mid w' : QueuedServer S P) (xs : List Exchange) (full : List Message) (said : List Message) : Type 0 where
     later : Served mid w' xs
     more : List Message
-    sent : requests_in full ++ requests_in (said_in later.served) ≡ requests_in (said ++ sends_of xs) ++ more
+    sent : requests_in full ++ requests_in (sends_of later.served) ≡ requests_in (said ++ sends_of xs) ++ more
     whole : IsWhole stop → more ≡ []
 
   sends_more : (mid w' : QueuedServer S P) (xs : List Exchange) (full said more : List Message) → said ++ more ≡ full
@@ -110,33 +112,19 @@ module _ {S P : Type 0} (may : Stated S P) (stop : Stop) where
     whole = λ is. absurd (last.1 (whole_sent stop is));
   }
 
-  -- one more message comes first
-  serve_more : (w mid w' : QueuedServer S P) (x : Exchange) (xs : List Exchange) (m : Message) (full : List Message) → x.letter ≡ Some m → is_served m ≡ true
-      → (at_desk may).gives w m full mid → Sends mid w' xs full x.said → Served w w' (x ∷ xs)
-  serve_more w mid w' x xs m full there served gives s = record {
-    served = record { letter = m; said = full } ∷ s.later.served;
+  -- one more turn comes first
+  serve_more : (w mid w' : QueuedServer S P) (x : Exchange) (xs : List Exchange) (full : List Message) → is_turn x.letter ≡ true
+      → WorksGiving may (seen w) x.letter full (seen mid) → Sends mid w' xs full x.said → Served w w' (x ∷ xs)
+  serve_more w mid w' x xs full turn gives s = record {
+    served = record { letter = x.letter; said = full } ∷ s.later.served;
     rest = s.later.rest;
     given = (mid, gives, s.later.given);
-    all_served = rw served s.later.all_served;
+    all_served = rw turn s.later.all_served;
     unserved = s.later.unserved;
-    cut = rw there (ap (λ (l : List Message). m ∷ l) s.later.cut);
+    cut = ap (λ (l : List (Option Message)). x.letter ∷ l) s.later.cut;
     more = s.more;
-    sent = requests-append full (said_in s.later.served) ∙ s.sent;
+    sent = requests-append full (sends_of s.later.served) ∙ s.sent;
     whole = s.whole;
-  }
-
-  -- a wake comes first
-  serve_woken : (w w' : QueuedServer S P) (x : Exchange) (xs : List Exchange) → x.letter ≡ None → x.said ≡ [] → Served w w' xs → Served w w' (x ∷ xs)
-  serve_woken w w' x xs none silent later = record {
-    served = later.served;
-    rest = later.rest;
-    given = later.given;
-    all_served = later.all_served;
-    unserved = later.unserved;
-    cut = rw none later.cut;
-    more = later.more;
-    sent = rw silent later.sent;
-    whole = later.whole;
   }
 
   left_silent : (w w' : QueuedServer S P) (q next : Phase) (m : Message) (full said more : List Message) (xs : List Exchange) → Leaves m full next → said ++ more ≡ full → (said ≡ [] → full ≡ [])
@@ -157,37 +145,72 @@ module _ {S P : Type 0} (may : Stated S P) (stop : Stop) where
   serve_all [] q w w' run = serve_left w w' [] tt (refl, run.1)
   serve_all (x ∷ xs) q w w' run = by (λ rest. serve_all xs q run.5 w' rest) x.letter refl run.6
     where
+      turn : (Runs_from serving run.5 xs q w' → Served run.5 w' xs) → is_turn x.letter ≡ true
+          → WorksGiving may (seen w) x.letter run.0 (seen run.5) × (run.4 ≡ serving) → Served w w' (x ∷ xs)
+      turn later is step =
+          serve_more w run.5 w' x xs run.0 is step.0
+          (sends_more run.5 w' xs run.0 x.said run.1 run.2 run.7 (at_end xs run.4 q run.5 w' run.8) (later (rw step.1 at run.8)))
+
       at : (Runs_from serving run.5 xs q w' → Served run.5 w' xs) → (m : Message) → x.letter ≡ Some m → (b : Bool) → is_served m ≡ b
           → MatchBool b ((at_desk may).gives w m run.0 run.5 × (run.4 ≡ serving)) (Leaves m run.0 run.4 × (run.5 ≡ w))
           → Served w w' (x ∷ xs)
-      at later m there true e step =
-          serve_more w run.5 w' x xs m run.0 there e step.0
-          (sends_more run.5 w' xs run.0 x.said run.1 run.2 run.7 (at_end xs run.4 q run.5 w' run.8) (later (rw step.1 at run.8)))
+      at later m there true e step = turn later (rw (there, e) refl) (rw there step)
       at later m there false e step =
           let left = left_silent run.5 w' q run.4 m run.0 x.said run.1 xs step.0 run.2 run.3 run.8 in
-          serve_left w w' (x ∷ xs) (rw there e) (left.0, left.1 ∙ step.1)
+          serve_left w w' (x ∷ xs) (rw (there, e) refl) (left.0, left.1 ∙ step.1)
 
       by : (Runs_from serving run.5 xs q w' → Served run.5 w' xs) → (letter : Option Message) → x.letter ≡ letter → Step (at_desk may) serving w letter run.0 run.4 run.5
           → Served w w' (x ∷ xs)
-      by later None none step =
-          serve_woken w w' x xs none (part_none x.said run.1 run.0 run.2 step.0.0) (subst (λ (v : QueuedServer S P). Served v w' xs) step.0.1 (later (rw step.1 at run.8)))
+      by later None none step = turn later (rw none refl) (rw none step)
       by later (Some m) there step = at later m there (is_served m) refl step
 
   -- ---- from the result of `initialize` on
 
-  after_result : (xs : List Exchange) (q : Phase) (w w' : QueuedServer S P) → (desk_of w.client).said ≡ [] → Unasked may w
-      → Runs_from in_reply w xs q w' → GoesOn may w.server w'.server xs stop
-  after_result [] q w w' silent unasked run = ap (λ (x : QueuedServer S P). x.server) run.1
-  after_result (x ∷ xs) q w w' silent unasked run = by x.letter refl run.6
+  -- The server's part: what it said at `initialized`, its turns, and what came after these.
+  takes_part : (w mid w' : QueuedServer S P) (xs : List Exchange) (full said : List Message) → Fresh may w → OpensSaying may (seen w) full (seen mid)
+      → Sends mid w' xs full said → TakesPart may w.server w'.server (came_of xs) stop (requests_in (said ++ sends_of xs))
+  takes_part w mid w' xs full said fresh opens s =
+      let opened : OpensSaying may (w.server, empty_desk) full (seen mid) = subst (λ (d : Desk P). OpensSaying may (w.server, d) full (seen mid)) fresh opens in
+      let begun = opened.1.0 in
+      let asked : (desk_of mid.client).asked ≡ (does_all empty_desk begun).asked =
+      ap (λ (x : S × Desk P). x.1.asked) opened.3 ∙ ap (λ (x : Desk P). x.asked) opened.1.4 in
+      let count : count_of (desk_of mid.client).asked ≡ ids_after_all 0 begun = ap count_of asked ∙ ids_all empty_desk begun in
+      let first : requests_in full ≡ map_list request_of (all_sent 0 begun) =
+      ap requests_in opened.2 ∙ ap (λ (x : Desk P). requests_in x.said) opened.1.4 ∙ said_all empty_desk begun in
+      let t = turn_all may mid w' s.later.served (all_sent 0 begun) [] (ap (λ (x : S × Desk P). x.1.said) opened.3)
+      (subst (Agrees (all_sent 0 begun) []) (sym asked) (agrees_acts [] [] empty_desk begun agrees_start)) s.later.given in
+      let later : map_list request_of (all_sent (ids_after_all 0 begun) (acts_of t.turns)) ≡ requests_in (sends_of s.later.served) =
+      sym (t.said ∙ ap (λ k. map_list request_of (all_sent k (acts_of t.turns))) count) in
+      record {
+        begun = begun;
+        turns = t.turns;
+        rest = s.later.rest;
+        cut = s.later.cut ∙ ap (λ l. l ++ s.later.rest) (sym t.letters_are);
+        served = rw t.letters_are s.later.all_served;
+        ended = s.later.unserved;
+        did = opened.1.1;
+        first = mid.server;
+        began = opened.1.2;
+        took_back = subst (λ (v : S). TakesBack may.takes_back opened.1.1 (unsent 0 begun) v) (sym (ap (λ (x : S × Desk P). x.0) opened.3)) opened.1.3;
+        took_turns = subst (λ k. TakesTurns may k mid.server t.turns w'.server) count t.took;
+        unsaid = s.more;
+        sent = ap (λ l. map_list request_of l) (sent-append 0 begun (acts_of t.turns))
+            ∙ map-append request_of (all_sent 0 begun) (all_sent (ids_after_all 0 begun) (acts_of t.turns))
+            ∙ (λ i. sym first i ++ later i) ∙ s.sent;
+        all = s.whole;
+        payloads = own_payloads begun t.turns (subst (λ k. Fits k (all_sent 0 begun) [] t.turns) count t.fits);
+      }
+
+  after_result : (xs : List Exchange) (q : Phase) (w w' : QueuedServer S P) → Fresh may w → Runs_from in_reply w xs q w' → GoesOn may w.server w'.server xs stop
+  after_result [] q w w' fresh run = ap (λ (x : QueuedServer S P). x.server) run.1
+  after_result (x ∷ xs) q w w' fresh run = by x.letter refl run.6
     where
       at : (m : Message) → x.letter ≡ Some m → (b : Bool) → is_initialized m ≡ b
           → MatchBool b ((at_desk may).opens w run.0 run.5 × (run.4 ≡ serving)) (Fails expected_initialized in_reply run.0 run.4 × (run.5 ≡ w))
           → GoesOn may w.server w'.server (x ∷ xs) stop
       at m there true e step =
-          let s = sends_more run.5 w' xs run.0 x.said run.1 run.2 run.7 (at_end xs run.4 q run.5 w' run.8) (serve_all xs q run.5 w' (rw step.1 at run.8)) in
-          rw (there, e) (subst (λ (l : List Message). TakesPart may w.server w'.server l stop (requests_in (x.said ++ sends_of xs))) (sym s.later.cut)
-          (part_whole may w run.5 w' run.0 s.later.served s.later.rest stop (requests_in (x.said ++ sends_of xs)) s.more silent unasked step.0
-          s.later.given s.later.all_served s.later.unserved s.sent s.whole))
+          rw (there, e) (takes_part w run.5 w' xs run.0 x.said fresh step.0
+          (sends_more run.5 w' xs run.0 x.said run.1 run.2 run.7 (at_end xs run.4 q run.5 w' run.8) (serve_all xs q run.5 w' (rw step.1 at run.8))))
       at m there false e step =
           let rest = over xs None (Err (expected_initialized step.0.0)) q run.5 w' (rw step.0.2 at run.8) in
           rw (there, e) (rw (part_none x.said run.1 run.0 run.2 step.0.1, rest.0) refl, ap (λ (x : QueuedServer S P). x.server) (rest.1 ∙ step.1))
@@ -241,11 +264,11 @@ module _ {S P : Type 0} (may : Stated S P) (stop : Stop) where
     )
   ]
 
-  payloads_from : (xs : List Exchange) (q : Phase) (w w' : QueuedServer S P) → (desk_of w.client).said ≡ [] → Unasked may w
+  payloads_from : (xs : List Exchange) (q : Phase) (w w' : QueuedServer S P) → Fresh may w
       → Runs_from starting w xs q w' → GivesPayloads may w.server w'.server xs stop
-  payloads_from [] q w w' silent unasked run = inl (refl, ap (λ (x : QueuedServer S P). x.server) run.1)
-  payloads_from (x ∷ xs) q w w' silent unasked run =
-      by (λ silent unasked rest. payloads_from xs q run.5 w' silent unasked rest) (row (at_desk may) starting run.4 w run.5 x.letter run.0 run.6)
+  payloads_from [] q w w' fresh run = inl (refl, ap (λ (x : QueuedServer S P). x.server) run.1)
+  payloads_from (x ∷ xs) q w w' fresh run =
+      by (λ fresh rest. payloads_from xs q run.5 w' fresh rest) (row (at_desk may) starting run.4 w run.5 x.letter run.0 run.6)
     where
       one : (r : Message) → run.0 ≡ r ∷ [] → x.said ≡ r ∷ []
       one r e = part_one x.said run.1 run.0 r run.2 run.3 e
@@ -259,7 +282,7 @@ module _ {S P : Type 0} (may : Stated S P) (stop : Stop) where
       more : list_all is_refusal x.said ≡ true → GivesPayloads may run.5.server w'.server xs stop → GivesPayloads may w.server w'.server (x ∷ xs) stop
       more errors rest = payloads_more w.server run.5.server w'.server x xs errors begun rest
 
-      by : ((desk_of run.5.client).said ≡ [] → Unasked may run.5 → Runs_from starting run.5 xs q w' → GivesPayloads may run.5.server w'.server xs stop)
+      by : (Fresh may run.5 → Runs_from starting run.5 xs q w' → GivesPayloads may run.5.server w'.server xs stop)
           → Row (at_desk may) starting w x.letter run.0 run.4 run.5 → GivesPayloads may w.server w'.server (x ∷ xs) stop
       by later (at_initialize i method params (Ok result) first is e init sent next) = inr (
         x ∷ [],
@@ -277,17 +300,17 @@ module _ {S P : Type 0} (may : Stated S P) (stop : Stop) where
         refl,
         run.5.server,
         (run.5.server, begun, refl),
-        after_result xs q run.5 w' (ap (λ (d : Desk P). d.said) init.1 ∙ silent) (ap (λ (d : Desk P). d.asked) init.1 ∙ unasked) (rw next at run.8),
+        after_result xs q run.5 w' (init.1 ∙ fresh) (rw next at run.8),
       )
       by later (at_initialize i method params (Err error) first is e init sent next) =
           more (rw (one (response i (Err error)) sent) refl)
-          (later (ap (λ (d : Desk P). d.said) init.1 ∙ silent) (ap (λ (d : Desk P). d.asked) init.1 ∙ unasked) (rw next at run.8))
+          (later (init.1 ∙ fresh) (rw next at run.8))
       by later (at_initialized m first there e opened next) = absurd (cc (first))
       by later (at_served m first there e gives next) = absurd (cc (first))
       by later (at_woken first none woken next) = absurd (cc (first))
       by later (idle m there same any (early_request i method params reply first is replies sent next)) =
-          more (rw (one reply sent, replies.is) refl) (later (rw same silent) (rw same unasked) (rw next at run.8))
-      by later (idle m there same any (early_note first mute e sent next)) = more (rw (none sent) refl) (later (rw same silent) (rw same unasked) (rw next at run.8))
+          more (rw (one reply sent, replies.is) refl) (later (rw same fresh) (rw next at run.8))
+      by later (idle m there same any (early_note first mute e sent next)) = more (rw (none sent) refl) (later (rw same fresh) (rw next at run.8))
       by later (idle m there same any (unasked_for shown first mute sent next)) =
           let rest = over xs None (Err (expected_initialize shown)) q run.5 w' (rw next at run.8) in
           inl (rw (none sent, rest.0) refl, (run.5.server, begun, rw rest.0 (ap (λ (x : QueuedServer S P). x.server) rest.1)))
@@ -296,22 +319,6 @@ module _ {S P : Type 0} (may : Stated S P) (stop : Stop) where
       by later (idle m there same any (goes first e sent next)) = absurd (cc (first))
       by later (idle m there same any (exits i first e sent next)) = absurd (cc (first))
       by later (idle m there same any (stays i shown first e sent next)) = absurd (cc (first))
-
-  pub keeps_payloads : (w w' : QueuedServer S P) (xs : List Exchange) (q : Phase) → (desk_of w.client).said ≡ [] → Unasked may w
-      → Reaches (at_desk may) stop starting w xs q w' → GivesPayloads may w.server w'.server xs stop
-  keeps_payloads w w' xs q silent unasked reached =
-      payloads_from xs q w w' silent unasked (reaches_ran (at_desk may) stop starting q w w' xs reached)
-
--- the last state is that after the last exchange, unless an allocation failed
-pub kept_to_last : {T : Type 0} (can : Behavior T) (p : Phase) (s s' : T) (stop : Stop) (answer : SessionAnswer) → Stops can p s stop answer s' → (stop ≡ exhausted) ⊎ (s' ≡ s)
-kept_to_last can p s s' exhausted answer stops = inl refl
-kept_to_last can (ended null by) s s' decided answer stops = inr stops.1
-kept_to_last can (ended null by) s s' stop answer stops = absurd stops
-kept_to_last can p s s' decided answer stops = absurd stops
-kept_to_last can (asked i) s s' (refused fault) answer stops = absurd stops
-kept_to_last can (asked i) s s' stop answer stops = inr stops.1
-kept_to_last can p s s' timed_out answer stops = absurd stops
-kept_to_last can p s s' stop answer stops = inr stops.1
 
 module _ {S P : Type 0} (may : Stated S P) where
   -- a session of a server that was put to its desk and taken away again
@@ -326,16 +333,15 @@ module _ {S P : Type 0} (may : Stated S P) where
     keeps_laws session =
         let out = session.out in
         let fresh : desk_of session.old.client ≡ empty_desk = ap (λ (x : S × Desk P). x.1) session.from_first in
-        let clear = clear_fresh may session.old fresh in
         record {
-          never_more = λ id. never_more may id stop session.old out.after xs out.last out.reached clear;
+          never_more = λ id. never_more may id stop session.old out.after xs out.last out.reached fresh;
           once = λ whole id one.
-              answered_once may id stop answer session.old out.after session.new xs out.last out.reached out.stopped clear whole one;
+              answered_once may id stop answer session.old out.after session.new xs out.last out.reached out.stopped fresh whole one;
           order = keeps_order (at_desk may) session.old session.new xs stop null answer out;
           after = out.after.server;
           payloads = subst (λ (s : S). GivesPayloads may s out.after.server xs stop) (ap (λ (x : S × Desk P). x.0) session.from_first)
-              (keeps_payloads may stop session.old out.after xs out.last
-              (ap (λ (d : Desk P). d.said) fresh) (ap (λ (d : Desk P). d.asked) fresh) out.reached);
+              (payloads_from may stop xs out.last session.old out.after fresh
+              (reaches_ran (at_desk may) stop starting out.last session.old out.after xs out.reached));
           kept = elim (kept_to_last (at_desk may) out.last out.after session.new stop answer out.stopped) [
             | inl e ↦ inl e
             | inr e ↦ inr (session.to_last ∙ ap (λ (x : QueuedServer S P). x.server) e)

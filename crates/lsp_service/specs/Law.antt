@@ -1,9 +1,9 @@
 -- What a session of a server does in its user's words (JSON-RPC 2.0, section 5; LSP 3.17, "Server lifecycle"), over its
--- exchanges: the client's messages that it used, in order, and what it sent for each.
+-- exchanges: the client's messages that it used, and its wakes, in order, and what it sent for each.
 use Rattle.serde_json.specs.Data.{Data}
 use Rattle.std.specs.FinMap as map
 use Rattle.std.specs.Ordering.{eq_by_cmp}
-use Rattle.std.specs.Prelude.{◌≡◌, ◌≤◌, ◌⊎◌, ◌+◌, ◌||◌, ◌&&◌, ℕ, pos, Bool, true, false, List, [], ◌∷◌, ◌++◌, map as map_list, fold, Option, Some, None, is_some, IsSomeAnd, Result, Ok, Err, IsErrAnd, if◌then◌else◌}
+use Rattle.std.specs.Prelude.{◌≡◌, ◌≤◌, ◌⊎◌, ◌+◌, ◌||◌, ◌&&◌, ℕ, pos, Bool, true, false, List, [], ◌∷◌, ◌++◌, map as map_list, fold, Option, Some, None, is_some, IsSomeAnd, Result, Err, IsErrAnd, if◌then◌else◌}
 use Rattle.std.specs.Bool.{MatchBool}
 use Rattle.std.specs.List.{list_all}
 use Rattle.lsp_message.specs.Id.{Id, id_cmp, number}
@@ -12,9 +12,9 @@ use Rattle.lsp_message.specs.Methods.{is_initialize}
 use Rattle.lsp_queue.specs.Queue.{Pending}
 use Rattle.lsp_session.specs.Finish.{is_initialized}
 use Rattle.lsp_session.specs.ProtocolError.{ShowsUnallowed}
-use Rattle.lsp_session.specs.Session.{Exchange, letters_of, sends_of, SessionAnswer, SessionPart, Stop, decided, no_more, timed_out, refused, exhausted, is_served}
+use Rattle.lsp_session.specs.Session.{Exchange, came_of, letters_of, sends_of, SessionAnswer, SessionPart, Stop, decided, refused, exhausted, is_served}
 use Rattle.lsp_session.specs.SessionLaws.{EndsWithResult, KeepsOrder}
-use Rattle.lsp_service.specs.Desk.{Act, tells, asks, replies, cancels, is_spent, ids_after, unsent, TakesBack}
+use Rattle.lsp_service.specs.Desk.{Act, asks, is_spent, ids_after, unsent, TakesBack, Woken}
 use Rattle.lsp_service.specs.QueuedServer.{ServerSession, held_by}
 use Rattle.lsp_service.specs.declared.server.Server.{Ghosts as Stated}
 
@@ -74,11 +74,16 @@ pub record Sent (P : Type 0) : Type 0 where
   pub params : Data
   pub payload : P
 
--- What the server did at a letter. A reply of the client came to it with this payload, or reached nobody.
+-- What the server did at a letter, or woken. A reply of the client came to it with this payload, or reached nobody.
 pub record Turn (P : Type 0) : Type 0 where
-  pub letter : Message
+  pub letter : Option Message
   pub payload : Option P
   pub acts : List (Act P)
+
+-- a message came, and it has the property
+abbrev pub came_with : (Message → Bool) → Option Message → Bool
+came_with p None = false
+came_with p (Some m) = p m
 
 abbrev pub requests_in : List Message → List Message
 requests_in [] = []
@@ -117,7 +122,7 @@ module _ {P : Type 0} where
   -- in one of these turns a reply under this id came to the server
   abbrev pub was_given : Id → List (Turn P) → Bool
   was_given id [] = false
-  was_given id (turn ∷ turns) = (is_some turn.payload && is_reply_under id turn.letter) || was_given id turns
+  was_given id (turn ∷ turns) = (is_some turn.payload && came_with (is_reply_under id) turn.letter) || was_given id turns
 
   -- What a reply under this id brings to the server, after these requests and turns: what was kept with the request that was sent
   -- under its id. After a first reply it brings nothing, and reaches nobody.
@@ -128,7 +133,7 @@ module _ {P : Type 0} where
   -- its own request, once. One to no such request, or not the first, reaches nobody.
   abbrev pub GivesOwnPayloads : List (Act P) → List (Turn P) → Type 0
   GivesOwnPayloads begun turns =
-      (before after : List (Turn P)) (turn : Turn P) (id : Id) → turns ≡ before ++ turn ∷ after → is_reply_under id turn.letter ≡ true
+      (before after : List (Turn P)) (turn : Turn P) (id : Id) → turns ≡ before ++ turn ∷ after → came_with (is_reply_under id) turn.letter ≡ true
       → turn.payload ≡ brings id (all_sent 0 (begun ++ acts_of before)) before
 
 -- a reply that is an error
@@ -136,18 +141,24 @@ abbrev pub is_refusal : Message → Bool
 is_refusal (response i (Err error)) = true
 is_refusal m = false
 
+-- it is the server's turn: a wake, or a message but `shutdown` and `exit`
+abbrev pub is_turn : Option Message → Bool
+is_turn None = true
+is_turn (Some m) = is_served m
+
 -- `shutdown` or `exit` comes first, or nothing
-abbrev pub IsUnserved : List Message → Type 0
+abbrev pub IsUnserved : List (Option Message) → Type 0
 IsUnserved [] = Unit {0}
-IsUnserved (m ∷ rest) = is_served m ≡ false
+IsUnserved (letter ∷ rest) = is_turn letter ≡ false
 
 module _ {S P : Type 0} (may : Stated S P) where
-  -- the server is handed a letter, a reply with a payload, and does this
-  abbrev pub Handed : S → Message → Option P → List (Act P) → S → Type 0
-  Handed old (request id method params) payload acts new = may.requested old id method params acts new × (payload ≡ None)
-  Handed old (notification method params) payload acts new = may.notified old method params acts new × (payload ≡ None)
-  Handed old (response id outcome) (Some payload) acts new = may.replied old payload outcome acts new
-  Handed old (response id outcome) None acts new = (new ≡ old) × (acts ≡ [])
+  -- the server is handed a letter, a reply with a payload, or woken, and does this
+  abbrev pub Handed : S → Option Message → Option P → List (Act P) → S → Type 0
+  Handed old (Some (request id method params)) payload acts new = may.requested old id method params acts new × (payload ≡ None)
+  Handed old (Some (notification method params)) payload acts new = may.notified old method params acts new × (payload ≡ None)
+  Handed old (Some (response id outcome)) (Some payload) acts new = may.replied old payload outcome acts new
+  Handed old (Some (response id outcome)) None acts new = (new ≡ old) × (acts ≡ [])
+  Handed old None payload acts new = Woken may.wakes old acts new × (payload ≡ None)
 
   -- turns take the server from old to new, where so many ids were given out before
   abbrev pub TakesTurns : ℕ → S → List (Turn P) → S → Type 0
@@ -157,14 +168,14 @@ module _ {S P : Type 0} (may : Stated S P) where
       × TakesTurns (ids_after_all count turn.acts) mid turns new
 
   -- The server's part of a session from `initialized` on, from its state at the result to its last: it did this, then took these turns
-  -- at the letters up to `shutdown` or `exit`, by its stated meaning. These are the requests that it sent, or the first of them where
+  -- at what came up to `shutdown` or `exit`, by its stated meaning. These are the requests that it sent, or the first of them where
   -- the outbox refused a message.
-  pub record TakesPart (start last : S) (letters : List Message) (stop : Stop) (requests : List Message) : Type 0 where
+  pub record TakesPart (start last : S) (came : List (Option Message)) (stop : Stop) (requests : List Message) : Type 0 where
     pub begun : List (Act P)
     pub turns : List (Turn P)
-    pub rest : List Message
-    pub cut : letters ≡ map_list (λ (turn : Turn P). turn.letter) turns ++ rest
-    pub served : list_all is_served (map_list (λ (turn : Turn P). turn.letter) turns) ≡ true
+    pub rest : List (Option Message)
+    pub cut : came ≡ map_list (λ (turn : Turn P). turn.letter) turns ++ rest
+    pub served : list_all is_turn (map_list (λ (turn : Turn P). turn.letter) turns) ≡ true
     pub ended : IsUnserved rest
     pub did : S
     pub first : S
@@ -180,7 +191,7 @@ module _ {S P : Type 0} (may : Stated S P) where
   abbrev pub GoesOn : S → S → List Exchange → Stop → Type 0
   GoesOn start last [] stop = last ≡ start
   GoesOn start last (x ∷ later) stop =
-      IsSomeAnd x.letter (λ m. MatchBool (is_initialized m) (TakesPart start last (letters_of later) stop (requests_in (sends_of (x ∷ later))))
+      IsSomeAnd x.letter (λ m. MatchBool (is_initialized m) (TakesPart start last (came_of later) stop (requests_in (sends_of (x ∷ later))))
       ((sends_of (x ∷ later) ≡ []) × (last ≡ start)))
 
   -- the server answers this `initialize` by its stated meaning

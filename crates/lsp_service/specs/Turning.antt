@@ -1,4 +1,4 @@
--- What a server's acts at a message send, in order: at most one message each.
+-- What a server's acts at a message or a wake send, in order: at most one message each.
 use Rattle.std.specs.FinMap as map
 use Rattle.std.specs.Prelude.{◌≡◌, pos, List, [], ◌∷◌, ◌++◌, Option, Some, None, Err, if◌then◌else◌}
 use Rattle.lsp_message.specs.Id.{Id, number}
@@ -23,36 +23,35 @@ module _ {P : Type 0} where
   all_sends d (act ∷ acts) = sends_by d act ++ all_sends (does d act) acts
 
   -- what a reply of the client brings: what is kept with the request that waits under its id
-  abbrev pub brought_by : Desk P → Message → Option P
-  brought_by d (response id outcome) = map.get (pending_of d.asked) id
-  brought_by d m = None
+  abbrev pub brought_by : Desk P → Option Message → Option P
+  brought_by d (Some (response id outcome)) = map.get (pending_of d.asked) id
+  brought_by d letter = None
 
-  -- The desk when the server acts at a message: a request that came is held, and the payload of a reply was given out.
-  abbrev pub desk_at : Desk P → Message → Option P → Desk P
-  desk_at d (request id method params) payload = holds d id
-  desk_at d (notification method params) payload = d
-  desk_at d (response id outcome) None = d
-  desk_at d (response id outcome) (Some payload) = given d id
+  -- The desk when the server acts: a request that came is held, and the payload of a reply was given out.
+  abbrev pub desk_at : Desk P → Option Message → Option P → Desk P
+  desk_at d (Some (request id method params)) payload = holds d id
+  desk_at d (Some (response id outcome)) (Some payload) = given d id
+  desk_at d letter payload = d
 
   -- the answer to a request that was cancelled, where there is one
   abbrev pub settled_by : Option Id → List (Act P)
   settled_by None = []
   settled_by (Some id) = replies id (Err canceled) ∷ []
 
-  -- the acts of the server at a message, and where the message cancels a request, the answer to that one, if it is still held
-  abbrev pub settled_at : Message → List (Act P) → List (Act P)
-  settled_at (notification method params) acts = acts ++ settled_by (cancelled_by method params)
-  settled_at m acts = acts
+  -- the acts of the server, and where a message cancels a request, the answer to that one, if it is still held
+  abbrev pub settled_at : Option Message → List (Act P) → List (Act P)
+  settled_at (Some (notification method params)) acts = acts ++ settled_by (cancelled_by method params)
+  settled_at letter acts = acts
 
 module _ {S P : Type 0} (may : Stated S P) where
-  -- At a message the server, which stated what it may do, did this, and what these acts send is all that is sent. That is the desk
-  -- afterwards, and the server, which took back what found no id.
-  pub record ActsAt (old : S × Desk P) (m : Message) (said : List Message) (new : S × Desk P) : Type 0 where
+  -- At a message or a wake the server, which stated what it may do, did this, and what these acts send is all that is sent. That is
+  -- the desk afterwards, and the server, which took back what found no id.
+  pub record ActsAt (old : S × Desk P) (letter : Option Message) (said : List Message) (new : S × Desk P) : Type 0 where
     pub payload : Option P
     pub acts : List (Act P)
     pub did : S
-    pub brought : payload ≡ brought_by old.1 m
-    pub handed : Handed may old.0 m payload acts did
+    pub brought : payload ≡ brought_by old.1 letter
+    pub handed : Handed may old.0 letter payload acts did
     pub back : TakesBack may.takes_back did (unsent (count_of old.1.asked) acts) new.0
-    pub sent : said ≡ old.1.said ++ all_sends (desk_at old.1 m payload) (settled_at m acts)
-    pub desk : new.1 ≡ cleared (does_all (desk_at old.1 m payload) (settled_at m acts))
+    pub sent : said ≡ old.1.said ++ all_sends (desk_at old.1 letter payload) (settled_at letter acts)
+    pub desk : new.1 ≡ cleared (does_all (desk_at old.1 letter payload) (settled_at letter acts))

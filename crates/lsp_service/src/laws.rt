@@ -45,12 +45,12 @@ pub fn server_over_boxes_keeps_laws<I: Inbox, O: Outbox, S: Server>()
         → Runs I.receives O.sends (LawfulSession S.Server first last) before answer after }
 {}
 
-/// What a server stated of a message is what it did, and what its acts send is all that is sent, in their order: each notification,
-/// each request for which an id is left, the answer of each request that is held, and each cancellation of a request of its own
-/// that has no reply yet.
+/// What a server stated of a message, or of a wake, is what it did, and what its acts send is all that is sent, in their order: each
+/// notification, each request for which an id is left, the answer of each request that is held, and each cancellation of a request
+/// of its own that has no reply yet.
 pub fn turn_sends_its_acts<S: Server>()
-    ensures { (old : S × Desk S.Payload) (m : Message) (said : List Message) (new : S × Desk S.Payload)
-        → WorksGiving S.Server old m said new → ActsAt S.Server old m said new }
+    ensures { (old : S × Desk S.Payload) (letter : Option Message) (said : List Message) (new : S × Desk S.Payload)
+        → WorksGiving S.Server old letter said new → ActsAt S.Server old letter said new }
 {}
 
 /// Of a client that is gone, a request whose id was used once has its reply, or is still held: a fact of each session that

@@ -2,12 +2,12 @@
 ghost use Rattle.serde_json.specs.View.{view};
 ghost use Rattle.std.specs.Prelude.{map, List, IfOk, string_bytes};
 ghost use Rattle.lsp_message.specs.View.{outcome_view};
-ghost use Rattle.lsp_service.specs.Desk.{Act as PlainAct};
+ghost use Rattle.lsp_service.specs.Desk.{Act as PlainAct, Woken};
 ghost use Rattle.lsp_service.specs.View.{act_view};
 
 use lsp_message::{Notification, Request, RequestId, ResponseError};
 use serde_json::Value;
-use std::alloc::AllocError;
+use std::alloc::{AllocError, Global};
 
 /// What a server does.
 #[derive(Drop)]
@@ -50,6 +50,10 @@ pub trait Server {
     /// At a reply to a request of its own it may do this, and change so.
     ghost replied: { Self → Self.Payload → Result Data ErrorObject → List (PlainAct Self.Payload) → Self → Type 0 };
 
+    /// At a wake it may do this, and change so. Or it does nothing (`Woken`): that is always allowed, since the body of `woken` below
+    /// is proved for whatever a server states here.
+    ghost wakes: { Self → List (PlainAct Self.Payload) → Self → Type 0 } = { λ old acts new. ⊥ };
+
     /// It may take this back, and change so.
     ghost takes_back: { Self → Self.Payload → Self → Type 0 };
 
@@ -82,6 +86,14 @@ pub trait Server {
         outcome: Result<Value, ResponseError>,
     ) -> Result<Vec<Act<Self::Payload>>, AllocError>
         ensures { IfOk result (λ acts. replied self.old «payload» (outcome_view outcome) (map act_view acts.items) self.new) };
+
+    /// Something that it waits for is ready, and the inbox told so (`Inbox::receive_or_woken`). It comes after `initialized` and before
+    /// `shutdown`, and nowhere else. A server that waits for nothing leaves this as it is: it does nothing.
+    fn woken(&mut self, alloc: Global) -> Result<Vec<Act<Self::Payload>>, AllocError>
+        ensures { IfOk result (λ acts. Woken wakes self.old (map act_view acts.items) self.new) }
+    {
+        Ok(Vec::new(alloc))
+    }
 
     /// Takes back what an `Act::Ask` was to keep, since no id was left for the request, and it was not sent. It comes only after
     /// 2147483648 requests of the session; all else goes on.
