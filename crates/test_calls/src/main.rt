@@ -6,6 +6,7 @@
 //!   messages and these events, `; ` between them: member texts, or `timeout`. A name may have a count of turns, as `start:10`.
 //! - `serve ROOM | EVENTS`: a whole session over lists, with a handler that answers `demo/echo`.
 //! - `woken ROOM | EVENTS`: the same with a service that is woken, by an inbox that is ready to do so before each event.
+//! - `held ROOM | EVENTS`: the same with a server that holds its requests up to a wake.
 //! - `loop ROOM | BODIES`: what a loop over a reader of these frames hands on; a part that begins with `=` is a header of its own.
 //! - `session PART`: sessions, gates and loops.
 //! - `call NAME | MESSAGES`: a call of a server over a `Connection`, whose client sent these messages before, or is `gone`; what it left, and

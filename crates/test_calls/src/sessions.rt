@@ -1,8 +1,10 @@
 // Calls of the lifecycle, of loops and of sessions.
 mod calls;
 mod devices;
+mod holding;
 mod order;
 mod streams;
+mod tolerant;
 
 use anyhow::{Result, bail};
 use std::alloc::Global;
@@ -14,6 +16,7 @@ pub fn came_of(alloc: Global, kind: &str, row: &str) -> Result<String> {
         "calls" => calls::run_calls(alloc, row),
         "serve" => calls::run_session(alloc, row),
         "woken" => calls::run_woken(alloc, row),
+        "held" => calls::run_held(alloc, row),
         "loop" => streams::run_loop(alloc, row),
         "session" => part(alloc, row),
         _ => bail!("no such kind"),
@@ -43,6 +46,8 @@ fn part(alloc: Global, name: &str) -> Result<String> {
             CountedAt::Flush,
         )?),
         "a handler that keeps the request" => Ok(streams::returned(alloc)?),
+        "content parts are passed over" => Ok(tolerant::passed_over(alloc)?),
+        "other faults are not" => Ok(tolerant::not_passed_over(alloc)?),
         call => Ok(order::ordered(alloc, call)?),
     }
 }

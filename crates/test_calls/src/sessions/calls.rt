@@ -1,10 +1,12 @@
 // The calls of the lifecycle over lists.
 use crate::sessions::devices::{Waits, WakingInbox};
+use crate::sessions::holding::Holds;
 use anyhow::{Context, Result};
 use lsp_message::{Request, RequestId};
+use lsp_server::serve_with;
 use lsp_session::{
-    Event, ListGate, ListInbox, ListOutbox, ProtocolError, finish, finish_within, serve,
-    serve_service, shutdown, start_within, wait_within,
+    Event, ListGate, ListInbox, ListOutbox, ProtocolError, SessionEnd, finish, finish_within,
+    serve, serve_service, shutdown, start_within, wait_within,
 };
 use serde_json::{Map, Value};
 use std::alloc::{AllocError, Global};
@@ -160,16 +162,40 @@ pub fn run_session(alloc: Global, row: &str) -> Result<String> {
 
 /// The same of a service that is woken, by an inbox that is ready to wake it before each event.
 pub fn run_woken(alloc: Global, row: &str) -> Result<String> {
+    let (mut inbox, mut outbox) = waking_boxes(alloc, row)?;
+    let answer = serve_service(alloc, &mut inbox, &mut outbox, &mut Waits { alloc });
+    Ok(ended(alloc, answer, &outbox)?)
+}
+
+/// The same of a server that holds its requests up to a wake.
+pub fn run_held(alloc: Global, row: &str) -> Result<String> {
+    let (mut inbox, mut outbox) = waking_boxes(alloc, row)?;
+    let server = Holds {
+        alloc,
+        held: Vec::new(alloc),
+    };
+    let (_server, answer) = serve_with(alloc, &mut inbox, &mut outbox, server);
+    Ok(ended(alloc, answer, &outbox)?)
+}
+
+fn waking_boxes(alloc: Global, row: &str) -> Result<(WakingInbox, ListOutbox)> {
     let (room, events) = row.split_once(" | ").context("no events")?;
-    let mut inbox = WakingInbox {
+    let inbox = WakingInbox {
         events: inbox_of(alloc, events)?,
         is_ready: true,
     };
-    let mut outbox = ListOutbox::new(alloc, room.parse()?);
-    let text = match serve_service(alloc, &mut inbox, &mut outbox, &mut Waits { alloc }) {
+    Ok((inbox, ListOutbox::new(alloc, room.parse()?)))
+}
+
+fn ended(
+    alloc: Global,
+    answer: Result<SessionEnd, ProtocolError>,
+    outbox: &ListOutbox,
+) -> Result<String, AllocError> {
+    let text = match answer {
         Ok(end) => format!(in alloc; "{end:?}")?,
         Err(error) => format!(in alloc; "{error}")?,
     };
     let sent = member_texts(alloc, outbox.sent.as_slice())?;
-    Ok(format!(in alloc; "{text}; sent {sent}")?)
+    format!(in alloc; "{text}; sent {sent}")
 }

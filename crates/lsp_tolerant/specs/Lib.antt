@@ -1,0 +1,4 @@
+pub mod FaultCounts
+pub mod Passing
+pub mod TolerantBoxes
+pub mod TolerantBytes

@@ -1,0 +1,30 @@
+-- Content parts that are no messages, and an inbox that passes over them (LSP 3.17, "Base Protocol").
+use Rattle.std.specs.Prelude.{◌≡◌, ℕ, Bool, true, false, Option, Some, None, Err}
+use Rattle.lsp_message.specs.declared.frame.ReadFault.{ReadFault}
+use Rattle.lsp_message.specs.declared.frame.ReadFault.TheVariants.{BodyNotText, NoJson, NoMessage, Batch}
+use Rattle.lsp_session.specs.Event.{Event, woken}
+use Rattle.lsp_session.specs.Streams.{Stream, StreamGives, Reads}
+use Rattle.lsp_session.specs.declared.loops.ReadEnd.{ReadEnd}
+use Rattle.lsp_session.specs.declared.loops.ReadEnd.TheVariants.{Fault}
+
+-- The content part was read to its end and is no message: it is not UTF-8, no JSON, another tree, or a batch.
+abbrev pub is_of_body : ReadFault → Bool
+is_of_body BodyNotText = true
+is_of_body NoJson = true
+is_of_body NoMessage = true
+is_of_body Batch = true
+is_of_body fault = false
+
+-- such a content part ended the messages
+abbrev pub ended_at_body : Option ReadEnd → Bool
+ended_at_body (Some (Fault fault)) = is_of_body fault
+ended_at_body end = false
+
+module _ {L : Type 0} (hears : L → ReadFault → L → Type 0) (limit : ℕ) where
+  -- What one receive gives. For a wake the bytes begin with a content part that is no message, the listener hears its fault, and
+  -- what follows it is left. Each other event is that of an inbox which passes over nothing, and the listener hears nothing.
+  abbrev pub TolerantGives : Stream × L → Event → Stream × L → Type 0
+  TolerantGives old woken new =
+      (fault : ReadFault) × (is_of_body fault ≡ true) × Reads limit old.0.remaining (Err fault) new.0.remaining × hears old.1 fault new.1
+      × (old.0.end ≡ None) × (new.0.end ≡ None)
+  TolerantGives old event new = StreamGives limit old.0 event new.0 × (new.1 ≡ old.1)
