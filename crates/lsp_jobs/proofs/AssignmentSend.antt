@@ -28,8 +28,10 @@ use Rattle.crossbeam_channel.specs.contracts.flavors.array.ruled.Sending as send
 use Rattle.lsp_jobs.specs.contracts.assignment.Assignment as assignment
 use Rattle.lsp_jobs.specs.contracts.assignment.OneTask as rule
 use Rattle.lsp_jobs.specs.contracts.assignment.OneTaskProtocolSlipOption.TheImpl as one_task
+use Rattle.lsp_jobs.specs.contracts.assignment.Saying as saying
 use Rattle.lsp_jobs.specs.contracts.assignment.Slip as slip
 use Rattle.atomic_table.specs.contracts.badge.Badge as badge_row
+use Rattle.lsp_jobs.proofs.SayingSend.{notice_parts}
 use Rattle.lsp_jobs.specs.declared.assignment.Task.{Ghosts}
 
 heap_frees : Frees ghosts ghosts.dealloc_token
@@ -73,10 +75,15 @@ module _ (S D Q M K L : RattleType) (q : Rule Q.Denot S.Denot D.Denot S.Denot) (
       recorded_sync (rows.the_field S D Q M K L Heap.the_row q l ghosts).row _ _ (rows.the_type S D Q M K L Heap.the_row q l ghosts).to_one
       (struct_sync (shape (rows.the_type S D Q M K L Heap.the_row q l ghosts)) (table_sync S D S Q q s, (table_sync M K unit L l m, (search sendable, (search sendable, tt)))))
 
+module _ (R : RattleType) where
+  saying_parts : IsSend R → IsSend (saying.the_field R).row
+  saying_parts t = search (t, notice_parts, sendable) depth 40
+
 module _ (J R : RattleType) where
   slip_send : IsSend J → IsSend R → IsSend (slip.the_row J R)
   slip_send s t =
-      let parts : IsSend (slip.the_field J R).row = search (s, t, crosses, sendable) depth 40 in
+      let said = saying_parts R t in
+      let parts : IsSend (slip.the_field J R).row = search (said, crosses, sendable) depth 40 in
       recorded_send (slip.the_field J R).row _ _ (slip.the_type J R).to_one parts
 
   option_send : IsSend J → IsSend R → IsSend (option.the_row (slip.the_row J R))
@@ -97,4 +104,4 @@ module _ (J R : RattleType) where
         sending_send _
         (rows_send (badge_row.the_row (key.the_row it)) (doing.the_row it (option.the_row J)) (rounds_row.the_row rule.the_row) (option.the_row it) (key.the_row it) (lockers_row.the_row whole.the_row) turns slots send_key send_slot)
         (rows_sync (badge_row.the_row (key.the_row it)) (doing.the_row it (option.the_row J)) (rounds_row.the_row rule.the_row) (option.the_row it) (key.the_row it) (lockers_row.the_row whole.the_row) turns slots send_key send_slot) in
-        struct_send (shape (assignment.the_type J R G)) (s, (sender, (seat.the_send _ _ send_key, tt)))
+        struct_send (shape (assignment.the_type J R G)) (s, (sender, (seat.the_send _ _ send_key, (sender, (seat.the_send _ _ send_key, tt)))))

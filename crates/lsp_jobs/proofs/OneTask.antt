@@ -1,11 +1,16 @@
 -- Each step keeps the rule of the channel of an outcome.
-use Rattle.std.proofs.Common.{◌≡◌, refl, sym, ◌∙◌, subst, inl, inr, ⊎_elim, ℕ, zero, suc, List, [], ◌∷◌, ◌++◌, set, Option, Some, None, IfSome}
+use Rattle.std.proofs.Common.{◌≡◌, refl, sym, ◌∙◌, ap, subst, inl, inr, ⊎_elim, ℕ, zero, suc, List, [], ◌∷◌, ◌++◌, set, Option, Some, None, IfSome}
 use mathlib.Core.Option.{some, some-ne-none, some-injective}
 use lib.ListN.{get_elem?}
 use Rattle.atomic_table.proofs.Lists.{at_set, at_snoc}
 use Rattle.crossbeam_channel.specs.Fifo.{Pushes, Pops, Forks}
 use Rattle.lsp_jobs.specs.Outcomes.{IsOf, AreOf, AreOfOneTask}
+use Rattle.lsp_jobs.specs.declared.assignment.Saying.TheVariants.{Name}
 use Rattle.lsp_jobs.specs.declared.assignment.Slip.{Slip}
+use Rattle.std.specs.declared.snapshot.Snapshot.{Snapshot}
+
+pub named : {J : Type 0} (a b : Snapshot J) → a ≡ b → a.value ≡ b.value
+named a b same = ap (λ (s : Snapshot _). s.value) same
 
 module _ {J R : Type 0} (comes_to : J → R → Type 0) where
   abbrev Rule : List (Slip J R) → List (Option J) → Type 0
@@ -40,10 +45,10 @@ module _ {J R : Type 0} (comes_to : J → R → Type 0) where
   unknown : {A : Type 0} (known : List (Option J)) (pass : ℕ) (v : Option J) (task : J) → known ≡ None ∷ [] → v ≡ Some task → get_elem? known pass ≡ some v → A
   unknown known pass v task fresh is seen = let none = (one_pass pass v (rw fresh at seen)).1 in absurd (cc (none, is))
 
-  pub names : (room pass : ℕ) (v : Option J) (slip : Slip J R) → v ≡ None → slip.outcome ≡ None → Pushes (AreOfOneTask comes_to) room pass v slip (λ w. w ≡ Some slip.task.value)
+  pub names : (room pass : ℕ) (v : Option J) (slip : Slip J R) → v ≡ None → slip.saying ≡ Name → Pushes (AreOfOneTask comes_to) room pass v slip (λ w. w ≡ Some slip.task.value.value)
   names room pass v slip none silent slips known short (inl fresh) seen =
       let first = (one_pass pass v (rw fresh.1 at seen)).0 in
-      (Some slip.task.value, rw (fresh.0, fresh.1, first) (inr (slip.task.value, ((refl, rw silent tt), tt), sole slip.task.value)), refl)
+      (Some slip.task.value.value, rw (fresh.0, fresh.1, first) (inr (slip.task.value.value, ((refl, rw silent tt), tt), sole slip.task.value.value)), refl)
   names room pass v slip none silent slips known short (inr one) seen = let e = one.2 pass v seen in absurd (cc (e, none))
 
   pub furthers : (room pass : ℕ) (v : Option J) (task : J) (slip : Slip J R) → v ≡ Some task → IsOf comes_to task slip → Pushes (AreOfOneTask comes_to) room pass v slip (λ w. w ≡ v)

@@ -3,14 +3,31 @@ use Rattle.std.proofs.Common.{◌≡◌, ◌∙◌, ap, sym, refl, Bool, true, f
 use Rattle.std.specs.FinMap.{FinMap, get-empty, get-insert, get-remove}
 use Rattle.std.specs.FinMap as map
 use Rattle.std.specs.Ordering.{eq_by_cmp}
-use Rattle.std.specs.Prelude.{if◌then◌else◌}
+use Rattle.std.specs.Prelude.{if◌then◌else◌, IfNone, IfSome, IsSome}
 use Rattle.lsp_message.specs.Id.{Id, id_cmp}
 use Rattle.lsp_message.specs.IdLaws.{id_total, id_decides}
-use Rattle.lsp_jobs.specs.Table.{Table, no_jobs, without, with_job}
+use Rattle.lsp_jobs.specs.PoolView.{news_view}
+use Rattle.lsp_jobs.specs.Table.{Table, Outcome, IsReport, Tells, no_jobs, without, with_job}
+use Rattle.lsp_jobs.specs.declared.pool.JobNews.{JobNews}
+use Rattle.lsp_jobs.specs.declared.pool.JobNews.TheVariants.{Report, Outcome as Ended}
 
 pub on_err : {T E P : Type 0} (r : Result T E) → P → OnErr r P
 on_err (Ok x) p = tt
 on_err (Err e) p = p
+
+pub if_none : {A P : Type 0} (o : Option A) → P → IfNone o P
+if_none None p = p
+if_none (Some x) p = tt
+
+pub is_some : {A : Type 0} (o : Option A) (x : A) → o ≡ Some x → IsSome o
+is_some o x is = rw is refl
+
+-- a report, which leaves the table
+pub reported : {J : Type 0} (answers : J → Outcome → Type 0) (id : Id) (old new : Table J) (o : Option JobNews) → IsSome (old id) → new ≡ old
+    → IfSome o (λ news. IsReport (news_view news)) → IfSome o (λ news. Tells answers id old (news_view news) new)
+reported answers id old new None waits same report = tt
+reported answers id old new (Some (Report n)) waits same report = (waits, same)
+reported answers id old new (Some (Ended outcome)) waits same report = absurd report
 
 module _ {E J : Type 0} (f : E → J) where
   mapped_if : (b : Bool) (x y : Option E) → option_map f (cond b x y) ≡ cond b (option_map f x) (option_map f y)

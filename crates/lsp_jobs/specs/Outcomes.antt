@@ -1,13 +1,20 @@
--- The channel of a task's outcome.
-use Rattle.std.specs.Prelude.{◌≡◌, ◌⊎◌, ℕ, List, [], ◌∷◌, Option, Some, None, IfSome}
+-- The channel of what a task says.
+use Rattle.std.specs.Prelude.{◌≡◌, ◌⊎◌, ℕ, List, [], ◌∷◌, Option, Some, None}
 use mathlib.Core.Option.{some}
 use lib.ListN.{get_elem?}
+use Rattle.lsp_jobs.specs.declared.assignment.Saying.{Saying}
+use Rattle.lsp_jobs.specs.declared.assignment.Saying.TheVariants.{Outcome}
 use Rattle.lsp_jobs.specs.declared.assignment.Slip.{Slip}
 
 module _ {J R : Type 0} (comes_to : J → R → Type 0) where
-  -- the slip names this task, and what is on it the task may come to
+  -- an outcome is one that the task may come to; it may report anything
+  abbrev pub MaySay : J → Saying R → Type 0
+  MaySay task (Outcome r) = comes_to task r
+  MaySay task saying = Unit {0}
+
+  -- the slip names this task, and what is on it the task may say
   abbrev pub IsOf : J → Slip J R → Type 0
-  IsOf task slip = (slip.task.value ≡ task) × IfSome slip.outcome (comes_to task)
+  IsOf task slip = (slip.task.value.value ≡ task) × MaySay task slip.saying
 
   abbrev pub AreOf : J → List (Slip J R) → Type 0
   AreOf task [] = Unit {0}

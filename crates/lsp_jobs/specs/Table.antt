@@ -1,7 +1,7 @@
 -- The requests that jobs answer: under the id of each, its job.
 use Rattle.serde_json.specs.Data.{Data}
 use Rattle.std.specs.Ordering.{eq_by_cmp}
-use Rattle.std.specs.Prelude.{◌≡◌, Option, Some, None, Result, if◌then◌else◌}
+use Rattle.std.specs.Prelude.{◌≡◌, ℕ, List, Option, Some, None, IsSome, Result, if◌then◌else◌}
 use Rattle.lsp_message.specs.Id.{Id, id_cmp}
 use Rattle.lsp_message.specs.Message.{ErrorObject}
 
@@ -11,6 +11,15 @@ Table J = Id → Option J
 -- what a request is answered with
 abbrev pub Outcome : Type 0
 Outcome = Result Data ErrorObject
+
+-- what a job says: a notification, or the outcome of its request
+pub data News : Type 0 where
+  reports : List ℕ → Data → News
+  finishes : Outcome → News
+
+abbrev pub IsReport : News → Type 0
+IsReport (reports method params) = Unit {0}
+IsReport (finishes outcome) = ⊥
 
 module _ {J : Type 0} where
   abbrev pub no_jobs : Table J
@@ -30,3 +39,8 @@ module _ {J : Type 0} where
     pub waits : old id ≡ Some job
     pub may : answers job outcome
     pub leaves : new ≡ without id old
+
+  -- A job of the table reports, and its request goes on waiting; or its request gets its outcome.
+  abbrev pub Tells : (J → Outcome → Type 0) → Id → Table J → News → Table J → Type 0
+  Tells answers id old (reports method params) new = IsSome (old id) × (new ≡ old)
+  Tells answers id old (finishes outcome) new = Answers answers id old outcome new

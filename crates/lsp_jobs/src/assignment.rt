@@ -1,11 +1,15 @@
-// The way of an outcome from the thread that works to the pool: what comes out is an outcome of the very task that went in.
+// The way from the thread that works to the pool of what a task says: an outcome that comes out is one of the very task that went in.
 ghost use Rattle.std.specs.Prelude.{◌≡◌, IfOk, IfSome, Some};
 ghost use Rattle.crossbeam_channel.specs.Claims.{IsSeatAt, view as knows};
 ghost use Rattle.crossbeam_channel.specs.Ends.{sends_on};
+ghost use Rattle.lsp_jobs.specs.Outcomes.{MaySay};
 
+use crate::bell::Bell;
 use crate::cancellation::CancellationToken;
+use crate::job::Progress;
 use crossbeam_channel::protocol::{Lesson, Outcome, Protocol, Split};
 use crossbeam_channel::{Pass, RuledReceiver, RuledSender, bounded_with};
+use lsp_message::{Notification, RequestId};
 use std::alloc::{AllocError, Global};
 use std::marker::Model;
 use std::snapshot::Snapshot;
@@ -16,16 +20,31 @@ pub(crate) trait Task<R>: Drop {
     /// It may come to this.
     ghost comes_to: { Self → R → Type 0 };
 
-    fn perform(self, token: &CancellationToken) -> R
+    fn perform<P: Progress>(self, token: &CancellationToken, progress: &mut P) -> R
         ensures { comes_to «self» result };
 }
 
-/// What goes through the channel: the name of the task, and what it came to. The first slip only names it.
+/// What a task says.
+#[derive(Drop)]
+pub(crate) enum Saying<R> {
+    /// Its name.
+    Name,
+    /// How far it is.
+    Report(Notification),
+    /// What it came to.
+    Outcome(R),
+}
+
+/// What goes through the channel: the name of the task, and what it says. The first slip only names it. A name can be taken again and
+/// again of a snapshot, when the task itself is gone.
 #[derive(Drop)]
 pub(crate) struct Slip<J, R> {
-    pub(crate) task: Snapshot<J>,
-    pub(crate) outcome: Option<R>,
+    pub(crate) task: Snapshot<Snapshot<J>>,
+    pub(crate) saying: Saying<R>,
 }
+
+/// How many slips of a task may wait for the pool.
+const SLIPS: usize = 16;
 
 /// The rule of the channel: all its slips are of one task, which each pass knows.
 pub(crate) struct OneTask;
@@ -45,7 +64,7 @@ pub(crate) struct Naming;
 impl<J, R> Outcome<Slip<J, R>, Option<J>> for Naming {
     ghost use Rattle.std.specs.Prelude.{◌≡◌, Some};
 
-    ghost then = { λ before slip after. after ≡ Some slip.task.value };
+    ghost then = { λ before slip after. after ≡ Some slip.task.value.value };
 }
 
 impl<J, R> Lesson<Slip<J, R>, Option<J>> for Naming {
@@ -88,16 +107,18 @@ impl<J> Split<Option<J>> for Both {
     ghost right = { λ known. known };
 }
 
-/// A task, and the end of the channel that takes what it came to.
+/// A task, and two ends of the channel that takes what it says: one for its outcome, and one for its reports.
 #[derive(Drop)]
 pub(crate) struct Assignment<J: Task<R>, R: Drop> {
     task: J,
     sender: RuledSender<Slip<J, R>, Option<J>, OneTask>,
     pass: Pass<Slip<J, R>, Option<J>>,
-    ghost known: { IsSeatAt (sends_on sender) pass × (knows pass ≡ Some task) },
+    report_sender: RuledSender<Slip<J, R>, Option<J>, OneTask>,
+    report_pass: Pass<Slip<J, R>, Option<J>>,
+    ghost known: { IsSeatAt (sends_on sender) pass × (knows pass ≡ Some task) × IsSeatAt (sends_on report_sender) report_pass × (knows report_pass ≡ Some task) },
 }
 
-/// The end of the channel that gives what a task came to. Contracts see the task.
+/// The end of the channel that gives what a task says. Contracts see the task.
 #[derive(Drop)]
 pub(crate) struct Awaited<J: Task<R>, R: Drop> {
     task: Snapshot<J>,
@@ -117,7 +138,7 @@ impl<J: Task<R>, R: Drop> Model for Awaited<J, R> {
     ghost invariant = { λ a. IsSeatAt (receives_on a.receiver) a.pass × (knows a.pass ≡ Some a.task.value) };
 }
 
-/// Makes the way of a task's outcome. The error means that an allocation failed.
+/// Makes the way of what a task says. The error means that an allocation failed.
 pub(crate) fn assign<T: Wait, J: Task<R>, R: Drop>(
     rt: &T,
     alloc: Global,
@@ -125,15 +146,17 @@ pub(crate) fn assign<T: Wait, J: Task<R>, R: Drop>(
 ) -> Result<(Assignment<J, R>, Awaited<J, R>), AllocError>
     ensures { IfOk result (λ ends. ends.1 ≡ «task») }
 {
-    let (sender, receiver, mut pass) = bounded_with(alloc, 1)?;
+    let (sender, receiver, mut pass) = bounded_with(alloc, SLIPS)?;
     let name = Slip {
-        task: Snapshot::of(&task),
-        outcome: None,
+        task: Snapshot::of(&Snapshot::of(&task)),
+        saying: Saying::Name,
     };
     match sender.try_send_as::<Naming, T>(rt, &mut pass, name) {
         Ok(()) => {}
         Err(_) => return Err(AllocError),
     }
+    let report_sender = sender.try_clone()?;
+    let report_pass = sender.another::<Both>(&mut pass);
     let mut takes = sender.another::<Both>(&mut pass);
     let _ = receiver.try_recv_as::<Taking, T>(rt, &mut takes);
     let awaited = Awaited {
@@ -141,34 +164,115 @@ pub(crate) fn assign<T: Wait, J: Task<R>, R: Drop>(
         receiver,
         pass: takes,
     };
-    Ok((Assignment { task, sender, pass }, awaited))
+    let assignment = Assignment {
+        task,
+        sender,
+        pass,
+        report_sender,
+        report_pass,
+    };
+    Ok((assignment, awaited))
 }
 
 impl<J: Task<R>, R: Drop> Assignment<J, R> {
-    /// Performs the task, and sends what it came to. Nothing is sent where nobody waits for it any more.
-    pub fn perform<T: Wait>(self, rt: &T, token: &CancellationToken) {
+    /// Performs the task, and sends what it says. It waits while there is no room for the outcome; nothing is sent where nobody waits
+    /// for it any more.
+    pub fn perform<T: Wait + Copy + Drop, M: Drop>(
+        self,
+        rt: T,
+        id: RequestId,
+        token: &CancellationToken,
+        bell: Bell<M>,
+    ) -> Bell<M> {
         let Assignment {
             task,
             sender,
             mut pass,
+            report_sender,
+            report_pass,
         } = self;
         let name = Snapshot::of(&task);
-        let outcome = Slip {
-            task: name,
-            outcome: Some(task.perform(token)),
+        let mut reporter = Reporter {
+            rt,
+            id,
+            bell,
+            reports: Reports {
+                task: Snapshot::of(&task),
+                sender: report_sender,
+                pass: report_pass,
+            },
         };
-        let _ = sender.try_send_as::<Further, T>(rt, &mut pass, outcome);
+        let outcome = task.perform(token, &mut reporter);
+        let Reporter { id, mut bell, .. } = reporter;
+        let slip = Slip {
+            task: Snapshot::of(&name),
+            saying: Saying::Outcome(outcome),
+        };
+        let _ = sender.send_as::<Further, T>(&rt, &mut pass, slip);
+        bell.ring(&rt, id);
+        bell
+    }
+}
+
+/// The end of the channel that takes a task's reports. Contracts see the task.
+#[derive(Drop)]
+struct Reports<J: Task<R>, R: Drop> {
+    task: Snapshot<J>,
+    sender: RuledSender<Slip<J, R>, Option<J>, OneTask>,
+    pass: Pass<Slip<J, R>, Option<J>>,
+}
+
+impl<J: Task<R>, R: Drop> Model for Reports<J, R> {
+    ghost use Rattle.std.specs.Prelude.{◌≡◌, Some};
+    ghost use Rattle.crossbeam_channel.specs.Claims.{IsSeatAt, view as knows};
+    ghost use Rattle.crossbeam_channel.specs.Ends.{sends_on};
+
+    ghost Value = { J };
+
+    ghost view = { λ r. r.task.value };
+
+    ghost invariant = { λ r. IsSeatAt (sends_on r.sender) r.pass × (knows r.pass ≡ Some r.task.value) };
+}
+
+impl<J: Task<R>, R: Drop> Reports<J, R> {
+    /// Sends a report, where there is room.
+    fn send<T: Wait>(&mut self, rt: &T, notification: Notification) -> bool {
+        let slip = Slip {
+            task: Snapshot::of(&self.task),
+            saying: Saying::Report(notification),
+        };
+        self.sender
+            .try_send_as::<Further, T>(rt, &mut self.pass, slip)
+            .is_ok()
+    }
+}
+
+/// Tells how far a task is while it is performed.
+#[derive(Drop)]
+struct Reporter<T: Wait + Drop, J: Task<R>, R: Drop, M: Drop> {
+    rt: T,
+    id: RequestId,
+    bell: Bell<M>,
+    reports: Reports<J, R>,
+}
+
+impl<T: Wait + Drop, J: Task<R>, R: Drop, M: Drop> Progress for Reporter<T, J, R, M> {
+    fn report(&mut self, notification: Notification) -> bool {
+        let Ok(id) = self.id.clone() else {
+            return false;
+        };
+        self.reports.send(&self.rt, notification) && self.bell.ring(&self.rt, id)
     }
 }
 
 impl<J: Task<R>, R: Drop> Awaited<J, R> {
-    /// What the task came to, where that was sent and not taken yet.
-    pub fn take<T: Wait>(&mut self, rt: &T) -> Option<R>
+    /// What the task said next, where that was sent and not taken yet.
+    pub fn take<T: Wait>(&mut self, rt: &T) -> Option<Saying<R>>
         ensures task { self.new ≡ self.old }
-        ensures outcome { IfSome result (λ outcome. J.comes_to self.old outcome) }
+        ensures saying { IfSome result (λ saying. MaySay J.comes_to self.old saying) }
     {
         match self.receiver.try_recv_as::<Taking, T>(rt, &mut self.pass) {
-            Ok(slip) => slip.outcome,
+            Ok(slip) => Some(slip.saying),
             Err(_) => None,
         }
     }

@@ -4,7 +4,7 @@ ghost use Rattle.lsp_message.specs.View.{outcome_view};
 
 use crate::assignment::Task;
 use crate::cancellation::CancellationToken;
-use lsp_message::ResponseError;
+use lsp_message::{Notification, ResponseError};
 use serde_json::Value;
 use std::alloc::AllocError;
 
@@ -17,10 +17,21 @@ pub trait Job: Drop {
     /// The job may come to this outcome.
     ghost answers: { Self → Result Data ErrorObject → Type 0 };
 
-    /// Comes to the outcome of the request. It may look at the token, and stop early with any outcome. An outer `Err` is a failed
-    /// allocation, and `JobPool::finish` passes it on.
-    fn run(self, token: &CancellationToken) -> Result<Result<Value, ResponseError>, AllocError>
+    /// Comes to the outcome of the request. It may look at the token, and stop early with any outcome. It may tell by `progress` how
+    /// far it is. An outer `Err` is a failed allocation: see `JobPool::take_news`.
+    fn run<P: Progress>(
+        self,
+        token: &CancellationToken,
+        progress: &mut P,
+    ) -> Result<Result<Value, ResponseError>, AllocError>
         ensures { IfOk result (λ outcome. answers «self» (outcome_view outcome)) };
+}
+
+/// Tells the client how far a job is.
+pub trait Progress {
+    /// Sends a notification while the job runs, such as `$/progress` (LSP 3.17, "Work Done Progress"). False means that it was not
+    /// sent: nobody waits for the job any more, 16 of its notifications wait to be taken, or an allocation failed. The job goes on.
+    fn report(&mut self, notification: Notification) -> bool;
 }
 
 /// What a job came to. The outer error is a failed allocation.
@@ -32,7 +43,7 @@ impl<J: Job> Task<Ran> for J {
 
     ghost comes_to = { λ job ran. IfOk ran (λ outcome. J.answers job (outcome_view outcome)) };
 
-    fn perform(self, token: &CancellationToken) -> Ran {
-        self.run(token)
+    fn perform<P: Progress>(self, token: &CancellationToken, progress: &mut P) -> Ran {
+        self.run(token, progress)
     }
 }

@@ -2,14 +2,19 @@
 #![tactic(auto)]
 
 mod assignment;
+mod bell;
 mod cancellation;
 mod job;
+mod job_server;
+pub mod laws;
 mod pool;
+mod pooled_server;
+mod run;
 mod workers;
 
 pub use cancellation::CancellationToken;
-pub use job::Job;
-pub use pool::JobPool;
-
-#[cfg(test)]
-mod schedules;
+pub use job::{Job, Progress};
+pub use job_server::{JobServer, Start};
+pub use pool::{JobNews, JobPool, PoolSize, TakeFault};
+pub use pooled_server::PooledServer;
+pub use run::{run_jobs, run_jobs_within};

@@ -1,22 +1,68 @@
-//! The requests that wait for their jobs, each with the way of its job's outcome.
+//! The requests that wait for their jobs, each with the way of what its job says.
 ghost use Rattle.std.specs.Prelude.{◌≡◌, IfOk, IfNone, IfSome, OnErr, OnOk};
 ghost use Rattle.std.specs.Option.{is_some};
-ghost use Rattle.lsp_message.specs.View.{outcome_view};
-ghost use Rattle.lsp_jobs.specs.Table.{no_jobs, without, with_job, Answers};
-ghost use Rattle.lsp_jobs.specs.PoolView.{job_of, table_of};
+ghost use Rattle.lsp_jobs.specs.Table.{no_jobs, without, with_job, IsReport, Tells};
+ghost use Rattle.lsp_jobs.specs.PoolView.{job_of, news_view, table_of};
 
-use crate::assignment::{Awaited, assign};
+use crate::assignment::{Awaited, Saying, assign};
+use crate::bell::Bell;
 use crate::cancellation::CancellationToken;
 use crate::job::{Job, Ran};
 use crate::workers::{Order, join_all, start_job_workers};
-use crossbeam_channel::{Receiver, Sender, unbounded};
-use lsp_message::{RequestId, ResponseError};
+use crossbeam_channel::{Receiver, Sender, bounded, unbounded};
+use lsp_message::{Notification, RequestId, ResponseError};
 use lsp_queue::{Incoming, ReqQueue};
+use lsp_relay::RelayWaker;
 use lsp_threads::StartFault;
 use serde_json::Value;
 use std::alloc::{AllocError, Global};
 use std::sync::Wait;
 use std::thread::{JoinHandle, Threads};
+
+/// How many jobs run, and how many may wait for a thread.
+#[derive(Clone, Copy, Debug, PartialEq, Eq)]
+pub struct PoolSize {
+    /// How many threads run jobs: at least one.
+    pub workers: usize,
+    /// How many jobs may wait for a thread: at least one. `None` sets no bound.
+    pub waiting: Option<usize>,
+}
+
+impl From<usize> for PoolSize {
+    ghost use Rattle.std.specs.Prelude.{◌≡◌, None};
+
+    /// So many threads, and no bound on the jobs that wait.
+    fn from(workers: usize) -> PoolSize {
+        PoolSize {
+            workers,
+            waiting: None,
+        }
+    }
+}
+
+/// Why a pool did not take a job on.
+#[derive(Clone, Copy, Debug, PartialEq, Eq)]
+pub enum TakeFault {
+    /// 1: as many jobs wait for a thread as may.
+    Full,
+    /// 2: an allocation failed.
+    Memory,
+}
+
+impl From<AllocError> for TakeFault {
+    fn from(_: AllocError) -> TakeFault {
+        TakeFault::Memory
+    }
+}
+
+/// What a job says.
+#[derive(Debug, Drop)]
+pub enum JobNews {
+    /// A notification to send while it runs.
+    Report(Notification),
+    /// The outcome of its request.
+    Outcome(Result<Value, ResponseError>),
+}
 
 /// A request that waits for its job.
 #[derive(Drop)]
@@ -43,42 +89,18 @@ where
     T: Threads + Wait + Copy + Drop + Send + 'static,
     J: Job + Send + 'static,
 {
-    /// Starts `count` threads that run jobs, or one for a count of 0. It gives the pool, with no job, and the end of a channel on which
-    /// comes the id of each job that ended: then ask `finish`. The channel has room for all ids, so no job waits for your loop.
+    /// Starts threads that run jobs. It gives the pool, with no job, and the end of a channel on which comes the id of a job that has
+    /// news: then ask `take_news`, once for each id. The channel has room for all ids, so no job waits for your loop.
     ///
     /// After a fault no thread is left.
     pub fn start(
         rt: &T,
         alloc: Global,
-        count: usize,
+        size: PoolSize,
     ) -> Result<(JobPool<T, J>, Receiver<RequestId>), StartFault>
         ensures { IfOk result (λ started. table_of started.0 ≡ no_jobs) }
     {
-        let Ok((orders, taken)) = unbounded(alloc) else {
-            return Err(StartFault::Memory);
-        };
-        let Ok((ended, finished)) = unbounded(alloc) else {
-            return Err(StartFault::Memory);
-        };
-        let Ok(tokens) = CancellationToken::new(alloc) else {
-            return Err(StartFault::Memory);
-        };
-        let queue: ReqQueue<Entry<J>, ()> = ReqQueue::default(alloc);
-        let mut pool = JobPool {
-            rt: *rt,
-            alloc,
-            tokens,
-            jobs: queue.incoming,
-            orders,
-            workers: Vec::new(alloc),
-        };
-        match start_job_workers(rt, count.max(1), taken, &ended, &mut pool.workers) {
-            Ok(()) => Ok((pool, finished)),
-            Err(fault) => {
-                pool.end();
-                Err(fault)
-            }
-        }
+        start_pool::<T, J, ()>(rt, alloc, size, None)
     }
 
     /// Cancels all tokens, and waits until each thread has ended: a job that runs then goes on until it sees its token or ends, and one
@@ -87,31 +109,91 @@ where
         let JobPool {
             rt,
             tokens,
+            jobs,
             orders,
             workers,
             ..
         } = self;
         tokens.cancel_all();
+        drop(jobs);
         drop(orders);
         join_all(&rt, workers);
     }
 }
 
+/// `JobPool::start`, for a loop that waits at a relay: with each id it wakes the relay.
+pub(crate) fn start_pool<T, J, M>(
+    rt: &T,
+    alloc: Global,
+    size: PoolSize,
+    waker: Option<RelayWaker<M>>,
+) -> Result<(JobPool<T, J>, Receiver<RequestId>), StartFault>
+where
+    T: Threads + Wait + Copy + Drop + Send + 'static,
+    J: Job + Send + 'static,
+    M: Drop + Send + 'static,
+    ensures { IfOk result (λ started. table_of started.0 ≡ no_jobs) }
+{
+    let Ok((said, news)) = unbounded(alloc) else {
+        return Err(StartFault::Memory);
+    };
+    let mut bell = Bell::new(said, waker);
+    let Ok((orders, taken)) = orders_with_room(alloc, size.waiting) else {
+        return Err(StartFault::Memory);
+    };
+    let Ok(tokens) = CancellationToken::new(alloc) else {
+        return Err(StartFault::Memory);
+    };
+    let queue: ReqQueue<Entry<J>, ()> = ReqQueue::default(alloc);
+    let mut pool = JobPool {
+        rt: *rt,
+        alloc,
+        tokens,
+        jobs: queue.incoming,
+        orders,
+        workers: Vec::new(alloc),
+    };
+    match start_job_workers(rt, size.workers.max(1), taken, &mut bell, &mut pool.workers) {
+        Ok(()) => Ok((pool, news)),
+        Err(fault) => {
+            pool.end();
+            Err(fault)
+        }
+    }
+}
+
+/// A channel of orders that has room for so many.
+fn orders_with_room<O: Drop>(
+    alloc: Global,
+    room: Option<usize>,
+) -> Result<(Sender<O>, Receiver<O>), AllocError> {
+    match room {
+        Some(room) => bounded(alloc, room.max(1)),
+        None => unbounded(alloc),
+    }
+}
+
 impl<T: Wait + Drop, J: Job> JobPool<T, J> {
-    /// Gives the job of a request to the threads; it never waits for one. An earlier job under the id is forgotten. The error means
-    /// that an allocation failed, and then no job is under the id. This one may run all the same, and nobody waits for it.
-    pub fn take_on(&mut self, id: RequestId, job: J) -> Result<(), AllocError>
+    /// Gives the job of a request to the threads; it never waits for one. An earlier job under the id is forgotten. After a fault no job
+    /// is under the id. After `TakeFault::Memory` this one may run all the same, and nobody waits for it.
+    pub fn take_on(&mut self, id: RequestId, job: J) -> Result<(), TakeFault>
         ensures ok { OnOk result (table_of self.new ≡ with_job id «job» (table_of self.old)) }
         ensures err { OnErr result (table_of self.new ≡ without id (table_of self.old)) }
     {
         self.forget(&id);
         let (order, entry) = self.prepare(&id, job)?;
-        match self.orders.send(&self.rt, order) {
-            Ok(()) => {}
-            Err(_) => return Err(AllocError),
-        }
+        self.hand_over(order)?;
         self.keep(id, entry)?;
         Ok(())
+    }
+
+    /// Hands an order to the workers.
+    fn hand_over(&self, order: Order<J, Ran>) -> Result<(), TakeFault> {
+        match self.orders.try_send(&self.rt, order) {
+            Ok(()) => Ok(()),
+            Err(refused) if refused.is_full() => Err(TakeFault::Full),
+            Err(_) => Err(TakeFault::Memory),
+        }
     }
 
     /// Whether the request with this id waits for its job.
@@ -122,7 +204,7 @@ impl<T: Wait + Drop, J: Job> JobPool<T, J> {
     }
 
     /// The request with this id needs no outcome any more, since it was cancelled or answered otherwise: cancels the job's token, and
-    /// its outcome is dropped.
+    /// what it says is dropped.
     pub fn forget(&mut self, id: &RequestId)
         ensures { table_of self.new ≡ without id.now (table_of self.old) }
     {
@@ -131,16 +213,13 @@ impl<T: Wait + Drop, J: Job> JobPool<T, J> {
         }
     }
 
-    /// The outcome of the job of this request, if that job has ended; the request waits no more then. `None` means that the request
-    /// waits for no job, or that its job goes on.
+    /// What the job of this request said next: a report, and the request goes on waiting; or the outcome, and it waits no more. `None`
+    /// means that the request waits for no job, or that its job said nothing new.
     ///
     /// The error is a failed allocation, here or in the job: the request has no job any more then, so it is still yours to answer.
-    pub fn finish(
-        &mut self,
-        id: &RequestId,
-    ) -> Result<Option<Result<Value, ResponseError>>, AllocError>
-        ensures some { IfOk result (λ found. IfSome found (λ outcome.
-            Answers J.answers id.now (table_of self.old) (outcome_view outcome) (table_of self.new))) }
+    pub fn take_news(&mut self, id: &RequestId) -> Result<Option<JobNews>, AllocError>
+        ensures some { IfOk result (λ found. IfSome found (λ news.
+            Tells J.answers id.now (table_of self.old) (news_view news) (table_of self.new))) }
         ensures none { IfOk result (λ found. IfNone found (table_of self.new ≡ table_of self.old)) }
         ensures err { OnErr result (table_of self.new ≡ without id.now (table_of self.old)) }
     {
@@ -148,10 +227,10 @@ impl<T: Wait + Drop, J: Job> JobPool<T, J> {
             return Ok(None);
         };
         match entry.awaited.take(&self.rt) {
-            Some(ran) => Ok(Some(ran?)),
-            None => {
+            Some(Saying::Outcome(ran)) => Ok(Some(JobNews::Outcome(ran?))),
+            said => {
                 self.keep(id.clone()?, entry)?;
-                Ok(None)
+                Ok(report_in(said))
             }
         }
     }
@@ -179,5 +258,15 @@ impl<T: Wait + Drop, J: Job> JobPool<T, J> {
             Ok(()) => Ok(()),
             Err(_) => Err(AllocError),
         }
+    }
+}
+
+/// The report that a job made, where it made one.
+fn report_in<R: Drop>(said: Option<Saying<R>>) -> Option<JobNews>
+    ensures { IfSome result (λ news. IsReport (news_view news)) }
+{
+    match said {
+        Some(Saying::Report(notification)) => Some(JobNews::Report(notification)),
+        _ => None,
     }
 }

@@ -1,9 +1,10 @@
 // The threads that run jobs. Each is started for any such task, since the check finds that it may own its ends only where it need not
 // look into the types.
 use crate::assignment::{Assignment, Task};
+use crate::bell::Bell;
 use crate::cancellation::CancellationToken;
 use crate::job::{Job, Ran};
-use crossbeam_channel::{Receiver, Sender};
+use crossbeam_channel::Receiver;
 use lsp_message::RequestId;
 use lsp_threads::StartFault;
 use std::sync::Wait;
@@ -14,8 +15,8 @@ pub(crate) trait Errand: Drop {
     /// Whether somebody waits for what comes of it.
     fn is_wanted(&self) -> bool;
 
-    /// Runs it to its end, and says for which request that was.
-    fn run<T: Wait>(self, rt: &T) -> RequestId;
+    /// Runs it to its end, and rings whenever it said something.
+    fn run<T: Wait + Copy + Drop, M: Drop>(self, rt: T, bell: Bell<M>) -> Bell<M>;
 }
 
 /// A task for a worker.
@@ -31,47 +32,48 @@ impl<J: Task<R>, R: Drop> Errand for Order<J, R> {
         !self.token.is_cancelled()
     }
 
-    fn run<T: Wait>(self, rt: &T) -> RequestId {
+    fn run<T: Wait + Copy + Drop, M: Drop>(self, rt: T, bell: Bell<M>) -> Bell<M> {
         let Order {
             id,
             assignment,
             token,
         } = self;
-        assignment.perform(rt, &token);
-        id
+        assignment.perform(rt, id, &token, bell)
     }
 }
 
-/// Runs errands until no more come, and tells of each that it ended.
-fn work<T: Wait + Drop, E: Errand>(rt: T, errands: Receiver<E>, ended: Sender<RequestId>) {
+/// Runs errands until no more come.
+fn work<T: Wait + Copy + Drop, E: Errand, M: Drop>(rt: T, errands: Receiver<E>, bell: Bell<M>) {
+    let mut bell = bell;
     for _ in rt.forever() {
         let Ok(errand) = errands.recv(&rt) else {
             return;
         };
         if errand.is_wanted() {
-            let _ = ended.send(&rt, errand.run(&rt));
+            bell = errand.run(rt, bell);
         }
     }
 }
 
 /// Starts a worker.
-fn start_worker<T, E>(
+fn start_worker<T, E, M>(
     rt: &T,
     errands: &Receiver<E>,
-    ended: &Sender<RequestId>,
+    bell: &mut Bell<M>,
 ) -> Result<JoinHandle<()>, StartFault>
 where
     T: Threads + Wait + Copy + Drop + Send + 'static,
     E: Errand + Send + 'static,
+    M: Drop + Send + 'static,
 {
     let Ok(errands) = errands.clone() else {
         return Err(StartFault::Memory);
     };
-    let Ok(ended) = ended.clone() else {
+    let Ok(bell) = bell.another() else {
         return Err(StartFault::Memory);
     };
     let theirs = *rt;
-    match spawn(rt, move || work(theirs, errands, ended)) {
+    match spawn(rt, move || work(theirs, errands, bell)) {
         Ok(handle) => Ok(handle),
         Err(_) => Err(StartFault::Thread),
     }
@@ -79,22 +81,23 @@ where
 
 /// Starts this many workers. Those that were started before a fault are left in `workers`, which has room for all before the first
 /// starts.
-pub(crate) fn start_workers<T, E>(
+pub(crate) fn start_workers<T, E, M>(
     rt: &T,
     count: usize,
     errands: Receiver<E>,
-    ended: &Sender<RequestId>,
+    bell: &mut Bell<M>,
     workers: &mut Vec<JoinHandle<()>>,
 ) -> Result<(), StartFault>
 where
     T: Threads + Wait + Copy + Drop + Send + 'static,
     E: Errand + Send + 'static,
+    M: Drop + Send + 'static,
 {
     if workers.try_reserve(count).is_err() {
         return Err(StartFault::Memory);
     }
     for _ in 0..count {
-        let worker = start_worker(rt, &errands, ended)?;
+        let worker = start_worker(rt, &errands, bell)?;
         if workers.push(worker).is_err() {
             return Err(StartFault::Memory);
         }
@@ -103,18 +106,19 @@ where
 }
 
 /// The same, of jobs.
-pub(crate) fn start_job_workers<T, J>(
+pub(crate) fn start_job_workers<T, J, M>(
     rt: &T,
     count: usize,
     orders: Receiver<Order<J, Ran>>,
-    ended: &Sender<RequestId>,
+    bell: &mut Bell<M>,
     workers: &mut Vec<JoinHandle<()>>,
 ) -> Result<(), StartFault>
 where
     T: Threads + Wait + Copy + Drop + Send + 'static,
     J: Job + Send + 'static,
+    M: Drop + Send + 'static,
 {
-    start_workers::<T, Order<J, Ran>>(rt, count, orders, ended, workers)
+    start_workers::<T, Order<J, Ran>, M>(rt, count, orders, bell, workers)
 }
 
 /// Joins threads.

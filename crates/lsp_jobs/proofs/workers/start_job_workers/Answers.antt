@@ -2,7 +2,8 @@ use denote.Exit.{no}
 use denote.Param.{param}
 use denote.Param.Send.{param_send, arg_send}
 use Rattle.lsp_jobs.specs.contracts.job.AnyTaskRan.TheImpl as any
-use Rattle.lsp_jobs.proofs.OrderSend.{order_send, ran_send}
+use Rattle.lsp_jobs.proofs.OrderSend.{order_send}
+use Rattle.lsp_jobs.proofs.SayingSend.{ran_send}
 use Rattle.lsp_jobs.proofs.workers.start_job_workers.Goals as goal
 
 pub start_workers-requires-send-E : goal.start_workers-requires-send-E

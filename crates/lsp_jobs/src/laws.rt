@@ -1,0 +1,40 @@
+//! What a session of a server with jobs does, in its user's words.
+ghost use Rattle.std.specs.Prelude.{◌≡◌, ℕ, List, Option, Result};
+ghost use Rattle.lsp_message.specs.Message.{Message};
+ghost use Rattle.lsp_session.specs.Session.{Exchange, SessionAnswer, Stop};
+ghost use Rattle.lsp_session.specs.declared.loops.handler.SessionEnd.{SessionEnd as EndOfSession};
+ghost use Rattle.lsp_session.specs.declared.loops.stream_session.SessionFault.{SessionFault as FaultOfSession};
+ghost use Rattle.lsp_service.specs.Law.{AnswersInitialize, TakesPart};
+ghost use Rattle.lsp_threads.specs.Threads.{ThreadsGive};
+ghost use Rattle.lsp_jobs.specs.JobLaw.{LawfulJobSession, WakesActByJobs};
+ghost use Rattle.lsp_jobs.specs.JobSession.{JobSession, seen_with_jobs};
+ghost use Rattle.lsp_jobs.specs.PoolView.{table_of};
+ghost use Rattle.lsp_jobs.specs.Table.{no_jobs};
+ghost use Rattle.lsp_jobs.specs.declared.pooled_server.PooledServer.{PooledServer};
+
+use crate::job::Job;
+use crate::job_server::JobServer;
+use std::sync::Wait;
+
+/// A session that was run by `run_jobs`, with a limit or without one, keeps the laws of `lsp_service::laws::server_keeps_laws`: under no
+/// id more replies than requests, whatever jobs come to and when; one reply for a request whose id was used once, unless it is still held
+/// or the session ended at it; and none but errors before `initialized`, nothing after the null of `shutdown`.
+pub fn session_with_jobs_keeps_laws<T: Wait + Drop, S: JobServer<J>, J: Job>()
+    ensures exchanges { (first last : S) (exchanges : List Exchange) (stop : Stop) (null : Option Message) (answer : SessionAnswer)
+        → JobSession T S.Server S.starts S.finishes J.answers first last exchanges stop null answer
+        → LawfulJobSession T S.Server S.starts S.finishes J.answers first last exchanges stop null answer }
+    ensures bytes { (limit : ℕ) (first last : S) (text : List ℕ) (before after : Option (List ℕ)) (answer : Result EndOfSession FaultOfSession)
+        → ThreadsGive limit (JobSession T S.Server S.starts S.finishes J.answers first last) text before after answer
+        → ThreadsGive limit (LawfulJobSession T S.Server S.starts S.finishes J.answers first last) text before after answer }
+{}
+
+/// At each wake nothing is done, or a job reports, or a request is answered: with an outcome to which a job may come that the server gave
+/// for the request with this id. It is told of the turns from `initialized` on; no request waits for a job then, since the handshake
+/// starts none.
+pub fn requests_are_answered_by_their_jobs<T: Wait + Drop, S: JobServer<J>, J: Job>()
+    ensures turns { (start last : PooledServer T S J) (came : List (Option Message)) (stop : Stop) (requests : List Message)
+        → (part : TakesPart (seen_with_jobs T S.Server S.starts S.finishes J.answers) start last came stop requests)
+        → table_of start.pool ≡ no_jobs → WakesActByJobs S.starts S.finishes J.answers part.turns }
+    ensures handshake { (old new : PooledServer T S J) (exchanges : List Exchange)
+        → AnswersInitialize (seen_with_jobs T S.Server S.starts S.finishes J.answers) old exchanges new → table_of new.pool ≡ table_of old.pool }
+{}

@@ -1,0 +1,106 @@
+// A session of a server whose long requests are jobs, in threads.
+ghost use Rattle.std.specs.Prelude.{IfOk, IfSome};
+ghost use Rattle.lsp_message.specs.Frame.{no_limit};
+ghost use Rattle.lsp_threads.specs.Threads.{ThreadsGive};
+ghost use Rattle.lsp_jobs.specs.JobSession.{JobSession};
+
+use crate::job::Job;
+use crate::job_server::JobServer;
+use crate::pool::{PoolSize, start_pool};
+use crate::pooled_server::PooledServer;
+use lsp_message::Message;
+use lsp_relay::relay;
+use lsp_service::QueuedServer;
+use lsp_threads::{Builders, StartFault, Threaded, run_threads_of_service_over};
+use std::alloc::Global;
+use std::io::{BufRead, Write};
+use std::sync::Wait;
+use std::thread::{Builder, Threads};
+
+/// How many messages that were read, and wakes, may wait for the session. It changes speed and memory only, and no answer.
+const ROOM: usize = 32;
+
+/// Runs a session of a server whose long requests are jobs, and gives the server back: threads of a pool run jobs, one thread reads, one
+/// writes, and the server is on the caller's thread, which goes on while jobs run.
+///
+/// Starts, faults and the end are those of `run_threads`: the outer fault means that a thread was not started, or that an allocation
+/// failed, and nothing was read or written then.
+///
+/// - A `$/cancelRequest` for a request that waits for its job is answered at once, with what the server does at it or else with the
+///   error -32800. The job's token is cancelled, and what it comes to is dropped (LSP 3.17, "Cancellation Support").
+/// - A job that finds no room is dropped, and its request gets the error -32803, `too many requests are waiting`.
+/// - Reports and outcomes are sent up to `shutdown`. What a job says later is dropped.
+/// - At the end all tokens are cancelled and all threads joined: it returns only when the jobs that run do.
+pub fn run_jobs<T, R, W, S, J>(
+    rt: &T,
+    alloc: Global,
+    reader: R,
+    writer: W,
+    size: PoolSize,
+    server: S,
+) -> (S, Result<Threaded<W>, StartFault>)
+where
+    T: Threads + Wait + Copy + Drop + Send + 'static,
+    R: BufRead + Drop + Send + 'static,
+    W: Write + Drop + Send + 'static,
+    S: JobServer<J> + Drop,
+    J: Job + Send + 'static,
+    ensures { IfSome (R.remaining reader) (λ text. IfOk result.1 (λ done.
+        ThreadsGive no_limit (JobSession T S.Server S.starts S.finishes J.answers server result.0)
+        text (W.contents writer) (W.contents done.writer) done.answer)) }
+{
+    run_jobs_within(rt, alloc, reader, writer, size, server, u64::MAX)
+}
+
+/// `run_jobs` over messages whose content part has at most `limit` bytes. A longer one is `SessionFault::Read` of
+/// `ReadFault::TooLong`, where the session came to it.
+pub fn run_jobs_within<T, R, W, S, J>(
+    rt: &T,
+    alloc: Global,
+    reader: R,
+    writer: W,
+    size: PoolSize,
+    server: S,
+    limit: u64,
+) -> (S, Result<Threaded<W>, StartFault>)
+where
+    T: Threads + Wait + Copy + Drop + Send + 'static,
+    R: BufRead + Drop + Send + 'static,
+    W: Write + Drop + Send + 'static,
+    S: JobServer<J> + Drop,
+    J: Job + Send + 'static,
+    ensures { IfSome (R.remaining reader) (λ text. IfOk result.1 (λ done.
+        ThreadsGive limit (JobSession T S.Server S.starts S.finishes J.answers server result.0)
+        text (W.contents writer) (W.contents done.writer) done.answer)) }
+{
+    let Ok((mut tx, rx)) = relay::<Message>(alloc, ROOM) else {
+        return (server, Err(StartFault::Memory));
+    };
+    let Ok(waker) = tx.waker() else {
+        return (server, Err(StartFault::Memory));
+    };
+    let (pool, news) = match start_pool(rt, alloc, size, Some(waker)) {
+        Ok(started) => started,
+        Err(fault) => return (server, Err(fault)),
+    };
+    let pooled = PooledServer::new(*rt, alloc, server, pool, news);
+    let mut queued = QueuedServer::new(alloc, pooled);
+    let builders = Builders {
+        writer: Builder::new(),
+        reader: Builder::new(),
+    };
+    let ends = (tx, rx);
+    let done = run_threads_of_service_over(
+        rt,
+        builders,
+        alloc,
+        ends,
+        reader,
+        writer,
+        &mut queued,
+        limit,
+    );
+    let (server, pool) = queued.into_server().into_parts();
+    pool.end();
+    (server, done)
+}
