@@ -1,64 +1,113 @@
 -- What holds of a session whose long requests are jobs. It keeps the laws of a session of any server; and the outcome that is sent for
--- a request is one that a job which the server gave for that very request may come to.
+-- a request is one to which the job may come that the server started for that very request.
 use Rattle.serde_json.specs.Data.{Data}
-use Rattle.std.specs.Prelude.{◌≡◌, ◌⊎◌, ℕ, List, [], ◌∷◌, ◌++◌, map, Option, None, Err}
-use Rattle.lsp_message.specs.Id.{Id}
-use Rattle.lsp_message.specs.Message.{Message}
+use mathlib.Core.Logic.{inl, inr}
+use Rattle.std.specs.Bool.{MatchBool}
+use Rattle.std.specs.Ordering.{eq_by_cmp}
+use Rattle.std.specs.Prelude.{◌≡◌, ◌⊎◌, ℕ, Bool, false, List, [], ◌∷◌, ◌++◌, fold, map, Option, Some, None, Err}
+use Rattle.lsp_message.specs.Id.{Id, id_cmp}
+use Rattle.lsp_message.specs.Message.{Message, request, notification, response}
 use Rattle.lsp_session.specs.Session.{Exchange, SessionAnswer, Stop}
-use Rattle.lsp_service.specs.Desk.{Act, tells, replies}
-use Rattle.lsp_service.specs.Law.{KeepsLaws, Turn}
+use Rattle.lsp_service.specs.Desk.{Act, Woken, tells, replies, cancelled_by}
+use Rattle.lsp_service.specs.Law.{Handed, KeepsLaws, TakesPart, TakesTurns, Turn, ids_after_all}
 use Rattle.lsp_service.specs.QueuedServer.{held_by}
 use Rattle.lsp_service.specs.declared.server.Server.{Ghosts as Stated}
 use Rattle.lsp_jobs.specs.JobSession.{JobSession, seen_with_jobs}
 use Rattle.lsp_jobs.specs.Pooled.{too_many}
 use Rattle.lsp_jobs.specs.Table.{Outcome}
+use Rattle.lsp_jobs.specs.declared.pooled_server.PooledServer.{PooledServer}
 
 -- the answer of a request whose job found no room
 abbrev pub refuses : {P : Type 0} → Id → Act P
 refuses id = replies id (Err too_many)
 
-abbrev pub IsAmong : {A : Type 0} → A → List A → Type 0
-IsAmong x [] = ⊥
-IsAmong x (y ∷ ys) = (x ≡ y) ⊎ IsAmong x ys
+-- what happens in a session
+pub data Event (P J : Type 0) : Type 0 where
+  -- a message comes, or a wake
+  comes : Option Message → Event P J
+  -- the server does an act
+  does : Act P → Event P J
+  -- it starts a job for the request with this id
+  starts : Id → J → Event P J
 
-module _ {S J : Type 0} (may_start : S → List (Id × J) → S → Type 0) where
-  -- the server gave this job for the request with this id
-  pub record WasGiven (id : Id) (job : J) : Type 0 where
-    pub old : S
-    pub new : S
-    pub starts : List (Id × J)
-    pub started : may_start old starts new
-    pub among : IsAmong (id, job) starts
+abbrev pub is_that : Id → Option Id → Bool
+is_that id None = false
+is_that id (Some i) = eq_by_cmp id_cmp id i
 
-module _ {S J P : Type 0} (may_start : S → List (Id × J) → S → Type 0) (may_finish : S → Id → Outcome → List (Act P) → S → Type 0) (answers : J → Outcome → Type 0) where
-  -- The server saw this outcome and did something first; then the request gets the outcome, which a job that was given for it may
-  -- come to; then requests are refused whose jobs found no room.
-  pub record AnswersByJob (acts : List (Act P)) : Type 0 where
+module _ {P J : Type 0} where
+  -- It has to do with a request under this id: one comes, it is cancelled or answered, or a job is started for it.
+  abbrev pub concerns : Id → Event P J → Bool
+  concerns id (comes None) = false
+  concerns id (comes (Some (request i method params))) = eq_by_cmp id_cmp id i
+  concerns id (comes (Some (notification method params))) = is_that id (cancelled_by method params)
+  concerns id (comes (Some (response i outcome))) = false
+  concerns id (does (replies i outcome)) = eq_by_cmp id_cmp id i
+  concerns id (does act) = false
+  concerns id (starts i job) = eq_by_cmp id_cmp id i
+
+  -- The request under this id waits for this job, after these events, of which the latest is the first: what last concerned it is
+  -- that the job was started for it.
+  abbrev pub WaitsFor : List (Event P J) → Id → J → Type 0
+  WaitsFor [] id job = ⊥
+  WaitsFor (event ∷ earlier) id job = MatchBool (concerns id event) (event ≡ starts id job) (WaitsFor earlier id job)
+
+  -- after these events the server did these acts, and started these jobs
+  abbrev pub after : List (Event P J) → List (Act P) → List (Id × J) → List (Event P J)
+  after events acts jobs = fold (λ es start. starts start.0 start.1 ∷ es) (fold (λ es act. does act ∷ es) events acts) jobs
+
+module _ (T : Type 0) {S J P : Type 0} (may : Stated S P) (may_start : S → List (Id × J) → S → Type 0) (may_finish : S → Id → Outcome → List (Act P) → S → Type 0)
+    (answers : J → Outcome → Type 0) where
+  -- After these events the server, in this state, sees this outcome and does something first. Then the request gets the outcome, to which
+  -- the job that it waits for may come. Then requests are refused whose jobs found no room.
+  pub record AnswersByJob (events : List (Event P J)) (old : S) (acts : List (Act P)) : Type 0 where
     pub id : Id
     pub job : J
     pub outcome : Outcome
-    pub gave : WasGiven may_start id job
-    pub may : answers job outcome
+    pub waits : WaitsFor events id job
+    pub reached : answers job outcome
     pub first : List (Act P)
-    pub old : S
     pub new : S
     pub saw : may_finish old id outcome first new
     pub refused : List Id
     pub all : acts ≡ first ++ replies id outcome ∷ map refuses refused
 
   -- at a wake nothing is done, or a job reports, or a request is answered by its job
-  abbrev pub ActsByJobs : List (Act P) → Type 0
-  ActsByJobs acts = (acts ≡ []) ⊎ (((method : List ℕ) × (params : Data) × (acts ≡ tells method params ∷ [])) ⊎ AnswersByJob acts)
+  abbrev pub ActsByJobs : List (Event P J) → S → List (Act P) → Type 0
+  ActsByJobs events old acts = (acts ≡ []) ⊎ (((method : List ℕ) × (params : Data) × (acts ≡ tells method params ∷ [])) ⊎ AnswersByJob events old acts)
 
-  -- the same of each wake among these turns
-  abbrev pub WakesActByJobs : List (Turn P) → Type 0
-  WakesActByJobs [] = Unit {0}
-  WakesActByJobs (turn ∷ turns) = (turn.letter ≡ None → ActsByJobs turn.acts) × WakesActByJobs turns
+  abbrev pub Seen : Stated (PooledServer T S J) P
+  Seen = seen_with_jobs T may may_start may_finish answers
 
-module _ (T : Type 0) {S J P : Type 0} (may : Stated S P) (may_start : S → List (Id × J) → S → Type 0) (may_finish : S → Id → Outcome → List (Act P) → S → Type 0)
-    (answers : J → Outcome → Type 0) where
+  -- the jobs that the server started when it was woken
+  abbrev pub started_at_wake : (old did : PooledServer T S J) (acts : List (Act P)) → Woken Seen.wakes old acts did → List (Id × J)
+  started_at_wake old did acts (inl (inr (inr finishes))) = finishes.4.3.started
+  started_at_wake old did acts woken = []
+
+  -- the jobs that it started when it was handed a letter, or woken
+  abbrev pub started_at : (old did : PooledServer T S J) (letter : Option Message) (payload : Option P) (acts : List (Act P)) → Handed Seen old letter payload acts did → List (Id × J)
+  started_at old did (Some (request id method params)) payload acts handed = handed.0.3.started
+  started_at old did (Some (notification method params)) payload acts handed = handed.0.3.started
+  started_at old did (Some (response id outcome)) (Some payload) acts handed = handed.3.started
+  started_at old did (Some (response id outcome)) None acts handed = []
+  started_at old did None payload acts handed = started_at_wake old did acts handed.0
+
+  -- Of these turns, which follow these events: at each wake it acts so.
+  abbrev pub WakesActByJobs : List (Event P J) → (count : ℕ) (old : PooledServer T S J) (turns : List (Turn P)) (new : PooledServer T S J)
+      → TakesTurns Seen count old turns new → Type 0
+  WakesActByJobs events count old [] new took = Unit {0}
+  WakesActByJobs events count old (turn ∷ turns) new took =
+      (turn.letter ≡ None → ActsByJobs events old.server turn.acts)
+      × WakesActByJobs (after (comes turn.letter ∷ events) turn.acts (started_at old took.0 turn.letter turn.payload turn.acts took.2))
+      (ids_after_all count turn.acts) took.1 turns new took.4
+
+  -- the same of the server's whole part in a session
+  abbrev pub PartActsByJobs : (start last : PooledServer T S J) (came : List (Option Message)) (stop : Stop) (requests : List Message)
+      → TakesPart Seen start last came stop requests → Type 0
+  PartActsByJobs start last came stop requests part =
+      WakesActByJobs (after [] part.begun part.began.3.started) (ids_after_all 0 part.begun) part.first part.turns last part.took_turns
+
   -- a session of a server with jobs, which keeps the laws of a session of a server
   pub record LawfulJobSession (first last : S) (exchanges : List Exchange) (stop : Stop) (null : Option Message) (answer : SessionAnswer) : Type 0 where
     pub session : JobSession T may may_start may_finish answers first last exchanges stop null answer
-    pub laws : KeepsLaws (seen_with_jobs T may may_start may_finish answers) session.old session.new
-        (held_by (seen_with_jobs T may may_start may_finish answers) session.session) exchanges stop null answer
+    pub laws : KeepsLaws Seen session.old session.new
+        (held_by Seen session.session) exchanges stop null answer

@@ -6,7 +6,7 @@ ghost use Rattle.lsp_session.specs.declared.loops.handler.SessionEnd.{SessionEnd
 ghost use Rattle.lsp_session.specs.declared.loops.stream_session.SessionFault.{SessionFault as FaultOfSession};
 ghost use Rattle.lsp_service.specs.Law.{AnswersInitialize, TakesPart};
 ghost use Rattle.lsp_threads.specs.Threads.{ThreadsGive};
-ghost use Rattle.lsp_jobs.specs.JobLaw.{LawfulJobSession, WakesActByJobs};
+ghost use Rattle.lsp_jobs.specs.JobLaw.{LawfulJobSession, PartActsByJobs};
 ghost use Rattle.lsp_jobs.specs.JobSession.{JobSession, seen_with_jobs};
 ghost use Rattle.lsp_jobs.specs.PoolView.{table_of};
 ghost use Rattle.lsp_jobs.specs.Table.{no_jobs};
@@ -28,13 +28,14 @@ pub fn session_with_jobs_keeps_laws<T: Wait + Drop, S: JobServer<J>, J: Job>()
         → ThreadsGive limit (LawfulJobSession T S.Server S.starts S.finishes J.answers first last) text before after answer }
 {}
 
-/// At each wake nothing is done, or a job reports, or a request is answered: with an outcome to which a job may come that the server gave
-/// for the request with this id. It is told of the turns from `initialized` on; no request waits for a job then, since the handshake
-/// starts none.
+/// At each wake nothing is done, or a job reports, or a request is answered: with an outcome to which the job may come that the server
+/// started for this very request. Nothing else concerned the request after that job was started: no request under its id came, no
+/// cancellation, no reply was given, and no other job was started for it. It is told of the turns from `initialized` on; no request waits
+/// for a job then, since the handshake starts none.
 pub fn requests_are_answered_by_their_jobs<T: Wait + Drop, S: JobServer<J>, J: Job>()
     ensures turns { (start last : PooledServer T S J) (came : List (Option Message)) (stop : Stop) (requests : List Message)
         → (part : TakesPart (seen_with_jobs T S.Server S.starts S.finishes J.answers) start last came stop requests)
-        → table_of start.pool ≡ no_jobs → WakesActByJobs S.starts S.finishes J.answers part.turns }
+        → table_of start.pool ≡ no_jobs → PartActsByJobs T S.Server S.starts S.finishes J.answers start last came stop requests part }
     ensures handshake { (old new : PooledServer T S J) (exchanges : List Exchange)
         → AnswersInitialize (seen_with_jobs T S.Server S.starts S.finishes J.answers) old exchanges new → table_of new.pool ≡ table_of old.pool }
 {}
