@@ -63,7 +63,7 @@ def main():
     replies = [message["id"] for message in came if "id" in message]
     kinds = [message["params"]["value"]["kind"] for message in came if message.get("method") == "$/progress"]
     assert replies == [3, 2], replies
-    assert kinds[:1] == ["begin"] and set(kinds) <= {"begin", "report", "end"}, kinds
+    assert kinds == ["begin", *["report"] * 10, "end"], kinds
     assert len(came[-1]["result"]) == 40000, len(came[-1]["result"])
     client.send(id=4, method="workspace/symbol", params={"query": "one"})
     client.send(method="$/cancelRequest", params={"id": 4})

@@ -3,6 +3,8 @@
 //! It keeps the documents that are open. A hover tells how many words a line has, at once, also while searches run. `workspace/symbol`
 //! finds the headings (`# ..`) of all documents that contain a word (LSP 3.17, "Workspace Symbols Request"): by a job, which tells how
 //! far it is if the client gave a token for that (`$/progress`), and which the client can cancel.
+//!
+//! Sixteen notifications of a job can wait to be sent, and further ones are dropped. A search makes twelve at most, so none is lost.
 #![tactic(auto)]
 
 use anyhow::{Result as Answer, bail};
@@ -12,6 +14,7 @@ use lsp_server::{
     Act, ErrorCode, Notification, Request, RequestId, ResponseError, Server, SessionEnd,
     SessionFault, Threaded,
 };
+use lsp_text::{Position, PositionEncoding, Text};
 use serde_json::{Value, json};
 use std::alloc::{AllocError, Global};
 use std::io::{BufReader, Write};
@@ -167,12 +170,12 @@ impl Searcher {
         let Some(document) = self.documents.get(uri) else {
             return Ok(Value::Null);
         };
-        let text = document.text().as_str();
-        let Some(line) = text.lines().nth(position.line as usize) else {
+        let Some(line) = line_of(document.text(), position.line as usize) else {
             return Ok(Value::Null);
         };
         let count = line.split_whitespace().count();
-        let contents = format!(in self.alloc; "{count} words")?;
+        let noun = if count == 1 { "word" } else { "words" };
+        let contents = format!(in self.alloc; "{count} {noun}")?;
         json!(in self.alloc; { "contents": contents })
     }
 
@@ -191,8 +194,10 @@ impl Searcher {
             })?;
         }
         let progress = match request.params.get("workDoneToken") {
-            Some(token) => Some(token.clone()?),
-            None => None,
+            Some(token) if token.as_str().is_some() || token.as_i64().is_some() => {
+                Some(token.clone()?)
+            }
+            _ => None,
         };
         let job = Search {
             alloc: self.alloc,
@@ -220,12 +225,17 @@ impl Job for Search {
     ) -> Result<Result<Value, ResponseError>, AllocError> {
         let mut found = Vec::new(self.alloc);
         self.tell(progress, "begin", "title", "Searching")?;
-        for source in self.sources.iter() {
+        let mut told = None;
+        for (number, source) in self.sources.iter().enumerate() {
             if token.is_cancelled() {
                 break;
             }
-            self.tell(progress, "report", "message", source.uri.as_str())?;
-            self.find(source, &mut found)?;
+            let tenth = number.saturating_mul(10).checked_div(self.sources.len());
+            if told != tenth {
+                self.tell(progress, "report", "message", source.uri.as_str())?;
+                told = tenth;
+            }
+            self.find(source, token, &mut found)?;
         }
         self.tell(progress, "end", "message", "Searched")?;
         Ok(Ok(Value::Array(found)))
@@ -253,14 +263,23 @@ impl Search {
         Ok(())
     }
 
-    /// Adds the headings of a document that contain the word.
-    fn find(&self, source: &Source, found: &mut Vec<Value>) -> Result<(), AllocError> {
-        let mut number: u32 = 0;
-        for line in source.text.as_str().lines() {
-            if let Some(heading) = line.strip_prefix("# ")
+    /// Adds the headings of a document that contain the word, up to where the search is cancelled.
+    fn find(
+        &self,
+        source: &Source,
+        token: &CancellationToken,
+        found: &mut Vec<Value>,
+    ) -> Result<(), AllocError> {
+        let text = Text::new(self.alloc, source.text.as_str())?;
+        for number in 0..text.line_count() {
+            if token.is_cancelled() {
+                break;
+            }
+            if let Some(line) = line_of(&text, number)
+                && let Some(heading) = line.strip_prefix("# ")
                 && heading.contains(self.query.as_str())
             {
-                let place = json!(in self.alloc; { "line": number, "character": 0 })?;
+                let place = json!(in self.alloc; { "line": number as u32, "character": 0 })?;
                 let end = place.clone()?;
                 let symbol = json!(in self.alloc; {
                     "name": heading,
@@ -269,10 +288,25 @@ impl Search {
                 })?;
                 found.push(symbol)?;
             }
-            number = number.saturating_add(1);
         }
         Ok(())
     }
+}
+
+/// A line of a text without its end, which is `\n`, `\r\n` or `\r` (LSP 3.17, "Text Documents"). The last one may be empty.
+fn line_of(text: &Text, number: usize) -> Option<&str> {
+    if number >= text.line_count() {
+        return None;
+    }
+    let line = number as u32;
+    let start = Position { line, character: 0 };
+    let end = Position {
+        line,
+        character: u32::MAX,
+    };
+    let start = text.offset_at(start, PositionEncoding::Utf8);
+    let end = text.offset_at(end, PositionEncoding::Utf8);
+    text.as_str().get(start..end)
 }
 
 /// A list of one act.
