@@ -2,15 +2,18 @@
 //!
 //!     bench json                                  each message once more, by `serde_json` alone: the least cost
 //!     bench session [speaking] [null]             a session on one thread: each request gets its params back, or null
-//!     bench threads pass | pump | run_threads     messages passed on by one thread and by two; the session on three threads
+//!     bench threads pass | pump | run_threads | run_threads_with
+//!                                                 messages passed on by one thread and by two; the sessions on three threads
+//!     bench jobs WORKERS                          a session on three threads, whose requests are jobs of so many workers
 //!     bench queues [N ..]                         a call on the request queues, with N requests pending
 //!     bench texts [N ..]                          N edits at the start, in the middle and at the end of a large text
 //!     bench all                                   each of these on the same input, under its name
 //!
 //! All but `queues` and `texts` read frames from standard input, and write frames to standard output. `speaking` is a server that speaks
-//! (`session_with`), which gives the same replies.
+//! (`session_with`), which gives the same replies. `all` leaves out `jobs`, whose replies come in the order in which they are ready.
 #![tactic(auto)]
 
+mod jobs;
 mod json;
 mod queues;
 mod session;
@@ -18,7 +21,7 @@ mod speaking;
 mod texts;
 mod threads;
 
-use anyhow::{Result, bail};
+use anyhow::{Context, Result, bail};
 use lsp_server::keep_freed_memory;
 use std::alloc::Global;
 use std::io::{BufRead, BufReader, Cursor, Read};
@@ -31,10 +34,10 @@ use std::{env, io};
 const READ_AHEAD: usize = 65536;
 
 const USAGE: &str =
-    "usage: bench json | session [speaking] [null] | threads pass|pump|run_threads | queues [N ..] | texts [N ..] | all";
+    "usage: bench json | session [speaking] [null] | threads pass|pump|run_threads|run_threads_with | jobs WORKERS | queues [N ..] | texts [N ..] | all";
 
 /// The measures that go over frames.
-const OVER_FRAMES: [&str; 7] = [
+const OVER_FRAMES: [&str; 8] = [
     "json",
     "session",
     "session null",
@@ -42,6 +45,7 @@ const OVER_FRAMES: [&str; 7] = [
     "threads pass",
     "threads pump",
     "threads run_threads",
+    "threads run_threads_with",
 ];
 
 fn main(rt: HostRuntime) -> Result<()> {
@@ -52,6 +56,10 @@ fn main(rt: HostRuntime) -> Result<()> {
     match words.as_slice() {
         [word, counts @ ..] if word.as_str() == "queues" => queues::measure(&rt, alloc, counts),
         [word, counts @ ..] if word.as_str() == "texts" => texts::measure(&rt, alloc, counts),
+        [word, workers] if word.as_str() == "jobs" => {
+            let workers = workers.parse::<usize>().context("how many workers")?;
+            jobs::serve(&rt, alloc, reader, workers)
+        }
         [word] if word.as_str() == "all" => {
             let mut text = Vec::new(alloc);
             reader.read_to_end(&mut text)?;
@@ -109,6 +117,7 @@ where
         "threads pass" => threads::pass_on(alloc, &mut reader, writer),
         "threads pump" => threads::pump_on(rt, alloc, reader, writer),
         "threads run_threads" => threads::serve(rt, alloc, reader),
+        "threads run_threads_with" => threads::serve_speaking(rt, alloc, reader),
         _ => bail!("{USAGE}"),
     }
 }

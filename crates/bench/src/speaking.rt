@@ -7,9 +7,9 @@ use std::io::{BufRead, Write};
 
 /// Answers with the params, or with null.
 #[derive(Drop)]
-struct Speaking {
-    alloc: Global,
-    is_null: bool,
+pub struct Speaking {
+    pub alloc: Global,
+    pub is_null: bool,
 }
 
 type Acts = Vec<Act<()>>;

@@ -1,7 +1,10 @@
 //! What threads cost: the same work on one thread, and on two or three.
 use crate::session::Echo;
+use crate::speaking::Speaking;
 use anyhow::{Result, bail};
-use lsp_server::{FrameOutbox, ReadEnd, pump, read_loop, run_threads};
+use lsp_server::{
+    FrameOutbox, ReadEnd, StartFault, Threaded, pump, read_loop, run_threads, run_threads_with,
+};
 use serde_json::{Map, Value};
 use std::alloc::Global;
 use std::io;
@@ -33,7 +36,7 @@ where
 
 /// Standard output, in a thread.
 #[derive(Drop)]
-struct Output<R>(R);
+pub struct Output<R>(pub R);
 
 impl<R: Print> Write for Output<R> {
     fn write(&mut self, buf: &[u8]) -> io::Result<usize> {
@@ -53,7 +56,25 @@ where
 {
     let capabilities = Value::Object(Map::new(alloc));
     let mut echo = Echo { is_null: false };
-    match run_threads(rt, alloc, reader, Output(*rt), capabilities, &mut echo) {
+    ended(run_threads(rt, alloc, reader, Output(*rt), capabilities, &mut echo))
+}
+
+/// The same of a server that speaks.
+pub fn serve_speaking<T, R>(rt: &T, alloc: Global, reader: R) -> Result<()>
+where
+    T: Threads + Wait + Print + Copy + Drop + Send + 'static,
+    R: BufRead + Drop + Send + 'static,
+{
+    let speaking = Speaking {
+        alloc,
+        is_null: false,
+    };
+    ended(run_threads_with(rt, alloc, reader, Output(*rt), speaking).1)
+}
+
+/// How a session in threads ended.
+pub fn ended<W: Drop>(done: Result<Threaded<W>, StartFault>) -> Result<()> {
+    match done {
         Ok(done) => match done.answer {
             Ok(_) => Ok(()),
             Err(fault) => bail!("{fault}"),
