@@ -75,7 +75,7 @@ where
 /// How a session in threads ended.
 pub fn ended<W: Drop>(done: Result<Threaded<W>, StartFault>) -> Result<()> {
     match done {
-        Ok(done) => match done.answer {
+        Ok(Threaded { answer, .. }) => match answer {
             Ok(_) => Ok(()),
             Err(fault) => bail!("{fault}"),
         },

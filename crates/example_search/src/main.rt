@@ -170,7 +170,7 @@ impl Searcher {
         let Some(document) = self.documents.get(uri) else {
             return Ok(Value::Null);
         };
-        let Some(line) = line_of(document.text(), position.line as usize) else {
+        let Some(line) = line_of(document.text(), position.line) else {
             return Ok(Value::Null);
         };
         let count = line.split_whitespace().count();
@@ -271,15 +271,17 @@ impl Search {
         found: &mut Vec<Value>,
     ) -> Result<(), AllocError> {
         let text = Text::new(self.alloc, source.text.as_str())?;
-        for number in 0..text.line_count() {
+        for number in 0..u32::MAX {
+            let Some(line) = line_of(&text, number) else {
+                break;
+            };
             if token.is_cancelled() {
                 break;
             }
-            if let Some(line) = line_of(&text, number)
-                && let Some(heading) = line.strip_prefix("# ")
+            if let Some(heading) = line.strip_prefix("# ")
                 && heading.contains(self.query.as_str())
             {
-                let place = json!(in self.alloc; { "line": number as u32, "character": 0 })?;
+                let place = json!(in self.alloc; { "line": number, "character": 0 })?;
                 let end = place.clone()?;
                 let symbol = json!(in self.alloc; {
                     "name": heading,
@@ -294,11 +296,10 @@ impl Search {
 }
 
 /// A line of a text without its end, which is `\n`, `\r\n` or `\r` (LSP 3.17, "Text Documents"). The last one may be empty.
-fn line_of(text: &Text, number: usize) -> Option<&str> {
-    if number >= text.line_count() {
+fn line_of(text: &Text, line: u32) -> Option<&str> {
+    if line as usize >= text.line_count() {
         return None;
     }
-    let line = number as u32;
     let start = Position { line, character: 0 };
     let end = Position {
         line,
