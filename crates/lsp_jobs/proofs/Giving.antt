@@ -16,7 +16,7 @@ use Rattle.lsp_service.specs.Law.{AnswersInitialize, Initializes, Handed, TakesT
 use Rattle.lsp_service.specs.declared.server.Server.{Ghosts as Stated}
 use Rattle.lsp_jobs.specs.JobLaw.{Event, comes, does, starts, concerns, WaitsFor, after, ActsByJobs, PartActsByJobs, WakesActByJobs, refuses, started_at, started_at_wake, is_that}
 use Rattle.lsp_jobs.specs.JobSession.{seen_with_jobs}
-use Rattle.lsp_jobs.specs.Pooled.{Does, StartsJobs, StartsOne, Wakes, unanswered, without_cancelled}
+use Rattle.lsp_jobs.specs.Pooled.{StartsJobs, StartsOne, unanswered, without_cancelled}
 use Rattle.lsp_jobs.specs.PoolView.{seen, table_of}
 use Rattle.lsp_jobs.specs.Table.{Table, Outcome, no_jobs, without, with_job}
 use Rattle.lsp_jobs.specs.declared.pooled_server.PooledServer.{PooledServer}
@@ -107,10 +107,10 @@ module _ {P J : Type 0} where
       elim run.1 [
         | inl is ↦ (rest.0, rest.1 ∙ ap (λ (x : Table J × List (Act P)). x.1 ++ map refuses rest.0) is, with_more start rest.0 jobs rest.2)
         | inr is ↦ (
-            start.0 ∷ rest.0,
-            rest.1 ∙ ap (λ (x : Table J × List (Act P)). x.1 ++ map refuses rest.0) is ∙ append_assoc old.1 (refuses start.0 ∷ []) (map refuses rest.0),
-            ((λ id is. inl is), with_more start rest.0 jobs rest.2),
-          )
+          start.0 ∷ rest.0,
+          rest.1 ∙ ap (λ (x : Table J × List (Act P)). x.1 ++ map refuses rest.0) is ∙ append_assoc old.1 (refuses start.0 ∷ []) (map refuses rest.0),
+          ((λ id is. inl is), with_more start rest.0 jobs rest.2),
+        )
       ]
 
   -- a job that was not of this request was started
@@ -144,7 +144,7 @@ module _ {P J : Type 0} where
 
   keeps_started : (jobs : List (Id × J)) (old new : Table J × List (Act P)) → FoldsTo StartsOne old jobs new → (events : List (Event P J)) → AllBut jobs events old.0
       → AllWait (fold (λ es start. starts start.0 start.1 ∷ es) events jobs) new.0
-  keeps_started [] old new run events all = subst (λ (x : Table J × List (Act P)). AllWait events x.0) run (λ id job e. elim (all id job e) [ | inl waits ↦ waits | inr none ↦ absurd none ])
+  keeps_started [] old new run events all = subst (λ (x : Table J × List (Act P)). AllWait events x.0) run (λ id job e. elim (all id job e) [ inl waits ↦ waits | inr none ↦ absurd none ])
   keeps_started (start ∷ jobs) old new run events all = keeps_started jobs run.0 new run.2 (starts start.0 start.1 ∷ events) (elim run.1 [
     | inl is ↦ subst (λ (x : Table J × List (Act P)). AllBut jobs (starts start.0 start.1 ∷ events) x.0) (sym is) (keeps_with start jobs events old.0 all)
     | inr is ↦ subst (λ (x : Table J × List (Act P)). AllBut jobs (starts start.0 start.1 ∷ events) x.0) (sym is) (keeps_refusal start jobs events old.0 all)
@@ -209,15 +209,21 @@ module _ (T : Type 0) {S J P : Type 0} (may : Stated S P) (may_start : S → Lis
       (events : List (Event P J)) → AllWait events (table_of old.pool)
       → (letter ≡ None → ActsByJobs T may may_start may_finish answers events old.server acts)
       × AllWait (after (comes letter ∷ events) acts (started_at T may may_start may_finish answers old did letter payload acts handed)) (table_of did.pool)
-  handed_jobs old did (Some (request id method params)) payload acts h events before =
-      ((λ no. absurd (cc (no))), (starts_jobs (h.0.1, without id (table_of old.pool)) (seen did) h.0.0 acts h.0.3 (comes (Some (request id method params)) ∷ events)
-      (keeps_without id (comes (Some (request id method params))) (λ i. refl) events (table_of old.pool) before)).0)
-  handed_jobs old did (Some (notification method params)) payload acts h events before =
-      ((λ no. absurd (cc (no))), (starts_jobs (h.0.1, without_cancelled (cancelled_by method params) (table_of old.pool)) (seen did) h.0.0 acts h.0.3 (comes (Some (notification method params)) ∷ events)
-      (keeps_cancelled method params events (table_of old.pool) before)).0)
-  handed_jobs old did (Some (response id outcome)) (Some payload) acts h events before =
-      ((λ no. absurd (cc (no))), (starts_jobs (h.1, table_of old.pool) (seen did) h.0 acts h.3 (comes (Some (response id outcome)) ∷ events)
-      (keeps_other (comes (Some (response id outcome))) (λ i. refl) events (table_of old.pool) before)).0)
+  handed_jobs old did (Some (request id method params)) payload acts h events before = (
+    (λ no. absurd (cc (no))),
+    (starts_jobs (h.0.1, without id (table_of old.pool)) (seen did) h.0.0 acts h.0.3 (comes (Some (request id method params)) ∷ events)
+        (keeps_without id (comes (Some (request id method params))) (λ i. refl) events (table_of old.pool) before)).0,
+  )
+  handed_jobs old did (Some (notification method params)) payload acts h events before = (
+    (λ no. absurd (cc (no))),
+    (starts_jobs (h.0.1, without_cancelled (cancelled_by method params) (table_of old.pool)) (seen did) h.0.0 acts h.0.3 (comes (Some (notification method params)) ∷ events)
+        (keeps_cancelled method params events (table_of old.pool) before)).0,
+  )
+  handed_jobs old did (Some (response id outcome)) (Some payload) acts h events before = (
+    (λ no. absurd (cc (no))),
+    (starts_jobs (h.1, table_of old.pool) (seen did) h.0 acts h.3 (comes (Some (response id outcome)) ∷ events)
+        (keeps_other (comes (Some (response id outcome))) (λ i. refl) events (table_of old.pool) before)).0,
+  )
   handed_jobs old did (Some (response id outcome)) None acts h events before =
       ((λ no. absurd (cc (no))), keeps_nothing old did acts (comes (Some (response id outcome)) ∷ events) h.1 h.0 (keeps_other (comes (Some (response id outcome))) (λ i. refl) events (table_of old.pool) before))
   handed_jobs old did None payload acts h events before = let both = wake_jobs old did acts events before h.0 in ((λ _. both.0), both.1)
