@@ -5,7 +5,7 @@ use Rattle.lsp_service.specs.Law.{KeepsLaws}
 use Rattle.lsp_service.specs.QueuedServer.{ServerSession, held_by}
 use Rattle.lsp_service.specs.declared.server.Server.{Ghosts as Stated}
 use Rattle.lsp_session.specs.Session.{Exchange, SessionAnswer, Stop}
-use Rattle.example_language.specs.Promise.{AnswersOnce}
+use Rattle.example_search.specs.Promise.{AnswersOnce}
 
 pub answers_once : {S P : Type 0} (may : Stated S P) (first last : S)
     → ((first last : S) (xs : List Exchange) (stop : Stop) (null : Option Message) (answer : SessionAnswer)

@@ -50,9 +50,7 @@ pub fn words_of(alloc: Global, text: &Text) -> Result<Vec<Vec<Word>>, AllocError
     let mut lines = Vec::new(alloc);
     let count = u32::try_from(text.line_count()).unwrap_or(u32::MAX);
     for line in 0..count {
-        let span = span_of(text, line);
-        let written = text.as_str().get(span.start..span.end).unwrap_or("");
-        let words = words_in(alloc, written, span.start)?;
+        let words = words_in(alloc, line_of(text, line), span_of(text, line).start)?;
         if !words.is_empty() {
             lines.push(words)?;
         }
@@ -60,7 +58,13 @@ pub fn words_of(alloc: Global, text: &Text) -> Result<Vec<Vec<Word>>, AllocError
     Ok(lines)
 }
 
-/// A line without its end.
+/// A line without its end, which is `\n`, `\r\n` or `\r` (LSP 3.17, "Text Documents"). The last one may be empty.
+pub fn line_of(text: &Text, line: u32) -> &str {
+    let span = span_of(text, line);
+    text.as_str().get(span.start..span.end).unwrap_or("")
+}
+
+/// The place of a line without its end.
 fn span_of(text: &Text, line: u32) -> Span {
     let offset = |character| text.offset_at(Position { line, character }, PositionEncoding::Utf8);
     Span {

@@ -1,8 +1,8 @@
 use Rattle.lsp_message.specs.Frame.{no_limit}
 use Rattle.lsp_threads.proofs.Sessions.{started_as}
 use Rattle.lsp_threads.specs.declared.run.Threaded.{Threaded}
-use Rattle.example_language.proofs.Known.{answers_once}
-use Rattle.example_language.proofs.sessions.serve_in_threads.Goals as goal
+use Rattle.example_search.proofs.Known.{answers_once}
+use Rattle.example_search.proofs.sessions.serve_in_threads.Goals as goal
 
 pub returns : goal.returns
 returns g c =

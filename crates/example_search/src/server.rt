@@ -1,6 +1,8 @@
 // The server: the texts that are open, what the client is told, and what it asks.
+use crate::search::{Search, Silence, Source};
 use crate::sums::{Named, Span, sheet_of, value_of, words_of};
 use lsp_documents::{DocumentFault, TextDocuments, position_encoding, position_in};
+use lsp_jobs::{CancellationToken, Job, JobServer, Start};
 use lsp_server::{Act, ErrorCode, Notification, Request, RequestId, ResponseError, Server};
 use lsp_text::{Position, PositionEncoding, Text};
 use serde_json::{Value, json};
@@ -17,6 +19,10 @@ pub struct Sums {
     configures: bool,
     documents: TextDocuments,
     waiting: Vec<Waiting>,
+    /// Whether threads of a pool search. Else the server does, at once.
+    has_pool: bool,
+    /// The searches that are to start now.
+    starting: Vec<Start<Search>>,
 }
 
 /// A request that is answered when nothing is wrong with a text.
@@ -89,6 +95,7 @@ impl Server for Sums {
                     uri,
                 })?;
             }
+            "workspace/symbol" => return self.search(request),
             _ => acts.push(Act::method_not_found(self.alloc, request.id)?)?,
         }
         Ok(acts)
@@ -137,16 +144,85 @@ impl Server for Sums {
     }
 }
 
+impl JobServer<Search> for Sums {
+    ghost use Rattle.std.specs.Prelude.{⊤};
+
+    ghost starts = { λ _ _ _. ⊤ };
+
+    ghost finishes = { λ _ _ _ _ _. ⊤ };
+
+    fn take_jobs(&mut self) -> Result<Vec<Start<Search>>, AllocError> {
+        Ok(mem::replace(&mut self.starting, Vec::new(self.alloc)))
+    }
+
+    fn finished(
+        &mut self,
+        _id: &RequestId,
+        _outcome: &Result<Value, ResponseError>,
+    ) -> Result<Acts, AllocError> {
+        Ok(Vec::new(self.alloc))
+    }
+}
+
 impl Sums {
-    /// A server before its session.
-    pub fn new(alloc: Global) -> Sums {
+    /// A server before its session. With a pool its searches are jobs.
+    pub fn new(alloc: Global, has_pool: bool) -> Sums {
         Sums {
             alloc,
             largest: i64::MAX,
             configures: false,
             documents: TextDocuments::new(alloc, PositionEncoding::Utf16),
             waiting: Vec::new(alloc),
+            has_pool,
+            starting: Vec::new(alloc),
         }
+    }
+
+    /// Finds the headings of all texts that contain a word (LSP 3.17, "Workspace Symbols Request"). A job answers the request, if
+    /// there is a pool.
+    fn search(&mut self, request: Request) -> Result<Acts, AllocError> {
+        let mut acts = Vec::new(self.alloc);
+        let Some(search) = self.search_in(&request.params)? else {
+            let code = ErrorCode::InvalidParams;
+            acts.push(Act::refuse(self.alloc, request.id, code, "which word?")?)?;
+            return Ok(acts);
+        };
+        if self.has_pool {
+            self.starting.push(Start {
+                id: request.id,
+                job: search,
+            })?;
+            return Ok(acts);
+        }
+        let outcome = search.run(&CancellationToken::new(self.alloc)?, &mut Silence)?;
+        acts.push(Act::Reply(request.id, outcome))?;
+        Ok(acts)
+    }
+
+    /// The search that a client asks for, over the texts as they are now.
+    fn search_in(&self, params: &Value) -> Result<Option<Search>, AllocError> {
+        let Some(query) = params.get("query").and_then(|query| query.as_str()) else {
+            return Ok(None);
+        };
+        let mut sources = Vec::new(self.alloc);
+        for (uri, document) in self.documents.iter() {
+            sources.push(Source {
+                uri: uri.clone()?,
+                text: String::from_str(self.alloc, document.text().as_str())?,
+            })?;
+        }
+        let progress = match params.get("workDoneToken") {
+            Some(token) if token.as_str().is_some() || token.as_i64().is_some() => {
+                Some(token.clone()?)
+            }
+            _ => None,
+        };
+        Ok(Some(Search {
+            alloc: self.alloc,
+            query: String::from_str(self.alloc, query)?,
+            sources,
+            progress,
+        }))
     }
 
     /// Asks for the configuration, where the client can be asked.
@@ -270,7 +346,8 @@ impl Sums {
 fn capabilities(alloc: Global, encoding: PositionEncoding) -> Result<Value, AllocError> {
     let mut can = json!(in alloc; {
         "textDocumentSync": { "openClose": true, "change": 2 },
-        "hoverProvider": true
+        "hoverProvider": true,
+        "workspaceSymbolProvider": { "workDoneProgress": true }
     })?;
     if encoding == PositionEncoding::Utf16 {
         return Ok(can);

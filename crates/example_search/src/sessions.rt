@@ -3,7 +3,7 @@ ghost use Rattle.std.specs.Prelude.{IfOk, IfSome};
 ghost use Rattle.lsp_message.specs.Frame.{no_limit};
 ghost use Rattle.lsp_session.specs.SessionBytes.{Gives};
 ghost use Rattle.lsp_threads.specs.Threads.{ThreadsGive};
-ghost use Rattle.example_language.specs.Promise.{AnswersOnce};
+ghost use Rattle.example_search.specs.Promise.{AnswersOnce};
 
 use crate::server::Sums;
 use lsp_server::laws::server_keeps_laws;
