@@ -15,6 +15,7 @@ from dataclasses import dataclass
 from pathlib import Path
 
 sys.dont_write_bytecode = True
+sys.path.append(str(Path(__file__).resolve().parent.parent / "tests"))
 
 from client import EXIT, INITIALIZED, SERVE, SHUTDOWN, frame
 from peers import Program, build_all

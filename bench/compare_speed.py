@@ -21,6 +21,7 @@ from dataclasses import dataclass, field
 from pathlib import Path
 
 sys.dont_write_bytecode = True
+sys.path.append(str(Path(__file__).resolve().parent.parent / "tests"))
 
 from client import EXIT, INITIALIZE_REPLY, INITIALIZED, PATIENCE, SERVE, SHUTDOWN, SHUTDOWN_REPLY, frame
 from peers import Program, build_all

@@ -18,6 +18,7 @@ from functools import partial
 from pathlib import Path
 
 sys.dont_write_bytecode = True
+sys.path.append(str(Path(__file__).resolve().parent.parent / "tests"))
 
 from client import EXIT, INITIALIZE, INITIALIZED, PATIENCE, SERVE, SHUTDOWN, Difference, Server, frame
 from pump import MEGABYTE, machine

@@ -12,6 +12,7 @@ from functools import partial
 from pathlib import Path
 
 sys.dont_write_bytecode = True
+sys.path.append(str(Path(__file__).resolve().parent.parent / "tests"))
 
 from client import Difference, Server
 from pump import BENCH, Failure, Program, machine, run_timed as run_stream

@@ -10,6 +10,7 @@ import statistics
 import struct
 import sys
 import time
+from pathlib import Path
 
 sys.dont_write_bytecode = True
 
@@ -44,13 +45,18 @@ from client import (
 
 HOST = "127.0.0.1"
 MEGABYTE = 1_000_000
-BLOCKED_AFTER = 1
-GIVEN_UP_AFTER = 40
+# What is taken for held back: all threads asleep at each of so many looks, so long after one another, and nothing taken.
+LOOKS = 20
+BETWEEN_LOOKS = 0.05
+# The program gives such a client up by a clock of its own, after half a minute.
+GIVEN_UP_AFTER = 300
+# A reply that waits for an acknowledgement of the one before comes after some 40 ms, whatever else the machine does.
 LONGEST_BURST = 0.02
+BURST_ROUNDS = 100
 SLOW_BYTES = 4
 STALL = 3
 FLOOD = 100_000
-FLOOD_PATIENCE = 60
+FLOOD_PATIENCE = 600
 
 
 def free_port():
@@ -66,9 +72,9 @@ def long_echo(size):
 class TcpServer(Server):
     """The program, spoken to through a socket. Its own standard output has to stay empty."""
 
-    def __init__(self, program):
+    def __init__(self, program, way="tcp"):
         self.port = free_port()
-        super().__init__([program, "tcp", f"{HOST}:{self.port}"])
+        super().__init__([program, way, f"{HOST}:{self.port}"])
         self.socket = None
 
     def __enter__(self):
@@ -233,14 +239,29 @@ def check_gone(program, name, sent, text, resets=False):
         expect_failure(server, text)
 
 
-def send_until_held_back(sink, data):
-    """Sends the data again and again, until nothing was taken for a while. It gives how many bytes were taken."""
-    sink.setblocking(False)
+def is_asleep(process):
+    """Whether all threads of a process wait for something else than a processor."""
+    states = [path.read_text().rpartition(")")[2].split()[0] for path in Path(f"/proc/{process.pid}/task").glob("*/stat")]
+    return all(state == "S" for state in states)
+
+
+def is_held_back(server):
+    """Whether the program takes nothing more. On a busy machine it may only be slow, but some thread of it waits for a processor then."""
+    for _ in range(LOOKS):
+        if select.select([], [server.socket], [], BETWEEN_LOOKS)[1] or not is_asleep(server.process):
+            return False
+    return True
+
+
+def send_until_held_back(server, data):
+    """Sends the data again and again, until nothing more is taken. It gives how many bytes were taken."""
+    server.socket.setblocking(False)
     taken = 0
     while taken < 100 * MEGABYTE:
-        if not select.select([], [sink], [], BLOCKED_AFTER)[1]:
+        if select.select([], [server.socket], [], BETWEEN_LOOKS)[1]:
+            taken += server.socket.send(data[taken % len(data):])
+        elif is_held_back(server):
             return taken
-        taken += sink.send(data[taken % len(data):])
     raise Difference("all of it was taken")
 
 
@@ -249,7 +270,7 @@ def check_never_reads(program):
     print("a client that never reads")
     with TcpServer(program) as server:
         server.send_bytes(frame(INITIALIZE) + frame(INITIALIZED))
-        taken = send_until_held_back(server.socket, long_echo(MEGABYTE))
+        taken = send_until_held_back(server, long_echo(MEGABYTE))
         print(f"    held back after {taken / MEGABYTE:.1f} MB")
         server.socket.close()
         expect_failure(server, "channel closed")
@@ -267,21 +288,30 @@ def check_never_reads_and_stays(program):
     expect("the status", status, 1)
 
 
-def check_burst(program):
-    """Requests that come together are answered together: no reply waits until the one before was acknowledged."""
+def burst_times(server):
+    """How long it takes, again and again, until two requests that come together have their replies."""
     times = []
+    for _ in range(101):
+        start = time.perf_counter()
+        server.send_bytes(frame(ECHO) * 2)
+        for _ in range(2):
+            expect("a reply", server.receive(), ECHO_REPLY)
+        times.append(time.perf_counter() - start)
+    return times
+
+
+def check_burst(program):
+    """Requests that come together are answered together: no reply waits until the one before was acknowledged. A busy machine may hold
+    some rounds up, and a reply that waits holds all of them up."""
     with TcpServer(program) as server:
         exchange(server, BEGUN)
-        for _ in range(101):
-            start = time.perf_counter()
-            server.send_bytes(frame(ECHO) * 2)
-            for _ in range(2):
-                expect("a reply", server.receive(), ECHO_REPLY)
-            times.append(time.perf_counter() - start)
-    median = statistics.median(times)
-    print(f"two requests together: both replies after {median * 1e6:.0f} us, the median of {len(times)}")
-    if median > LONGEST_BURST:
-        raise Difference("the second reply was held back")
+        for round_number in range(1, BURST_ROUNDS + 1):
+            median = statistics.median(burst_times(server))
+            if median <= LONGEST_BURST:
+                break
+        else:
+            raise Difference("the second reply was held back")
+    print(f"two requests together: both replies after {median * 1e6:.0f} us, the median of 101, in round {round_number}")
 
 
 def check_address_in_use(program):

@@ -17,7 +17,8 @@ from dataclasses import dataclass, field
 from pathlib import Path
 
 SERVE = Path(__file__).resolve().parent.parent / "crates" / "lsp_demo" / "out" / "lsp_demo"
-PATIENCE = 10
+# Long, so that a busy machine changes nothing: it only bounds how long a program that is wrong is waited for.
+PATIENCE = 300
 UNAWAITED = 50
 HEADER = re.compile(rb"Content-Length: (0|[1-9][0-9]*)\r\n\r\n")
 LONGEST_HEADER = 200
@@ -295,7 +296,7 @@ def check_closed_output(command):
 
 
 def check_output_closed_midway(command):
-    """The client stops reading in the middle of a session, and goes on to write."""
+    """The client stops reading in the middle of a session, and goes on to write until the program is gone."""
     print("a standard output that is closed in the middle of a session")
     with Server(command) as server:
         exchange(server, ECHOED)
@@ -317,13 +318,13 @@ def check_words(program, words, said):
     expect("standard output", rest, b"")
 
 
-def run_checks(script, description, checks):
+def run_checks(script, description, checks, program=SERVE):
     """Runs the checks of a script on the program that it is called with, and gives its exit status."""
     parser = argparse.ArgumentParser(description=description, formatter_class=argparse.RawDescriptionHelpFormatter)
-    parser.add_argument("--program", type=Path, default=SERVE, help="the program that is tried")
+    parser.add_argument("--program", type=Path, default=program, help="the program that is tried")
     program = parser.parse_args().program
     if not os.access(program, os.X_OK):
-        print(f"{script}: no program {program}: docs/EDITORS.md says how it is built", file=sys.stderr)
+        print(f"{script}: no program {program}: `rt run` in its crate's folder builds it", file=sys.stderr)
         return 2
     try:
         checks(program)
