@@ -1,14 +1,14 @@
 ;;; searching.el --- A server whose searches are jobs, in eglot  -*- lexical-binding: t; -*-
 
-;; Starts `example_search' as eglot does, opens texts, and searches all of them: a hover is answered while a search runs, an
+;; Starts `example_search jobs' as eglot does, opens texts, and searches all of them: a hover is answered while a search runs, an
 ;; edit reaches the server, notices of progress come, a search is answered once, and one that is cancelled ends.
-;;   LSP_SERVER="program argument .." emacs --batch -l bench/searching.el
-;; Without LSP_SERVER it is `crates/example_search/out/example_search'. Ends in status 1 where it is otherwise.
+;;   LSP_SERVER="program argument .." emacs --batch -l editors/searching.el
+;; Without LSP_SERVER it is `crates/example_search/out/example_search jobs'. Ends in status 1 where it is otherwise.
 
 (require 'eglot)
 
 (defvar command
-  (let ((words (split-string (or (getenv "LSP_SERVER") "crates/example_search/out/example_search"))))
+  (let ((words (split-string (or (getenv "LSP_SERVER") "crates/example_search/out/example_search jobs"))))
     (cons (expand-file-name (car words)) (cdr words))))
 (defvar patience 10)
 (defvar documents 20)
@@ -80,6 +80,7 @@
   (let ((shows (list nil)))
     (goto-char (point-min))
     (search-forward text)
+    (goto-char (match-beginning 0))
     (eglot-hover-eldoc-function (lambda (info &rest _) (setcar shows (and info (string-trim info)))))
     shows))
 
@@ -90,9 +91,9 @@
 
 (let* ((folder (make-temp-file "notes" t))
        (file (expand-file-name "one.note" folder))
-       (text (apply #'concat (make-list headings "# heading one\ntwo words\n")))
+       (text (apply #'concat (make-list headings "# heading one\n# another\n")))
        (expected nil) (uris nil))
-  (write-region "# größe of one\ntwo words\n# other\n#one\nno # heading one\n" nil file nil 'quiet)
+  (write-region "# größe of one\ntwo = 2\n# other\n#one\nthree = 3 # heading one\n" nil file nil 'quiet)
   (switch-to-buffer (find-file-noselect file))
   (note-mode)
   (apply #'eglot (eglot--guess-contact))
@@ -101,21 +102,21 @@
     (push buffer uris)
     (push (list buffer 0 "größe of one") expected)
     (dotimes (number documents)
-      (let ((uri (format "file:///%d.txt" number)))
+      (let ((uri (format "file:///%d.sums" number)))
         (push uri uris)
         (dotimes (heading headings) (push (list uri (* 2 heading) "heading one") expected))
         (jsonrpc-notify server :textDocument/didOpen
-                        (list :textDocument (list :uri uri :languageId "text" :version 1 :text text)))))
+                        (list :textDocument (list :uri uri :languageId "sums" :version 1 :text text)))))
     (setq expected (sort expected #'before))
 
     (let* ((search (ask server :workspace/symbol (list :query "one" :workDoneToken "first")))
            (first (hover "two")) second)
-      (wait-for "a hover is answered" (lambda () (equal first '("2 words"))))
+      (wait-for "a hover is answered" (lambda () (equal first '("two = 2"))))
       (note "the search still runs" (= (times (car search)) 0))
-      (replace-text "two words" "two words and more")
+      (replace-text "two = 2" "two = 2 + 2")
       (replace-text "größe of one" "𝒙")
       (setq second (hover "two"))
-      (wait-for "a hover after an edit tells the new count" (lambda () (equal second '("4 words"))))
+      (wait-for "a hover after an edit tells the new value" (lambda () (equal second '("two = 4"))))
       (note "the search still runs" (= (times (car search)) 0))
       (wait-for "it finds the headings of the texts as they were when it was asked for"
                 (lambda () (and (cadr search) (equal (found (cadr search)) expected))))

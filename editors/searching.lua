@@ -1,9 +1,9 @@
--- Starts `example_search` as the language client of Neovim does, opens texts, and searches all of them: a hover is answered while a
+-- Starts `example_search jobs` as the language client of Neovim does, opens texts, and searches all of them: a hover is answered while a
 -- search runs, an edit reaches the server, progress is shown, a search is answered once, and one that is cancelled ends.
---   LSP_SERVER="program argument .." nvim --headless -u NONE -i NONE -S bench/searching.lua
--- Without LSP_SERVER it is `crates/example_search/out/example_search`. Ends in status 1 where it is otherwise.
+--   LSP_SERVER="program argument .." nvim --headless -u NONE -i NONE -S editors/searching.lua
+-- Without LSP_SERVER it is `crates/example_search/out/example_search jobs`. Ends in status 1 where it is otherwise.
 
-local command = vim.split(vim.env.LSP_SERVER or 'crates/example_search/out/example_search', ' ')
+local command = vim.split(vim.env.LSP_SERVER or 'crates/example_search/out/example_search jobs', ' ')
 local patience = 10000
 local documents, headings = 20, 2000
 local client, ended
@@ -37,8 +37,8 @@ local function hover(line)
   return ask('textDocument/hover', vim.lsp.util.make_position_params(0, client.offset_encoding))
 end
 
-local function tells(hovered, words)
-  return hovered.came and hovered.result and hovered.result.contents == words
+local function tells(hovered, value)
+  return hovered.came and hovered.result and hovered.result.contents == value
 end
 
 -- What a status line shows after each notice.
@@ -89,8 +89,8 @@ local function found(search, expected)
   return true
 end
 
-vim.api.nvim_buf_set_name(0, vim.fn.tempname() .. '.txt')
-vim.api.nvim_buf_set_lines(0, 0, -1, false, { '# größe of one', 'two words', '# other', '#one', 'no # heading one' })
+vim.api.nvim_buf_set_name(0, vim.fn.tempname() .. '.sums')
+vim.api.nvim_buf_set_lines(0, 0, -1, false, { '# größe of one', 'two = 2', '# other', '#one', 'three = 3 # heading one' })
 vim.lsp.start_client({
   name = 'search',
   cmd = command,
@@ -105,7 +105,7 @@ end
 vim.lsp.buf_attach_client(0, client.id)
 vim.api.nvim_create_autocmd('User', { pattern = 'LspProgressUpdate', callback = show })
 
-local text = string.rep('# heading one\ntwo words\n', headings)
+local text = string.rep('# heading one\n# another\n', headings)
 local every_other = {}
 for number = 0, headings - 1 do
   table.insert(every_other, 2 * number)
@@ -114,22 +114,22 @@ local buffer = vim.uri_from_bufnr(0)
 local expected = { [buffer] = { name = 'größe of one', lines = { 0 } } }
 local uris = { [buffer] = true }
 for number = 1, documents do
-  local uri = string.format('file:///%d.txt', number)
+  local uri = string.format('file:///%d.sums', number)
   expected[uri] = { name = 'heading one', lines = every_other }
   uris[uri] = true
   client.notify('textDocument/didOpen', {
-    textDocument = { uri = uri, languageId = 'text', version = 1, text = text },
+    textDocument = { uri = uri, languageId = 'sums', version = 1, text = text },
   })
 end
 
 local search = ask('workspace/symbol', { query = 'one', workDoneToken = 'first' })
 local first = hover(2)
-wait_for('a hover is answered', function() return tells(first, '2 words') end)
+wait_for('a hover is answered', function() return tells(first, 'two = 2') end)
 note('the search still runs', client.requests[search.id] ~= nil and not search.came)
-vim.api.nvim_buf_set_text(0, 1, 9, 1, 9, { ' and more' })
+vim.api.nvim_buf_set_text(0, 1, 7, 1, 7, { ' + 2' })
 vim.api.nvim_buf_set_text(0, 0, 2, 0, 16, { '𝒙' })
 local second = hover(2)
-wait_for('a hover after an edit tells the new count', function() return tells(second, '4 words') end)
+wait_for('a hover after an edit tells the new value', function() return tells(second, 'two = 4') end)
 note('the search still runs', client.requests[search.id] ~= nil and not search.came)
 wait_for('it finds the headings of the texts as they were when it was asked for', function()
   return search.came and not search.fault and found(search, expected)

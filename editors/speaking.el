@@ -1,14 +1,14 @@
 ;;; speaking.el --- A server that speaks, in eglot  -*- lexical-binding: t; -*-
 
-;; Starts `example_language' as eglot does, opens a text, and looks at what the server says of it: diagnostics follow the
+;; Starts `example_search' as eglot does, opens a text, and looks at what the server says of it: diagnostics follow the
 ;; text and the configuration, a hover is answered, and a request that takes long is cancelled.
-;;   LSP_SERVER="program argument .." emacs --batch -l bench/speaking.el
-;; Without LSP_SERVER it is `crates/example_language/out/example_language'. Ends in status 1 where it is otherwise.
+;;   LSP_SERVER="program argument .." emacs --batch -l editors/speaking.el
+;; Without LSP_SERVER it is `crates/example_search/out/example_search'. Ends in status 1 where it is otherwise.
 
 (require 'eglot)
 
 (defvar command
-  (let ((words (split-string (or (getenv "LSP_SERVER") "crates/example_language/out/example_language"))))
+  (let ((words (split-string (or (getenv "LSP_SERVER") "crates/example_search/out/example_search"))))
     (cons (expand-file-name (car words)) (cdr words))))
 (defvar patience 10)
 (defvar good t)

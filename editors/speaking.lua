@@ -1,9 +1,9 @@
--- Starts `example_language` as the language client of Neovim does, opens a text, and looks at what the server says of it:
+-- Starts `example_search` as the language client of Neovim does, opens a text, and looks at what the server says of it:
 -- diagnostics follow the text and the configuration, a hover is answered, and a request that takes long is cancelled.
---   LSP_SERVER="program argument .." nvim --headless -u NONE -i NONE -S bench/speaking.lua
--- Without LSP_SERVER it is `crates/example_language/out/example_language`. Ends in status 1 where it is otherwise.
+--   LSP_SERVER="program argument .." nvim --headless -u NONE -i NONE -S editors/speaking.lua
+-- Without LSP_SERVER it is `crates/example_search/out/example_search`. Ends in status 1 where it is otherwise.
 
-local command = vim.split(vim.env.LSP_SERVER or 'crates/example_language/out/example_language', ' ')
+local command = vim.split(vim.env.LSP_SERVER or 'crates/example_search/out/example_search', ' ')
 local patience = 10000
 local client, ended
 local good = true

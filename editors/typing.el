@@ -1,15 +1,15 @@
 ;;; typing.el --- Edits in eglot, compared with the server's text  -*- lexical-binding: t; -*-
 
 ;; Types, pastes, undoes and replaces in Emacs, in a text with emoji and combining marks, and looks after each edit whether
-;; `example_language' holds the text of the buffer.
-;;   LSP_SERVER="program argument .." emacs --batch -l bench/typing.el
-;; Without LSP_SERVER it is `crates/example_language/out/example_language'; SEED and EDITS are 1 and 300. Ends in status 1 where
+;; `example_search' holds the text of the buffer.
+;;   LSP_SERVER="program argument .." emacs --batch -l editors/typing.el
+;; Without LSP_SERVER it is `crates/example_search/out/example_search'; SEED and EDITS are 1 and 300. Ends in status 1 where
 ;; a text differs.
 
 (require 'eglot)
 
 (defvar command
-  (let ((words (split-string (or (getenv "LSP_SERVER") "crates/example_language/out/example_language"))))
+  (let ((words (split-string (or (getenv "LSP_SERVER") "crates/example_search/out/example_search"))))
     (cons (expand-file-name (car words)) (cdr words))))
 (defvar edits (string-to-number (or (getenv "EDITS") "300")))
 (defvar pieces '("a" "word " "= 1" "ß" "Ä" "é" "é" "漢字" "𝒙" "😀" "👨‍👩‍👧" "🇪🇺" "\n" "\n" "\u2028" "\t"))

@@ -1,10 +1,10 @@
 -- Types, pastes, undoes and replaces in Neovim, in a text with emoji and combining marks, and looks after each edit whether
--- `example_language` holds the text of the buffer. The lines end with `\n`, then with `\r\n`, then with `\r`.
---   LSP_SERVER="program argument .." nvim --headless -u NONE -i NONE -S bench/typing.lua
--- Without LSP_SERVER it is `crates/example_language/out/example_language`; SEED and EDITS are 1 and 300. Ends in status 1 where
+-- `example_search` holds the text of the buffer. The lines end with `\n`, then with `\r\n`, then with `\r`.
+--   LSP_SERVER="program argument .." nvim --headless -u NONE -i NONE -S editors/typing.lua
+-- Without LSP_SERVER it is `crates/example_search/out/example_search`; SEED and EDITS are 1 and 300. Ends in status 1 where
 -- a text differs.
 
-local command = vim.split(vim.env.LSP_SERVER or 'crates/example_language/out/example_language', ' ')
+local command = vim.split(vim.env.LSP_SERVER or 'crates/example_search/out/example_search', ' ')
 local edits = tonumber(vim.env.EDITS or '300')
 local patience = 10000
 local client, ended

@@ -1,7 +1,21 @@
 //! A whole language server over standard input and output, as a loop of its own. It says how long the path of a document
 //! is: a request `textDocument/hover` is answered with it. What to call a path it asks its client once, at the start, if the
 //! client can tell (`workspace/configuration`, section `paths`, a text).
+//!
+//! Its tests play its client, in memory and over TCP. Beside them stand calls that it does not make: the handshake by hand, a loop over
+//! messages with no session, and a handler that states nothing.
 #![tactic(auto)]
+
+#[cfg(test)]
+mod client;
+#[cfg(test)]
+mod handshake;
+#[cfg(test)]
+mod in_thread;
+#[cfg(test)]
+mod message_loop;
+#[cfg(test)]
+mod quiet;
 
 use anyhow::{Result, bail};
 use lsp_server::{Connection, Message, ReqQueue, Request, Response};

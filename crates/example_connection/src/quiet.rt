@@ -37,7 +37,14 @@ mod tests {
     use super::serve_quietly;
     use lsp_server::SessionEnd;
     use std::test::Fail;
-    use test_support::frames::{REPLIES, SESSION};
+
+    /// The frames of `initialize`, `initialized`, `shutdown` and `exit` (LSP 3.17, "Base Protocol", "Server lifecycle").
+    const SESSION: &str =
+        "Content-Length: 46\r\n\r\n{\"jsonrpc\":\"2.0\",\"id\":1,\"method\":\"initialize\"}Content-Length: 40\r\n\r\n{\"jsonrpc\":\"2.0\",\"method\":\"initialized\"}Content-Length: 44\r\n\r\n{\"jsonrpc\":\"2.0\",\"id\":2,\"method\":\"shutdown\"}Content-Length: 33\r\n\r\n{\"jsonrpc\":\"2.0\",\"method\":\"exit\"}";
+
+    /// The replies to `initialize` and `shutdown`.
+    const REPLIES: &str =
+        "Content-Length: 53\r\n\r\n{\"jsonrpc\":\"2.0\",\"id\":1,\"result\":{\"capabilities\":{}}}Content-Length: 38\r\n\r\n{\"jsonrpc\":\"2.0\",\"id\":2,\"result\":null}";
 
     #[test]
     fn a_session_is_held(rt: HostRuntime) -> Result<(), Fail> {

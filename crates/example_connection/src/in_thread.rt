@@ -1,6 +1,5 @@
 //! A server in a thread of its own, and its client in memory: a test needs no socket and no second program.
 use crate::client::hold_session;
-use crate::handshake::{answer_initialize, answer_until_shutdown};
 use anyhow::Result;
 use lsp_server::{Connection, ResponseError, spawn};
 use serde_json::Value;
@@ -14,7 +13,7 @@ where
     R: Threads + Wait + Clock + AllocGlobal + Copy + Drop + Send + 'static,
 {
     let (client, server) = Connection::memory(rt.alloc())?;
-    let thread = spawn(rt, server, serve)?;
+    let thread = spawn(rt, server, serve_here)?;
     let answer = hold_session(rt, &client, method, params)?;
     // The server would wait for more.
     drop(client);
@@ -22,10 +21,9 @@ where
     Ok(answer)
 }
 
-/// The server: the handshake, and then null for each request until the client shuts it down.
-fn serve<R: Wait + Clock + AllocGlobal + Drop>(rt: R, connection: Connection) -> Result<()> {
-    answer_initialize(&rt, &connection)?;
-    answer_until_shutdown(&rt, &connection)
+/// The server, with a runtime of its own.
+fn serve_here<R: Wait + Clock + AllocGlobal + Drop>(rt: R, connection: Connection) -> Result<()> {
+    crate::serve(&rt, connection)
 }
 
 #[cfg(test)]
@@ -36,10 +34,10 @@ mod tests {
 
     #[test]
     fn a_server_in_a_thread_answers(rt: HostRuntime) -> Result<(), Fail> {
-        let Ok(Ok(result)) = ask_thread(&rt, "demo/ask", Value::Bool(true)) else {
-            return Err(Fail::from("no result"));
+        let Ok(Err(error)) = ask_thread(&rt, "demo/ask", Value::Bool(true)) else {
+            return Err(Fail::from("no error"));
         };
-        assert!(rt; result.is_null());
+        assert_eq!(rt; error.message.as_str(), "method not found");
         Ok(())
     }
 }

@@ -73,7 +73,7 @@ fn ask<R: Wait + AllocGlobal>(
 }
 
 /// Sends a notification without params.
-fn tell<R: Wait + AllocGlobal>(rt: &R, connection: &Connection, method: &str) -> Result<()> {
+pub fn tell<R: Wait + AllocGlobal>(rt: &R, connection: &Connection, method: &str) -> Result<()> {
     let note = Notification {
         method: String::from_str(rt.alloc(), method)?,
         params: Value::Null,
@@ -87,23 +87,50 @@ fn tell<R: Wait + AllocGlobal>(rt: &R, connection: &Connection, method: &str) ->
 #[cfg(test)]
 mod tests {
     use super::ask_server;
-    use lsp_server::SessionEnd;
+    use crate::serve;
+    use lsp_server::Connection;
     use serde_json::json;
+    use std::net::{Net, TcpListener};
+    use std::sync::Wait;
     use std::test::Fail;
-    use test_support::peer::{Part, peer_thread};
+    use std::thread;
+    use std::thread::Threads;
+    use std::time::Clock;
+
+    /// Serves the first client that connects.
+    fn serve_first<R>(rt: R, listener: TcpListener) -> anyhow::Result<()>
+    where
+        R: Net<Listener = TcpListener, Stream = std::net::TcpStream>
+            + Threads
+            + Wait
+            + Clock
+            + AllocGlobal
+            + Copy
+            + Drop
+            + Send
+            + 'static,
+    {
+        let (stream, _) = listener.accept()?;
+        let (connection, threads) = Connection::over_stream(&rt, stream, u64::MAX)?;
+        serve(&rt, connection)?;
+        threads.join(&rt)?;
+        Ok(())
+    }
 
     #[test]
     fn a_server_answers(rt: HostRuntime) -> Result<(), Fail> {
-        let (address, server) = peer_thread(&rt, Part::Serves(SessionEnd::ShutDown))?;
-        let params = json!(in rt.alloc(); { "line": 0, "character": 3 })?;
-        let Ok(Ok(result)) = ask_server(&rt, address, "demo/echo", params) else {
+        let listener = TcpListener::bind(&rt, ("127.0.0.1", 0))?;
+        let address = listener.local_addr()?;
+        let server = thread::spawn(&rt, move || serve_first(rt, listener))?;
+        let params = json!(in rt.alloc(); { "textDocument": { "uri": "file:///a.rs" } })?;
+        let Ok(Ok(shown)) = ask_server(&rt, address, "textDocument/hover", params) else {
             return Err(Fail::from("no result"));
         };
         assert_eq!(rt;
-            result.to_string(rt.alloc())?.as_str(),
-            "{\"character\":3,\"line\":0}"
+            shown.to_string(rt.alloc())?.as_str(),
+            "{\"contents\":\"a path of 12 bytes\"}"
         );
-        assert!(rt; server.join(&rt));
+        assert!(rt; server.join(&rt).is_ok());
         Ok(())
     }
 }
