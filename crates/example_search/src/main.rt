@@ -27,10 +27,9 @@ mod sessions;
 mod sums;
 
 use anyhow::{Result, bail};
-use lsp_jobs::{PoolSize, run_jobs};
 use lsp_server::{SessionEnd, SessionFault};
 use server::Sums;
-use sessions::{serve, serve_in_threads};
+use sessions::{serve, serve_in_threads, serve_with_jobs};
 use std::alloc::Global;
 use std::io::{BufReader, Write};
 use std::net::{Net, TcpListener, TcpStream};
@@ -40,12 +39,6 @@ use std::{env, io};
 
 /// How many bytes of the input are asked for at once.
 const READ_AHEAD: usize = 65536;
-
-/// Two searches run at a time, and 16 more may wait. The next gets an error.
-const SIZE: PoolSize = PoolSize {
-    workers: 2,
-    waiting: Some(16),
-};
 
 /// Standard output, for a thread that writes.
 #[derive(Drop)]
@@ -65,18 +58,16 @@ fn main(rt: HostRuntime) -> Result<()> {
     let alloc: Global = rt.alloc();
     let words: Vec<String> = env::args(&rt)?.skip(1).collect(alloc)?;
     let mut reader = BufReader::with_capacity(alloc, READ_AHEAD, rt.reader())?;
+    let mut writer = Output(rt);
     let answer = match words.as_slice() {
-        [] => serve(alloc, &mut reader, &mut Output(rt), Sums::new(alloc, false)).1,
+        [] => serve(alloc, &mut reader, &mut writer, Sums::new(alloc, false)).1,
         [word] if word.as_str() == "threads" => {
-            let sums = Sums::new(alloc, false);
-            serve_in_threads(&rt, alloc, reader, Output(rt), sums)
-                .1?
-                .answer
+            let (_, done) = serve_in_threads(&rt, alloc, reader, writer, Sums::new(alloc, false));
+            done?.answer
         }
         [word] if word.as_str() == "jobs" => {
-            run_jobs(&rt, alloc, reader, Output(rt), SIZE, Sums::new(alloc, true))
-                .1?
-                .answer
+            let (_, done) = serve_with_jobs(&rt, alloc, reader, writer, Sums::new(alloc, true));
+            done?.answer
         }
         [word, address] if word.as_str() == "jobs" => serve_socket(&rt, address.as_str())?,
         _ => bail!("usage: example_search [threads | jobs [ADDRESS]]"),
@@ -104,7 +95,6 @@ where
     let (stream, _) = listener.accept()?;
     let writer = stream.try_clone()?;
     let reader = BufReader::with_capacity(alloc, READ_AHEAD, stream)?;
-    let sums = Sums::new(alloc, true);
-    let (_, done) = run_jobs(rt, alloc, reader, writer, SIZE, sums);
+    let (_, done) = serve_with_jobs(rt, alloc, reader, writer, Sums::new(alloc, true));
     Ok(done?.answer)
 }

@@ -1,11 +1,15 @@
-// A session of the server: on one thread, and with a thread that reads and one that writes.
+// A session of the server: on one thread, with a thread that reads and one that writes, and with threads that search.
 ghost use Rattle.std.specs.Prelude.{IfOk, IfSome};
 ghost use Rattle.lsp_message.specs.Frame.{no_limit};
 ghost use Rattle.lsp_session.specs.SessionBytes.{Gives};
 ghost use Rattle.lsp_threads.specs.Threads.{ThreadsGive};
+ghost use Rattle.lsp_jobs.specs.JobLaw.{LawfulJobSession};
 ghost use Rattle.example_search.specs.Promise.{AnswersOnce};
 
+use crate::search::Search;
 use crate::server::Sums;
+use lsp_jobs::laws::session_with_jobs_keeps_laws;
+use lsp_jobs::{Job, JobServer, PoolSize, run_jobs};
 use lsp_server::laws::server_keeps_laws;
 use lsp_server::{
     Server, SessionEnd, SessionFault, StartFault, Threaded, run_threads_with, session_with,
@@ -53,4 +57,32 @@ where
 {
     server_keeps_laws::<Sums>();
     run_threads_with(rt, alloc, reader, writer, sums)
+}
+
+/// Two searches run at a time, and 16 more may wait. The next gets an error.
+const SIZE: PoolSize = PoolSize {
+    workers: 2,
+    waiting: Some(16),
+};
+
+/// `serve_in_threads` with a pool whose threads search. The session keeps the laws of a session without jobs, whatever the searches come to
+/// and when.
+pub fn serve_with_jobs<T, R, W>(
+    rt: &T,
+    alloc: Global,
+    reader: R,
+    writer: W,
+    sums: Sums,
+) -> (Sums, Result<Threaded<W>, StartFault>)
+where
+    T: Threads + Wait + Copy + Drop + Send + 'static,
+    R: BufRead + Drop + Send + 'static,
+    W: Write + Drop + Send + 'static,
+    ensures { IfSome (R.remaining reader) (λ text. IfOk result.1 (λ done.
+        ThreadsGive no_limit (LawfulJobSession T ⟦<Sums as Server>⟧ ⟦<Sums as JobServer<Search>>⟧.starts
+        ⟦<Sums as JobServer<Search>>⟧.finishes ⟦<Search as Job>⟧.answers sums result.0)
+        text (W.contents writer) (W.contents done.writer) done.answer)) }
+{
+    session_with_jobs_keeps_laws::<T, Sums, Search>();
+    run_jobs(rt, alloc, reader, writer, SIZE, sums)
 }
