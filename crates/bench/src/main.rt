@@ -24,13 +24,14 @@ mod threads;
 use anyhow::{Context, Result, bail};
 use lsp_server::keep_freed_memory;
 use std::alloc::Global;
-use std::io::{BufRead, BufReader, Cursor, Read};
+use std::io::{BufReader, Cursor, Input, Read};
 use std::sync::Wait;
 use std::thread::Threads;
 use std::time::Clock;
 use std::{env, io};
+use threads::Output;
 
-/// How many bytes of standard input are asked for at once.
+/// How many bytes of the input are asked for at once.
 const READ_AHEAD: usize = 65536;
 
 const USAGE: &str =
@@ -48,11 +49,29 @@ const OVER_FRAMES: [&str; 8] = [
     "threads run_threads_with",
 ];
 
+/// What a measure reads. It is one type, so that what a measure calls is checked at one type.
+#[derive(Drop)]
+enum Source<R> {
+    Standard(R),
+    /// What was read of standard input before.
+    Kept(Cursor<Vec<u8>>),
+}
+
+impl<R: Read> Read for Source<R> {
+    fn read(&mut self, buf: &mut [u8]) -> io::Result<usize> {
+        match self {
+            Source::Standard(reader) => reader.read(buf),
+            Source::Kept(bytes) => bytes.read(buf),
+        }
+    }
+}
+
 fn main(rt: HostRuntime) -> Result<()> {
     let alloc = rt.alloc();
     keep_freed_memory(alloc);
     let words: Vec<String> = env::args(&rt)?.skip(1).collect(alloc)?;
-    let mut reader = BufReader::with_capacity(alloc, READ_AHEAD, rt.reader())?;
+    let source = Source::Standard(rt.reader());
+    let mut reader = BufReader::with_capacity(alloc, READ_AHEAD, source)?;
     match words.as_slice() {
         [word, counts @ ..] if word.as_str() == "queues" => queues::measure(&rt, alloc, counts),
         [word, counts @ ..] if word.as_str() == "texts" => texts::measure(&rt, alloc, counts),
@@ -84,13 +103,20 @@ fn joined(alloc: Global, words: &[String]) -> Result<String> {
 /// Each measure over these bytes, and after them those of the queues and of texts.
 fn run_all<T>(rt: &T, alloc: Global, text: &[u8]) -> Result<()>
 where
-    T: Threads + Wait + Print + Clock + Copy + Drop + Send + 'static,
+    T: Input + Threads + Wait + Print + Clock + Copy + Drop + Send + 'static,
+    T::Reader: Read + Drop + Send + 'static,
 {
     for measure in OVER_FRAMES {
         println!(rt; "{measure}")?;
         let mut bytes = Vec::new(alloc);
         bytes.extend_from_slice(text)?;
-        run(rt, alloc, measure, Cursor::new(bytes))?;
+        let source = Source::Kept(Cursor::new(bytes));
+        run(
+            rt,
+            alloc,
+            measure,
+            BufReader::with_capacity(alloc, READ_AHEAD, source)?,
+        )?;
         println!(rt; "")?;
     }
     println!(rt; "queues")?;
@@ -101,13 +127,13 @@ where
 }
 
 /// The measure of this name.
-fn run<T, R>(rt: &T, alloc: Global, measure: &str, reader: R) -> Result<()>
+fn run<T>(rt: &T, alloc: Global, measure: &str, reader: BufReader<Source<T::Reader>>) -> Result<()>
 where
-    T: Threads + Wait + Print + Copy + Drop + Send + 'static,
-    R: BufRead + Drop + Send + 'static,
+    T: Input + Threads + Wait + Print + Copy + Drop + Send + 'static,
+    T::Reader: Read + Drop + Send + 'static,
 {
     let mut reader = reader;
-    let writer = &mut io::writer(rt);
+    let writer = &mut Output(*rt);
     match measure {
         "json" => json::write_again(alloc, &mut reader, writer),
         "session" => session::serve(alloc, &mut reader, writer, false),

@@ -13,7 +13,7 @@ where
     R: Threads + Wait + Clock + AllocGlobal + Copy + Drop + Send + 'static,
 {
     let (client, server) = Connection::memory(rt.alloc())?;
-    let thread = spawn(rt, server, serve_here)?;
+    let thread = spawn(rt, server, serve)?;
     let answer = hold_session(rt, &client, method, params)?;
     // The server would wait for more.
     drop(client);
@@ -22,7 +22,7 @@ where
 }
 
 /// The server, with a runtime of its own.
-fn serve_here<R: Wait + Clock + AllocGlobal + Drop>(rt: R, connection: Connection) -> Result<()> {
+fn serve<R: Wait + Clock + AllocGlobal + Drop>(rt: R, connection: Connection) -> Result<()> {
     crate::serve(&rt, connection)
 }
 
