@@ -131,18 +131,18 @@ pub fn called_off<R: Wait + Clock + AllocGlobal>(rt: &R, alloc: Global) -> Resul
     let came = started(alloc, server.initialize_start_while(rt, running))?;
     let is_late = start.elapsed(rt)? >= Duration::from_secs(1);
     let turns = signals.count(Signal::Turns);
-    Ok(Attempt::Came(format!(in alloc;
-        "{came}, asked {turns} times, after a second {is_late}"
-    )?))
+    Ok(Attempt::Came(format!(in alloc; "{came}, asked {turns} times, after a second {is_late}")?))
 }
 
 /// What a client in a thread sends before the server has asked so often whether to go on, and what it sends then.
 const EARLY: &str = "{\"id\":1,\"method\":\"initialize\",\"params\":{\"a\":1}}";
+
 const LATE: [&str; 3] = [
     "{\"method\":\"initialized\"}",
     "{\"id\":2,\"method\":\"shutdown\"}",
     "{\"method\":\"exit\"}",
 ];
+
 const TURNS: u64 = 3;
 
 /// Plays that part, and gives what it got.
@@ -156,9 +156,7 @@ fn patient<R: Wait + AllocGlobal + Drop>(
     for text in LATE {
         send(&rt, rt.alloc(), &client, text)?;
     }
-    let Connection { sender, receiver } = client;
-    let got = rest_of(&rt, rt.alloc(), &Connection { sender, receiver })?;
-    Ok(got)
+    Ok(rest_of(&rt, rt.alloc(), &client)?)
 }
 
 /// A whole session with that client, which waits for more than one turn before it ends the handshake.

@@ -30,14 +30,13 @@ mod table;
 use attempt::{Attempt, Stop, print_came, print_refused};
 use sessions::{Run, attempt_of};
 use std::alloc::Global;
-use std::io;
 use std::io::Write;
 use std::net::{Net, TcpListener, TcpStream};
 use std::process::ExitCode;
 use std::sync::Wait;
-use std::thread;
 use std::thread::{JoinHandle, Threads};
 use std::time::Clock;
+use std::{io, thread};
 use table::{Case, Given, case_of};
 
 fn main(rt: HostRuntime) -> ExitCode {
@@ -86,10 +85,7 @@ where
 }
 
 /// A thread whose server waits for an `exit`, if the last row of the table is about it.
-fn silent_client<R>(
-    rt: &R,
-    table: &str,
-) -> Result<Option<JoinHandle<Result<String, Stop>>>, Stop>
+fn silent_client<R>(rt: &R, table: &str) -> Result<Option<JoinHandle<Result<String, Stop>>>, Stop>
 where
     R: Threads + Wait + Clock + AllocGlobal + Copy + Drop + Send + 'static,
 {

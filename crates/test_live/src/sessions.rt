@@ -317,7 +317,10 @@ fn told(
 /// Frames in the order of their texts.
 fn in_order(alloc: Global, written: &[u8]) -> Result<String, AllocError> {
     let mut frames = Vec::new(alloc);
-    for frame in str::from_utf8(written).unwrap_or("").split("Content-Length: ") {
+    for frame in str::from_utf8(written)
+        .unwrap_or("")
+        .split("Content-Length: ")
+    {
         frames.push(frame)?;
     }
     frames.sort()?;
@@ -354,7 +357,11 @@ where
     let written = signals.count(Signal::Written);
     match ended {
         Ok(()) => Ok(Attempt::Came(format!(in alloc; "fine; wrote {written} bytes")?)),
-        Err(fault) => Ok(faulty(format!(in alloc; "{fault}; wrote {written} bytes")?, fault, run)),
+        Err(fault) => Ok(faulty(
+            format!(in alloc; "{fault}; wrote {written} bytes")?,
+            fault,
+            run,
+        )),
     }
 }
 
@@ -381,4 +388,3 @@ fn part<R: Wait>(rt: &R, run: Run, connection: Connection) {
         let _ = sender.send(rt, message);
     }
 }
-
