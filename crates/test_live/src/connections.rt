@@ -176,13 +176,22 @@ where
     };
     let none = Value::Object(Map::new(alloc));
     let said = asked(alloc, server.initialize_while(rt, none, running))?;
-    let shut = match server.receiver.recv(rt) {
-        Ok(Message::Request(request)) => is_shut(alloc, server.handle_shutdown(rt, &request))?,
-        _ => String::from_str(alloc, "no request")?,
-    };
+    let shut = shut_down(rt, alloc, &server)?;
     drop(server);
     let got = thread.join(rt)?;
     Ok(Attempt::Came(format!(in alloc; "{said}; shutdown {shut}; got {got}")?))
+}
+
+/// What comes of the shutdown that a client asks for.
+fn shut_down<R: Wait + Clock + AllocGlobal>(
+    rt: &R,
+    alloc: Global,
+    server: &Connection,
+) -> Result<String, AllocError> {
+    let Ok(Message::Request(request)) = server.receiver.recv(rt) else {
+        return String::from_str(alloc, "no request");
+    };
+    is_shut(alloc, server.handle_shutdown(rt, &request))
 }
 
 /// Whether a server whose client stays and says nothing gives `exit` up, after 30 seconds and not before.
