@@ -1,0 +1,220 @@
+// The calls of a connection in memory, whose other side is here too; and what only a socket tells.
+use crate::attempt::{Attempt, Stop};
+use crate::signals::{Signal, Signals};
+use lsp_message::{Message, Notification, Request, RequestId};
+use lsp_server::{Connection, ProtocolError, spawn};
+use serde_json::{Map, Value};
+use std::alloc::{AllocError, Global};
+use std::net::{Net, OpenListener, TcpListener};
+use std::sync::{Arc, Wait};
+use std::thread::Threads;
+use std::time::{Clock, Duration, Instant};
+
+/// `NAME | MESSAGES`: a call of a server, whose client sent these messages before, or is `gone`: what the call gave, how many messages
+/// it left, and what the client got.
+pub fn called<R: Wait + Clock + AllocGlobal>(
+    rt: &R,
+    alloc: Global,
+    row: &str,
+) -> Result<Attempt, Stop> {
+    let (name, texts) = row.split_once(" | ").ok_or(Stop::Table)?;
+    let (server, client) = Connection::memory(alloc)?;
+    if texts == "gone" {
+        drop(client);
+        return Ok(Attempt::Came(call(rt, alloc, &server, name)?));
+    }
+    for text in texts.split("; ") {
+        send(rt, alloc, &client, text)?;
+    }
+    let came = call(rt, alloc, &server, name)?;
+    let left = server.receiver.len();
+    drop(server);
+    let got = rest_of(rt, alloc, &client)?;
+    Ok(Attempt::Came(format!(in alloc; "{came}; left {left}; got {got}")?))
+}
+
+/// Sends the message with this member text.
+fn send<R: Wait>(rt: &R, alloc: Global, client: &Connection, text: &str) -> Result<(), Stop> {
+    let tree = Value::from_str(alloc, text)?;
+    let message = Message::from_value(alloc, &tree)?.ok_or(Stop::Table)?;
+    match client.sender.send(rt, message) {
+        Ok(()) => Ok(()),
+        Err(_) => Err(Stop::Broken("a connection in memory was closed")),
+    }
+}
+
+/// The member texts of what comes, up to the end.
+fn rest_of<R: Wait>(rt: &R, alloc: Global, client: &Connection) -> Result<String, AllocError> {
+    let mut texts = String::new(alloc);
+    for message in client.receiver.iter(rt) {
+        texts.push_str(message.member_text(alloc)?.as_str())?;
+    }
+    Ok(texts)
+}
+
+fn call<R: Wait + Clock + AllocGlobal>(
+    rt: &R,
+    alloc: Global,
+    server: &Connection,
+    name: &str,
+) -> Result<String, AllocError> {
+    let (id, none) = (RequestId::from(234), Value::Object(Map::new(alloc)));
+    match name {
+        "initialize_start" => started(alloc, server.initialize_start(rt)),
+        "initialize_start_while" => started(alloc, server.initialize_start_while(rt, || false)),
+        "initialize" => asked(alloc, server.initialize(rt, none)),
+        "initialize_finish" => done(alloc, server.initialize_finish(rt, id, Value::Null)),
+        "initialize_finish_while" => done(
+            alloc,
+            server.initialize_finish_while(rt, id, Value::Null, || false),
+        ),
+        method => is_shut(alloc, server.handle_shutdown(rt, &request(alloc, method)?)),
+    }
+}
+
+/// A request of id 2.
+fn request(alloc: Global, method: &str) -> Result<Request, AllocError> {
+    Ok(Request {
+        id: RequestId::from(2),
+        method: String::from_str(alloc, method)?,
+        params: Value::Null,
+    })
+}
+
+fn started(
+    alloc: Global,
+    answer: Result<(RequestId, Value), ProtocolError>,
+) -> Result<String, AllocError> {
+    match answer {
+        Ok((id, params)) => format!(in alloc; "{id} {params}"),
+        Err(error) => failed(alloc, &error),
+    }
+}
+
+fn asked(alloc: Global, answer: Result<Value, ProtocolError>) -> Result<String, AllocError> {
+    match answer {
+        Ok(params) => format!(in alloc; "{params}"),
+        Err(error) => failed(alloc, &error),
+    }
+}
+
+fn done(alloc: Global, answer: Result<(), ProtocolError>) -> Result<String, AllocError> {
+    match answer {
+        Ok(()) => String::from_str(alloc, "done"),
+        Err(error) => failed(alloc, &error),
+    }
+}
+
+fn is_shut(alloc: Global, answer: Result<bool, ProtocolError>) -> Result<String, AllocError> {
+    match answer {
+        Ok(is_done) => format!(in alloc; "{is_done}"),
+        Err(error) => failed(alloc, &error),
+    }
+}
+
+fn failed(alloc: Global, error: &ProtocolError) -> Result<String, AllocError> {
+    if error.channel_is_disconnected() {
+        return format!(in alloc; "{error}, disconnected");
+    }
+    format!(in alloc; "{error}")
+}
+
+/// A handshake that is called off in its second turn, in which nothing has come either: how often the server asked whether to go on,
+/// and whether a second was over.
+pub fn called_off<R: Wait + Clock + AllocGlobal>(rt: &R, alloc: Global) -> Result<Attempt, Stop> {
+    let (server, _client) = Connection::memory(alloc)?;
+    let (signals, start) = (Signals::new(), Instant::now(rt)?);
+    let running = || {
+        signals.tell(Signal::Turns);
+        signals.count(Signal::Turns) < 2
+    };
+    let came = started(alloc, server.initialize_start_while(rt, running))?;
+    let is_late = start.elapsed(rt)? >= Duration::from_secs(1);
+    let turns = signals.count(Signal::Turns);
+    Ok(Attempt::Came(format!(in alloc; "{came}, asked {turns} times, after a second {is_late}")?))
+}
+
+/// What a client in a thread sends before the server has asked so often whether to go on, and what it sends then.
+const EARLY: &str = "{\"id\":1,\"method\":\"initialize\",\"params\":{\"a\":1}}";
+
+const LATE: [&str; 3] = [
+    "{\"method\":\"initialized\"}",
+    "{\"id\":2,\"method\":\"shutdown\"}",
+    "{\"method\":\"exit\"}",
+];
+
+const TURNS: u64 = 3;
+
+/// Plays that part, and gives what it got.
+fn patient<R: Wait + AllocGlobal + Drop>(
+    rt: R,
+    client: Connection,
+    signals: Arc<Signals>,
+) -> Result<String, Stop> {
+    send(&rt, rt.alloc(), &client, EARLY)?;
+    signals.wait(Signal::Turns, TURNS)?;
+    for text in LATE {
+        send(&rt, rt.alloc(), &client, text)?;
+    }
+    Ok(rest_of(&rt, rt.alloc(), &client)?)
+}
+
+/// A whole session with that client, which waits for more than one turn before it ends the handshake.
+pub fn turns<R>(rt: &R, alloc: Global) -> Result<Attempt, Stop>
+where
+    R: Threads + Wait + Clock + AllocGlobal + Copy + Drop + Send + 'static,
+{
+    let (server, client) = Connection::memory(alloc)?;
+    let signals = Arc::new(alloc, Signals::new())?;
+    let theirs = Arc::try_clone(&signals)?;
+    let Ok(thread) = spawn(rt, client, move |rt, client| patient(rt, client, theirs)) else {
+        return Ok(Attempt::refused(alloc, "spawn")?);
+    };
+    let running = || {
+        signals.tell(Signal::Turns);
+        true
+    };
+    let none = Value::Object(Map::new(alloc));
+    let said = asked(alloc, server.initialize_while(rt, none, running))?;
+    let shut = shut_down(rt, alloc, &server)?;
+    drop(server);
+    let got = thread.join(rt)?;
+    Ok(Attempt::Came(format!(in alloc; "{said}; shutdown {shut}; got {got}")?))
+}
+
+/// What comes of the shutdown that a client asks for.
+fn shut_down<R: Wait + Clock + AllocGlobal>(
+    rt: &R,
+    alloc: Global,
+    server: &Connection,
+) -> Result<String, AllocError> {
+    let Ok(Message::Request(request)) = server.receiver.recv(rt) else {
+        return String::from_str(alloc, "no request");
+    };
+    is_shut(alloc, server.handle_shutdown(rt, &request))
+}
+
+/// Whether a server whose client stays and says nothing gives `exit` up, after 30 seconds and not before.
+pub fn awaits_exit<R: Wait + Clock + AllocGlobal>(rt: &R) -> Result<String, Stop> {
+    let alloc = rt.alloc();
+    let (server, client) = Connection::memory(alloc)?;
+    let start = Instant::now(rt)?;
+    let said = call(rt, alloc, &server, "shutdown")?;
+    let is_late = start.elapsed(rt)? >= Duration::from_secs(30);
+    drop(server);
+    let got = rest_of(rt, alloc, &client)?;
+    Ok(format!(in alloc; "{said}, after 30 seconds {is_late}; got {got}")?)
+}
+
+/// What a connection to an address gives at which nobody listens.
+pub fn nobody<R>(rt: &R, alloc: Global) -> Result<Attempt, Stop>
+where
+    R: Net + Threads + Wait + Clock + AllocGlobal + Copy + Drop + Send + 'static,
+    R::Stream: Send + 'static,
+{
+    let address = TcpListener::bind(rt, ("127.0.0.1", 0))?.local_addr()?;
+    match Connection::connect(rt, address) {
+        Ok(_) => Ok(Attempt::Came(String::from_str(alloc, "a connection")?)),
+        Err(fault) => Ok(Attempt::Came(format!(in alloc; "{fault:?}, {fault}")?)),
+    }
+}

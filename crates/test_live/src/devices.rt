@@ -1,0 +1,163 @@
+// The reader and the writer of all rows, which threads may own. Each fails once, where it is told to, and goes on, so that a call
+// that tries again is seen.
+use crate::signals::{Signal, Signals};
+use std::io::{BufRead, ErrorKind, Read, Write};
+use std::sync::Arc;
+use std::{io, thread};
+
+/// A place of an input. What follows it is given only once the signal has come so often.
+#[derive(Clone, Copy)]
+pub struct Pause {
+    pub at: usize,
+    pub signal: Signal,
+    pub wanted: u64,
+}
+
+/// Gives its bytes in pieces of at most so many. It waits at each of its pauses.
+#[derive(Drop)]
+pub struct Source {
+    pub signals: Arc<Signals>,
+    pub bytes: Vec<u8>,
+    /// How many bytes were taken.
+    pub taken: usize,
+    /// Where the piece ends that is shown.
+    pub shown: usize,
+    pub step: usize,
+    /// After how many bytes it fails, if it still does.
+    pub fails_at: Option<usize>,
+    /// Whether it shows what follows before it fails.
+    pub shows_on: bool,
+    /// In the order of their places.
+    pub pauses: Vec<Pause>,
+    /// How many of the pauses are over.
+    pub over: usize,
+}
+
+impl Source {
+    /// It is asked for bytes: it fails, if that is due, and else shows a piece.
+    fn ask(&mut self) -> io::Result<()> {
+        self.signals.tell(Signal::Reads);
+        if let Some(place) = self.fails_at {
+            if place <= self.taken {
+                self.fails_at = None;
+                return Err(io::Error::from(ErrorKind::ConnectionReset));
+            }
+        }
+        if self.taken >= self.shown {
+            self.show()?;
+        }
+        Ok(())
+    }
+
+    /// The bytes of the piece that were not taken.
+    fn piece(&self) -> &[u8] {
+        let piece = self.bytes.as_slice().get(self.taken..self.shown);
+        piece.unwrap_or(&[])
+    }
+
+    /// Shows the next piece.
+    fn show(&mut self) -> io::Result<()> {
+        let mut end = self.taken.saturating_add(self.step).min(self.bytes.len());
+        if let Some(place) = self.fails_at {
+            if !self.shows_on {
+                end = end.min(place);
+            }
+        }
+        self.shown = end.min(self.next_pause()?);
+        Ok(())
+    }
+
+    /// The place up to which bytes are shown now. It waits at each pause that it came to.
+    fn next_pause(&mut self) -> io::Result<usize> {
+        for _ in 0..self.pauses.len() {
+            let Some(pause) = self.pauses.as_slice().get(self.over).copied() else {
+                return Ok(usize::MAX);
+            };
+            if self.taken < pause.at {
+                return Ok(pause.at);
+            }
+            self.signals.tell(Signal::Pauses);
+            self.signals.wait(pause.signal, pause.wanted)?;
+            self.over = self.over.saturating_add(1);
+        }
+        match self.pauses.as_slice().get(self.over) {
+            Some(pause) => Ok(pause.at),
+            None => Ok(usize::MAX),
+        }
+    }
+}
+
+impl Read for Source {
+    fn read(&mut self, buf: &mut [u8]) -> io::Result<usize> {
+        let mut shown = self.fill_buf()?;
+        let count = shown.read(buf)?;
+        self.consume(count);
+        Ok(count)
+    }
+}
+
+impl BufRead for Source {
+    fn fill_buf(&mut self) -> io::Result<&[u8]> {
+        self.ask()?;
+        Ok(self.piece())
+    }
+
+    fn consume(&mut self, amount: usize) {
+        self.taken = self.taken.saturating_add(amount);
+    }
+}
+
+/// How often a slow writer lets other threads go on before a write.
+const REST: u32 = 200;
+
+/// Keeps what is written.
+#[derive(Drop)]
+pub struct Sink {
+    pub signals: Arc<Signals>,
+    pub taken: Vec<u8>,
+    /// After how many bytes it fails.
+    pub room: usize,
+    /// The flush that fails, counted from 1. At 0 none fails.
+    pub bad_flush: usize,
+    pub flushes: usize,
+    pub writes: usize,
+    /// Whether it lets other threads go on before each write.
+    pub is_slow: bool,
+    /// Whether each write waits until a request came to the handler.
+    pub is_gated: bool,
+}
+
+impl Write for Sink {
+    fn write(&mut self, buf: &[u8]) -> io::Result<usize> {
+        self.writes = self.writes.saturating_add(1);
+        self.signals.tell(Signal::Writes);
+        if self.is_slow {
+            rest();
+        }
+        if self.is_gated {
+            self.signals.wait(Signal::Requests, 1)?;
+        }
+        let count = buf.len().min(self.room.saturating_sub(self.taken.len()));
+        if count == 0 {
+            self.room = usize::MAX;
+            return Err(io::Error::from(ErrorKind::BrokenPipe));
+        }
+        self.taken.extend_from_slice(&buf[..count])?;
+        Ok(count)
+    }
+
+    fn flush(&mut self) -> io::Result<()> {
+        self.flushes = self.flushes.saturating_add(1);
+        if self.flushes == self.bad_flush {
+            return Err(io::Error::from(ErrorKind::BrokenPipe));
+        }
+        self.signals.flushed(self.taken.len());
+        Ok(())
+    }
+}
+
+fn rest() {
+    for _ in 0..REST {
+        thread::yield_now();
+    }
+}

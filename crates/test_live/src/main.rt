@@ -1,0 +1,208 @@
+//! What runs in threads: a table of rows on standard input, and below each row what came of it. `tools/rows/live` writes the table, and
+//! beside it what must come. No row depends on the clock: what has to be waited for is waited for. A row begins with a word:
+//!
+//! - `#`: a remark.
+//! - `=`: the bytes that the next cases are about, with the escapes `\r`, `\n` and `\x` with two digits. `+` adds a text so
+//!   many times, and `pauses` says where a reader waits (`table.rt`).
+//! - The name of a call over a reader and a writer: a case (`table.rt`). Its server and its jobs do what methods say (`servers.rt`,
+//!   `jobs.rt`).
+//! - `pool`: a pool of jobs by hand (`pools.rt`). `relay`, `waker`: a relay alone.
+//! - `call`, `turns`, `called_off`, `nobody`: the calls of a connection (`connections.rt`).
+//! - `exit`, the last row: a server that waits for an `exit` which never comes. It takes 30 seconds, and began when the program did.
+//!
+//! If an allocation or the start of a thread fails in a call, its line is `refused: ..`, and it is made once more. The program
+//! ends with status 1 if that is refused too, or if it has no memory of its own; and with status 2 if a call breaks a promise, or
+//! if a wait is given up.
+#![tactic(auto)]
+
+mod attempt;
+mod connections;
+mod devices;
+mod escapes;
+mod jobs;
+mod pools;
+mod relays;
+mod servers;
+mod sessions;
+mod signals;
+mod table;
+
+use attempt::{Attempt, Stop, print_came, print_refused};
+use sessions::{Run, attempt_of};
+use std::alloc::Global;
+use std::io::Write;
+use std::net::{Net, TcpListener, TcpStream};
+use std::process::ExitCode;
+use std::sync::Wait;
+use std::thread::{JoinHandle, Threads};
+use std::time::Clock;
+use std::{io, thread};
+use table::{Case, Given, case_of};
+
+fn main(rt: HostRuntime) -> ExitCode {
+    match run(&rt) {
+        Ok(()) => ExitCode::SUCCESS,
+        Err(stop) => {
+            let _ = writeln!(rt.stderr(), "test_live: {stop}");
+            ExitCode::from(stop.status())
+        }
+    }
+}
+
+fn run<R>(rt: &R) -> Result<(), Stop>
+where
+    R: Net<Listener = TcpListener, Stream = TcpStream>
+        + Threads
+        + Wait
+        + Clock
+        + Input
+        + Print
+        + AllocGlobal
+        + Copy
+        + Drop
+        + Send
+        + 'static,
+{
+    let alloc = rt.alloc();
+    let table = io::read_to_string(alloc, rt.reader())?;
+    let mut given = Given::new(alloc, "")?;
+    let silent = silent_client(rt, table.as_str())?;
+    for line in table.as_str().lines() {
+        rt.println(line)?;
+        let (word, rest) = line.split_once(" ").unwrap_or((line, ""));
+        match word {
+            "#" | "exit" => {}
+            "=" => given = Given::new(alloc, rest)?,
+            "+" => given.repeat(alloc, rest)?,
+            "pauses" => given.pause(rest)?,
+            _ => run_row(rt, alloc, word, rest, &given)?,
+        }
+    }
+    if let Some(thread) = silent {
+        print_came(rt, alloc, thread.join(rt)?.as_str())?;
+    }
+    Ok(())
+}
+
+/// A thread whose server waits for an `exit`, if the last row of the table is about it.
+fn silent_client<R>(rt: &R, table: &str) -> Result<Option<JoinHandle<Result<String, Stop>>>, Stop>
+where
+    R: Threads + Wait + Clock + AllocGlobal + Copy + Drop + Send + 'static,
+{
+    if !table.ends_with("\nexit\n") {
+        return Ok(None);
+    }
+    let theirs = *rt;
+    match thread::spawn(rt, move || connections::awaits_exit(&theirs)) {
+        Ok(thread) => Ok(Some(thread)),
+        Err(_) => Err(Stop::Memory),
+    }
+}
+
+fn run_row<R>(rt: &R, alloc: Global, word: &str, rest: &str, given: &Given) -> Result<(), Stop>
+where
+    R: Net<Listener = TcpListener, Stream = TcpStream>
+        + Threads
+        + Wait
+        + Clock
+        + Print
+        + AllocGlobal
+        + Copy
+        + Drop
+        + Send
+        + 'static,
+{
+    if let Some(case) = case_of(word, rest) {
+        return run_case(rt, alloc, case, given);
+    }
+    match whole_of(rt, alloc, word, rest)? {
+        Attempt::Came(came) => return print_came(rt, alloc, came.as_str()),
+        Attempt::Refused(what) => print_refused(rt, alloc, what.as_str())?,
+    }
+    let came = whole_of(rt, alloc, word, rest)?.again()?;
+    print_came(rt, alloc, came.as_str())
+}
+
+/// A row that is no case.
+fn whole_of<R>(rt: &R, alloc: Global, word: &str, rest: &str) -> Result<Attempt, Stop>
+where
+    R: Net<Listener = TcpListener, Stream = TcpStream>
+        + Threads
+        + Wait
+        + Clock
+        + AllocGlobal
+        + Copy
+        + Drop
+        + Send
+        + 'static,
+{
+    match word {
+        "relay" => relays::relayed(rt, alloc, rest),
+        "waker" => relays::woken(rt, alloc, rest),
+        "pool" => pools::came_of(rt, alloc, rest),
+        "call" => connections::called(rt, alloc, rest),
+        "called_off" => connections::called_off(rt, alloc),
+        "turns" => connections::turns(rt, alloc),
+        "nobody" => connections::nobody(rt, alloc),
+        _ => Err(Stop::Table),
+    }
+}
+
+/// Runs a case at each of its places. What came is printed where it is another than at the place before.
+fn run_case<R>(rt: &R, alloc: Global, case: Case<'_>, given: &Given) -> Result<(), Stop>
+where
+    R: Print + Threads + Wait + Clock + AllocGlobal + Copy + Drop + Send + 'static,
+{
+    let mut last = String::new(alloc);
+    for count in case.from..=case.to {
+        let came = run_at(rt, alloc, case, given, count)?;
+        if came != last {
+            print_came(rt, alloc, format!(in alloc; "{count}: {came}")?.as_str())?;
+        }
+        last = came;
+    }
+    Ok(())
+}
+
+/// What comes of a case at one of its places: the same with each size of pieces, or all is told.
+fn run_at<R>(
+    rt: &R,
+    alloc: Global,
+    case: Case<'_>,
+    given: &Given,
+    count: usize,
+) -> Result<String, Stop>
+where
+    R: Print + Threads + Wait + Clock + AllocGlobal + Copy + Drop + Send + 'static,
+{
+    let mut all = String::new(alloc);
+    for word in case.steps.split(',') {
+        let step: usize = word.parse()?;
+        let run = Run {
+            call: case.call,
+            pool: case.pool,
+            device: case.device,
+            step,
+            count,
+            written: case.written,
+        };
+        let came = run_once(rt, alloc, run, given)?;
+        if all.is_empty() {
+            all = came;
+        } else if all != came {
+            all = format!(in alloc; "{all}, but by {step}: {came}")?;
+        }
+    }
+    Ok(all)
+}
+
+fn run_once<R>(rt: &R, alloc: Global, run: Run, given: &Given) -> Result<String, Stop>
+where
+    R: Print + Threads + Wait + Clock + AllocGlobal + Copy + Drop + Send + 'static,
+{
+    match attempt_of(rt, alloc, run, given)? {
+        Attempt::Came(came) => return Ok(came),
+        Attempt::Refused(what) => print_refused(rt, alloc, what.as_str())?,
+    }
+    attempt_of(rt, alloc, run, given)?.again()
+}

@@ -1,0 +1,281 @@
+// The handler of all rows, and their server: it speaks, asks, and starts jobs.
+use crate::jobs::{Scripted, own_id};
+use crate::signals::{Signal, Signals};
+use lsp_jobs::{JobServer, Start};
+use lsp_message::{Notification, Request, RequestId, ResponseError};
+use lsp_service::{Act, Server};
+use lsp_session::Handler;
+use serde_json::{Map, Value, json};
+use std::alloc::{AllocError, Global};
+use std::fmt::Write;
+use std::mem;
+use std::sync::Arc;
+
+/// Answers `demo/echo` with its params, and knows no other method.
+#[derive(Drop)]
+pub struct Echo {
+    pub alloc: Global,
+    pub signals: Arc<Signals>,
+    /// Whether it waits with an answer until the reader came to its second pause.
+    pub is_gated: bool,
+}
+
+impl Handler for Echo {
+    ghost use Rattle.std.specs.Prelude.{⊤};
+
+    ghost answers = { λ _ _ _ _ _ _. ⊤ };
+
+    ghost notes = { λ _ _ _ _. ⊤ };
+
+    fn answer(&mut self, request: &Request) -> Result<Result<Value, ResponseError>, AllocError> {
+        self.signals.tell(Signal::Requests);
+        if self.is_gated && self.signals.wait(Signal::Pauses, 2).is_err() {
+            return Ok(Ok(Value::Null));
+        }
+        if request.method.as_str() == "demo/echo" {
+            return Ok(Ok(request.params.clone()?));
+        }
+        Ok(Err(ResponseError::method_not_found(self.alloc)?))
+    }
+
+    fn note(&mut self, _notification: &Notification) -> Result<(), AllocError> {
+        Ok(())
+    }
+}
+
+/// Why the server asked its client.
+#[derive(Drop)]
+pub enum Asked {
+    /// To answer this request with the reply.
+    For(RequestId),
+    /// For the configuration, the number of this question, from 1.
+    Configuration(u64),
+}
+
+/// Pushes, asks, answers late, and starts jobs.
+///
+/// - It says `demo/hello` first, and asks for the configuration.
+/// - It answers `demo/echo` with its params, asks its client `demo/asked` at `demo/ask` and answers with the reply, keeps `demo/hold`
+///   until the next notification, and knows no other method but two:
+/// - `job SCRIPT` starts a job with this script (`jobs.rt`), which comes to the params. `later SCRIPT` is one that it starts at the
+///   notification `start`.
+/// - The notification `job SCRIPT` starts a job under an id of its own, whose outcome it publishes. At `answer` it answers the request
+///   whose id is the first of the params itself. At one whose method begins with `$/` it does nothing.
+/// - At another notification it pushes its params, asks for the configuration and answers what it keeps.
+/// - At a reply with the configuration it pushes the number of the question.
+#[derive(Drop)]
+pub struct Talker {
+    alloc: Global,
+    signals: Arc<Signals>,
+    questions: u64,
+    held: Vec<RequestId>,
+    starts: Vec<Start<Scripted>>,
+    later: Vec<Start<Scripted>>,
+    /// The ids of the jobs whose outcome it saw, each behind a space.
+    pub finished: String,
+}
+
+type Acts = Vec<Act<Asked>>;
+
+impl Talker {
+    /// A server to which nothing came.
+    pub fn new(alloc: Global, signals: Arc<Signals>) -> Talker {
+        Talker {
+            alloc,
+            signals,
+            questions: 0,
+            held: Vec::new(alloc),
+            starts: Vec::new(alloc),
+            later: Vec::new(alloc),
+            finished: String::new(alloc),
+        }
+    }
+
+    fn one(&self, act: Act<Asked>) -> Result<Acts, AllocError> {
+        let mut acts = Vec::new(self.alloc);
+        acts.push(act)?;
+        Ok(acts)
+    }
+
+    fn tell(&self, method: &str, params: Value) -> Result<Act<Asked>, AllocError> {
+        let method = String::from_str(self.alloc, method)?;
+        Ok(Act::Tell(Notification { method, params }))
+    }
+
+    fn configuration(&mut self) -> Result<Act<Asked>, AllocError> {
+        self.questions = self.questions.saturating_add(1);
+        let method = String::from_str(self.alloc, "workspace/configuration")?;
+        Ok(Act::Ask(method, Value::Null, Asked::Configuration(self.questions)))
+    }
+
+    fn start_of(
+        &self,
+        id: RequestId,
+        script: &str,
+        value: Value,
+    ) -> Result<Start<Scripted>, AllocError> {
+        let job = Scripted {
+            alloc: self.alloc,
+            signals: Arc::try_clone(&self.signals)?,
+            script: String::from_str(self.alloc, script)?,
+            value,
+        };
+        Ok(Start { id, job })
+    }
+
+    /// Does what a method of jobs asks for. Other requests come back.
+    fn take_job(&mut self, request: Request) -> Result<Option<Request>, AllocError> {
+        let Request { id, method, params } = request;
+        if let Some(script) = method.as_str().strip_prefix("job ") {
+            let start = self.start_of(id, script, params)?;
+            self.starts.push(start)?;
+            return Ok(None);
+        }
+        if let Some(script) = method.as_str().strip_prefix("later ") {
+            let start = self.start_of(id, script, params)?;
+            self.later.push(start)?;
+            return Ok(None);
+        }
+        Ok(Some(Request { id, method, params }))
+    }
+
+    /// What it does at a notification that is no push: nothing comes back where it is one.
+    fn note(&mut self, notification: &Notification) -> Result<Option<Acts>, AllocError> {
+        let method = notification.method.as_str();
+        let acts = Vec::new(self.alloc);
+        if method == "start" {
+            self.starts = mem::replace(&mut self.later, Vec::new(self.alloc));
+            return Ok(Some(acts));
+        }
+        if let Some(script) = method.strip_prefix("job ") {
+            let params = notification.params.clone()?;
+            let start = self.start_of(own_id(self.alloc)?, script, params)?;
+            self.starts.push(start)?;
+            return Ok(Some(acts));
+        }
+        if method == "answer" {
+            return Ok(Some(self.answer_first(&notification.params)?));
+        }
+        if method.starts_with("$/") {
+            return Ok(Some(acts));
+        }
+        Ok(None)
+    }
+
+    /// Answers the request whose id stands first in these params.
+    fn answer_first(&self, params: &Value) -> Result<Acts, AllocError> {
+        let Some(value) = params.get(0) else {
+            return Ok(Vec::new(self.alloc));
+        };
+        match RequestId::from_value(value)? {
+            Some(id) => {
+                let text = String::from_str(self.alloc, "by the server")?;
+                self.one(Act::Reply(id, Ok(Value::String(text))))
+            }
+            None => Ok(Vec::new(self.alloc)),
+        }
+    }
+}
+
+impl Server for Talker {
+    ghost use Rattle.std.specs.Prelude.{⊤};
+
+    type Payload = Asked;
+
+    ghost initializes = { λ _ _ _ _. ⊤ };
+
+    ghost begins = { λ _ _ _. ⊤ };
+
+    ghost requested = { λ _ _ _ _ _ _. ⊤ };
+
+    ghost notified = { λ _ _ _ _ _. ⊤ };
+
+    ghost replied = { λ _ _ _ _ _. ⊤ };
+
+    ghost takes_back = { λ _ _ _. ⊤ };
+
+    fn initialize(&mut self, _params: Value) -> Result<Result<Value, ResponseError>, AllocError> {
+        Ok(Ok(json!(in self.alloc; { "capabilities": {} })?))
+    }
+
+    fn initialized(&mut self) -> Result<Acts, AllocError> {
+        let mut acts = self.one(self.tell("demo/hello", Value::Object(Map::new(self.alloc)))?)?;
+        acts.push(self.configuration()?)?;
+        Ok(acts)
+    }
+
+    fn request(&mut self, request: Request) -> Result<Acts, AllocError> {
+        let Some(request) = self.take_job(request)? else {
+            return Ok(Vec::new(self.alloc));
+        };
+        let Request { id, method, params } = request;
+        match method.as_str() {
+            "demo/echo" => self.one(Act::Reply(id, Ok(params))),
+            "demo/ask" => {
+                let method = String::from_str(self.alloc, "demo/asked")?;
+                self.one(Act::Ask(method, params, Asked::For(id)))
+            }
+            "demo/hold" => {
+                self.held.push(id)?;
+                Ok(Vec::new(self.alloc))
+            }
+            _ => self.one(Act::Reply(id, Err(ResponseError::method_not_found(self.alloc)?))),
+        }
+    }
+
+    fn notification(&mut self, notification: Notification) -> Result<Acts, AllocError> {
+        if let Some(acts) = self.note(&notification)? {
+            return Ok(acts);
+        }
+        let mut acts = self.one(self.tell("demo/pushed", notification.params)?)?;
+        acts.push(self.configuration()?)?;
+        for id in mem::replace(&mut self.held, Vec::new(self.alloc)) {
+            acts.push(Act::Reply(id, Ok(Value::Null)))?;
+        }
+        Ok(acts)
+    }
+
+    fn response(
+        &mut self,
+        asked: Asked,
+        outcome: Result<Value, ResponseError>,
+    ) -> Result<Acts, AllocError> {
+        match asked {
+            Asked::For(id) => self.one(Act::Reply(id, outcome)),
+            Asked::Configuration(number) => {
+                self.one(self.tell("demo/pushed", Value::from(number))?)
+            }
+        }
+    }
+
+    fn unsent(&mut self, _asked: Asked) -> Result<(), AllocError> {
+        Ok(())
+    }
+}
+
+impl JobServer<Scripted> for Talker {
+    ghost use Rattle.std.specs.Prelude.{⊤};
+
+    ghost starts = { λ _ _ _. ⊤ };
+
+    ghost finishes = { λ _ _ _ _ _. ⊤ };
+
+    fn take_jobs(&mut self) -> Result<Vec<Start<Scripted>>, AllocError> {
+        Ok(mem::replace(&mut self.starts, Vec::new(self.alloc)))
+    }
+
+    fn finished(
+        &mut self,
+        id: &RequestId,
+        outcome: &Result<Value, ResponseError>,
+    ) -> Result<Acts, AllocError> {
+        write!(self.finished, " {id}")?;
+        if *id != own_id(self.alloc)? {
+            return Ok(Vec::new(self.alloc));
+        }
+        match outcome {
+            Ok(value) => self.one(self.tell("published", value.clone()?)?),
+            Err(_) => Ok(Vec::new(self.alloc)),
+        }
+    }
+}

@@ -1,0 +1,390 @@
+// The calls over the reader and the writer. Each call of the library that is generic stands in a function of its own, since what it
+// brings is proved where it is called.
+use crate::attempt::{Attempt, Stop};
+use crate::devices::{Pause, Sink, Source};
+use crate::escapes::escape;
+use crate::servers::{Echo, Talker};
+use crate::signals::{Signal, Signals, is_alone};
+use crate::table::{Call, Device, Given};
+use lsp_jobs::{PoolSize, run_jobs_within};
+use lsp_message::{ReadFault, WriteFault};
+use lsp_server::{Connection, IoFault};
+use lsp_service::QueuedServer;
+use lsp_session::{SessionEnd, SessionFault};
+use lsp_threads::{
+    Builders, PumpFault, StartFault, Threaded, pump_by, run_threads_by,
+    run_threads_of_service_within,
+};
+use serde_json::{Map, Value};
+use std::alloc::{AllocError, Global};
+use std::sync::{Arc, Wait};
+use std::thread::{Builder, Threads};
+use std::time::Clock;
+
+/// A case at one of its places, with one size of pieces.
+#[derive(Clone, Copy)]
+pub struct Run {
+    pub call: Call,
+    pub pool: PoolSize,
+    pub device: Device,
+    pub step: usize,
+    pub count: usize,
+    pub written: u64,
+}
+
+impl Run {
+    fn is_over(self, device: Device) -> bool {
+        self.device == device
+    }
+
+    /// The count of the device, if the case has this one.
+    fn at(self, device: Device) -> Option<usize> {
+        if self.device == device {
+            Some(self.count)
+        } else {
+            None
+        }
+    }
+
+    /// How many bytes a content part may have.
+    fn limit(self) -> u64 {
+        match self.device {
+            Device::Limits => self.count as u64,
+            Device::Huge if self.count > 0 => self.count as u64,
+            _ => u64::MAX,
+        }
+    }
+
+    /// Whether a thread is not started.
+    fn lacks_thread(self) -> bool {
+        matches!(self.device, Device::NoReader | Device::NoWriter)
+    }
+}
+
+/// What comes of a run.
+pub fn attempt_of<R>(rt: &R, alloc: Global, run: Run, given: &Given) -> Result<Attempt, Stop>
+where
+    R: Threads + Wait + Clock + AllocGlobal + Copy + Drop + Send + 'static,
+{
+    let signals = Arc::new(alloc, Signals::new())?;
+    let reader = source(alloc, run, given, &signals)?;
+    let writer = sink(alloc, run, &signals)?;
+    let came = match run.call {
+        Call::Session => handled(rt, alloc, run, reader, writer, &signals)?,
+        Call::Speaks => spoken(rt, alloc, run, reader, writer, &signals)?,
+        Call::Jobs | Call::Many => worked(rt, alloc, run, reader, writer, &signals)?,
+        Call::Pump | Call::Burst => pumped(rt, alloc, run, reader, writer, &signals)?,
+        Call::Over | Call::Joined | Call::Left => {
+            connected(rt, alloc, run, reader, writer, &signals)?
+        }
+    };
+    if signals.is_late() {
+        return Err(Stop::Broken("a wait was given up"));
+    }
+    if !is_alone(&signals) {
+        return Err(Stop::Broken("a thread is left"));
+    }
+    Ok(came)
+}
+
+fn source(
+    alloc: Global,
+    run: Run,
+    given: &Given,
+    signals: &Arc<Signals>,
+) -> Result<Source, AllocError> {
+    let bytes = given.bytes.as_slice();
+    let end = run.at(Device::Ends).unwrap_or(usize::MAX).min(bytes.len());
+    Ok(Source {
+        signals: Arc::try_clone(signals)?,
+        bytes: Vec::from_slice(alloc, &bytes[..end])?,
+        taken: 0,
+        shown: 0,
+        step: run.step,
+        fails_at: run.at(Device::Breaks).or(run.at(Device::Looks)),
+        shows_on: run.is_over(Device::Looks),
+        pauses: pauses(alloc, run, given)?,
+        over: 0,
+    })
+}
+
+fn pauses(alloc: Global, run: Run, given: &Given) -> Result<Vec<Pause>, AllocError> {
+    if run.is_over(Device::Waits) {
+        let pause = Pause {
+            at: run.count,
+            signal: Signal::Written,
+            wanted: run.written,
+        };
+        return Vec::from_slice(alloc, &[pause]);
+    }
+    Vec::from_slice(alloc, given.pauses.as_slice())
+}
+
+/// How many bytes are written without a new allocation, which could fail in the call.
+const ROOM: usize = 65536;
+
+fn sink(alloc: Global, run: Run, signals: &Arc<Signals>) -> Result<Sink, AllocError> {
+    Ok(Sink {
+        signals: Arc::try_clone(signals)?,
+        taken: Vec::with_capacity(alloc, ROOM)?,
+        room: run.at(Device::Fills).unwrap_or(usize::MAX),
+        bad_flush: run.at(Device::Flushes).unwrap_or(0),
+        flushes: 0,
+        writes: 0,
+        is_slow: run.is_over(Device::Slow),
+        is_gated: run.is_over(Device::Gated),
+    })
+}
+
+/// How a session of the handler ends, and what it wrote.
+fn handled<R>(
+    rt: &R,
+    alloc: Global,
+    run: Run,
+    reader: Source,
+    writer: Sink,
+    signals: &Arc<Signals>,
+) -> Result<Attempt, AllocError>
+where
+    R: Threads + Wait + Copy + Drop + Send + 'static,
+{
+    let none = Value::Object(Map::new(alloc));
+    let mut echo = Echo {
+        alloc,
+        signals: Arc::try_clone(signals)?,
+        is_gated: run.is_over(Device::Gated),
+    };
+    let limit = run.limit();
+    let ran = run_threads_by(
+        rt,
+        builders(run),
+        alloc,
+        reader,
+        writer,
+        none,
+        &mut echo,
+        limit,
+    );
+    threads_answer(alloc, ran, run, signals)
+}
+
+/// How a session of the server that speaks ends, and what it wrote.
+fn spoken<R>(
+    rt: &R,
+    alloc: Global,
+    run: Run,
+    reader: Source,
+    writer: Sink,
+    signals: &Arc<Signals>,
+) -> Result<Attempt, AllocError>
+where
+    R: Threads + Wait + Copy + Drop + Send + 'static,
+{
+    let talker = Talker::new(alloc, Arc::try_clone(signals)?);
+    let mut queued = QueuedServer::new(alloc, talker);
+    let limit = run.limit();
+    let ran = run_threads_of_service_within(rt, alloc, reader, writer, &mut queued, limit);
+    threads_answer(alloc, ran, run, signals)
+}
+
+/// How a session with jobs ends, what it wrote, how many jobs began and saw their cancellation, and which it saw come to an end.
+fn worked<R>(
+    rt: &R,
+    alloc: Global,
+    run: Run,
+    reader: Source,
+    writer: Sink,
+    signals: &Arc<Signals>,
+) -> Result<Attempt, AllocError>
+where
+    R: Threads + Wait + Copy + Drop + Send + 'static,
+{
+    let talker = Talker::new(alloc, Arc::try_clone(signals)?);
+    let limit = run.limit();
+    let (talker, ran) = run_jobs_within(rt, alloc, reader, writer, run.pool, talker, limit);
+    let came = threads_answer(alloc, ran, run, signals)?;
+    let Attempt::Came(came) = came else {
+        return Ok(came);
+    };
+    let (begun, stopped) = (signals.count(Signal::Begun), signals.count(Signal::Stopped));
+    let finished = talker.finished.as_str();
+    let told = match run.call {
+        Call::Many => format!(in alloc; "{came}; {begun} begun")?,
+        _ => format!(in alloc; "{came}; {begun} begun, {stopped} stopped; finished{finished}")?,
+    };
+    Ok(Attempt::Came(told))
+}
+
+/// Builders of threads. No thread gets a stack of `usize::MAX` bytes.
+fn builders(run: Run) -> Builders {
+    Builders {
+        writer: builder(run.is_over(Device::NoWriter)),
+        reader: builder(run.is_over(Device::NoReader)),
+    }
+}
+
+fn builder(is_refused: bool) -> Builder {
+    if is_refused {
+        Builder::new().stack_size(usize::MAX)
+    } else {
+        Builder::new()
+    }
+}
+
+fn threads_answer(
+    alloc: Global,
+    ran: Result<Threaded<Sink>, StartFault>,
+    run: Run,
+    signals: &Arc<Signals>,
+) -> Result<Attempt, AllocError> {
+    let Threaded { writer, answer } = match ran {
+        Ok(done) => done,
+        Err(fault) => return not_started(alloc, fault, run, signals),
+    };
+    let is_refused = matches!(&answer, Err(SessionFault::Memory));
+    let end = match answer {
+        Ok(SessionEnd::ShutDown) => String::from_str(alloc, "shut down")?,
+        Ok(SessionEnd::Closed) => String::from_str(alloc, "closed")?,
+        Err(fault) => format!(in alloc; "{fault}")?,
+    };
+    told(alloc, run, end, &writer, is_refused)
+}
+
+/// What a call says that started no thread, or not both. A case that refuses a thread tells how often a device was called.
+fn not_started(
+    alloc: Global,
+    fault: StartFault,
+    run: Run,
+    signals: &Arc<Signals>,
+) -> Result<Attempt, AllocError> {
+    if run.lacks_thread() {
+        let calls = signals.calls();
+        return Ok(Attempt::Came(format!(in alloc; "{fault}, {calls} calls")?));
+    }
+    Ok(Attempt::Refused(format!(in alloc; "{fault}; wrote ")?))
+}
+
+/// How passing messages on ends, and what it wrote.
+fn pumped<R>(
+    rt: &R,
+    alloc: Global,
+    run: Run,
+    reader: Source,
+    writer: Sink,
+    signals: &Arc<Signals>,
+) -> Result<Attempt, AllocError>
+where
+    R: Threads + Wait + Copy + Drop + Send + 'static,
+{
+    let mut writer = writer;
+    let builder = builder(run.is_over(Device::NoReader));
+    let ended = pump_by(rt, builder, alloc, reader, &mut writer, run.limit());
+    let is_refused = matches!(
+        &ended,
+        Err(PumpFault::Read(ReadFault::Memory) | PumpFault::Write(WriteFault::Memory))
+    );
+    let end = match ended {
+        Ok(()) => String::from_str(alloc, "passed on")?,
+        Err(PumpFault::Start(fault)) => return not_started(alloc, fault, run, signals),
+        Err(fault) => format!(in alloc; "{fault}")?,
+    };
+    told(alloc, run, end, &writer, is_refused)
+}
+
+/// An end, and what was written.
+fn told(
+    alloc: Global,
+    run: Run,
+    end: String,
+    writer: &Sink,
+    is_refused: bool,
+) -> Result<Attempt, AllocError> {
+    let written = match run.call {
+        Call::Many => escape(alloc, in_order(alloc, writer.taken.as_slice())?.as_bytes())?,
+        _ => escape(alloc, writer.taken.as_slice())?,
+    };
+    let writes = match run.call {
+        Call::Burst => format!(in alloc; ", in {} writes", writer.writes)?,
+        _ => String::new(alloc),
+    };
+    let said = format!(in alloc; "{end}; wrote {written}{writes}")?;
+    if is_refused && !run.is_over(Device::Huge) {
+        return Ok(Attempt::Refused(said));
+    }
+    Ok(Attempt::Came(said))
+}
+
+/// Frames in the order of their texts.
+fn in_order(alloc: Global, written: &[u8]) -> Result<String, AllocError> {
+    let mut frames = Vec::new(alloc);
+    for frame in str::from_utf8(written)
+        .unwrap_or("")
+        .split("Content-Length: ")
+    {
+        frames.push(frame)?;
+    }
+    frames.sort()?;
+    let mut text = String::new(alloc);
+    for frame in frames {
+        text.push_str(frame)?;
+    }
+    Ok(text)
+}
+
+/// What the threads of a connection answer, and how many bytes were written and flushed.
+fn connected<R>(
+    rt: &R,
+    alloc: Global,
+    run: Run,
+    reader: Source,
+    writer: Sink,
+    signals: &Arc<Signals>,
+) -> Result<Attempt, AllocError>
+where
+    R: Threads + Wait + Clock + AllocGlobal + Copy + Drop + Send + 'static,
+{
+    let (connection, threads) = match Connection::over(rt, reader, writer, run.limit()) {
+        Ok(started) => started,
+        Err(fault) => return Ok(Attempt::Refused(format!(in alloc; "{fault}; wrote ")?)),
+    };
+    let ended = match run.call {
+        Call::Joined => threads.join(rt),
+        _ => {
+            part(rt, run, connection);
+            threads.flush(rt).join(rt)
+        }
+    };
+    let written = signals.count(Signal::Written);
+    match ended {
+        Ok(()) => Ok(Attempt::Came(format!(in alloc; "fine; wrote {written} bytes")?)),
+        Err(fault) => Ok(faulty(
+            format!(in alloc; "{fault}; wrote {written} bytes")?,
+            fault,
+            run,
+        )),
+    }
+}
+
+fn faulty(said: String, fault: IoFault, run: Run) -> Attempt {
+    let is_refused = matches!(
+        fault,
+        IoFault::Memory | IoFault::Read(ReadFault::Memory) | IoFault::Write(WriteFault::Memory)
+    );
+    if is_refused && !run.is_over(Device::Huge) {
+        return Attempt::Refused(said);
+    }
+    Attempt::Came(said)
+}
+
+/// Sends each message back, up to the last one, or lets the receiver go at once. The connection is dropped then.
+fn part<R: Wait>(rt: &R, run: Run, connection: Connection) {
+    let Connection { sender, receiver } = connection;
+    if run.call == Call::Left {
+        drop(receiver);
+        drop(sender);
+        return;
+    }
+    for message in receiver.iter(rt) {
+        let _ = sender.send(rt, message);
+    }
+}

@@ -1,0 +1,213 @@
+// The words of a case, and the bytes that cases are about.
+use crate::attempt::Stop;
+use crate::devices::Pause;
+use crate::escapes::unescape;
+use crate::signals::Signal;
+use lsp_jobs::PoolSize;
+use std::alloc::Global;
+
+/// The bytes that cases are about, and where a reader waits in them.
+#[derive(Drop)]
+pub struct Given {
+    pub bytes: Vec<u8>,
+    pub pauses: Vec<Pause>,
+}
+
+impl Given {
+    /// The bytes of a text with escapes, in which no reader waits.
+    pub fn new(alloc: Global, text: &str) -> Result<Given, Stop> {
+        Ok(Given {
+            bytes: unescape(alloc, text)?,
+            pauses: Vec::new(alloc),
+        })
+    }
+
+    /// `COUNT TEXT`: this text follows so many times.
+    pub fn repeat(&mut self, alloc: Global, words: &str) -> Result<(), Stop> {
+        let (count, text) = words.split_once(" ").ok_or(Stop::Table)?;
+        let count: usize = count.parse()?;
+        let text = unescape(alloc, text)?;
+        for _ in 0..count {
+            self.bytes.extend_from_slice(text.as_slice())?;
+        }
+        Ok(())
+    }
+
+    /// `AT:SIGNAL:COUNT ..`: at these places, in their order, a reader waits until the signal has come so often.
+    pub fn pause(&mut self, words: &str) -> Result<(), Stop> {
+        for word in words.split(' ') {
+            self.pauses.push(pause_of(word).ok_or(Stop::Table)?)?;
+        }
+        Ok(())
+    }
+}
+
+fn pause_of(word: &str) -> Option<Pause> {
+    let mut words = word.split(':');
+    let at = words.next()?.parse::<usize>().ok()?;
+    let signal = signal_of(words.next()?)?;
+    let wanted = words.next()?.parse::<u64>().ok()?;
+    Some(Pause { at, signal, wanted })
+}
+
+fn signal_of(word: &str) -> Option<Signal> {
+    match word {
+        "written" => Some(Signal::Written),
+        "messages" => Some(Signal::Messages),
+        "writes" => Some(Signal::Writes),
+        "requests" => Some(Signal::Requests),
+        "begun" => Some(Signal::Begun),
+        "ended" => Some(Signal::Ended),
+        _ => None,
+    }
+}
+
+/// A case: `CALL HOW PIECES DEVICE FROM TO`, and with the device `waits` how many bytes have to be written. The call is made with each
+/// size of pieces, for each count of the device, from the first to the last.
+#[derive(Clone, Copy)]
+pub struct Case<'a> {
+    pub call: Call,
+    /// `threads`; or for jobs the size of their pool.
+    pub pool: PoolSize,
+    /// How many bytes the reader gives at a time, with commas between the sizes.
+    pub steps: &'a str,
+    pub device: Device,
+    pub from: usize,
+    pub to: usize,
+    pub written: u64,
+}
+
+/// What is called.
+#[derive(Clone, Copy, PartialEq, Eq)]
+pub enum Call {
+    /// `run_threads_by`, with no capabilities and the handler.
+    Session,
+    /// `run_threads_of_service_within`, with the server that speaks.
+    Speaks,
+    /// `run_jobs_within`, with the same server.
+    Jobs,
+    /// The same. It tells what was written in the order of the texts.
+    Many,
+    /// `pump_by`.
+    Pump,
+    /// The same. It says how many writes there were, too.
+    Burst,
+    /// `Connection::over`: each message that comes is sent back.
+    Over,
+    /// The same, but nothing is received, and the threads are joined at once.
+    Joined,
+    /// The same, but the receiver is dropped at once.
+    Left,
+}
+
+/// What happens after a count of bytes or calls.
+#[derive(Clone, Copy, PartialEq, Eq)]
+pub enum Device {
+    /// Nothing.
+    Whole,
+    /// The input ends after so many bytes.
+    Ends,
+    /// The reader fails once after so many bytes, and goes on.
+    Breaks,
+    /// The reader shows what follows, fails once when it is asked for more after so many bytes were taken, and goes on.
+    Looks,
+    /// The writer fails once after so many bytes, and takes more.
+    Fills,
+    /// The flush of this number fails, from 1.
+    Flushes,
+    /// The call has a limit: a content part has at most so many bytes.
+    Limits,
+    /// No memory holds the content part, so the refusal is the answer. The count is the limit, or 0 where there is none.
+    Huge,
+    /// The reader waits after so many bytes until the bytes that the case names were written and flushed.
+    Waits,
+    /// The writer is slow, so that messages come faster than they are written.
+    Slow,
+    /// The writer waits for a request to come to the handler, which waits for the second pause of the text.
+    Gated,
+    /// The thread that reads is not started.
+    NoReader,
+    /// The thread that writes is not started.
+    NoWriter,
+}
+
+/// The case of these words. There is none where they are no case.
+pub fn case_of<'a>(call: &str, rest: &'a str) -> Option<Case<'a>> {
+    let call = call_of(call)?;
+    let mut words = rest.split(' ');
+    let pool = pool_of(words.next()?)?;
+    let steps = words.next()?;
+    let device = device_of(words.next()?)?;
+    let from = words.next()?.parse::<usize>().ok()?;
+    let to = words.next()?.parse::<usize>().ok()?;
+    let written = words.next().unwrap_or("0").parse::<u64>().ok()?;
+    Some(Case {
+        call,
+        pool,
+        steps,
+        device,
+        from,
+        to,
+        written,
+    })
+}
+
+/// `WORKERS`, or `WORKERS:WAITING` where only so many jobs may wait. A call without jobs has the word `threads`.
+pub fn pool_of(word: &str) -> Option<PoolSize> {
+    if word == "threads" {
+        return Some(PoolSize::from(1));
+    }
+    match word.split_once(":") {
+        Some((workers, waiting)) => Some(PoolSize {
+            workers: workers.parse::<usize>().ok()?,
+            waiting: Some(waiting.parse::<usize>().ok()?),
+        }),
+        None => Some(PoolSize::from(word.parse::<usize>().ok()?)),
+    }
+}
+
+static CALLS: [(&str, Call); 9] = [
+    ("session", Call::Session),
+    ("speaks", Call::Speaks),
+    ("jobs", Call::Jobs),
+    ("many", Call::Many),
+    ("pump", Call::Pump),
+    ("burst", Call::Burst),
+    ("over", Call::Over),
+    ("joined", Call::Joined),
+    ("left", Call::Left),
+];
+
+fn call_of(word: &str) -> Option<Call> {
+    for (name, call) in CALLS {
+        if name == word {
+            return Some(call);
+        }
+    }
+    None
+}
+
+static DEVICES: [(&str, Device); 13] = [
+    ("whole", Device::Whole),
+    ("ends", Device::Ends),
+    ("breaks", Device::Breaks),
+    ("looks", Device::Looks),
+    ("fills", Device::Fills),
+    ("flushes", Device::Flushes),
+    ("limits", Device::Limits),
+    ("huge", Device::Huge),
+    ("waits", Device::Waits),
+    ("slow", Device::Slow),
+    ("gated", Device::Gated),
+    ("no_reader", Device::NoReader),
+    ("no_writer", Device::NoWriter),
+];
+
+fn device_of(word: &str) -> Option<Device> {
+    for (name, device) in DEVICES {
+        if name == word {
+            return Some(device);
+        }
+    }
+    None
+}

@@ -1,7 +1,0 @@
-use denote.Exit.{yes}
-use denote.Param.Send.{param_send, arg_send}
-use Rattle.lsp_message.proofs.Sendable.{message_send}
-use Rattle.test_support.proofs.client.client_thread.Goals as goal
-
-pub start-requires-send-M : goal.start-requires-send-M
-start-requires-send-M g c κs within = param_send _ _ (arg_send _ yes _ message_send)

@@ -1,0 +1,356 @@
+"""What has to come of jobs, in sessions and in a pool by hand, by LSP 3.17 ("Base Protocol", "Server lifecycle", "Cancellation Support",
+"Progress Support") and the documents of `lsp_jobs`.
+
+Client, server, writer and workers take steps in many orders. A row whose answer depends on the order is refused. Nothing here calls a
+library of this repository."""
+import json
+import random
+
+from rules import AT_END, AT_WRONG_TIME, CANCELED, GREATEST, Talker, debug_message, frame, is_note, is_request, ordered, read, shown
+
+# In how many orders the parts of a row with jobs take their steps.
+ORDERS = 50
+# So many things that a job says may wait.
+SLIPS = 16
+TOO_MANY = {"code": -32803, "message": "too many requests are waiting"}
+FAILED = {"code": -32803, "message": "it failed"}
+
+
+class Job:
+    def __init__(self, name, script, value):
+        self.name, self.words, self.value = name, script.split(", "), value
+        self.is_cancelled = self.is_dropped = False
+        self.slips, self.made, self.taken, self.ending = [], 0, 0, None
+
+
+class Pool:
+    """Threads that run jobs. `ring` is called with the id of a job that said something."""
+
+    def __init__(self, workers, waiting, ring):
+        self.workers, self.waiting, self.ring = [None] * max(workers, 1), waiting, ring
+        self.orders, self.table, self.is_ended = [], {}, False
+        self.counts = {"begun": 0, "stopped": 0, "ended": 0, "messages": 0}
+
+    def forget(self, name):
+        job = self.table.pop(name, None)
+        if job:
+            job.is_cancelled = job.is_dropped = True
+
+    def take_on(self, name, script, value):
+        self.forget(name)
+        if self.waiting is not None and len(self.orders) >= max(self.waiting, 1):
+            return False
+        self.table[name] = Job(name, script, value)
+        self.orders.append(self.table[name])
+        return True
+
+    def end(self):
+        for job in [*self.table.values(), *self.orders, *filter(None, self.workers)]:
+            job.is_cancelled = job.is_dropped = True
+        self.table, self.is_ended = {}, True
+
+    def say(self, job, slip):
+        if not job.is_dropped:
+            job.slips.append(slip)
+        self.ring(job.name)
+
+    def steps(self):
+        """What the workers can do next."""
+        for number, job in enumerate(self.workers):
+            if job is None and self.orders:
+                yield lambda number=number: self.begin(number)
+            elif job is not None and self.can_go_on(job):
+                yield lambda number=number, job=job: self.go_on(number, job)
+
+    def begin(self, number):
+        job = self.orders.pop(0)
+        if not job.is_cancelled:
+            self.counts["begun"] += 1
+            self.workers[number] = job
+
+    def can_go_on(self, job):
+        if not job.words:
+            return job.is_dropped or len(job.slips) < SLIPS
+        name, _, number = job.words[0].partition(" ")
+        if name == "after":
+            return self.counts["messages"] >= int(number)
+        return name != "cancelled" or job.is_cancelled
+
+    def go_on(self, number, job):
+        if not job.words:
+            self.workers[number] = None
+            self.say(job, ("outcome", job.ending))
+            return
+        name, _, words = job.words.pop(0).partition(" ")
+        if name == "cancelled":
+            self.counts["stopped"] += 1
+        elif name == "reports" and int(words):
+            self.report(job)
+            if int(words) > 1:
+                job.words.insert(0, f"reports {int(words) - 1}")
+        elif name in ("counted", "fails", "starves"):
+            job.ending = name
+        if not job.words:
+            self.counts["ended"] += 1
+            endings = {"counted": {"result": job.taken}, "fails": {"error": FAILED}, "starves": None}
+            job.ending = endings.get(job.ending, {"result": job.value})
+
+    def report(self, job):
+        job.made += 1
+        if not job.is_dropped and len(job.slips) < SLIPS:
+            job.taken += 1
+            self.say(job, ("report", {"method": "$/progress", "params": {"token": "job", "value": job.made}}))
+
+    def news(self, name):
+        """What the job under this id said next, which is None where it said nothing."""
+        job = self.table.get(name)
+        if not job or not job.slips:
+            return None
+        kind, said = job.slips.pop(0)
+        if kind == "outcome":
+            del self.table[name]
+        return kind, said
+
+
+class Working(Talker):
+    """The server that speaks, with jobs."""
+
+    def __init__(self):
+        super().__init__()
+        self.starts, self.later = [], []
+
+    def heard(self, came):
+        method, params = came.get("method", ""), came.get("params")
+        if "id" in came and method.startswith("job "):
+            self.starts.append((came["id"], method[4:], params))
+        elif "id" in came and method.startswith("later "):
+            self.later.append((came["id"], method[6:], params))
+        elif is_note(came, "start"):
+            self.starts, self.later = self.later, []
+        elif "id" not in came and method.startswith("job "):
+            self.starts.append(("own", method[4:], params))
+        elif is_note(came, "answer"):
+            return [{"id": params[0], "result": "by the server"}]
+        elif "id" in came or not method.startswith("$/"):
+            return super().heard(came)
+        return []
+
+
+class JobSession:
+    """A client, a server with jobs, a thread that writes and the workers, each of which takes steps."""
+
+    def __init__(self, data, pauses, pool, room, limit):
+        self.data, self.pauses, self.at, self.limit, self.room = data, list(pauses), 0, limit, room
+        self.pool = Pool(*pool, self.rung)
+        self.server, self.state, self.end = Working(), "new", None
+        # What comes to the server: messages, faults and wakes. What goes to the writer, and what it wrote.
+        self.queue, self.news, self.outbox, self.written = [], [], [], b""
+        self.is_failed, self.is_read, self.pending, self.finished = False, False, set(), ""
+
+    def rung(self, name):
+        self.news.append(name)
+        self.queue.append("wake")
+
+    def steps(self):
+        if not self.is_read and all(self.is_over(it) for it in self.pauses if it[0] <= self.at):
+            yield self.read_next
+        if self.queue and not self.end:
+            yield self.serve_next
+        if self.outbox:
+            yield self.write_next
+        if self.end and self.is_read and not self.pool.is_ended:
+            yield self.pool.end
+        yield from self.pool.steps()
+
+    def is_over(self, pause):
+        counts = {**self.pool.counts, "written": len(self.written)}
+        return counts[pause[1]] >= pause[2]
+
+    def read_next(self):
+        came, left = read(self.data[self.at :], self.limit)
+        self.at = len(self.data) - len(left)
+        self.queue.append(came)
+        self.is_read = not isinstance(came, dict) or is_note(came, "exit")
+
+    def write_next(self):
+        data = self.outbox.pop(0)
+        if self.is_failed:
+            return
+        if len(self.written) + len(data) > self.room:
+            data, self.is_failed = data[: self.room - len(self.written)], True
+        self.written += data
+        self.pool.counts["messages"] += not self.is_failed
+
+    def send(self, message):
+        self.outbox.append(frame(message))
+
+    def act(self, messages):
+        """What a server does is sent. A reply counts once, and then no job is awaited for its request."""
+        for it in messages:
+            if "method" not in it:
+                self.pool.forget(it["id"])
+        for it in messages:
+            if "method" in it:
+                self.send(it)
+            elif it["id"] in self.pending:
+                self.pending.remove(it["id"])
+                self.send(it)
+        starts, self.server.starts = self.server.starts, []
+        for name, script, value in starts:
+            if not self.pool.take_on(name, script, value) and name in self.pending:
+                self.pending.remove(name)
+                self.send({"id": name, "error": TOO_MANY})
+
+    def serve_next(self):
+        came = self.queue.pop(0)
+        if came == "wake":
+            name = self.news.pop(0) if self.state == "open" else None
+            said = self.pool.news(name)
+            return self.hear(name, *said) if said else None
+        if isinstance(came, int) or came == "end":
+            self.end = AT_END[self.state] if came == "end" else f"read fault {came}"
+            return None
+        if self.state == "new" and is_request(came, "initialize"):
+            self.send({"id": came["id"], "result": {"capabilities": {}}})
+            self.state = "asked"
+        elif self.state == "asked" and is_note(came, "initialized"):
+            self.state = "open"
+            self.act(self.server.opened())
+        elif self.state == "open" and is_note(came, "exit"):
+            self.end = "closed"
+        elif self.state == "open" and is_request(came, "shutdown"):
+            self.send({"id": came["id"], "result": None})
+            self.state = "ending"
+        elif self.state == "ending" and is_note(came, "exit"):
+            self.end = "shut down"
+        elif self.state == "open":
+            self.work(came)
+        else:
+            self.end = AT_WRONG_TIME[self.state] + debug_message(came)
+        return None
+
+    def work(self, came):
+        cancels = is_note(came, "$/cancelRequest") and came["params"]["id"]
+        if cancels is not False:
+            self.pool.forget(cancels)
+        elif "id" in came and "method" in came:
+            self.pool.forget(came["id"])
+            self.pending.add(came["id"])
+        self.act(self.server.heard(came))
+        if cancels is not False and cancels in self.pending:
+            self.act([{"id": cancels, "error": CANCELED}])
+
+    def hear(self, name, kind, said):
+        if kind == "report":
+            return self.send(said)
+        if said is None:
+            self.end = "out of memory"
+            return None
+        self.finished += f" {json.dumps(name)}"
+        published = [{"method": "published", "params": said["result"]}] if name == "own" and "result" in said else []
+        return self.act([*published, {"id": name, **said}])
+
+    def answer(self, is_sorted):
+        end = "write fault 1" if self.is_failed else self.end
+        counts = self.pool.counts
+        if is_sorted:
+            parts = sorted(self.written.split(b"Content-Length: "))
+            return f"{end}; wrote {shown(b''.join(parts))}; {counts['begun']} begun"
+        said = f"{counts['begun']} begun, {counts['stopped']} stopped; finished{self.finished}"
+        return f"{end}; wrote {shown(self.written)}; {said}"
+
+
+class HandPool:
+    """The steps of a pool by hand, of which each waits for what it needs."""
+
+    def __init__(self, pool, steps):
+        self.heard, self.told, self.todo = [], "", steps
+        self.pool = Pool(*pool, self.heard.append)
+
+    def steps(self):
+        yield from self.pool.steps()
+        if self.todo and self.is_ready(*self.todo[0].partition(" ")[::2]):
+            yield self.go
+
+    def is_ready(self, verb, words):
+        if verb in ("begun", "ended"):
+            return self.pool.counts[verb] >= int(words)
+        return verb not in ("hear", "listen") or bool(self.heard)
+
+    def go(self):
+        verb, _, words = self.todo.pop(0).partition(" ")
+        if verb == "take":
+            name, value, script = words.split(" ", 2)
+            self.told += "taken, " if self.pool.take_on(int(name), script, [int(value)]) else "full, "
+        elif verb == "hear":
+            self.told += f"heard {self.heard.pop(0)}, "
+        elif verb == "listen":
+            self.told += self.news(self.heard.pop(0))
+            if int(words) > 1:
+                self.todo.insert(0, f"listen {int(words) - 1}")
+        elif verb == "news":
+            self.told += self.news(int(words))
+        elif verb == "waits":
+            self.told += "waits, " if int(words) in self.pool.table else "free, "
+        elif verb == "forget":
+            self.pool.forget(int(words))
+        if not self.todo:
+            self.pool.end()
+
+    def news(self, name):
+        found = self.pool.news(name)
+        if found is None:
+            return "nothing, "
+        kind, said = found
+        if kind == "report":
+            return f"report {ordered(said['params'])}, "
+        if said is None:
+            return "no memory, "
+        return f"error {said['error']['code']}, " if "error" in said else f"outcome {ordered(said['result'])}, "
+
+    def answer(self):
+        counts = self.pool.counts
+        return f"{self.told}{counts['begun']} begun, {counts['stopped']} stopped"
+
+
+def in_all_orders(make, tell):
+    """The answer, which has to be the same in whatever order the steps are taken."""
+    answers = set()
+    for seed in range(ORDERS):
+        choice, whole = random.Random(seed), make()
+        while steps := list(whole.steps()):
+            choice.choice(steps)()
+        answers.add(tell(whole))
+    if len(answers) != 1:
+        raise SystemExit(f"tools/rows/jobs.py: the answer depends on the order: {sorted(answers)}")
+    return answers.pop()
+
+
+def pool_size(word):
+    workers, _, waiting = word.partition(":")
+    return int(workers), int(waiting) if waiting else None
+
+
+def job_answer(words, data, pauses):
+    """What has to come of a session with jobs, where the writer has room for so many bytes, or a content part may have so many."""
+    call, pool, _, device, count = *words[:4], int(words[4])
+    room = count if device == "fills" else GREATEST
+    limit = count if device == "limits" else GREATEST
+
+    def ended(session):
+        if not session.end:
+            raise SystemExit(f"tools/rows/jobs.py: the session does not end: {words}, {data}")
+        return session.answer(call == "many")
+
+    return in_all_orders(lambda: JobSession(data, pauses, pool_size(pool), room, limit), ended)
+
+
+def pool_answer(rest):
+    size, _, steps = rest.partition(" ")
+
+    def ended(whole):
+        if whole.todo:
+            raise SystemExit(f"tools/rows/jobs.py: the pool does not come to its end: {rest}")
+        return whole.answer()
+
+    return [in_all_orders(lambda: HandPool(pool_size(size), steps.split("; ")), ended)]
