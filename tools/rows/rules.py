@@ -240,7 +240,7 @@ def read_answer(data, breaks, unread, limit, kind="BrokenPipe"):
     """What one read gives of these bytes, behind which the reader may fail by an error of this kind, and what it leaves of them and of
     the unread ones."""
     came, left = read(data, limit)
-    if breaks and not left and not isinstance(came, dict):
+    if is_cut(came, left, breaks):
         return f"read fault 1 by {kind}; left {escape(unread)}"
     return f"{read_text(came)}; left {escape(left + unread)}"
 
@@ -456,30 +456,33 @@ def served(server, data, breaks, limit):
 OF_BODY = [8, 9, 10, 13]
 
 
-def served_tolerantly(server, data, breaks, limit):
-    """The same where content parts that are no messages are passed over, and how many of each kind there were."""
+def served_tolerantly(server, data, breaks, limit, room=GREATEST):
+    """The same where content parts that are no messages are passed over, and how many of each kind there were. There is room for so many
+    messages."""
     counts = dict.fromkeys(OF_BODY, 0)
-    end, session = run_of(server, data, breaks, limit, counts)
+    end, session = run_of(server, data, breaks, limit, counts, room)
     return end, session.sent, list(counts.values())
 
 
-def run_of(server, data, breaks, limit, counts):
-    session = Session(server)
+def is_cut(came, data, breaks):
+    """Whether a reader that fails behind what was read fails here: a frame is not whole. The failure comes before its end does."""
+    return breaks and not data and not isinstance(came, dict) and came not in OF_BODY
+
+
+def run_of(server, data, breaks, limit, counts, room=GREATEST):
+    session = Session(server, room)
     while True:
         came, data = read(data, limit)
-        if breaks and not data and not isinstance(came, dict):
-            # (a frame that is not whole: the failure comes before its end does)
+        if is_cut(came, data, breaks):
             return "read fault 1", session
         if came == "end":
             return AT_END[session.state], session
         if counts and came in OF_BODY and session.state == "open":
             counts[came] += 1
-            # The server is woken.
-            session.sends(server.woken())
-            continue
-        if isinstance(came, int):
+        elif isinstance(came, int):
             return "out of memory" if came == 11 else f"read fault {came}", session
-        end = session.hears(came)
+        # (what is passed over wakes the server)
+        end = session.hears(came) if isinstance(came, dict) else session.sends(server.woken())
         if end:
             return end, session
 
@@ -489,7 +492,7 @@ def pumped(data, breaks, limit):
     sent = []
     while True:
         came, data = read(data, limit)
-        if breaks and not data and not isinstance(came, dict):
+        if is_cut(came, data, breaks):
             return "read fault 1", sent
         if came == "end":
             return "passed on", sent
@@ -509,18 +512,16 @@ STREAMS = {
 }
 
 
-def messages_of(data, breaks=False, limit=GREATEST):
-    """The messages that come of these bytes, up to and with an `exit`, what comes then, and what is left."""
+def messages_of(data):
+    """The messages that come of these bytes, up to and with an `exit`, and what comes then."""
     messages = []
     while True:
-        came, data = read(data, limit)
-        if breaks and not data and not isinstance(came, dict):
-            return messages, 1, data
+        came, data = read(data)
         if not isinstance(came, dict):
-            return messages, came, data
+            return messages, came
         messages.append(came)
         if is_note(came, "exit"):
-            return messages, "exit", data
+            return messages, "exit"
 
 
 def end_text(end):
@@ -528,24 +529,23 @@ def end_text(end):
 
 
 def inbox_answer(data):
-    messages, end, _ = messages_of(data)
+    messages, end = messages_of(data)
     return "".join(f"{text_of(it)} " for it in messages) + f"{end_text(end)}, closed true"
 
 
 def loop_answer(data, breaks, unread, limit, room):
-    """What a loop hands on to an outbox with so much room, how it ends, and what it leaves."""
+    """What a loop hands on to an outbox with so much room, how it ends, and how many bytes it leaves."""
     texts = []
     while True:
         came, data = read(data, limit)
-        if breaks and not data and not isinstance(came, dict):
-            came = 1
+        came = 1 if is_cut(came, data, breaks) else came
         if isinstance(came, dict):
             end = "closed" if len(texts) == room else "exit" if is_note(came, "exit") else None
             texts += [text_of(came)] if end != "closed" else []
         else:
             end = came
         if end:
-            return f"{end_text(end)}; sent {''.join(texts)}; left {escape(data + unread)}"
+            return f"{end_text(end)}; sent {''.join(texts)}; left {len(data + unread)}"
 
 
 def frames_answer(data, room, bad_flush, kind):
@@ -629,7 +629,8 @@ def answer(call, device, count, data, is_at_once, kind="BrokenPipe"):
         end, written = "write fault 1", b"".join(frames[:count])
     writes = f", in {len(frames)} writes" if call == "burst" else ""
     if call == "tolerant" and device != "limits":
-        counts = served_tolerantly(Talker(), data, breaks, limit)[2]
+        whole = sum(len(b"".join(frames[: it + 1])) <= len(written) for it in range(len(frames)))
+        counts = served_tolerantly(Talker(), data, breaks, limit, whole if whole < len(frames) else GREATEST)[2]
         return f"{end}; wrote {shown(written)}; passed {' '.join(map(str, counts))}"
     return f"{end}; wrote {shown(written)}{writes}"
 

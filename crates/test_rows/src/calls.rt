@@ -185,7 +185,7 @@ fn end_text(alloc: Global, end: ReadEnd) -> Result<String, AllocError> {
     }
 }
 
-/// What a loop hands on, how it ends, and what it leaves.
+/// What a loop hands on, how it ends, and how many bytes it leaves.
 fn loop_answer(
     alloc: Global,
     run: Run<'_>,
@@ -199,7 +199,7 @@ fn loop_answer(
     let is_refused = matches!(end, ReadEnd::Memory | ReadEnd::Fault(ReadFault::Memory));
     let end = end_text(alloc, end)?;
     let texts = member_texts(alloc, outbox.sent.as_slice())?;
-    let left = escape(alloc, reader.left())?;
+    let left = reader.left().len();
     Ok(run.answer(format!(in alloc; "{end}; sent {texts}; left {left}")?, is_refused))
 }
 
