@@ -1,0 +1,256 @@
+#!/usr/bin/env python3
+"""What the crates' sources say: who stands on whom, a crate's code, and its interface, which is all that the crates above can see.
+
+The interface of a library is its specs/ and, of its src/, types, traits, constants, and the signatures and clauses of functions that
+another crate can call. A body, a comment, a private function and the tactic of a proof are no part of it.
+
+    python3 tools/sources.py
+
+tries that: it changes each body and each clause of each library, one at a time, and looks whether the interface changed.
+"""
+import hashlib
+import re
+import sys
+from pathlib import Path
+
+ROOT = Path(__file__).resolve().parent.parent
+FUNCTION = re.compile(r"(?m)^( *)((?:pub(?:\([^)]*\))? )?)((?:const |unsafe )*)fn \w+")
+CLAUSE = re.compile(r"\b(?:ensures|requires)(?:\s+\w+)?\s*$")
+USE = re.compile(r"(?m)^ *(?:ghost )?use [^;]*;\n?")
+TACTIC = re.compile(r"(?m)^ *#!?\[tactic\b")
+CHARACTER = r"'(?:\\(?:u\{[^}]*\}|x..|.)|[^\\'])'"
+# (a name of a proof may end in an apostrophe, which begins no character)
+MARKED = re.compile(rf'//[^\n]*|"(?:\\.|[^"\\])*"|\bb{CHARACTER}|(?<![\w\']){CHARACTER}', re.S)
+PAIRS = {"(": ")", "[": "]", "{": "}"}
+BRACKET = re.compile(r"[()\[\]{}]")
+
+
+class Unreadable(Exception):
+    """A text that is not laid out as `rt fmt` does it."""
+
+
+def read_list(root):
+    """For each crate of crates.txt the names that it lists."""
+    found = {}
+    for line in (root / "crates.txt").read_text().splitlines():
+        line = line.partition("#")[0]
+        if ":" in line:
+            head, _, names = line.partition(":")
+            found[head.split()[0]] = names.split()
+    return found
+
+
+def below(crates, name):
+    """The crates of this repository that a crate stands on, each after those that it stands on itself."""
+    found = []
+    for it in crates[name]:
+        if it in crates:
+            found += [each for each in [*below(crates, it), it] if each not in found]
+    return found
+
+
+def above(crates, name):
+    """The crates that stand on this one, lowest first."""
+    found = [it for it in crates if name in below(crates, it)]
+    return sorted(found, key=lambda it: (len(below(crates, it)), it))
+
+
+def masked(text):
+    """The text without comments, and the same with what stands in its strings and characters blanked."""
+    kept = MARKED.sub(lambda it: "" if it[0].startswith("//") else it[0], text)
+    return kept, MARKED.sub(lambda it: it[0][0] + " " * (len(it[0]) - 2) + it[0][-1], kept)
+
+
+def end_of(blank, at):
+    """The place behind the bracket that closes the one at this place."""
+    open_ones = []
+    for it in BRACKET.finditer(blank, at):
+        if it[0] in PAIRS:
+            open_ones.append(PAIRS[it[0]])
+        elif not open_ones or open_ones.pop() != it[0]:
+            raise Unreadable("brackets that do not pair")
+        if not open_ones:
+            return it.end()
+    raise Unreadable("a bracket that nothing closes")
+
+
+def parts_of(blank, start, indent):
+    """Where a function's clauses stand, and where its body does: (places of clauses, start of the body, end). A function without a
+    body has its end as the start."""
+    clauses, at = [], start
+    while at < len(blank):
+        mark = blank[at]
+        if mark == ";":
+            return clauses, at + 1, at + 1
+        if mark == "{" and CLAUSE.search(blank[start:at]):
+            end = end_of(blank, at)
+            clauses.append((at, end))
+            at = end
+        elif mark == "{":
+            end = end_of(blank, at)
+            last = blank[blank.rfind("\n", 0, end) + 1 : end]
+            if last != indent + "}" and "\n" in blank[at:end]:
+                raise Unreadable(f"a body that ends in {last!r}")
+            return clauses, at, end
+        elif mark in PAIRS:
+            at = end_of(blank, at)
+        else:
+            at += 1
+    raise Unreadable("a function without an end")
+
+
+def block_of(blank, start, indent):
+    """The head of the `impl` or `trait` that a function stands in, or nothing."""
+    if not indent:
+        return ""
+    outer = indent[4:]
+    heads = list(re.finditer(rf"(?m)^{outer}(?:pub(?:\([^)]*\))? )?(?:impl|trait|mod)\b", blank[:start]))
+    if not heads:
+        raise Unreadable("a function in no block")
+    return blank[heads[-1].start() : blank.index("{", heads[-1].start())]
+
+
+def functions(text):
+    """Each function that stands in no other: (start, is it seen outside, places of clauses, start of the body, end), in a text
+    without comments."""
+    kept, blank = masked(text)
+    found, at = [], 0
+    while True:
+        it = FUNCTION.search(blank, at)
+        if not it:
+            return kept, found
+        clauses, body, at = parts_of(blank, it.end(), it[1])
+        head = block_of(blank, it.start(), it[1])
+        of_trait = re.search(r"\btrait\b| for ", " ".join(head.split()) + " ")
+        found.append((it.start(), bool(of_trait) or it[2] == "pub ", clauses, body, at))
+
+
+def without_tactics(text):
+    while True:
+        it = TACTIC.search(text)
+        if not it:
+            return text
+        end = end_of(masked(text[it.start() :])[1], text[it.start() :].index("["))
+        text = text[: it.start()] + text[it.start() + end :].lstrip("\n")
+
+
+def with_used_names(text):
+    """Leaves, of each private `use`, the names that stand in the rest."""
+    rest = USE.sub("", text)
+    words = set(re.findall(r"\w+", rest))
+
+    def is_used(name):
+        name = name.rpartition(" as ")[2].strip()
+        if name in ("*", "self", "_"):
+            return True
+        pieces = [it for it in re.split("◌", name) if it]
+        return all(it in words if re.fullmatch(r"\w+", it) else it in rest for it in pieces)
+
+    def shortened(found):
+        item = " ".join(found[0].split())
+        head, brace, names = item.rstrip(";").partition("{")
+        if not brace:
+            name = re.split(r"::|\.", item.rstrip(";"))[-1]
+            return f"{item.rstrip(';')};\n" if is_used(name) else ""
+        if "{" in names:
+            return item + "\n"
+        left = [it.strip() for it in names.rstrip("} ").split(",") if it.strip() and is_used(it)]
+        return "".join(f"{head}{it};\n" for it in sorted(left))
+
+    return USE.sub(shortened, text)
+
+
+def interface_of(text):
+    """What another crate sees of a file of src/."""
+    kept, found = functions(text)
+    for start, is_seen, _, body, end in reversed(found):
+        kept = kept[:body] + ";" * (body < end) + kept[end:] if is_seen else kept[:start] + kept[end:]
+    kept = with_used_names(without_tactics(kept))
+    words = " ".join(kept.split())
+    return re.sub(r"\bimpl\b(?:(?! for )[^{};])*\{ \}", "", words)
+
+
+def plain(path):
+    """A file's text without comments and empty lines."""
+    text = path.read_text()
+    if path.suffix == ".rt":
+        text = masked(text)[0]
+    elif path.suffix == ".antt":
+        text = re.sub(r"(?m)(^|(?<=\s))--(?=[ \n]).*$", "", text)
+    return "\n".join(it.rstrip() for it in text.splitlines() if it.strip())
+
+
+def files(folder):
+    return sorted(it for it in folder.rglob("*") if it.is_file())
+
+
+class Sums:
+    """Sums of what the crates of a tree are made of."""
+
+    def __init__(self, root):
+        self.root, self.crates, self.known = root, read_list(root), {}
+
+    def kept(self, key, make):
+        if key not in self.known:
+            self.known[key] = make()
+        return self.known[key]
+
+    def texts(self, name, part, read):
+        folder = self.root / "crates" / name / part
+        return [(str(it.relative_to(folder)), read(it)) for it in files(folder)]
+
+    def interface(self, name):
+        def make():
+            seen = self.texts(name, "src", lambda it: interface_of(it.read_text()))
+            specs = self.texts(name, "specs", plain)
+            return sum_of([self.crates[name], [it for it in seen if it[1]], specs])
+
+        return self.kept((name, "interface"), make)
+
+    def code(self, name):
+        """The sum of a crate's own code and specs, and of the interfaces that it stands on."""
+
+        def make():
+            own = [self.texts(name, it, plain) for it in ("src", "specs")]
+            return sum_of([self.crates[name], own, [self.interface(it) for it in below(self.crates, name)]])
+
+        return self.kept((name, "code"), make)
+
+
+def sum_of(parts):
+    return hashlib.sha256(repr(parts).encode()).hexdigest()
+
+
+def tries(text):
+    """Changed texts of a file: (what is changed, the text, whether the interface has to change)."""
+    kept, found = functions(text)
+    for start, is_seen, clauses, body, end in found:
+        name = " ".join(kept[start : kept.index("(", start)].split())
+        if body < end:
+            yield f"body of {name}", kept[: body + 1] + " let _tried = 0; " + kept[body + 1 :], False
+        for at, _ in clauses:
+            yield f"clause of {name}", kept[: at + 1] + " tried " + kept[at + 1 :], is_seen
+        yield f"signature of {name}", kept[:start] + kept[start:].replace("fn ", "fn tried_", 1), is_seen
+    yield "a comment", "// tried\n" + text.replace("\n\n", "\n\n// tried\n"), False
+
+
+def main():
+    passed = failed = 0
+    for path in sorted(ROOT.glob("crates/*/src/**/*.rt")):
+        text = path.read_text()
+        try:
+            whole = interface_of(text)
+            for what, changed, is_seen in tries(text):
+                is_well = (interface_of(changed) != whole) == is_seen
+                passed, failed = passed + is_well, failed + (not is_well)
+                if not is_well:
+                    print(f"{path.relative_to(ROOT)}: {what}: the interface {'stays' if is_seen else 'changes'}")
+        except Unreadable as fault:
+            failed += 1
+            print(f"{path.relative_to(ROOT)}: {fault}")
+    print(f"sources: {passed} passed, {failed} failed")
+    return failed > 0
+
+
+if __name__ == "__main__":
+    sys.exit(main())
