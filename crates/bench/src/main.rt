@@ -24,14 +24,13 @@ mod threads;
 use anyhow::{Context, Result, bail};
 use lsp_server::keep_freed_memory;
 use std::alloc::Global;
-use std::io::{BufReader, Cursor, Input, Read};
+use std::io::{BufRead, BufReader, Cursor, Read};
 use std::sync::Wait;
 use std::thread::Threads;
 use std::time::Clock;
 use std::{env, io};
-use threads::Output;
 
-/// How many bytes of the input are asked for at once.
+/// How many bytes of standard input are asked for at once.
 const READ_AHEAD: usize = 65536;
 
 const USAGE: &str =
@@ -49,29 +48,11 @@ const OVER_FRAMES: [&str; 8] = [
     "threads run_threads_with",
 ];
 
-/// What a measure reads. It is one type, so that what a measure calls is checked at one type.
-#[derive(Drop)]
-enum Source<R> {
-    Standard(R),
-    /// What was read of standard input before.
-    Kept(Cursor<Vec<u8>>),
-}
-
-impl<R: Read> Read for Source<R> {
-    fn read(&mut self, buf: &mut [u8]) -> io::Result<usize> {
-        match self {
-            Source::Standard(reader) => reader.read(buf),
-            Source::Kept(bytes) => bytes.read(buf),
-        }
-    }
-}
-
 fn main(rt: HostRuntime) -> Result<()> {
     let alloc = rt.alloc();
     keep_freed_memory(alloc);
     let words: Vec<String> = env::args(&rt)?.skip(1).collect(alloc)?;
-    let source = Source::Standard(rt.reader());
-    let mut reader = BufReader::with_capacity(alloc, READ_AHEAD, source)?;
+    let mut reader = BufReader::with_capacity(alloc, READ_AHEAD, rt.reader())?;
     match words.as_slice() {
         [word, counts @ ..] if word.as_str() == "queues" => queues::measure(&rt, alloc, counts),
         [word, counts @ ..] if word.as_str() == "texts" => texts::measure(&rt, alloc, counts),
@@ -103,20 +84,13 @@ fn joined(alloc: Global, words: &[String]) -> Result<String> {
 /// Each measure over these bytes, and after them those of the queues and of texts.
 fn run_all<T>(rt: &T, alloc: Global, text: &[u8]) -> Result<()>
 where
-    T: Input + Threads + Wait + Print + Clock + Copy + Drop + Send + 'static,
-    T::Reader: Read + Drop + Send + 'static,
+    T: Threads + Wait + Print + Clock + Copy + Drop + Send + 'static,
 {
     for measure in OVER_FRAMES {
         println!(rt; "{measure}")?;
         let mut bytes = Vec::new(alloc);
         bytes.extend_from_slice(text)?;
-        let source = Source::Kept(Cursor::new(bytes));
-        run(
-            rt,
-            alloc,
-            measure,
-            BufReader::with_capacity(alloc, READ_AHEAD, source)?,
-        )?;
+        run(rt, alloc, measure, Cursor::new(bytes))?;
         println!(rt; "")?;
     }
     println!(rt; "queues")?;
@@ -127,13 +101,13 @@ where
 }
 
 /// The measure of this name.
-fn run<T>(rt: &T, alloc: Global, measure: &str, reader: BufReader<Source<T::Reader>>) -> Result<()>
+fn run<T, R>(rt: &T, alloc: Global, measure: &str, reader: R) -> Result<()>
 where
-    T: Input + Threads + Wait + Print + Copy + Drop + Send + 'static,
-    T::Reader: Read + Drop + Send + 'static,
+    T: Threads + Wait + Print + Copy + Drop + Send + 'static,
+    R: BufRead + Drop + Send + 'static,
 {
     let mut reader = reader;
-    let writer = &mut Output(*rt);
+    let writer = &mut io::writer(rt);
     match measure {
         "json" => json::write_again(alloc, &mut reader, writer),
         "session" => session::serve(alloc, &mut reader, writer, false),

@@ -1,5 +1,5 @@
 -- What the author of a server knows of each of its sessions.
-use Rattle.std.specs.Prelude.{◌≡◌, ℕ, List, Option}
+use Rattle.std.specs.Prelude.{◌≡◌, List, Option}
 use Rattle.lsp_message.specs.Id.{Id}
 use Rattle.lsp_message.specs.Message.{Message}
 use Rattle.lsp_service.specs.Law.{how_many, is_request_under, IsWhole, NeverMore, OnceOrEnded}

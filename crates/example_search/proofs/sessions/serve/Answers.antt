@@ -1,7 +1,5 @@
 use Rattle.lsp_message.specs.Frame.{no_limit}
-use Rattle.lsp_service.specs.QueuedServer.{ServerSession}
 use Rattle.lsp_session.proofs.Lending.{known_as}
-use Rattle.example_search.specs.Promise.{AnswersOnce}
 use Rattle.example_search.proofs.Known.{answers_once}
 use Rattle.example_search.proofs.sessions.serve.Goals as goal
 
