@@ -38,7 +38,8 @@ impl<'a> Source<'a> {
 
     /// The bytes that were not taken.
     pub fn left(&self) -> &'a [u8] {
-        self.bytes.get(self.taken..).unwrap_or(&[])
+        let left = self.bytes.get(self.taken..);
+        left.unwrap_or(&[])
     }
 }
 
@@ -64,7 +65,8 @@ impl BufRead for Source<'_> {
         }
         let end = self.taken.saturating_add(self.step);
         let end = end.min(self.bytes.len()).min(fails_at).min(pause);
-        Ok(self.bytes.get(self.taken..end).unwrap_or(&[]))
+        let piece = self.bytes.get(self.taken..end);
+        Ok(piece.unwrap_or(&[]))
     }
 
     fn consume(&mut self, amount: usize) {

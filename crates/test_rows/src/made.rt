@@ -7,23 +7,32 @@ use std::alloc::Global;
 
 /// A reply with a result, as the constructor makes it.
 pub fn result(alloc: Global, text: &str) -> Result<Attempt, Stop> {
-    match message_in(alloc, text)? {
-        Message::Response(Response {
-            id,
-            response_result: Ok(result),
-        }) => shown(alloc, Response::new_ok(alloc, id, result)?),
-        _ => Err(Stop::Table),
+    let Response {
+        id,
+        response_result,
+    } = response_in(alloc, text)?;
+    match response_result {
+        Ok(result) => shown(alloc, Response::new_ok(alloc, id, result)?),
+        Err(_) => Err(Stop::Table),
     }
 }
 
 /// A reply with an error, as the constructor makes it.
 pub fn error(alloc: Global, text: &str) -> Result<Attempt, Stop> {
+    let Response {
+        id,
+        response_result,
+    } = response_in(alloc, text)?;
+    match response_result {
+        Err(error) => shown(alloc, Response::new_err(id, error.code, error.message)),
+        Ok(_) => Err(Stop::Table),
+    }
+}
+
+fn response_in(alloc: Global, text: &str) -> Result<Response, Stop> {
     match message_in(alloc, text)? {
-        Message::Response(Response {
-            id,
-            response_result: Err(error),
-        }) => shown(alloc, Response::new_err(id, error.code, error.message)),
-        _ => Err(Stop::Table),
+        Message::Response(response) => Ok(response),
+        Message::Request(_) | Message::Notification(_) => Err(Stop::Table),
     }
 }
 
