@@ -203,7 +203,7 @@ class Sums:
         def make():
             seen = self.texts(name, "src", lambda it: interface_of(it.read_text()))
             specs = self.texts(name, "specs", plain)
-            return sum_of([self.crates[name], [it for it in seen if it[1]], specs])
+            return sum_of([sorted(self.crates[name]), [it for it in seen if it[1]], specs])
 
         return self.kept((name, "interface"), make)
 
@@ -212,7 +212,7 @@ class Sums:
 
         def make():
             own = [self.texts(name, it, plain) for it in ("src", "specs")]
-            return sum_of([self.crates[name], own, [self.interface(it) for it in below(self.crates, name)]])
+            return sum_of([sorted(self.crates[name]), own, [self.interface(it) for it in sorted(below(self.crates, name))]])
 
         return self.kept((name, "code"), make)
 
