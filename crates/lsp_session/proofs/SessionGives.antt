@@ -11,14 +11,14 @@ use Rattle.lsp_message.specs.declared.frame.WriteFault.TheVariants.{Output, Memo
 use Rattle.lsp_message.specs.declared.frame.WriteFault.{WriteFault}
 use Rattle.lsp_session.proofs.Handing.{begins, AreFramesOf-push, breaks_off, taken_frames, taken_keeps, Appends-Keeps}
 use Rattle.lsp_session.proofs.Ran.{is_no_exit, Facts}
-use Rattle.lsp_session.proofs.Waiting.{FoldsTo-split}
+use Rattle.lsp_session.proofs.Waiting.{FoldsTo-split, and-true}
 use Rattle.lsp_session.specs.Boxes.{Sends, Takes}
 use Rattle.lsp_session.specs.Event.{Event, closed, message, timeout, woken}
 use Rattle.lsp_session.specs.Finish.{FinishAnswer, FinishesAt}
 use Rattle.lsp_session.specs.FrameBoxes.{FrameOutboxSends, Told, kept_write}
 use Rattle.lsp_session.specs.ProtocolError.{out_of_memory}
 use Rattle.lsp_session.specs.Session.{Exchange, came_of, letters_of, sends_of, SessionAnswer, SessionPart, Stop, decided, no_more, timed_out, refused, exhausted}
-use Rattle.lsp_session.specs.SessionBytes.{BeginsWith, IsUnsent, LeftAfter, Ends, Wrote, Gives, GetsFirst}
+use Rattle.lsp_session.specs.SessionBytes.{ReadsMessage, IsUnsent, LeftAfter, Ends, Wrote, Gives, GetsFirst}
 use Rattle.lsp_session.specs.SessionFault.{ran_out, came_to_no_more, plain_answer, read_fault, read_answer, session_answer}
 use Rattle.lsp_session.specs.SessionRun.{came_in, is_open, Brings, Runs, all_of, OffersLast, RefusesLast, Gets}
 use Rattle.lsp_session.specs.StreamBoxes.{stream_of, StreamInboxGives}
@@ -35,9 +35,10 @@ use Rattle.lsp_session.specs.declared.loops.stream_session.SessionFault.{Session
 use Rattle.std.proofs.Common.{◌≡◌, refl, sym, ◌∙◌, ap, subst, inl, inr, ℕ, Bool, true, false, true≢false, List, [], ◌∷◌, ◌++◌, append-nil, Some, None, Option, IfSome}
 use Rattle.std.proofs.KnownBytes.{Appends-trans}
 use Rattle.std.proofs.lemmas.List.Elements.{filter_map-append}
+use Rattle.std.proofs.lemmas.List.Folds.{list_all-append}
 use Rattle.std.specs.Io.KnownBytes.{Keeps}
 use Rattle.std.specs.List.{FoldsTo, list_all, filter_map}
-use Rattle.std.specs.Prelude.{Result, Ok, Err, MatchOption, if◌then◌else◌}
+use Rattle.std.specs.Prelude.{Result, Ok, Err, MatchOption, if◌then◌else◌, is_some, ◌&&◌}
 use Rattle.std.specs.declared.io.ErrorKind.{ErrorKind}
 
 module _ {R : Type 0} (remaining : R → Option (List ℕ)) (limit : ℕ) where
@@ -63,8 +64,16 @@ module _ {R : Type 0} (remaining : R → Option (List ℕ)) (limit : ℕ) where
         (new.end, inr (lost.0, lost.1, lost.2, ap (λ (s : StreamInbox R). stream_of remaining s) lost.3))
 
 -- the messages of what came
-abbrev letters_in : List (Option Message) → List Message
+abbrev pub letters_in : List (Option Message) → List Message
 letters_in came = filter_map (λ (c : Option Message). c) came
+
+-- these are the first messages of the text, and the rest follows them
+abbrev pub BeginsWith : ℕ → List ℕ → List Message → List ℕ → Type 0
+BeginsWith limit = FoldsTo (Begins limit)
+
+-- no wake came
+abbrev Unwoken : List (Option Message) → Type 0
+Unwoken came = list_all (λ (c : Option Message). is_some c) came ≡ true
 
 module _ (limit : ℕ) where
   -- what an inbox over a reader gives where others may wake it
@@ -72,15 +81,32 @@ module _ (limit : ℕ) where
   WakingGives old woken new = new ≡ old
   WakingGives old event new = StreamGives limit old event new
 
+  unwoken : (old new : Stream) → StreamGives limit old woken new → ⊥
+  unwoken old new gives = at old.end gives
+    where
+      at : (end : Option ReadEnd) → MatchOption end (StreamReads limit old.remaining woken new.end new.remaining) (λ end. (woken ≡ closed) × (new.end ≡ Some end) × Keeps old.remaining new.remaining) → ⊥
+      at None reads = reads
+      at (Some end) ended = cc (ended.0)
+
   -- an inbox that nobody wakes is one of these
   waking : (events : List Event) (old new : Stream) → FoldsTo (StreamGives limit) old events new → FoldsTo WakingGives old events new
   waking [] old new run = run
-  waking (woken ∷ events) old new run = absurd (at old.end run.1)
-    where
-      at : (end : Option ReadEnd) → MatchOption end (StreamReads limit old.remaining woken run.0.end run.0.remaining) (λ end. (woken ≡ closed) × (run.0.end ≡ Some end) × Keeps old.remaining run.0.remaining) → ⊥
-      at None gives = gives
-      at (Some end) gives = cc (gives.0)
+  waking (woken ∷ events) old new run = absurd (unwoken old run.0 run.1)
   waking (event ∷ events) old new run = (run.0, run.1, waking events run.0 new run.2)
+
+  -- nor does it bring a wake
+  never_woken : (events : List Event) (old new : Stream) → FoldsTo (StreamGives limit) old events new → Unwoken (filter_map came_in events)
+  never_woken [] old new run = refl
+  never_woken (woken ∷ events) old new run = absurd (unwoken old run.0 run.1)
+  never_woken (message m ∷ events) old new run = never_woken events run.0 new run.2
+  never_woken (closed ∷ events) old new run = never_woken events run.0 new run.2
+  never_woken (timeout ∷ events) old new run = never_woken events run.0 new run.2
+
+  -- the messages of a text are what was read of it, where no wake came
+  reads_all : (came : List (Option Message)) (text at : List ℕ) → Unwoken came → BeginsWith limit text (letters_in came) at → FoldsTo (ReadsMessage limit) text came at
+  reads_all [] text at none begins = begins
+  reads_all (Some m ∷ came) text at none begins = (begins.0, begins.1, reads_all came begins.0 at none begins.2)
+  reads_all (None ∷ came) text at none begins = let e : false ≡ true = none in absurd (cc (e))
 
   -- an inbox that has ended brings no message more
   ended_brings : (events : List Event) (end : ReadEnd) (old new : Stream) → old.end ≡ Some end → FoldsTo WakingGives old events new → letters_in (filter_map came_in events) ≡ []
@@ -137,6 +163,17 @@ module _ (limit : ℕ) where
       at None gives = gives
       at (Some end) gives = cc (gives.0)
   no_timeout (event ∷ earlier) old new run = no_timeout earlier run.0 new run.2
+
+-- what the events brought, but for what came at a failed allocation
+came_unwoken : (events : List Event) (came : List (Option Message)) (stop : Stop) → Brings events came stop → Unwoken (filter_map came_in events) → Unwoken came
+came_unwoken events came decided brought none = rw brought.0 at none
+came_unwoken events came no_more brought none = rw brought.0 at none
+came_unwoken events came timed_out brought none = rw brought.0 at none
+came_unwoken events came (refused fault) brought none = rw brought.0 at none
+came_unwoken events came exhausted brought none =
+    let both : (list_all (λ (c : Option Message). is_some c) came && list_all (λ (c : Option Message). is_some c) (brought.0 ∷ [])) ≡ true =
+        sym (list_all-append (λ (c : Option Message). is_some c) came (brought.0 ∷ [])) ∙ (rw brought.1 at none) in
+    (and-true _ _ both).0
 
 -- all of it was written
 pub whole_first : (ms : List Message) (old new : Option (List ℕ)) → GetsFrames ms old new → GetsFirst ms old new
@@ -348,9 +385,11 @@ module _ (limit : ℕ) where
       -- where a message was not sent, nothing after the last one was taken, but for what is awaited after the null
       left_unsent : (kind : ErrorKind) (null : Option Message) (stop : Stop) → Brings events came stop → Facts stop (letters_in came) answer → IsUnsent stop null
           → (at : List ℕ) × BeginsWith limit text (letters_in came) at × Ends limit new.remaining (Err (Write (Output kind))) answer stop null at
-      left_unsent kind (Some null) stop brought facts unsent = left_within came stop answer brought facts
-      left_unsent kind None (refused fault) brought facts unsent = let all = open_brought came brought.0 brought.1 in (all.at, all.read, all.left)
-      left_unsent kind None stop brought facts unsent = absurd unsent
+      left_unsent kind null decided brought facts unsent = let all = open_brought came brought.0 brought.1 in (all.at, all.read, all.left)
+      left_unsent kind null (refused fault) brought facts unsent = let all = open_brought came brought.0 brought.1 in (all.at, all.read, all.left)
+      left_unsent kind null no_more brought facts unsent = left_within came no_more answer brought facts
+      left_unsent kind null timed_out brought facts unsent = left_within came timed_out answer brought facts
+      left_unsent kind null exhausted brought facts unsent = left_within came exhausted answer brought facts
 
       -- no write failed
       pub stop_ends : (sends : List Message) (a b : Option (List ℕ)) → GetsFrames sends a b → (stop : Stop) → Brings events came stop → NotRefused stop
@@ -388,6 +427,10 @@ module _ (limit : ℕ) where
         facts : Facts runs.stop (letters_of runs.exchanges) answer
         facts = knows runs.exchanges runs.stop runs.null answer runs.part
 
+        none_woken : Unwoken (came_of runs.exchanges)
+        none_woken = came_unwoken runs.events (came_of runs.exchanges) runs.stop runs.brought
+            (never_woken limit runs.events _ _ (streams_of remaining limit runs.events inbox inbox' limited runs.received).0)
+
         gives : (result : Result SessionEnd SessionFault) (at : List ℕ) → BeginsWith limit text (letters_of runs.exchanges) at
             → Ended runs.null (sends_of runs.exchanges) (contents outbox.writer.now) (contents outbox'.writer.now)
             (remaining inbox'.reader.now) result answer runs.stop at
@@ -395,7 +438,7 @@ module _ (limit : ℕ) where
         gives result at read ended = record {
           exchanges = runs.exchanges;
           at = at;
-          read = read;
+          read = reads_all limit (came_of runs.exchanges) text at none_woken read;
           stop = runs.stop;
           null = runs.null;
           answer = answer;
