@@ -28,13 +28,17 @@ use Rattle.lsp_session.specs.declared.loops.stream_session.SessionFault.TheVaria
 use Rattle.lsp_session.specs.declared.loops.stream_session.SessionFault.{SessionFault}
 use Rattle.lsp_tolerant.specs.Passing.{is_of_body, TolerantGives}
 use Rattle.lsp_tolerant.specs.TolerantBoxes.{stream_of, TolerantInboxGives}
-use Rattle.lsp_tolerant.specs.TolerantBytes.{PassesOver, ReadsFrame, ReadsFrames, HearsLast, GivesTolerantly}
+use Rattle.lsp_tolerant.specs.TolerantBytes.{PassesOver, ReadsFrame, HearsLast, GivesTolerantly}
 use Rattle.lsp_tolerant.specs.declared.inbox.TolerantInbox.{TolerantInbox}
 use Rattle.std.proofs.Common.{◌≡◌, refl, sym, ◌∙◌, ap, subst, inl, inr, ℕ, Bool, true, false, true≢false, List, [], ◌∷◌, ◌++◌, append-nil, Some, None, Option, IfSome}
 use Rattle.std.proofs.lemmas.List.Elements.{filter_map-append}
 use Rattle.std.specs.List.{FoldsTo, list_all, filter_map}
 use Rattle.std.specs.Prelude.{Result, Ok, Err, MatchOption, if◌then◌else◌}
 use Rattle.std.specs.declared.io.ErrorKind.{ErrorKind}
+
+-- the first frames of a text, one after another
+abbrev ReadsFrames : {L : Type 0} (hears : L → ReadFault → L → Type 0) (limit : ℕ) → List ℕ × L → List (Option Message) → List ℕ × L → Type 0
+ReadsFrames hears limit = FoldsTo (ReadsFrame hears limit)
 
 -- the messages of what came
 abbrev letters_in : List (Option Message) → List Message
@@ -226,10 +230,13 @@ module _ {L : Type 0} (hears : L → ReadFault → L → Type 0) (limit : ℕ) w
     left_unsent : (came : List (Option Message)) (answer : SessionAnswer) (kind : ErrorKind) (null : Option Message) (stop : Stop) → Brings events came stop
         → Facts stop (letters_in came) answer → IsUnsent stop null
         → Reached came stop (λ at. Ends limit new.0.remaining (Err (Write (Output kind))) answer stop null at.0)
-    left_unsent came answer kind (Some null) stop brought facts unsent = left_within came stop answer brought facts
-    left_unsent came answer kind None (refused fault) brought facts unsent = let all = open_brought came brought.0 brought.1 in
+    left_unsent came answer kind null decided brought facts unsent = let all = open_brought came brought.0 brought.1 in
         ((all.at, new.1), all.read, refl, all.left)
-    left_unsent came answer kind None stop brought facts unsent = absurd unsent
+    left_unsent came answer kind null (refused fault) brought facts unsent = let all = open_brought came brought.0 brought.1 in
+        ((all.at, new.1), all.read, refl, all.left)
+    left_unsent came answer kind null no_more brought facts unsent = left_within came no_more answer brought facts
+    left_unsent came answer kind null timed_out brought facts unsent = left_within came timed_out answer brought facts
+    left_unsent came answer kind null exhausted brought facts unsent = left_within came exhausted answer brought facts
 
     module _ (came : List (Option Message)) (null : Option Message) (answer : SessionAnswer) (sends : List Message) (a b : Option (List ℕ))
         (wrote : GetsFrames sends a b) where
@@ -324,8 +331,7 @@ module _ {L : Type 0} (hears : L → ReadFault → L → Type 0) (limit : ℕ) w
           null = runs.null;
           answer = answer;
           part = runs.part;
-          ends = reached.3;
-          hears_last = reached.2;
+          ends = (reached.3, reached.2);
           wrote = wrote;
         }
 
