@@ -5,9 +5,10 @@ use Rattle.lsp_message.specs.Methods.{is_initialize, is_exit}
 use Rattle.lsp_session.specs.ProtocolError.{expected_initialized, fault_of_refusal}
 use Rattle.lsp_session.specs.Replies.{null_reply}
 use Rattle.lsp_session.specs.Session.{Exchange, letters_of, sends_of, SessionAnswer, Stop, decided, no_more, timed_out, refused as cut_off, exhausted, Phase, starting, replied as awaiting, serving, asked as shut, is_served}
-use Rattle.lsp_session.specs.SessionBytes.{ReadsMessage, Ends}
-use Rattle.lsp_session.specs.declared.loops.stream_session.SessionFault.TheVariants.{Write}
+use Rattle.lsp_session.specs.SessionBytes.{ReadsMessage, Ends, Wrote, GetsAllButLast}
+use Rattle.lsp_session.specs.declared.loops.stream_session.SessionFault.TheVariants.{Write, Memory as NoMemory}
 use Rattle.lsp_message.specs.declared.frame.WriteFault.{WriteFault}
+use Rattle.lsp_message.specs.Written.{GetsFrames}
 use Rattle.lsp_session.specs.SessionLaws.{IsInvited, IsUnopened, AfterNull, EndsWithExit, EndsWithNull, HasNoShutdown, KeepsOrder, IsOpened, IsUnstarted, StopsAt, comes_early, AllEarly, is_refusal, AllRefused}
 use Rattle.serde_json.specs.Data.{Data, null as null_data}
 use Rattle.std.proofs.Common.{◌≡◌, refl, sym, ◌∙◌, ap, subst, inl, inr, ◌⊎◌, ℕ, true, false, List, [], ◌∷◌, ◌++◌, Option, Some, None}
@@ -374,10 +375,23 @@ pub second_session : (i j k : Id) (params result given asked : Data) (stop : Sto
 second_session i j k params result given asked stop none answer more order =
     speaks_after_null stop none answer i k params result given asked [] (null_reply k ∷ []) _ (response j (Ok result)) [] more order
 
--- the write of the last message failed, the session was decided, and something behind the message that decided was taken
+-- The write of the last message failed, the session was decided, and something behind the message that decided was taken; the same
+-- where memory ran out.
 pub eats_past_exit : (limit : ℕ) (fault : WriteFault) (answer : SessionAnswer) (none : Option Message) (at rest : List ℕ) → (rest ≡ at → ⊥)
-    → Ends limit (Some rest) (Err (Write fault)) answer decided none at → ⊥
-eats_past_exit limit fault answer none at rest other left = let same : rest ≡ at = cc (left) in other same
+    → Ends limit (Some rest) (Err (Write fault)) answer decided none at ⊎ Ends limit (Some rest) (Err NoMemory) answer decided none at → ⊥
+eats_past_exit limit fault answer none at rest other (inl left) = let same : rest ≡ at = cc (left) in other same
+eats_past_exit limit fault answer none at rest other (inr left) = let same : rest ≡ at = cc (left) in other same
+
+-- memory ran out, and two messages were not written
+pub loses_two : (a b : Option (List ℕ)) (stop : Stop) (none : Option Message) (sends : List Message)
+    → ((GetsFrames sends a b → ⊥) × (GetsAllButLast sends a b → ⊥)) → Wrote a b (Err NoMemory) stop none sends → ⊥
+loses_two a b stop none sends lost (inl all) = lost.0 all
+loses_two a b stop none sends lost (inr most) = lost.1 most.1
+
+-- memory ran out for a reply that the outbox took, and no null was sent
+pub loses_a_reply : (a b : Option (List ℕ)) (sends : List Message) → (GetsFrames sends a b → ⊥) → Wrote a b (Err NoMemory) decided None sends → ⊥
+loses_a_reply a b sends lost (inl all) = lost all
+loses_a_reply a b sends lost (inr most) = most.0
 
 -- a wake among what was read of a text
 pub woken_by_nobody : (limit : ℕ) (came : List (Option Message)) (text at : List ℕ) → FoldsTo (ReadsMessage limit) text came at

@@ -18,7 +18,7 @@ use Rattle.lsp_session.specs.Finish.{FinishAnswer, FinishesAt}
 use Rattle.lsp_session.specs.FrameBoxes.{FrameOutboxSends, Told, kept_write}
 use Rattle.lsp_session.specs.ProtocolError.{out_of_memory}
 use Rattle.lsp_session.specs.Session.{Exchange, came_of, letters_of, sends_of, SessionAnswer, SessionPart, Stop, decided, no_more, timed_out, refused, exhausted}
-use Rattle.lsp_session.specs.SessionBytes.{ReadsMessage, IsUnsent, LeftAfter, Ends, Wrote, Gives, GetsFirst}
+use Rattle.lsp_session.specs.SessionBytes.{ReadsMessage, IsUnsent, LeftAfter, Ends, Wrote, Gives, GetsAllButLast, LeftWithin}
 use Rattle.lsp_session.specs.SessionFault.{ran_out, came_to_no_more, plain_answer, read_fault, read_answer, session_answer}
 use Rattle.lsp_session.specs.SessionRun.{came_in, is_open, Brings, Runs, all_of, OffersLast, RefusesLast, Gets}
 use Rattle.lsp_session.specs.StreamBoxes.{stream_of, StreamInboxGives}
@@ -175,14 +175,10 @@ came_unwoken events came exhausted brought none =
         sym (list_all-append (λ (c : Option Message). is_some c) came (brought.0 ∷ [])) ∙ (rw brought.1 at none) in
     (and-true _ _ both).0
 
--- all of it was written
-pub whole_first : (ms : List Message) (old new : Option (List ℕ)) → GetsFrames ms old new → GetsFirst ms old new
-whole_first ms old new got = (ms, [], rw append-nil refl, got)
-
 -- what is written of messages where the write of the last one failed
 abbrev pub GetsPart : WriteFault → List Message → Option (List ℕ) → Option (List ℕ) → Type 0
 GetsPart (Output kind) ms old new = (whole : List Message) × (last : Message) × (ms ≡ whole ++ last ∷ []) × GetsFramesAndPart whole last old new
-GetsPart NoMemory ms old new = GetsFirst ms old new
+GetsPart NoMemory ms old new = GetsAllButLast ms old new
 
 -- the outbox refused no reply
 abbrev pub NotRefused : Stop → Type 0
@@ -202,7 +198,7 @@ module _ {W : Type 0} (contents : W → Option (List ℕ)) where
   offered ms m a b c (Err (Shut back)) None got writes told = absurd told
   offered ms m a b c (Err (Full back)) None got writes told = absurd told
   offered ms m a b c outcome (Some (Output kind)) got writes told = (ms, m, refl, breaks_off ms m (Output kind) a b c got writes)
-  offered ms m a b c outcome (Some NoMemory) got writes told = (ms, m ∷ [], refl, (got.0, got.1, Appends-Keeps a b c got.0 got.2 writes))
+  offered ms m a b c outcome (Some NoMemory) got writes told = (ms, m, refl, (got.0, got.1, Appends-Keeps a b c got.0 got.2 writes))
 
   -- the same, of an outbox that no write has failed in, and what follows
   sent_after : {A B : Type 0} (ms : List Message) (m : Message) (a b : Option (List ℕ)) (mid new : FrameOutbox W) (outcome : Result (Unit {0}) SendFault)
@@ -288,7 +284,7 @@ module _ (limit : ℕ) where
       exhausted_ends : (answer : SessionAnswer) → ran_out answer ≡ true → (end : Option ReadEnd) (left : Option (List ℕ)) (at : List ℕ)
           → StopsWithin left (reading_within limit at)
           → Ended left (read_answer answer end) answer exhausted at
-      exhausted_ends answer ran end left at stops = rw (ran_out_answer answer ran, ran_out_gives end) (stops, whole_first sends a b wrote)
+      exhausted_ends answer ran end left at stops = rw (ran_out_answer answer ran, ran_out_gives end) (stops, inl wrote)
 
       module _ (answer : SessionAnswer) (letters : List Message) where
         module _ (text : List ℕ) (new : Stream) (brought : Brought limit text letters new) where
@@ -309,7 +305,7 @@ module _ (limit : ℕ) where
         fault_ends : (fault : ReadFault) (left : Option (List ℕ)) (at : List ℕ) → Answers (λ (m : Message). m) (Err fault) left (reading_within limit at)
             → Ended left (Err (read_fault fault)) answer no_more at
         fault_ends (Input kind) left at answers = ((refl, answers), wrote)
-        fault_ends NoMemoryToRead left at answers = (answers, whole_first sends a b wrote)
+        fault_ends NoMemoryToRead left at answers = (answers, inl wrote)
         fault_ends fault left at answers = ((refl, (reading_within limit at).rest, unread_at fault at answers.0, answers.1), wrote)
 
         -- no more came
@@ -382,14 +378,14 @@ module _ (limit : ℕ) where
     left_within came stop answer brought facts = open_within (letters_in came) (open_brought came brought.0 brought.1)
 
     module _ (came : List (Option Message)) (null : Option Message) (answer : SessionAnswer) where
-      -- where a message was not sent, nothing after the last one was taken, but for what is awaited after the null
-      left_unsent : (kind : ErrorKind) (null : Option Message) (stop : Stop) → Brings events came stop → Facts stop (letters_in came) answer → IsUnsent stop null
-          → (at : List ℕ) × BeginsWith limit text (letters_in came) at × Ends limit new.remaining (Err (Write (Output kind))) answer stop null at
-      left_unsent kind null decided brought facts unsent = let all = open_brought came brought.0 brought.1 in (all.at, all.read, all.left)
-      left_unsent kind null (refused fault) brought facts unsent = let all = open_brought came brought.0 brought.1 in (all.at, all.read, all.left)
-      left_unsent kind null no_more brought facts unsent = left_within came no_more answer brought facts
-      left_unsent kind null timed_out brought facts unsent = left_within came timed_out answer brought facts
-      left_unsent kind null exhausted brought facts unsent = left_within came exhausted answer brought facts
+      -- what is left where a write or an allocation failed
+      pub left_after : (stop : Stop) → Brings events came stop → Facts stop (letters_in came) answer
+          → (at : List ℕ) × BeginsWith limit text (letters_in came) at × LeftWithin limit stop at new.remaining
+      left_after decided brought facts = let all = open_brought came brought.0 brought.1 in (all.at, all.read, all.left)
+      left_after (refused fault) brought facts = let all = open_brought came brought.0 brought.1 in (all.at, all.read, all.left)
+      left_after no_more brought facts = left_within came no_more answer brought facts
+      left_after timed_out brought facts = absurd (no_timeout limit brought.1.0 old new (rw brought.1.1 at run))
+      left_after exhausted brought facts = left_within came exhausted answer brought facts
 
       -- no write failed
       pub stop_ends : (sends : List Message) (a b : Option (List ℕ)) → GetsFrames sends a b → (stop : Stop) → Brings events came stop → NotRefused stop
@@ -457,14 +453,15 @@ module _ (limit : ℕ) where
             (sends_of runs.exchanges) (contents outbox.writer.now) (contents outbox'.writer.now) written.1 runs.stop runs.brought written.0 facts in
             gives (read_answer answer inbox'.end) all.0 all.1 all.2
         at (Some (Output kind)) unwritten =
-            let all = left_unsent text (stream_of remaining inbox) (stream_of remaining inbox') unended known runs.events run
+            let all = left_after text (stream_of remaining inbox) (stream_of remaining inbox') unended known runs.events run
             (came_of runs.exchanges) runs.null answer
-            kind runs.null runs.stop runs.brought facts unwritten.0 in
+            runs.stop runs.brought facts in
             gives (Err (Write (Output kind))) all.0 all.1 (all.2, (tt, unwritten.0, unwritten.1.0, unwritten.1.1, unwritten.1.2, unwritten.1.3))
         at (Some NoMemory) unwritten =
-            let all = left_within text (stream_of remaining inbox) (stream_of remaining inbox') unended known runs.events run
-            (came_of runs.exchanges) runs.stop answer runs.brought facts in
-            gives (Err Memory) all.0 all.1 (all.2, unwritten.1)
+            let all = left_after text (stream_of remaining inbox) (stream_of remaining inbox') unended known runs.events run
+            (came_of runs.exchanges) runs.null answer
+            runs.stop runs.brought facts in
+            gives (Err Memory) all.0 all.1 (all.2, inr (unwritten.0, unwritten.1))
 
     -- the same of the reader and the writer that were lent
     pub session_gives : (first last : R) (first' last' : W) → inbox.reader.now ≡ first → outbox.writer.now ≡ first'

@@ -1,5 +1,5 @@
 -- A session over relays, as its contract says it: it is one over bytes, but what is left of them is not known.
-use Rattle.std.proofs.Common.{◌≡◌, refl, ◌∙◌, ap, subst, ℕ, false, List, [], ◌∷◌, ◌++◌, map, Some, None, Option, IfSome}
+use Rattle.std.proofs.Common.{◌≡◌, refl, sym, ◌∙◌, ap, subst, inl, inr, append-nil, ℕ, false, List, [], ◌∷◌, ◌++◌, map, Some, None, Option, IfSome}
 use Rattle.std.specs.Bool.{MatchBool}
 use Rattle.std.specs.List.{FoldsTo}
 use Rattle.std.specs.Prelude.{Result, Ok, Err, IfOk}
@@ -17,9 +17,9 @@ use Rattle.lsp_relay.specs.Relay.{ended, has_end, Sending}
 use Rattle.lsp_relay.specs.declared.ends.Parcel.{Parcel}
 use Rattle.lsp_relay.specs.declared.ends.Parcel.TheVariants as parcel
 use Rattle.lsp_session.proofs.Ran.{Facts}
-use Rattle.lsp_session.proofs.SessionGives.{BeginsWith, letters_in, left_within, stop_ends, NotRefused, WakingGives}
+use Rattle.lsp_session.proofs.SessionGives.{BeginsWith, letters_in, left_after, stop_ends, NotRefused, WakingGives}
 use Rattle.lsp_session.specs.Session.{Exchange, came_of, letters_of, sends_of, SessionAnswer, SessionPart, Stop, decided, refused}
-use Rattle.lsp_session.specs.SessionBytes.{Wrote}
+use Rattle.lsp_session.specs.SessionBytes.{LeftWithin, Wrote}
 use Rattle.lsp_session.specs.SessionFault.{read_answer, session_answer}
 use Rattle.lsp_session.specs.SessionRun.{all_of, Runs}
 use Rattle.lsp_session.specs.Streams.{Stream}
@@ -37,7 +37,8 @@ wrote_so : (a b : Option (List ℕ)) (result : Result SessionEnd SessionFault) (
     → WroteInThreads a b result stop null sends
 wrote_so a b (Err (Write fault)) stop null sends (output, unsent, whole, last, cut, got) =
     (output, record { whole = whole; next = last; unwritten = []; cut = cut; got = got })
-wrote_so a b (Err Memory) stop null sends wrote = wrote
+wrote_so a b (Err Memory) stop null sends (inl wrote) = (sends, [], sym (append-nil sends), wrote)
+wrote_so a b (Err Memory) stop null sends (inr most) = (most.1.0, most.1.1 ∷ [], most.1.2, most.1.3)
 wrote_so a b result stop null sends wrote = wrote
 
 -- the messages of a text are what was read of it, and a wake reads nothing
@@ -72,24 +73,18 @@ module _ (limit : ℕ) (P : SessionPart)
       wrote = wrote;
     }
 
-    -- a write failed
-    unwritten : (stop : Stop) (null : Option Sent) (at : List ℕ) (fault : WriteFault) → EndsInThreads limit (Err (Write fault)) answer stop null at
-    unwritten decided null at fault = (Some at, refl)
-    unwritten (refused refusal) null at fault = (Some at, refl)
-    unwritten stop null at fault = (Some at, frame_unread body_means limit at)
-
     gives : (fault : Option WriteFault) → WritesAll (sends_of runs.exchanges) fault a b → ThreadsGive limit P text a b (session_answer answer s.end fault)
     gives None written =
         let all = stop_ends limit text _ s refl refl runs.events run (came_of runs.exchanges) runs.null answer (sends_of runs.exchanges) a b written runs.stop runs.brought posts.0 facts in
         over (read_answer answer s.end) all.0 all.1 (s.remaining, all.2.0) (wrote_so a b (read_answer answer s.end) runs.stop runs.null (sends_of runs.exchanges) all.2.1)
     gives (Some fault) written = at fault written
       where
-        read : (at : List ℕ) × BeginsWith limit text (letters_of runs.exchanges) at × StopsWithin s.remaining (reading_within limit at)
-        read = left_within limit text _ s refl refl runs.events run (came_of runs.exchanges) runs.stop answer runs.brought facts
+        read : (at : List ℕ) × BeginsWith limit text (letters_of runs.exchanges) at × LeftWithin limit runs.stop at s.remaining
+        read = left_after limit text _ s refl refl runs.events run (came_of runs.exchanges) runs.null answer runs.stop runs.brought facts
 
         at : (fault : WriteFault) → WritesAll (sends_of runs.exchanges) (Some fault) a b → ThreadsGive limit P text a b (session_answer answer s.end (Some fault))
         at (Output kind) (whole, next, others, cut, got) =
-            over (Err (Write (Output kind))) read.0 read.1 (unwritten runs.stop runs.null read.0 (Output kind)) (tt, record { whole = whole; next = next; unwritten = others; cut = cut; got = got })
+            over (Err (Write (Output kind))) read.0 read.1 (s.remaining, read.2) (tt, record { whole = whole; next = next; unwritten = others; cut = cut; got = got })
         at NoMemory (whole, next, others, cut, got) = over (Err Memory) read.0 read.1 (s.remaining, read.2) (whole, next ∷ others, cut, got)
 
   -- what the threads of a session come to in bytes

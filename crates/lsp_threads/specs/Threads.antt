@@ -4,7 +4,7 @@ use Rattle.lsp_message.specs.Frame.{Begins}
 use Rattle.lsp_message.specs.Message.{Message}
 use Rattle.lsp_message.specs.Written.{GetsFrames, GetsFramesAndPart, IsOutput}
 use Rattle.lsp_session.specs.Session.{SessionAnswer, SessionPart, Stop}
-use Rattle.lsp_session.specs.SessionBytes.{Ends, GetsFirst, SessionOver}
+use Rattle.lsp_session.specs.SessionBytes.{Ends, SessionOver}
 use Rattle.lsp_session.specs.declared.loops.ReadEnd.{ReadEnd}
 use Rattle.lsp_session.specs.declared.loops.ReadEnd.TheVariants.{Exit}
 use Rattle.lsp_session.specs.declared.loops.handler.SessionEnd.{SessionEnd}
@@ -18,6 +18,10 @@ pub record BreaksOffWithin (ms : List Message) (old new : Option (List ℕ)) : T
   pub unwritten : List Message
   pub cut : ms ≡ whole ++ next ∷ unwritten
   pub got : GetsFramesAndPart whole next old new
+
+-- the writer got frames of the first of these messages, and nothing of the others
+abbrev pub GetsFirst : List Message → Option (List ℕ) → Option (List ℕ) → Type 0
+GetsFirst ms old new = (sent : List Message) × (unsent : List Message) × (ms ≡ sent ++ unsent) × GetsFrames sent old new
 
 -- The first frame of the text is this message, and the rest follows it; or others woke the session, and nothing was read.
 abbrev pub ReadsOrWakes : ℕ → List ℕ → Option Message → List ℕ → Type 0
