@@ -6,19 +6,23 @@ use Rattle.lsp_message.specs.Message.{Message, ErrorObject, request, notificatio
 use Rattle.lsp_message.specs.Methods.{is_initialize}
 use Rattle.lsp_queue.specs.Queue.{Pending}
 use Rattle.lsp_service.specs.Desk.{Act, asks}
-use Rattle.lsp_service.specs.Law.{is_reply_under, is_request_under, how_many, held_under, NeverMore, OnceOrEnded, Turn, GivesOwnPayloads, KeepsLaws}
+use Rattle.lsp_service.specs.Law.{one_if, acts_of, all_sent, kept_under, was_given, is_reply_under, is_request_under, how_many, held_under, NeverMore, OnceOrEnded, Turn, GivesOwnPayloads, KeepsLaws}
 use Rattle.lsp_service.specs.declared.server.Server.{Ghosts as Stated}
 use Rattle.lsp_session.proofs.Refused.{served_first}
 use Rattle.lsp_session.specs.Session.{Exchange, sends_of, SessionAnswer, Stop, exhausted}
 use Rattle.lsp_session.specs.declared.loops.handler.SessionEnd.{SessionEnd}
 use Rattle.serde_json.specs.Data.{Data}
-use Rattle.std.proofs.Common.{◌≡◌, refl, sym, ◌∙◌, ap, inl, inr, ◌⊎◌, ℕ, ◌≤◌, true, false, List, [], ◌∷◌, ◌++◌, arith, Option, Some, None}
+use Rattle.std.proofs.Common.{◌≡◌, refl, sym, ◌∙◌, ap, subst, inl, inr, ℕ, ◌+◌, ◌≤◌, Bool, true, false, List, [], ◌∷◌, ◌++◌, arith, Option, Some, None}
 use Rattle.std.specs.Ordering.{eq_by_cmp}
-use Rattle.std.specs.Prelude.{Result, Ok, Err, pos}
+use Rattle.std.specs.Prelude.{Result, Ok, pos, ◌||◌, if◌then◌else◌}
 
 -- an id is itself
 same : (id : Id) → eq_by_cmp id_cmp id id ≡ true
 same id = (id_decides id id).1 refl
+
+-- one reply under an id is one
+replies_one : (id : Id) (outcome : Result Data ErrorObject) → how_many (is_reply_under id) (response id outcome ∷ []) ≡ 1
+replies_one id outcome = ap (λ (b : Bool). one_if b + 0) (same id)
 
 -- a request under this id, for which this is sent
 abbrev asked : Id → List ℕ → Data → List Message → Exchange
@@ -30,25 +34,28 @@ asked id method params said = record { letter = Some (request id method params);
 pub replies_to_nobody : (id : Id) (method : List ℕ) (params : Data) (outcome : Result Data ErrorObject) (more : List Exchange)
     → NeverMore id (record { letter = Some (notification method params); said = response id outcome ∷ [] } ∷ more) → ⊥
 replies_to_nobody id method params outcome more never =
-    let few = never (record { letter = Some (notification method params); said = response id outcome ∷ [] } ∷ []) more refl in
-    let none : 1 ≤ 0 = (rw (same id) at few) in
+    let none : 1 ≤ 0 = subst (λ (n : ℕ). n ≤ 0) (replies_one id outcome)
+        (never (record { letter = Some (notification method params); said = response id outcome ∷ [] } ∷ []) more refl) in
     omega (arith, none)
 
 -- a reply goes out at a wake, and no request has come
 pub replies_woken : (id : Id) (outcome : Result Data ErrorObject) (more : List Exchange)
     → NeverMore id (record { letter = None; said = response id outcome ∷ [] } ∷ more) → ⊥
 replies_woken id outcome more never =
-    let few = never (record { letter = None; said = response id outcome ∷ [] } ∷ []) more refl in
-    let none : 1 ≤ 0 = (rw (same id) at few) in
+    let none : 1 ≤ 0 = subst (λ (n : ℕ). n ≤ 0) (replies_one id outcome) (never (record { letter = None; said = response id outcome ∷ [] } ∷ []) more refl) in
     omega (arith, none)
 
 -- one request gets two replies
 pub replies_twice : (id : Id) (method : List ℕ) (params : Data) (first second : Result Data ErrorObject) (more : List Exchange)
     → NeverMore id (asked id method params (response id first ∷ response id second ∷ []) ∷ more) → ⊥
 replies_twice id method params first second more never =
-    let few = never (asked id method params (response id first ∷ response id second ∷ []) ∷ []) more refl in
-    let one : 2 ≤ 1 = (rw (same id) at few) in
-    omega (arith, one)
+    let two : how_many (is_reply_under id) (response id first ∷ response id second ∷ []) ≡ 2 = ap (λ (b : Bool). one_if b + (one_if b + 0)) (same id) in
+    let once : how_many (is_request_under id) (request id method params ∷ []) ≡ 1 = ap (λ (b : Bool). one_if b + 0) (same id) in
+    let few : 2 ≤ how_many (is_request_under id) (request id method params ∷ []) =
+        subst (λ (n : ℕ). n ≤ how_many (is_request_under id) (request id method params ∷ [])) two
+        (never (asked id method params (response id first ∷ response id second ∷ []) ∷ []) more refl) in
+    let over : 2 ≤ 1 = subst (λ (n : ℕ). 2 ≤ n) once few in
+    omega (arith, over)
 
 -- ---- exactly one, or still held
 
@@ -83,8 +90,10 @@ module _ {P : Type 0} where
   pub given_twice : (id : Id) (first second : Result Data ErrorObject) (one two : P) (begun acts others : List (Act P)) (more : List (Turn P))
       → GivesOwnPayloads begun (given id first (Some one) acts ∷ given id second (Some two) others ∷ more) → ⊥
   given_twice id first second one two begun acts others more gives =
-      let brought = gives (given id first (Some one) acts ∷ []) more (given id second (Some two) others) id refl (same id) in
-      let e : Some two ≡ None = (rw (same id) at brought) in
+      let before : List (Turn P) = given id first (Some one) acts ∷ [] in
+      let over : was_given id before ≡ true = ap (λ (b : Bool). b || false) (same id) in
+      let e : Some two ≡ None = subst (λ (b : Bool). Some two ≡ (if b then None else kept_under id (all_sent 0 (begun ++ acts_of before)))) over
+          (gives before more (given id second (Some two) others) id refl (same id)) in
       cc (e)
 
   -- what the server asked first comes back with the payload of another, or with none
