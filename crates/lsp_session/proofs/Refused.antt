@@ -364,29 +364,29 @@ refuses_allowed i k params result given asked method opening stop null shown non
     at (inr unopened) = let e = unopened.0.0 in cc (e)
 
 -- no `initialize` comes; `shutdown` gets a null, then a request gets a result and another `shutdown` another null
-pub goes_on_after_shutdown : (i j k : Id) (asked given result : Data) (method : List ℕ) (stop : Stop) (none : Option Message) (answer : SessionAnswer)
-    → KeepsOrder (shutting i asked (null_reply i ∷ []) ∷ granted j method given result ∷ shutting k asked (null_reply k ∷ []) ∷ []) stop none answer → ⊥
-goes_on_after_shutdown i j k asked given result method stop none answer order =
-    served_first stop none answer i (codes "shutdown") asked null_data (granted j method given result ∷ shutting k asked (null_reply k ∷ []) ∷ []) refl order
+pub goes_on_after_shutdown : (i j k : Id) (asked given result : Data) (method : List ℕ) (stop : Stop) (sent : Option Message) (answer : SessionAnswer)
+    → KeepsOrder (shutting i asked (null_reply i ∷ []) ∷ granted j method given result ∷ shutting k asked (null_reply k ∷ []) ∷ []) stop sent answer → ⊥
+goes_on_after_shutdown i j k asked given result method stop sent answer order =
+    served_first stop sent answer i (codes "shutdown") asked null_data (granted j method given result ∷ shutting k asked (null_reply k ∷ []) ∷ []) refl order
 
 -- a whole session comes before the `initialize` of another
-pub second_session : (i j k : Id) (params result given asked : Data) (stop : Stop) (none : Option Message) (answer : SessionAnswer) (more : List Exchange)
-    → KeepsOrder (begun i params result ∷ invited given [] ∷ shutting k asked (null_reply k ∷ []) ∷ begun j params result ∷ more) stop none answer → ⊥
-second_session i j k params result given asked stop none answer more order =
-    speaks_after_null stop none answer i k params result given asked [] (null_reply k ∷ []) _ (response j (Ok result)) [] more order
+pub second_session : (i j k : Id) (params result given asked : Data) (stop : Stop) (sent : Option Message) (answer : SessionAnswer) (more : List Exchange)
+    → KeepsOrder (begun i params result ∷ invited given [] ∷ shutting k asked (null_reply k ∷ []) ∷ begun j params result ∷ more) stop sent answer → ⊥
+second_session i j k params result given asked stop sent answer more order =
+    speaks_after_null stop sent answer i k params result given asked [] (null_reply k ∷ []) _ (response j (Ok result)) [] more order
 
 -- The write of the last message failed, the session was decided, and something behind the message that decided was taken; the same
 -- where memory ran out.
-pub eats_past_exit : (limit : ℕ) (fault : WriteFault) (answer : SessionAnswer) (none : Option Message) (at rest : List ℕ) → (rest ≡ at → ⊥)
-    → Ends limit (Some rest) (Err (Write fault)) answer decided none at ⊎ Ends limit (Some rest) (Err NoMemory) answer decided none at → ⊥
-eats_past_exit limit fault answer none at rest other (inl left) = let same : rest ≡ at = cc (left) in other same
-eats_past_exit limit fault answer none at rest other (inr left) = let same : rest ≡ at = cc (left) in other same
+pub eats_past_exit : (limit : ℕ) (fault : WriteFault) (answer : SessionAnswer) (sent : Option Message) (at rest : List ℕ) → (rest ≡ at → ⊥)
+    → Ends limit (Some rest) (Err (Write fault)) answer decided sent at ⊎ Ends limit (Some rest) (Err NoMemory) answer decided sent at → ⊥
+eats_past_exit limit fault answer sent at rest other (inl left) = let same : rest ≡ at = cc (left) in other same
+eats_past_exit limit fault answer sent at rest other (inr left) = let same : rest ≡ at = cc (left) in other same
 
 -- memory ran out, and two messages were not written
-pub loses_two : (a b : Option (List ℕ)) (stop : Stop) (none : Option Message) (sends : List Message)
-    → ((GetsFrames sends a b → ⊥) × (GetsAllButLast sends a b → ⊥)) → Wrote a b (Err NoMemory) stop none sends → ⊥
-loses_two a b stop none sends lost (inl all) = lost.0 all
-loses_two a b stop none sends lost (inr most) = lost.1 most.1
+pub loses_two : (a b : Option (List ℕ)) (stop : Stop) (sent : Option Message) (sends : List Message)
+    → ((GetsFrames sends a b → ⊥) × (GetsAllButLast sends a b → ⊥)) → Wrote a b (Err NoMemory) stop sent sends → ⊥
+loses_two a b stop sent sends lost (inl all) = lost.0 all
+loses_two a b stop sent sends lost (inr most) = lost.1 most.1
 
 -- memory ran out for a reply that the outbox took, and no null was sent
 pub loses_a_reply : (a b : Option (List ℕ)) (sends : List Message) → (GetsFrames sends a b → ⊥) → Wrote a b (Err NoMemory) decided None sends → ⊥
