@@ -35,7 +35,7 @@ pub replies_to_nobody : (id : Id) (method : List ℕ) (params : Data) (outcome :
     → NeverMore id (record { letter = Some (notification method params); said = response id outcome ∷ [] } ∷ more) → ⊥
 replies_to_nobody id method params outcome more never =
     let none : 1 ≤ 0 = subst (λ (n : ℕ). n ≤ 0) (replies_one id outcome)
-        (never (record { letter = Some (notification method params); said = response id outcome ∷ [] } ∷ []) more refl) in
+    (never (record { letter = Some (notification method params); said = response id outcome ∷ [] } ∷ []) more refl) in
     omega (arith, none)
 
 -- a reply goes out at a wake, and no request has come
@@ -52,8 +52,8 @@ replies_twice id method params first second more never =
     let two : how_many (is_reply_under id) (response id first ∷ response id second ∷ []) ≡ 2 = ap (λ (b : Bool). one_if b + (one_if b + 0)) (same id) in
     let once : how_many (is_request_under id) (request id method params ∷ []) ≡ 1 = ap (λ (b : Bool). one_if b + 0) (same id) in
     let few : 2 ≤ how_many (is_request_under id) (request id method params ∷ []) =
-        subst (λ (n : ℕ). n ≤ how_many (is_request_under id) (request id method params ∷ [])) two
-        (never (asked id method params (response id first ∷ response id second ∷ []) ∷ []) more refl) in
+    subst (λ (n : ℕ). n ≤ how_many (is_request_under id) (request id method params ∷ [])) two
+    (never (asked id method params (response id first ∷ response id second ∷ []) ∷ []) more refl) in
     let over : 2 ≤ 1 = subst (λ (n : ℕ). 2 ≤ n) once few in
     omega (arith, over)
 
@@ -93,7 +93,7 @@ module _ {P : Type 0} where
       let before : List (Turn P) = given id first (Some one) acts ∷ [] in
       let over : was_given id before ≡ true = ap (λ (b : Bool). b || false) (same id) in
       let e : Some two ≡ None = subst (λ (b : Bool). Some two ≡ (if b then None else kept_under id (all_sent 0 (begun ++ acts_of before)))) over
-          (gives before more (given id second (Some two) others) id refl (same id)) in
+      (gives before more (given id second (Some two) others) id refl (same id)) in
       cc (e)
 
   -- what the server asked first comes back with the payload of another, or with none
@@ -112,4 +112,4 @@ module _ {S P : Type 0} (may : Stated S P) (first last : S) (held : Pending (Uni
 
   -- the server is left in a state that its last exchange did not lead to
   pub forgets : (stop ≡ exhausted → ⊥) → (laws : KeepsLaws may first last held exchanges stop null answer) → (last ≡ laws.after → ⊥) → ⊥
-  forgets enough laws other = elim laws.kept [ | inl ran ↦ enough ran | inr kept ↦ other kept ]
+  forgets enough laws other = elim laws.kept [ inl ran ↦ enough ran | inr kept ↦ other kept ]

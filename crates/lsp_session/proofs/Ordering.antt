@@ -85,19 +85,19 @@ module _ {S : Type 0} (may : Behavior S) (stop : Stop) (null : Option Message) (
     replied = (one, rest.replied);
     opened = elim rest.opened [
       | inl opened ↦ inl (record {
-          ends = record {
-            before = x ∷ opened.ends.before;
-            id = opened.ends.id;
-            method = opened.ends.method;
-            params = opened.ends.params;
-            result = opened.ends.result;
-            asks = opened.ends.asks;
-            cut = ap (λ (l : List Exchange). x ∷ l) opened.ends.cut;
-          };
-          refused = refused_more x opened.ends.before errors opened.refused;
-          came = (early, opened.came);
-          later = opened.later;
-        })
+        ends = record {
+          before = x ∷ opened.ends.before;
+          id = opened.ends.id;
+          method = opened.ends.method;
+          params = opened.ends.params;
+          result = opened.ends.result;
+          asks = opened.ends.asks;
+          cut = ap (λ (l : List Exchange). x ∷ l) opened.ends.cut;
+        };
+        refused = refused_more x opened.ends.before errors opened.refused;
+        came = (early, opened.came);
+        later = opened.later;
+      })
       | inr unopened ↦ inr (refused_more x rest.early errors unopened.0, (early, unopened.1), unopened.2, unopened.3)
     ];
   }
@@ -124,18 +124,21 @@ module _ {S : Type 0} (may : Behavior S) (stop : Stop) (null : Option Message) (
 
   -- one more exchange from `initialized` on, in which no `shutdown` comes
   later_before : (x : Exchange) (xs : List Exchange) → list_all is_served (letters_of (x ∷ [])) ≡ true → Later xs → Later (x ∷ xs)
-  later_before x xs passed (inl without) = inl (elim without.0 [
-    | inl all ↦ inl (letters_more is_served x xs passed ∙ all.0, all.1)
-    | inr left ↦ inr (record {
-      before = x ∷ left.before;
-      last = left.last;
-      cut = ap (λ (l : List Exchange). x ∷ l) left.cut;
-      none_before = letters_more is_served x left.before passed ∙ left.none_before;
-      leaves = left.leaves;
-      decides = left.decides;
-      closes = left.closes;
-    })
-  ], without.1)
+  later_before x xs passed (inl without) = inl (
+    elim without.0 [
+      | inl all ↦ inl (letters_more is_served x xs passed ∙ all.0, all.1)
+      | inr left ↦ inr (record {
+        before = x ∷ left.before;
+        last = left.last;
+        cut = ap (λ (l : List Exchange). x ∷ l) left.cut;
+        none_before = letters_more is_served x left.before passed ∙ left.none_before;
+        leaves = left.leaves;
+        decides = left.decides;
+        closes = left.closes;
+      })
+    ],
+    without.1,
+  )
   later_before x xs passed (inr last) = inr (record {
     before = x ∷ last.before;
     id = last.id;
@@ -181,15 +184,18 @@ module _ {S : Type 0} (may : Behavior S) (stop : Stop) (null : Option Message) (
     order_idle m there (leaves here is said next) =
         let over : Order (ended None (Ok Closed)) xs = rw next at rest in
         let silent : x.said ≡ [] = none said in
-        rw here (inl (inr (record {
-          before = [];
-          last = m;
-          cut = λ j. record { letter = there j; said = silent j } ∷ over.0 j;
-          none_before = refl;
-          leaves = is;
-          decides = over.2;
-          closes = over.3;
-        }), over.1))
+        rw here (inl (
+          inr (record {
+            before = [];
+            last = m;
+            cut = λ j. record { letter = there j; said = silent j } ∷ over.0 j;
+            none_before = refl;
+            leaves = is;
+            decides = over.2;
+            closes = over.3;
+          }),
+          over.1,
+        ))
     order_idle m there (exits i here is said next) =
         let over : Order (ended (Some (null_reply i)) (Ok ShutDown)) xs = rw next at rest in
         rw here ((over.0, none said, over.2, rw (there, is) over.3), over.1)
@@ -282,9 +288,9 @@ opened_before xs stop null answer before more m order sent other =
     let after = after_replies (requests_of (letters_of order.early)) (sends_of order.early) before (sends_of order.rest) more m (each_replied order.early order.replied) other parts in
     elim order.opened [
       | inl opened ↦ (elim opened.later [
-          | inl invited ↦ (order.early, order.rest, after.0, order.cut, after.1, opened.ends, invited.0)
-          | inr none ↦ absurd (never_none after.0 more m (sym (stopped_silent in_reply _ _ order.rest stop answer none.0) ∙ after.2))
-        ])
+        | inl invited ↦ (order.early, order.rest, after.0, order.cut, after.1, opened.ends, invited.0)
+        | inr none ↦ absurd (never_none after.0 more m (sym (stopped_silent in_reply _ _ order.rest stop answer none.0) ∙ after.2))
+      ])
       | inr none ↦ absurd (never_none after.0 more m (sym (stopped_silent starting _ _ order.rest stop answer none.2) ∙ after.2))
     ]
 

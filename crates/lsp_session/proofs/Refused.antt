@@ -51,18 +51,18 @@ none_ends_well awaiting no_more end is stops = cc (stops)
 none_ends_well awaiting timed_out end is stops = stops
 none_ends_well awaiting (cut_off fault) end is stops = cc (stops)
 none_ends_well awaiting exhausted end is stops = cc (stops)
-none_ends_well serving stop end is stops = elim is [ | inl e ↦ cc (e) | inr e ↦ cc (e) ]
-none_ends_well (shut i) stop end is stops = elim is [ | inl e ↦ cc (e) | inr e ↦ cc (e) ]
-none_ends_well p stop end is stops = elim is [ | inl e ↦ cc (e) | inr e ↦ cc (e) ]
+none_ends_well serving stop end is stops = elim is [ inl e ↦ cc (e) | inr e ↦ cc (e) ]
+none_ends_well (shut i) stop end is stops = elim is [ inl e ↦ cc (e) | inr e ↦ cc (e) ]
+none_ends_well p stop end is stops = elim is [ inl e ↦ cc (e) | inr e ↦ cc (e) ]
 
 -- while it serves no message is awaited in the place of `initialized`, and it is not shut down
 serves_on : (stop : Stop) (answer : SessionAnswer) (shown : List ℕ) → (answer ≡ Ok ShutDown) ⊎ (answer ≡ Err (expected_initialized shown)) → StopsAt serving stop answer → ⊥
 serves_on decided answer shown is stops = stops
-serves_on no_more answer shown is stops = elim is [ | inl e ↦ cc (sym e ∙ stops) | inr e ↦ cc (sym e ∙ stops) ]
+serves_on no_more answer shown is stops = elim is [ inl e ↦ cc (sym e ∙ stops) | inr e ↦ cc (sym e ∙ stops) ]
 serves_on timed_out answer shown is stops = stops
-serves_on (cut_off (Lost m)) answer shown is stops = elim is [ | inl e ↦ cc (sym e ∙ stops) | inr e ↦ cc (sym e ∙ stops) ]
-serves_on (cut_off (Memory m)) answer shown is stops = elim is [ | inl e ↦ cc (sym e ∙ stops) | inr e ↦ cc (sym e ∙ stops) ]
-serves_on exhausted answer shown is stops = elim is [ | inl e ↦ cc (sym e ∙ stops) | inr e ↦ cc (sym e ∙ stops) ]
+serves_on (cut_off (Lost m)) answer shown is stops = elim is [ inl e ↦ cc (sym e ∙ stops) | inr e ↦ cc (sym e ∙ stops) ]
+serves_on (cut_off (Memory m)) answer shown is stops = elim is [ inl e ↦ cc (sym e ∙ stops) | inr e ↦ cc (sym e ∙ stops) ]
+serves_on exhausted answer shown is stops = elim is [ inl e ↦ cc (sym e ∙ stops) | inr e ↦ cc (sym e ∙ stops) ]
 
 -- after the null it is shut down by a message alone
 waits_for_exit : (i : Id) (stop : Stop) → StopsAt (shut i) stop (Ok ShutDown) → ⊥

@@ -91,7 +91,7 @@ result_among early ends =
 pub speaks_too_early : (exchanges : List Exchange) (before : List Message) → list_all is_refusal before ≡ true → OpenedBy exchanges before → ⊥
 speaks_too_early exchanges before errors (early, rest, later, cut, sent, ends, invited) =
     let parts : list_all is_refusal before ≡ (list_all is_refusal (sends_of early) && list_all is_refusal later) =
-        ap (list_all is_refusal) sent ∙ list_all-append is_refusal (sends_of early) later in
+    ap (list_all is_refusal) sent ∙ list_all-append is_refusal (sends_of early) later in
     let e : true ≡ false = sym errors ∙ parts ∙ ap (λ b. b && list_all is_refusal later) (result_among early ends) in
     cc (e)
 

@@ -172,7 +172,7 @@ came_unwoken events came timed_out brought none = rw brought.0 at none
 came_unwoken events came (refused fault) brought none = rw brought.0 at none
 came_unwoken events came exhausted brought none =
     let both : (list_all (λ (c : Option Message). is_some c) came && list_all (λ (c : Option Message). is_some c) (brought.0 ∷ [])) ≡ true =
-        sym (list_all-append (λ (c : Option Message). is_some c) came (brought.0 ∷ [])) ∙ (rw brought.1 at none) in
+    sym (list_all-append (λ (c : Option Message). is_some c) came (brought.0 ∷ [])) ∙ (rw brought.1 at none) in
     (and-true _ _ both).0
 
 -- what is written of messages where the write of the last one failed
