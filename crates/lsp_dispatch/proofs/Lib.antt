@@ -3,5 +3,6 @@ mod Keys
 mod LawLemmas
 mod Lists
 mod Live
+mod Refused
 mod Rows
 mod Runs

@@ -20,7 +20,7 @@ pub use lsp_service::laws::{
     turn_sends_its_acts,
 };
 pub use lsp_session::laws::{sessions, streams, turns};
-pub use lsp_threads::laws::threads_keep_order;
+pub use lsp_threads::laws::{threads_answer_requests, threads_keep_order};
 
 /// A session of a server in threads keeps the laws, as `server_keeps_laws` says it of one on one thread: a fact of each session that
 /// was run by `run_threads_with`, with a limit or without one.

@@ -168,7 +168,7 @@ module _ {S P : Type 0} (may : Stated S P) where
         rw (is, sent, early.is, next) (count_even w w starting (Some (request i method params)) (response i _ ∷ []) (omega arith) refl (rw begun at clean))
     count_idle p q w m said clean (early_note begun mute e sent next) =
         rw (sent, next) (count_even w w starting (Some m) [] (none_under m mute) refl (rw begun at clean))
-    count_idle p q w m said clean (unasked shown begun mute sent next) =
+    count_idle p q w m said clean (unasked shown begun mute other sent next) =
         rw (sent, next) (count_even w w (ended None (Err (expected_initialize shown))) (Some m) [] (none_under m mute) refl tt)
     count_idle p q w m said clean (uninvited shown begun e sent next) =
         count_fault w w q m said None (expected_initialized shown) sent next refl (λ is. inl (shown, refl))

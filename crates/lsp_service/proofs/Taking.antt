@@ -14,9 +14,10 @@ use Rattle.lsp_session.proofs.Ran.{part_none, part_one, Ran, reaches_ran, early_
 use Rattle.lsp_session.specs.ProtocolError.{expected_initialize, expected_initialized, unexpected_in_shutdown}
 use Rattle.lsp_session.specs.Replies.{null_reply, IsEarlyReply}
 use Rattle.lsp_session.specs.Session.{Exchange, came_of, sends_of, SessionAnswer, Stop, refused, Phase, starting, replied as in_reply, serving, asked, ended, phase_after, is_served, Fails, Leaves, Step, SessionOut}
+use Rattle.lsp_session.specs.SessionLaws.{is_refusal}
 use Rattle.lsp_session.specs.declared.loops.handler.SessionEnd.TheVariants.{Closed, ShutDown}
 use Rattle.lsp_service.specs.Desk.{Desk, TakesBack, does_all, empty_desk, unsent}
-use Rattle.lsp_service.specs.Law.{IsWhole, requests_in, request_of, ids_after_all, all_sent, acts_of, is_turn, IsUnserved, TakesTurns, TakesPart, GivesPayloads, is_refusal, GoesOn, Initializes, KeepsLaws, LawfulSession}
+use Rattle.lsp_service.specs.Law.{IsWhole, requests_in, request_of, ids_after_all, all_sent, acts_of, is_turn, IsUnserved, TakesTurns, TakesPart, GivesPayloads, GoesOn, Initializes, KeepsLaws, LawfulSession}
 use Rattle.lsp_service.specs.QueuedServer.{at_desk, held_by, OpensSaying, ServerSession, WorksGiving}
 use Rattle.lsp_service.specs.declared.desk.QueuedServer.{QueuedServer}
 use Rattle.lsp_service.proofs.Counting.{Fresh, kept_to_last, never_more, answered_once}
@@ -311,7 +312,7 @@ module _ {S P : Type 0} (may : Stated S P) (stop : Stop) where
       by later (idle m there same any (early_request i method params reply first is replies sent next)) =
           more (rw (one reply sent, replies.is) refl) (later (rw same fresh) (rw next at run.8))
       by later (idle m there same any (early_note first mute e sent next)) = more (rw (none sent) refl) (later (rw same fresh) (rw next at run.8))
-      by later (idle m there same any (unasked_for shown first mute sent next)) =
+      by later (idle m there same any (unasked_for shown first mute other sent next)) =
           let rest = over xs None (Err (expected_initialize shown)) q run.5 w' (rw next at run.8) in
           inl (rw (none sent, rest.0) refl, (run.5.server, begun, rw rest.0 (ap (λ (x : QueuedServer S P). x.server) rest.1)))
       by later (idle m there same any (uninvited shown first e sent next)) = absurd (cc (first))

@@ -3,7 +3,7 @@
 use Rattle.serde_json.specs.Data.{Data}
 use Rattle.std.specs.FinMap as map
 use Rattle.std.specs.Ordering.{eq_by_cmp}
-use Rattle.std.specs.Prelude.{◌≡◌, ◌≤◌, ◌⊎◌, ◌+◌, ◌||◌, ◌&&◌, ℕ, pos, Bool, true, false, List, [], ◌∷◌, ◌++◌, map as map_list, fold, Option, Some, None, is_some, IsSomeAnd, Result, Err, IsErrAnd, if◌then◌else◌}
+use Rattle.std.specs.Prelude.{◌≡◌, ◌≤◌, ◌⊎◌, ◌+◌, ◌||◌, ◌&&◌, ℕ, pos, Bool, true, false, List, [], ◌∷◌, ◌++◌, map as map_list, fold, Option, Some, None, is_some, IsSomeAnd, Result, IsErrAnd, if◌then◌else◌}
 use Rattle.std.specs.Bool.{MatchBool}
 use Rattle.std.specs.List.{list_all}
 use Rattle.lsp_message.specs.Id.{Id, id_cmp, number}
@@ -13,7 +13,7 @@ use Rattle.lsp_queue.specs.Queue.{Pending}
 use Rattle.lsp_session.specs.Finish.{is_initialized}
 use Rattle.lsp_session.specs.ProtocolError.{ShowsUnallowed}
 use Rattle.lsp_session.specs.Session.{Exchange, came_of, letters_of, sends_of, SessionAnswer, SessionPart, Stop, decided, refused, exhausted, is_served}
-use Rattle.lsp_session.specs.SessionLaws.{EndsWithResult, KeepsOrder}
+use Rattle.lsp_session.specs.SessionLaws.{EndsWithResult, KeepsOrder, AllRefused}
 use Rattle.lsp_service.specs.Desk.{Act, asks, is_spent, ids_after, unsent, TakesBack, Woken}
 use Rattle.lsp_service.specs.QueuedServer.{ServerSession, held_by}
 use Rattle.lsp_service.specs.declared.server.Server.{Ghosts as Stated}
@@ -136,11 +136,6 @@ module _ {P : Type 0} where
       (before after : List (Turn P)) (turn : Turn P) (id : Id) → turns ≡ before ++ turn ∷ after → came_with (is_reply_under id) turn.letter ≡ true
       → turn.payload ≡ brings id (all_sent 0 (begun ++ acts_of before)) before
 
--- a reply that is an error
-abbrev pub is_refusal : Message → Bool
-is_refusal (response i (Err error)) = true
-is_refusal m = false
-
 -- it is the server's turn: a wake, or a message but `shutdown` and `exit`
 abbrev pub is_turn : Option Message → Bool
 is_turn None = true
@@ -213,9 +208,9 @@ module _ {S P : Type 0} (may : Stated S P) where
   -- Nothing but errors is sent. Or errors first, then the result of `initialize`, and the session goes on from there.
   abbrev pub GivesPayloads : S → S → List Exchange → Stop → Type 0
   GivesPayloads first last exchanges stop =
-      ((list_all is_refusal (sends_of exchanges) ≡ true) × AnswersInitialize first exchanges last)
+      (AllRefused exchanges × AnswersInitialize first exchanges last)
       ⊎ ((early : List Exchange) × (rest : List Exchange) × (exchanges ≡ early ++ rest)
-      × (ends : EndsWithResult early) × (list_all is_refusal (sends_of ends.before) ≡ true)
+      × (ends : EndsWithResult early) × AllRefused ends.before
       × (start : S) × AnswersInitialize first early start × GoesOn start last rest stop)
 
   -- the laws of a session, in whose end these requests are held

@@ -16,7 +16,7 @@ use std::io::{BufRead, Write};
 
 /// Runs a session of a server that speaks, from a reader's bytes to a writer's (LSP 3.17, "Base Protocol" and "Server lifecycle"),
 /// and gives the server back with the answer. The server is given the messages after `initialized`, and what it does at each is
-/// written before the next is read.
+/// written before the next is read (tested, and no part of this contract).
 ///
 /// The lifecycle, the faults, and what is left in the reader are those of `session`. The answer is
 /// - `Ok`, where the session ended by `exit`, or from `initialized` on by the end of the input,

@@ -6,7 +6,7 @@ use Rattle.lsp_session.specs.Event.{Event}
 use Rattle.lsp_session.specs.HandlerService.{KeepsHandler, lent_handler}
 use Rattle.lsp_session.specs.HandlerSession.{initialize_result, of_handler}
 use Rattle.lsp_session.specs.Session.{Behavior, SessionAnswer, Exchange, Stop, decided, no_more, timed_out, refused, exhausted, Phase, starting, replied, serving, asked, ended, phase_after, Step, Steps, Reaches, Stops, SessionOut, SessionPart}
-use Rattle.lsp_session.specs.SessionBytes.{SessionOver, Gives}
+use Rattle.lsp_session.specs.SessionBytes.{ReadsMessage, SessionOver, Gives}
 use Rattle.lsp_session.specs.SessionRun.{Runs}
 use Rattle.lsp_session.specs.declared.lifecycle.SendFault.{SendFault}
 use Rattle.lsp_session.specs.declared.loops.handler.SessionEnd.{SessionEnd}
@@ -33,7 +33,7 @@ module _ {H : Type 0} (answers : H → Id → List ℕ → Data → Result Data 
   has_idle : (p p' : Phase) (s s' : HandlerService H) (m : Message) (sent : List Message) → Has p s → s' ≡ s → Idle p m sent p' → Has p' s'
   has_idle p p' s s' m sent has same (early_request i method params reply here is early said next) = rw (next, same) (rw here at has)
   has_idle p p' s s' m sent has same (early_note here mute early said next) = rw (next, same) (rw here at has)
-  has_idle p p' s s' m sent has same (unasked shown here mute said next) = rw next tt
+  has_idle p p' s s' m sent has same (unasked shown here mute other said next) = rw next tt
   has_idle p p' s s' m sent has same (uninvited shown here other said next) = rw next tt
   has_idle p p' s s' m sent has same (shuts i method params here is asks said next) = rw next tt
   has_idle p p' s s' m sent has same (leaves here is said next) = rw next tt
@@ -144,10 +144,10 @@ module _ (P Q : SessionPart)
     part = to run.exchanges run.stop run.null answer run.part;
   }
 
-  -- over the first messages of a text, whatever is said of its end and of what was written
-  pub over_as : (limit : ℕ) (text : List ℕ) (Ends : SessionAnswer → Stop → Option Message → List ℕ → Type 0) (Wrote : Stop → Option Message → List Message → Type 0)
-      → SessionOver limit P text Ends Wrote → SessionOver limit Q text Ends Wrote
-  over_as limit text Ends Wrote g = record {
+  -- over a text, however it is read, and whatever is said of its end and of what was written
+  pub over_as : {At : Type 0} (reads : At → Option Message → At → Type 0) (text : At) (Ends : SessionAnswer → Stop → Option Message → At → Type 0)
+      (Wrote : Stop → Option Message → List Message → Type 0) → SessionOver reads P text Ends Wrote → SessionOver reads Q text Ends Wrote
+  over_as reads text Ends Wrote g = record {
     exchanges = g.exchanges;
     at = g.at;
     read = g.read;
@@ -163,4 +163,4 @@ module _ (P Q : SessionPart)
   pub known_as : (limit : ℕ) (known left old new : Option (List ℕ)) (answer : Result SessionEnd SessionFault) → IfSome known (λ text. Gives limit P text left old new answer)
       → IfSome known (λ text. Gives limit Q text left old new answer)
   known_as limit None left old new answer gives = tt
-  known_as limit (Some text) left old new answer gives = over_as limit text _ _ gives
+  known_as limit (Some text) left old new answer gives = over_as (ReadsMessage limit) text _ _ gives

@@ -4,6 +4,8 @@ pub mod Handshake
 pub mod Lending
 pub mod Ordering
 pub mod Ran
+pub mod Refused
+pub mod RefusedReplies
 pub mod SameTexts
 pub mod SessionGives
 pub mod Waiting

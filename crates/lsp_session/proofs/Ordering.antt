@@ -1,101 +1,110 @@
 -- What the laws of a session say: it keeps the order of the lifecycle, and what follows for its beginning and its end.
 use Rattle.lsp_message.specs.Id.{Id}
 use Rattle.lsp_message.specs.Message.{Message, ErrorObject, request, notification, response}
-use Rattle.lsp_message.specs.Methods.{is_initialize}
-use Rattle.lsp_session.proofs.Ran.{part_none, part_one, Ran, reaches_ran, stops_by, ended_by, Holds, after_outcome, holds, Row, row, at_initialize, at_initialized, at_served, at_woken, idle, Idle, early_request, early_note, unasked, uninvited, shuts, leaves, exits, stays, IsNoRequest, initialized_no_request, exit_no_request, silent, one_reply, letters_both, letters_more, sends_both}
+use Rattle.lsp_message.specs.Methods.{is_early, is_initialize, is_initialized}
+use Rattle.lsp_session.proofs.Ran.{part_none, part_one, Ran, reaches_ran, stops_by, ended_by, Holds, after_outcome, holds, Row, row, at_initialize, at_initialized, at_served, at_woken, idle, Idle, early_request, early_note, unasked, uninvited, shuts, leaves, exits, stays, IsNoRequest, initialized_no_request, exit_no_request, silent, one_reply, letters_both, letters_more, sends_both, initialized_is_no_exit}
 use Rattle.lsp_session.proofs.Handshake.{AllZip-append}
 use Rattle.lsp_session.specs.Answered.{IsReplied, RepliesTo, RepliesToEach, requests_of, AllReplied, AnswersRequests, LastUnanswered}
 use Rattle.lsp_session.specs.HandlerSession.{Handles, of_handler}
 use Rattle.lsp_session.specs.ProtocolError.{ProtocolFault, disconnected, out_of_memory, fault_of_refusal, ShowsUnallowed, expected_initialize, expected_initialized, unexpected_in_shutdown, is_disconnected}
 use Rattle.lsp_session.specs.Replies.{null_reply}
 use Rattle.lsp_session.specs.Session.{Behavior, Exchange, letters_of, sends_of, SessionAnswer, Stop, decided, no_more, timed_out, refused, exhausted, Phase, starting, replied as in_reply, serving, asked, ended, null_of, phase_after, is_served, Stops, SessionOut, request_id}
-use Rattle.lsp_session.specs.SessionLaws.{IsInvited, IsUnopened, AfterNull, is_no_shutdown, EndsWithNull, HasNoShutdown, KeepsOrder, is_reply, OpenedBy}
+use Rattle.lsp_session.specs.SessionLaws.{IsInvited, IsUnopened, AfterNull, EndsWithNull, HasNoShutdown, KeepsOrder, IsOpened, IsUnstarted, comes_early, AllEarly, StopsAt, StopsBefore, is_refusal, AllRefused, is_reply, OpenedBy}
 use Rattle.lsp_session.specs.declared.lifecycle.SendFault.TheVariants.{Closed as Shut, Memory as Full}
 use Rattle.lsp_session.specs.declared.lifecycle.SendFault.{SendFault}
 use Rattle.lsp_session.specs.declared.loops.handler.SessionEnd.TheVariants.{Closed, ShutDown}
 use Rattle.serde_json.specs.Data.{Data}
 use Rattle.std.proofs.Common.{◌≡◌, refl, sym, ◌∙◌, ap, subst, inl, inr, ◌⊎◌, ℕ, true, false, List, [], ◌∷◌, ◌++◌, Option, Some, None}
 use Rattle.std.proofs.lemmas.List.Elements.{filter_map-append}
+use Rattle.std.proofs.lemmas.List.Folds.{list_all-append}
 use Rattle.std.specs.List.{list_all}
-use Rattle.std.specs.Prelude.{Result, Ok, Err, IsErrAnd, MatchOption}
+use Rattle.std.specs.Prelude.{Result, Ok, Err, IsErrAnd, IsSomeAnd, Bool, MatchOption, ◌&&◌}
 
-served_no_shutdown : (m : Message) → is_served m ≡ true → is_no_shutdown m ≡ true
-served_no_shutdown (request i method params) served = (Rattle.lsp_session.proofs.Waiting.and-true (is_no_shutdown (request i method params)) true served).0
-served_no_shutdown m served = refl
+initialized_served : (m : Message) → is_initialized m ≡ true → is_served m ≡ true
+initialized_served (request i method params) is = absurd (cc (is))
+initialized_served (notification method params) is = initialized_is_no_exit (notification method params) is
+initialized_served (response i outcome) is = absurd (cc (is))
 
-no_request_no_shutdown : (m : Message) → IsNoRequest m → is_no_shutdown m ≡ true
-no_request_no_shutdown (request i method params) mute = absurd mute
-no_request_no_shutdown m mute = refl
-
-memory_allowed : ShowsUnallowed out_of_memory → ⊥
-memory_allowed (inl shows) = let e : out_of_memory ≡ expected_initialized shows.0 = shows.1 in cc (e)
-memory_allowed (inr shows) = let e : out_of_memory ≡ unexpected_in_shutdown shows.0 = shows.1 in cc (e)
+note_early : (m : Message) → IsNoRequest m → (b : Bool) → is_early m ≡ b → comes_early m ≡ b
+note_early (request i method params) mute b is = absurd mute
+note_early (notification method params) mute b is = is
+note_early (response i outcome) mute b is = is
 
 still_there : (fault : ProtocolFault) → is_disconnected fault ≡ true → ShowsUnallowed fault → ⊥
 still_there fault lost (inl shows) = let e = (rw shows.1 at lost) in cc (e)
 still_there fault lost (inr shows) = let e = (rw shows.1 at lost) in cc (e)
 
-refusal_allowed : (fault : SendFault) → ShowsUnallowed (fault_of_refusal fault) → ⊥
-refusal_allowed (Shut m) shows = still_there disconnected refl shows
-refusal_allowed (Full m) shows = memory_allowed shows
+-- one more exchange, for which errors alone are sent
+refused_more : (x : Exchange) (xs : List Exchange) → list_all is_refusal x.said ≡ true → AllRefused xs → AllRefused (x ∷ xs)
+refused_more x xs one all = list_all-append is_refusal x.said (sends_of xs) ∙ (rw (one, all) refl)
+
+-- the answer of a phase, whatever the service is
+stops_at : {S : Type 0} (may : Behavior S) (p : Phase) (s s' : S) (stop : Stop) (answer : SessionAnswer) → Stops may p s stop answer s' → StopsAt p stop answer
+stops_at may (ended n by) s s' decided answer stops = stops.0
+stops_at may (ended n by) s s' stop answer stops = absurd stops
+stops_at may p s s' decided answer stops = absurd stops
+stops_at may starting s s' no_more answer stops = stops.0
+stops_at may in_reply s s' no_more answer stops = stops.0
+stops_at may serving s s' no_more answer stops = stops.0
+stops_at may (asked i) s s' no_more answer stops = stops.0
+stops_at may (asked i) s s' timed_out answer stops = stops.0
+stops_at may p s s' timed_out answer stops = absurd stops
+stops_at may (asked i) s s' (refused fault) answer stops = absurd stops
+stops_at may p s s' (refused fault) answer stops = stops.0
+stops_at may (asked i) s s' exhausted answer stops = stops.0
+stops_at may serving s s' exhausted answer stops = stops
+stops_at may p s s' exhausted answer stops = stops.0
 
 module _ {S : Type 0} (may : Behavior S) (stop : Stop) (null : Option Message) (answer : SessionAnswer) where
   -- what is said of the exchanges from `initialized` on
   abbrev Later : List Exchange → Type 0
-  Later xs = HasNoShutdown xs null answer ⊎ EndsWithNull xs stop null answer
+  Later xs = HasNoShutdown xs stop null answer ⊎ EndsWithNull xs stop null answer
 
   -- what is said of the exchanges from a phase on
   abbrev Order : Phase → List Exchange → Type 0
   Order starting xs = KeepsOrder xs stop null answer
   Order in_reply xs = (IsInvited xs × Later xs) ⊎ (IsUnopened xs stop answer × (null ≡ None))
   Order serving xs = Later xs
-  Order (asked i) xs = AfterNull xs stop answer × (null ≡ Some (null_reply i))
+  Order (asked i) xs = AfterNull i xs stop answer × (null ≡ Some (null_reply i))
   Order (ended n by) xs = (xs ≡ []) × (null ≡ n) × (stop ≡ decided) × (answer ≡ by)
 
-  none_serving : (s s' : S) (stop : Stop) → Stops may serving s stop answer s' → IsErrAnd answer ShowsUnallowed → ⊥
-  none_serving s s' decided stops shows = stops
-  none_serving s s' no_more stops shows = rw stops.0 at shows
-  none_serving s s' timed_out stops shows = stops
-  none_serving s s' (refused fault) stops shows = refusal_allowed fault (rw stops.0 at shows)
-  none_serving s s' exhausted stops shows = memory_allowed (rw stops at shows)
-
   order_end : (p : Phase) (s s' : S) → Stops may p s stop answer s' → null ≡ null_of p → Order p []
-  order_end starting s s' stops none = record { early = []; rest = []; cut = refl; replied = tt; opened = inr (tt, none) }
-  order_end in_reply s s' stops none = inr (tt, none)
-  order_end serving s s' stops none = inl (refl, none, none_serving s s' stop stops)
-  order_end (asked i) s s' stops none = (tt, none)
+  order_end starting s s' stops none = record { early = []; rest = []; cut = refl; replied = tt; opened = inr (refl, tt, stops_at may starting s s' stop answer stops, none) }
+  order_end in_reply s s' stops none = inr (stops_at may in_reply s s' stop answer stops, none)
+  order_end serving s s' stops none = inl (inl (refl, stops_at may serving s s' stop answer stops), none)
+  order_end (asked i) s s' stops none = (stops_at may (asked i) s s' stop answer stops, none)
   order_end (ended n by) s s' stops none = let so = stops_by may (ended n by) s s' stop answer stops in (refl, none, so.0, so.1)
 
   -- one more exchange comes first
-  early_before : (x : Exchange) (xs : List Exchange) → IsReplied x → KeepsOrder xs stop null answer → KeepsOrder (x ∷ xs) stop null answer
-  early_before x xs one rest = record {
+  early_before : (x : Exchange) (xs : List Exchange) → IsReplied x → list_all is_refusal x.said ≡ true → IsSomeAnd x.letter (λ m. comes_early m ≡ true)
+      → KeepsOrder xs stop null answer → KeepsOrder (x ∷ xs) stop null answer
+  early_before x xs one errors early rest = record {
     early = x ∷ rest.early;
     rest = rest.rest;
     cut = ap (λ (l : List Exchange). x ∷ l) rest.cut;
     replied = (one, rest.replied);
     opened = elim rest.opened [
-      | inl opened ↦ inl ((
-        record {
-          before = x ∷ opened.0.before;
-          id = opened.0.id;
-          method = opened.0.method;
-          params = opened.0.params;
-          result = opened.0.result;
-          asks = opened.0.asks;
-          cut = ap (λ (l : List Exchange). x ∷ l) opened.0.cut;
-        },
-        opened.1,
-        opened.2,
-      )
-          )
-      | inr unopened ↦ inr unopened
+      | inl opened ↦ inl (record {
+        ends = record {
+          before = x ∷ opened.ends.before;
+          id = opened.ends.id;
+          method = opened.ends.method;
+          params = opened.ends.params;
+          result = opened.ends.result;
+          asks = opened.ends.asks;
+          cut = ap (λ (l : List Exchange). x ∷ l) opened.ends.cut;
+        };
+        refused = refused_more x opened.ends.before errors opened.refused;
+        came = (early, opened.came);
+        later = opened.later;
+      })
+      | inr unopened ↦ inr (refused_more x rest.early errors unopened.0, (early, unopened.1), unopened.2, unopened.3)
     ];
   }
 
   -- the message that decided is the last
-  early_ended : (x : Exchange) (xs : List Exchange) → IsReplied x → xs ≡ [] → null ≡ None → KeepsOrder (x ∷ xs) stop null answer
-  early_ended x xs one over none =
-      rw over (early_before x [] one (record { early = []; rest = []; cut = refl; replied = tt; opened = inr (tt, none) }))
+  early_ended : (x : Exchange) (xs : List Exchange) → IsUnstarted (x ∷ xs) stop answer → null ≡ None → KeepsOrder (x ∷ xs) stop null answer
+  early_ended x xs unstarted none = record { early = []; rest = x ∷ xs; cut = refl; replied = tt; opened = inr (refl, tt, unstarted, none) }
 
   -- the result of `initialize`, and what follows it
   result_before : (x : Exchange) (xs : List Exchange) (i : Id) (method : List ℕ) (params result : Data) → x.letter ≡ Some (request i method params)
@@ -105,20 +114,31 @@ module _ {S : Type 0} (may : Behavior S) (stop : Stop) (null : Option Message) (
     rest = xs;
     cut = refl;
     replied = one_reply x i method params _ is said (_, refl);
-    opened = elim rest [
-      | inl invited ↦ inl ((
-        record { before = []; id = i; method = method; params = params; result = result; asks = asks; cut = λ j. record { letter = is j; said = said j } ∷ [] },
-        invited.0,
-        invited.1,
-      )
-          )
-      | inr unopened ↦ inr unopened
-    ];
+    opened = inl (record {
+      ends = record { before = []; id = i; method = method; params = params; result = result; asks = asks; cut = λ j. record { letter = is j; said = said j } ∷ [] };
+      refused = refl;
+      came = tt;
+      later = rest;
+    });
   }
 
   -- one more exchange from `initialized` on, in which no `shutdown` comes
-  later_before : (x : Exchange) (xs : List Exchange) → list_all is_no_shutdown (letters_of (x ∷ [])) ≡ true → Later xs → Later (x ∷ xs)
-  later_before x xs passed (inl without) = inl (letters_more is_no_shutdown x xs passed ∙ without.0, without.1, without.2)
+  later_before : (x : Exchange) (xs : List Exchange) → list_all is_served (letters_of (x ∷ [])) ≡ true → Later xs → Later (x ∷ xs)
+  later_before x xs passed (inl without) = inl (
+    elim without.0 [
+      | inl all ↦ inl (letters_more is_served x xs passed ∙ all.0, all.1)
+      | inr left ↦ inr (record {
+        before = x ∷ left.before;
+        last = left.last;
+        cut = ap (λ (l : List Exchange). x ∷ l) left.cut;
+        none_before = letters_more is_served x left.before passed ∙ left.none_before;
+        leaves = left.leaves;
+        decides = left.decides;
+        closes = left.closes;
+      })
+    ],
+    without.1,
+  )
   later_before x xs passed (inr last) = inr (record {
     before = x ∷ last.before;
     id = last.id;
@@ -126,7 +146,7 @@ module _ {S : Type 0} (may : Behavior S) (stop : Stop) (null : Option Message) (
     params = last.params;
     after = last.after;
     cut = ap (λ (l : List Exchange). x ∷ l) last.cut;
-    none_before = letters_more is_no_shutdown x last.before passed ∙ last.none_before;
+    none_before = letters_more is_served x last.before passed ∙ last.none_before;
     asks = last.asks;
     is_null = last.is_null;
     after_null = last.after_null;
@@ -136,14 +156,15 @@ module _ {S : Type 0} (may : Behavior S) (stop : Stop) (null : Option Message) (
       (one : (r : Message) → full ≡ r ∷ [] → x.said ≡ r ∷ []) (none : full ≡ [] → x.said ≡ []) (rest : Order q xs) where
     order_idle : (m : Message) → x.letter ≡ Some m → Idle p m full q → Order p (x ∷ xs)
     order_idle m there (early_request i method params reply here is early said next) =
-        rw here (early_before x xs (one_reply x i method params reply (rw is at there) (one reply said) (_, early.is)).0 (rw next at rest))
-    order_idle m there (early_note here mute early said next) = rw here (early_before x xs (silent x m there mute (none said)).0 (rw next at rest))
-    order_idle m there (unasked shown here mute said next) =
+        rw here (early_before x xs (one_reply x i method params reply (rw is at there) (one reply said) (_, early.is)).0 (rw (one reply said, early.is) refl) (rw (there, is) refl) (rw next at rest))
+    order_idle m there (early_note here mute early said next) =
+        rw here (early_before x xs (silent x m there mute (none said)).0 (rw (none said) refl) (rw there (note_early m mute true early)) (rw next at rest))
+    order_idle m there (unasked shown here mute other said next) =
         let over : Order (ended None (Err (expected_initialize shown))) xs = rw next at rest in
-        rw here (early_ended x xs (silent x m there mute (none said)).0 over.0 over.1)
+        rw here (early_ended x xs (over.0, rw there (note_early m mute false other), none said, over.2, rw over.3 (shown, refl)) over.1)
     order_idle m there (uninvited shown here other said next) =
         let over : Order (ended None (Err (expected_initialized shown))) xs = rw next at rest in
-        rw here (inr ((over.0, rw there refl, none said, over.2, rw over.3 (shown, refl)), over.1))
+        rw here (inr ((over.0, rw there other, none said, over.2, rw over.3 (shown, refl)), over.1))
     order_idle m there (shuts i method params here is asks said next) =
         let after : Order (asked i) xs = rw next at rest in
         let sent : x.said ≡ null_reply i ∷ [] = one (null_reply i) said in
@@ -162,7 +183,19 @@ module _ {S : Type 0} (may : Behavior S) (stop : Stop) (null : Option Message) (
         }))
     order_idle m there (leaves here is said next) =
         let over : Order (ended None (Ok Closed)) xs = rw next at rest in
-        rw here (inl (rw (over.0, there, no_request_no_shutdown m (exit_no_request m is)) refl, over.1, λ shows. (rw over.3 at shows)))
+        let silent : x.said ≡ [] = none said in
+        rw here (inl (
+          inr (record {
+            before = [];
+            last = m;
+            cut = λ j. record { letter = there j; said = silent j } ∷ over.0 j;
+            none_before = refl;
+            leaves = is;
+            decides = over.2;
+            closes = over.3;
+          }),
+          over.1,
+        ))
     order_idle m there (exits i here is said next) =
         let over : Order (ended (Some (null_reply i)) (Ok ShutDown)) xs = rw next at rest in
         rw here ((over.0, none said, over.2, rw (there, is) over.3), over.1)
@@ -175,10 +208,10 @@ module _ {S : Type 0} (may : Behavior S) (stop : Stop) (null : Option Message) (
       where
         first : (outcome : Result Data ErrorObject) → x.said ≡ response i outcome ∷ [] → Order (phase_after outcome) xs → KeepsOrder (x ∷ xs) stop null answer
         first (Ok result) said rest = result_before x xs i method params result is asks said rest
-        first (Err error) said rest = early_before x xs (one_reply x i method params _ is said (_, refl)).0 rest
+        first (Err error) said rest = early_before x xs (one_reply x i method params _ is said (_, refl)).0 (rw said refl) (rw is refl) rest
     order_row (at_initialized m here there is given next) =
-        rw here (inl (rw there is, later_before x xs (rw (there, no_request_no_shutdown m (initialized_no_request m is)) refl) (rw next at rest)))
-    order_row (at_served m here there is given next) = rw here (later_before x xs (rw (there, served_no_shutdown m is) refl) (rw next at rest))
+        rw here (inl (rw there is, later_before x xs (rw (there, initialized_served m is) refl) (rw next at rest)))
+    order_row (at_served m here there is given next) = rw here (later_before x xs (rw (there, is) refl) (rw next at rest))
     order_row (at_woken here empty given next) = rw here (later_before x xs (rw empty refl) (rw next at rest))
     order_row (idle m there same step row) = order_idle m there row
 
@@ -243,9 +276,10 @@ never_none : (rest more : List Message) (m : Message) → ◌≡◌ {A = List Me
 never_none [] more m e = cc (e)
 never_none (r ∷ rest) more m e = cc (e)
 
-unopened_silent : (rest : List Exchange) (stop : Stop) (answer : SessionAnswer) → IsUnopened rest stop answer → sends_of rest ≡ []
-unopened_silent [] stop answer is = refl
-unopened_silent (x ∷ rest) stop answer is = rw (is.0, is.2) refl
+stopped_silent : (p : Phase) (is_awaited : Message → Bool) (fault : List ℕ → ProtocolFault) (rest : List Exchange) (stop : Stop) (answer : SessionAnswer)
+    → StopsBefore p is_awaited fault rest stop answer → sends_of rest ≡ []
+stopped_silent p is_awaited fault [] stop answer is = refl
+stopped_silent p is_awaited fault (x ∷ rest) stop answer is = rw (is.0, is.2) refl
 
 pub opened_before : (xs : List Exchange) (stop : Stop) (null : Option Message) (answer : SessionAnswer) (before more : List Message) (m : Message)
     → KeepsOrder xs stop null answer → sends_of xs ≡ before ++ m ∷ more → is_reply m ≡ false → OpenedBy xs before
@@ -253,8 +287,11 @@ opened_before xs stop null answer before more m order sent other =
     let parts : before ++ m ∷ more ≡ sends_of order.early ++ sends_of order.rest = sym sent ∙ ap sends_of order.cut ∙ sends_both order.early order.rest in
     let after = after_replies (requests_of (letters_of order.early)) (sends_of order.early) before (sends_of order.rest) more m (each_replied order.early order.replied) other parts in
     elim order.opened [
-      | inl opened ↦ (order.early, order.rest, after.0, order.cut, after.1, opened.0, opened.1)
-      | inr none ↦ absurd (never_none after.0 more m (sym (unopened_silent order.rest stop answer none.0) ∙ after.2))
+      | inl opened ↦ (elim opened.later [
+        | inl invited ↦ (order.early, order.rest, after.0, order.cut, after.1, opened.ends, invited.0)
+        | inr none ↦ absurd (never_none after.0 more m (sym (stopped_silent in_reply _ _ order.rest stop answer none.0) ∙ after.2))
+      ])
+      | inr none ↦ absurd (never_none after.0 more m (sym (stopped_silent starting _ _ order.rest stop answer none.2) ∙ after.2))
     ]
 
 -- Each request of a handler's session is answered once, under its id, in order.
@@ -309,7 +346,7 @@ module _ (stop : Stop) where
       unserved m there (early_request i method params reply at is early said next) =
           rw next (one_reply x i method params reply (rw is at there) (one reply said) (_, early.is))
       unserved m there (early_note at mute early said next) = rw next (silent x m there mute (none said))
-      unserved m there (unasked shown at mute said next) = rw next (λ decides. inl (silent x m there mute (none said)))
+      unserved m there (unasked shown at mute other said next) = rw next (λ decides. inl (silent x m there mute (none said)))
       unserved m there (uninvited shown at other said next) = rw next (unanswered x m _ there (none said) (inl (shown, refl)))
       unserved m there (shuts i method params at is asks said next) = rw next (one_reply x i method params _ (rw is at there) (one _ said) (_, refl))
       unserved m there (leaves at is said next) = rw next (λ decides. inl (silent x m there (exit_no_request m is) (none said)))
@@ -338,3 +375,10 @@ module _ (stop : Stop) where
             → AllReplied xs ⊎ LastUnanswered xs stop answer
         at None on all = inl all
         at (Some by) stops last = rw stops.1 (last stops.0)
+
+-- a handler's session keeps both laws
+pub answers_in_order : {H : Type 0} (answers : H → Id → List ℕ → Data → Result Data ErrorObject → H → Type 0) (notes : H → List ℕ → Data → H → Type 0)
+    (capabilities : Data) (h h' : H) (xs : List Exchange) (stop : Stop) (null : Option Message) (answer : SessionAnswer)
+    → SessionOut (of_handler answers notes capabilities) h h' xs stop null answer → AnswersRequests xs stop null answer × KeepsOrder xs stop null answer
+answers_in_order answers notes capabilities h h' xs stop null answer out =
+    (session_answers stop answers notes capabilities h h' xs null answer out, keeps_order (of_handler answers notes capabilities) h h' xs stop null answer out)

@@ -127,7 +127,7 @@ pub data Idle (p : Phase) (m : Message) (said : List Message) (q : Phase) : Type
   early_request : (i : Id) (method : List ℕ) (params : Data) (reply : Message) → p ≡ starting → m ≡ request i method params → IsEarlyReply i reply
       → said ≡ reply ∷ [] → q ≡ starting → Idle p m said q
   early_note : p ≡ starting → IsNoRequest m → is_early m ≡ true → said ≡ [] → q ≡ starting → Idle p m said q
-  unasked : (shown : List ℕ) → p ≡ starting → IsNoRequest m → said ≡ [] → q ≡ ended None (Err (expected_initialize shown)) → Idle p m said q
+  unasked : (shown : List ℕ) → p ≡ starting → IsNoRequest m → is_early m ≡ false → said ≡ [] → q ≡ ended None (Err (expected_initialize shown)) → Idle p m said q
   uninvited : (shown : List ℕ) → p ≡ replied → is_initialized m ≡ false → said ≡ [] → q ≡ ended None (Err (expected_initialized shown)) → Idle p m said q
   shuts : (i : Id) (method : List ℕ) (params : Data) → p ≡ serving → m ≡ request i method params → is_shutdown (request i method params) ≡ true
       → said ≡ null_reply i ∷ [] → q ≡ asked i → Idle p m said q
@@ -179,8 +179,8 @@ module _ {S : Type 0} (may : Behavior S) where
       at : (b : Bool) → is_early (notification method params) ≡ b → MatchBool b ((said ≡ []) × (q ≡ starting)) (Fails expected_initialize starting said q)
           → Idle starting (notification method params) said q
       at true e step = early_note refl tt e step.0 step.1
-      at false e step = unasked step.0 refl tt step.1 step.2
-  row starting q s s' (Some (response i outcome)) said step = idle (response i outcome) refl step.1 (λ T can t. (step.0, refl)) (unasked step.0.0 refl tt step.0.1 step.0.2)
+      at false e step = unasked step.0 refl tt e step.1 step.2
+  row starting q s s' (Some (response i outcome)) said step = idle (response i outcome) refl step.1 (λ T can t. (step.0, refl)) (unasked step.0.0 refl tt refl step.0.1 step.0.2)
   row replied q s s' (Some m) said step = at (is_initialized m) refl step
     where
       at : (b : Bool) → is_initialized m ≡ b → MatchBool b (may.opens s said s' × (q ≡ serving)) (Fails expected_initialized replied said q × (s' ≡ s))
@@ -330,7 +330,7 @@ Facts stop letters answer = Unit {0}
 served_is_no_exit : (m : Message) → is_served m ≡ true → is_no_exit m ≡ true
 served_is_no_exit m served = (and-true (not (is_shutdown m)) (is_no_exit m) served).1
 
-initialized_is_no_exit : (m : Message) → is_initialized m ≡ true → is_no_exit m ≡ true
+pub initialized_is_no_exit : (m : Message) → is_initialized m ≡ true → is_no_exit m ≡ true
 initialized_is_no_exit (notification method params) initialized =
     rw ((bytes_eq-Decides method (codes "initialized")).0 initialized) refl
 initialized_is_no_exit m initialized = refl
@@ -361,7 +361,7 @@ module _ {S : Type 0} (may : Behavior S) (stop : Stop) where
   known_idle : (p q : Phase) (x : Exchange) (m : Message) (full : List Message) → x.letter ≡ Some m → Idle p m full q → Known q (x ∷ [])
   known_idle p q x m full there (early_request i method params reply at is early said next) = rw next (passed x m there (rw is refl))
   known_idle p q x m full there (early_note at mute early said next) = rw next (passed x m there (early_no_exit m mute early))
-  known_idle p q x m full there (unasked shown at mute said next) = rw next (refl, λ closed. absurd (cc (closed)))
+  known_idle p q x m full there (unasked shown at mute other said next) = rw next (refl, λ closed. absurd (cc (closed)))
   known_idle p q x m full there (uninvited shown at other said next) = rw next (refl, λ closed. absurd (cc (closed)))
   known_idle p q x m full there (shuts i method params at is asks said next) = rw next (passed x m there (rw is refl))
   known_idle p q x m full there (leaves at is said next) = rw next (refl, λ closed. (rw (there, is) refl))

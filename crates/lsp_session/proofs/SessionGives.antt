@@ -11,14 +11,14 @@ use Rattle.lsp_message.specs.declared.frame.WriteFault.TheVariants.{Output, Memo
 use Rattle.lsp_message.specs.declared.frame.WriteFault.{WriteFault}
 use Rattle.lsp_session.proofs.Handing.{begins, AreFramesOf-push, breaks_off, taken_frames, taken_keeps, Appends-Keeps}
 use Rattle.lsp_session.proofs.Ran.{is_no_exit, Facts}
-use Rattle.lsp_session.proofs.Waiting.{FoldsTo-split}
+use Rattle.lsp_session.proofs.Waiting.{FoldsTo-split, and-true}
 use Rattle.lsp_session.specs.Boxes.{Sends, Takes}
 use Rattle.lsp_session.specs.Event.{Event, closed, message, timeout, woken}
 use Rattle.lsp_session.specs.Finish.{FinishAnswer, FinishesAt}
 use Rattle.lsp_session.specs.FrameBoxes.{FrameOutboxSends, Told, kept_write}
 use Rattle.lsp_session.specs.ProtocolError.{out_of_memory}
 use Rattle.lsp_session.specs.Session.{Exchange, came_of, letters_of, sends_of, SessionAnswer, SessionPart, Stop, decided, no_more, timed_out, refused, exhausted}
-use Rattle.lsp_session.specs.SessionBytes.{BeginsWith, IsUnsent, LeftAfter, Ends, Wrote, Gives, GetsFirst}
+use Rattle.lsp_session.specs.SessionBytes.{ReadsMessage, IsUnsent, LeftAfter, Ends, Wrote, Gives, GetsAllButLast, LeftWithin}
 use Rattle.lsp_session.specs.SessionFault.{ran_out, came_to_no_more, plain_answer, read_fault, read_answer, session_answer}
 use Rattle.lsp_session.specs.SessionRun.{came_in, is_open, Brings, Runs, all_of, OffersLast, RefusesLast, Gets}
 use Rattle.lsp_session.specs.StreamBoxes.{stream_of, StreamInboxGives}
@@ -35,9 +35,10 @@ use Rattle.lsp_session.specs.declared.loops.stream_session.SessionFault.{Session
 use Rattle.std.proofs.Common.{◌≡◌, refl, sym, ◌∙◌, ap, subst, inl, inr, ℕ, Bool, true, false, true≢false, List, [], ◌∷◌, ◌++◌, append-nil, Some, None, Option, IfSome}
 use Rattle.std.proofs.KnownBytes.{Appends-trans}
 use Rattle.std.proofs.lemmas.List.Elements.{filter_map-append}
+use Rattle.std.proofs.lemmas.List.Folds.{list_all-append}
 use Rattle.std.specs.Io.KnownBytes.{Keeps}
 use Rattle.std.specs.List.{FoldsTo, list_all, filter_map}
-use Rattle.std.specs.Prelude.{Result, Ok, Err, MatchOption, if◌then◌else◌}
+use Rattle.std.specs.Prelude.{Result, Ok, Err, MatchOption, if◌then◌else◌, is_some, ◌&&◌}
 use Rattle.std.specs.declared.io.ErrorKind.{ErrorKind}
 
 module _ {R : Type 0} (remaining : R → Option (List ℕ)) (limit : ℕ) where
@@ -63,8 +64,16 @@ module _ {R : Type 0} (remaining : R → Option (List ℕ)) (limit : ℕ) where
         (new.end, inr (lost.0, lost.1, lost.2, ap (λ (s : StreamInbox R). stream_of remaining s) lost.3))
 
 -- the messages of what came
-abbrev letters_in : List (Option Message) → List Message
+abbrev pub letters_in : List (Option Message) → List Message
 letters_in came = filter_map (λ (c : Option Message). c) came
+
+-- these are the first messages of the text, and the rest follows them
+abbrev pub BeginsWith : ℕ → List ℕ → List Message → List ℕ → Type 0
+BeginsWith limit = FoldsTo (Begins limit)
+
+-- no wake came
+abbrev Unwoken : List (Option Message) → Type 0
+Unwoken came = list_all (λ (c : Option Message). is_some c) came ≡ true
 
 module _ (limit : ℕ) where
   -- what an inbox over a reader gives where others may wake it
@@ -72,15 +81,32 @@ module _ (limit : ℕ) where
   WakingGives old woken new = new ≡ old
   WakingGives old event new = StreamGives limit old event new
 
+  unwoken : (old new : Stream) → StreamGives limit old woken new → ⊥
+  unwoken old new gives = at old.end gives
+    where
+      at : (end : Option ReadEnd) → MatchOption end (StreamReads limit old.remaining woken new.end new.remaining) (λ end. (woken ≡ closed) × (new.end ≡ Some end) × Keeps old.remaining new.remaining) → ⊥
+      at None reads = reads
+      at (Some end) ended = cc (ended.0)
+
   -- an inbox that nobody wakes is one of these
   waking : (events : List Event) (old new : Stream) → FoldsTo (StreamGives limit) old events new → FoldsTo WakingGives old events new
   waking [] old new run = run
-  waking (woken ∷ events) old new run = absurd (at old.end run.1)
-    where
-      at : (end : Option ReadEnd) → MatchOption end (StreamReads limit old.remaining woken run.0.end run.0.remaining) (λ end. (woken ≡ closed) × (run.0.end ≡ Some end) × Keeps old.remaining run.0.remaining) → ⊥
-      at None gives = gives
-      at (Some end) gives = cc (gives.0)
+  waking (woken ∷ events) old new run = absurd (unwoken old run.0 run.1)
   waking (event ∷ events) old new run = (run.0, run.1, waking events run.0 new run.2)
+
+  -- nor does it bring a wake
+  never_woken : (events : List Event) (old new : Stream) → FoldsTo (StreamGives limit) old events new → Unwoken (filter_map came_in events)
+  never_woken [] old new run = refl
+  never_woken (woken ∷ events) old new run = absurd (unwoken old run.0 run.1)
+  never_woken (message m ∷ events) old new run = never_woken events run.0 new run.2
+  never_woken (closed ∷ events) old new run = never_woken events run.0 new run.2
+  never_woken (timeout ∷ events) old new run = never_woken events run.0 new run.2
+
+  -- the messages of a text are what was read of it, where no wake came
+  reads_all : (came : List (Option Message)) (text at : List ℕ) → Unwoken came → BeginsWith limit text (letters_in came) at → FoldsTo (ReadsMessage limit) text came at
+  reads_all [] text at none begins = begins
+  reads_all (Some m ∷ came) text at none begins = (begins.0, begins.1, reads_all came begins.0 at none begins.2)
+  reads_all (None ∷ came) text at none begins = let e : false ≡ true = none in absurd (cc (e))
 
   -- an inbox that has ended brings no message more
   ended_brings : (events : List Event) (end : ReadEnd) (old new : Stream) → old.end ≡ Some end → FoldsTo WakingGives old events new → letters_in (filter_map came_in events) ≡ []
@@ -138,14 +164,21 @@ module _ (limit : ℕ) where
       at (Some end) gives = cc (gives.0)
   no_timeout (event ∷ earlier) old new run = no_timeout earlier run.0 new run.2
 
--- all of it was written
-pub whole_first : (ms : List Message) (old new : Option (List ℕ)) → GetsFrames ms old new → GetsFirst ms old new
-whole_first ms old new got = (ms, [], rw append-nil refl, got)
+-- what the events brought, but for what came at a failed allocation
+came_unwoken : (events : List Event) (came : List (Option Message)) (stop : Stop) → Brings events came stop → Unwoken (filter_map came_in events) → Unwoken came
+came_unwoken events came decided brought none = rw brought.0 at none
+came_unwoken events came no_more brought none = rw brought.0 at none
+came_unwoken events came timed_out brought none = rw brought.0 at none
+came_unwoken events came (refused fault) brought none = rw brought.0 at none
+came_unwoken events came exhausted brought none =
+    let both : (list_all (λ (c : Option Message). is_some c) came && list_all (λ (c : Option Message). is_some c) (brought.0 ∷ [])) ≡ true =
+    sym (list_all-append (λ (c : Option Message). is_some c) came (brought.0 ∷ [])) ∙ (rw brought.1 at none) in
+    (and-true _ _ both).0
 
 -- what is written of messages where the write of the last one failed
 abbrev pub GetsPart : WriteFault → List Message → Option (List ℕ) → Option (List ℕ) → Type 0
 GetsPart (Output kind) ms old new = (whole : List Message) × (last : Message) × (ms ≡ whole ++ last ∷ []) × GetsFramesAndPart whole last old new
-GetsPart NoMemory ms old new = GetsFirst ms old new
+GetsPart NoMemory ms old new = GetsAllButLast ms old new
 
 -- the outbox refused no reply
 abbrev pub NotRefused : Stop → Type 0
@@ -165,7 +198,7 @@ module _ {W : Type 0} (contents : W → Option (List ℕ)) where
   offered ms m a b c (Err (Shut back)) None got writes told = absurd told
   offered ms m a b c (Err (Full back)) None got writes told = absurd told
   offered ms m a b c outcome (Some (Output kind)) got writes told = (ms, m, refl, breaks_off ms m (Output kind) a b c got writes)
-  offered ms m a b c outcome (Some NoMemory) got writes told = (ms, m ∷ [], refl, (got.0, got.1, Appends-Keeps a b c got.0 got.2 writes))
+  offered ms m a b c outcome (Some NoMemory) got writes told = (ms, m, refl, (got.0, got.1, Appends-Keeps a b c got.0 got.2 writes))
 
   -- the same, of an outbox that no write has failed in, and what follows
   sent_after : {A B : Type 0} (ms : List Message) (m : Message) (a b : Option (List ℕ)) (mid new : FrameOutbox W) (outcome : Result (Unit {0}) SendFault)
@@ -251,7 +284,7 @@ module _ (limit : ℕ) where
       exhausted_ends : (answer : SessionAnswer) → ran_out answer ≡ true → (end : Option ReadEnd) (left : Option (List ℕ)) (at : List ℕ)
           → StopsWithin left (reading_within limit at)
           → Ended left (read_answer answer end) answer exhausted at
-      exhausted_ends answer ran end left at stops = rw (ran_out_answer answer ran, ran_out_gives end) (stops, whole_first sends a b wrote)
+      exhausted_ends answer ran end left at stops = rw (ran_out_answer answer ran, ran_out_gives end) (stops, inl wrote)
 
       module _ (answer : SessionAnswer) (letters : List Message) where
         module _ (text : List ℕ) (new : Stream) (brought : Brought limit text letters new) where
@@ -272,7 +305,7 @@ module _ (limit : ℕ) where
         fault_ends : (fault : ReadFault) (left : Option (List ℕ)) (at : List ℕ) → Answers (λ (m : Message). m) (Err fault) left (reading_within limit at)
             → Ended left (Err (read_fault fault)) answer no_more at
         fault_ends (Input kind) left at answers = ((refl, answers), wrote)
-        fault_ends NoMemoryToRead left at answers = (answers, whole_first sends a b wrote)
+        fault_ends NoMemoryToRead left at answers = (answers, inl wrote)
         fault_ends fault left at answers = ((refl, (reading_within limit at).rest, unread_at fault at answers.0, answers.1), wrote)
 
         -- no more came
@@ -345,12 +378,14 @@ module _ (limit : ℕ) where
     left_within came stop answer brought facts = open_within (letters_in came) (open_brought came brought.0 brought.1)
 
     module _ (came : List (Option Message)) (null : Option Message) (answer : SessionAnswer) where
-      -- where a message was not sent, nothing after the last one was taken, but for what is awaited after the null
-      left_unsent : (kind : ErrorKind) (null : Option Message) (stop : Stop) → Brings events came stop → Facts stop (letters_in came) answer → IsUnsent stop null
-          → (at : List ℕ) × BeginsWith limit text (letters_in came) at × Ends limit new.remaining (Err (Write (Output kind))) answer stop null at
-      left_unsent kind (Some null) stop brought facts unsent = left_within came stop answer brought facts
-      left_unsent kind None (refused fault) brought facts unsent = let all = open_brought came brought.0 brought.1 in (all.at, all.read, all.left)
-      left_unsent kind None stop brought facts unsent = absurd unsent
+      -- what is left where a write or an allocation failed
+      pub left_after : (stop : Stop) → Brings events came stop → Facts stop (letters_in came) answer
+          → (at : List ℕ) × BeginsWith limit text (letters_in came) at × LeftWithin limit stop at new.remaining
+      left_after decided brought facts = let all = open_brought came brought.0 brought.1 in (all.at, all.read, all.left)
+      left_after (refused fault) brought facts = let all = open_brought came brought.0 brought.1 in (all.at, all.read, all.left)
+      left_after no_more brought facts = left_within came no_more answer brought facts
+      left_after timed_out brought facts = absurd (no_timeout limit brought.1.0 old new (rw brought.1.1 at run))
+      left_after exhausted brought facts = left_within came exhausted answer brought facts
 
       -- no write failed
       pub stop_ends : (sends : List Message) (a b : Option (List ℕ)) → GetsFrames sends a b → (stop : Stop) → Brings events came stop → NotRefused stop
@@ -388,6 +423,10 @@ module _ (limit : ℕ) where
         facts : Facts runs.stop (letters_of runs.exchanges) answer
         facts = knows runs.exchanges runs.stop runs.null answer runs.part
 
+        none_woken : Unwoken (came_of runs.exchanges)
+        none_woken = came_unwoken runs.events (came_of runs.exchanges) runs.stop runs.brought
+            (never_woken limit runs.events _ _ (streams_of remaining limit runs.events inbox inbox' limited runs.received).0)
+
         gives : (result : Result SessionEnd SessionFault) (at : List ℕ) → BeginsWith limit text (letters_of runs.exchanges) at
             → Ended runs.null (sends_of runs.exchanges) (contents outbox.writer.now) (contents outbox'.writer.now)
             (remaining inbox'.reader.now) result answer runs.stop at
@@ -395,7 +434,7 @@ module _ (limit : ℕ) where
         gives result at read ended = record {
           exchanges = runs.exchanges;
           at = at;
-          read = read;
+          read = reads_all limit (came_of runs.exchanges) text at none_woken read;
           stop = runs.stop;
           null = runs.null;
           answer = answer;
@@ -414,14 +453,15 @@ module _ (limit : ℕ) where
             (sends_of runs.exchanges) (contents outbox.writer.now) (contents outbox'.writer.now) written.1 runs.stop runs.brought written.0 facts in
             gives (read_answer answer inbox'.end) all.0 all.1 all.2
         at (Some (Output kind)) unwritten =
-            let all = left_unsent text (stream_of remaining inbox) (stream_of remaining inbox') unended known runs.events run
+            let all = left_after text (stream_of remaining inbox) (stream_of remaining inbox') unended known runs.events run
             (came_of runs.exchanges) runs.null answer
-            kind runs.null runs.stop runs.brought facts unwritten.0 in
+            runs.stop runs.brought facts in
             gives (Err (Write (Output kind))) all.0 all.1 (all.2, (tt, unwritten.0, unwritten.1.0, unwritten.1.1, unwritten.1.2, unwritten.1.3))
         at (Some NoMemory) unwritten =
-            let all = left_within text (stream_of remaining inbox) (stream_of remaining inbox') unended known runs.events run
-            (came_of runs.exchanges) runs.stop answer runs.brought facts in
-            gives (Err Memory) all.0 all.1 (all.2, unwritten.1)
+            let all = left_after text (stream_of remaining inbox) (stream_of remaining inbox') unended known runs.events run
+            (came_of runs.exchanges) runs.null answer
+            runs.stop runs.brought facts in
+            gives (Err Memory) all.0 all.1 (all.2, inr (unwritten.0, unwritten.1))
 
     -- the same of the reader and the writer that were lent
     pub session_gives : (first last : R) (first' last' : W) → inbox.reader.now ≡ first → outbox.writer.now ≡ first'

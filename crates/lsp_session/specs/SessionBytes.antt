@@ -1,6 +1,6 @@
 -- A session over a reader and a writer: bytes in to bytes out (LSP 3.17, "Base Protocol" and "Server lifecycle").
 use Rattle.std.specs.List.{FoldsTo}
-use Rattle.std.specs.Prelude.{◌≡◌, ℕ, List, [], ◌∷◌, ◌++◌, Option, Some, None, Result, Ok, Err}
+use Rattle.std.specs.Prelude.{◌≡◌, ◌⊎◌, ℕ, List, [], ◌∷◌, ◌++◌, Option, Some, None, Result, Ok, Err}
 use Rattle.lsp_message.specs.Faults.{read_fault_text, write_fault_text}
 use Rattle.lsp_message.specs.Frame.{Begins, reading_within}
 use Rattle.lsp_message.specs.Message.{Message}
@@ -8,18 +8,20 @@ use Rattle.lsp_message.specs.Reading.{StopsWithin}
 use Rattle.lsp_message.specs.Written.{GetsFrames, GetsFramesAndPart, IsOutput}
 use Rattle.lsp_message.specs.declared.frame.ReadFault.TheVariants.{Input, Memory as NoMemoryToRead}
 use Rattle.lsp_session.specs.ProtocolError.{fault_text}
-use Rattle.lsp_session.specs.Session.{SessionAnswer, SessionPart, Exchange, letters_of, sends_of, Stop, decided, no_more, refused}
+use Rattle.lsp_session.specs.Session.{SessionAnswer, SessionPart, Exchange, came_of, sends_of, Stop, decided, no_more, timed_out, refused}
 use Rattle.lsp_session.specs.declared.loops.handler.SessionEnd.{SessionEnd}
 use Rattle.lsp_session.specs.declared.loops.stream_session.SessionFault.{SessionFault}
 use Rattle.lsp_session.specs.declared.loops.stream_session.SessionFault.TheVariants.{Protocol, Read, Write, Memory}
 
--- these are the first messages of the text, whose content parts have at most so many bytes, and the rest follows them
-abbrev pub BeginsWith : ℕ → List ℕ → List Message → List ℕ → Type 0
-BeginsWith limit = FoldsTo (Begins limit)
+-- The first frame of the text, whose content parts have at most so many bytes, is this message, and the rest follows it. A reader
+-- brings no wake.
+abbrev pub ReadsMessage : ℕ → List ℕ → Option Message → List ℕ → Type 0
+ReadsMessage limit text (Some m) rest = Begins limit text m rest
+ReadsMessage limit text None rest = ⊥
 
--- the writer got frames of the first of these messages, and nothing of the others
-abbrev pub GetsFirst : List Message → Option (List ℕ) → Option (List ℕ) → Type 0
-GetsFirst ms old new = (sent : List Message) × (unsent : List Message) × (ms ≡ sent ++ unsent) × GetsFrames sent old new
+-- the writer got frames of all of these messages but the last one
+abbrev pub GetsAllButLast : List Message → Option (List ℕ) → Option (List ℕ) → Type 0
+GetsAllButLast ms old new = (whole : List Message) × (last : Message) × (ms ≡ whole ++ last ∷ []) × GetsFrames whole old new
 
 -- the last message was not sent: one that the outbox refused, or the null of `shutdown`
 abbrev pub IsUnsent : Stop → Option Message → Type 0
@@ -27,13 +29,13 @@ IsUnsent stop (Some null) = Unit {0}
 IsUnsent (refused fault) None = Unit {0}
 IsUnsent stop None = ⊥
 
--- A session whose messages are the first ones of a text. `Ends` is said of its end and the rest of the text, `Wrote` of what was
--- written. A session in threads has two tables of its own for this record.
-pub record SessionOver (limit : ℕ) (P : SessionPart) (text : List ℕ)
-    (Ends : SessionAnswer → Stop → Option Message → List ℕ → Type 0) (Wrote : Stop → Option Message → List Message → Type 0) : Type 0 where
+-- A session whose messages and wakes are read from a text, one after another, as `reads` says of each. `Ends` is said of its end and
+-- of the rest of the text, `Wrote` of what was written. A session in threads has three tables of its own for this record.
+pub record SessionOver {At : Type 0} (reads : At → Option Message → At → Type 0) (P : SessionPart) (text : At)
+    (Ends : SessionAnswer → Stop → Option Message → At → Type 0) (Wrote : Stop → Option Message → List Message → Type 0) : Type 0 where
   pub exchanges : List Exchange
-  pub at : List ℕ
-  pub read : BeginsWith limit text (letters_of exchanges) at
+  pub at : At
+  pub read : FoldsTo reads text (came_of exchanges) at
   pub stop : Stop
   pub null : Option Message
   pub answer : SessionAnswer
@@ -48,8 +50,16 @@ LeftAfter limit decided at left = left ≡ Some at
 LeftAfter limit no_more at left = (rest : List ℕ) × (reading_within limit at ≡ record { outcome = Ok None; rest = rest }) × (left ≡ Some rest)
 LeftAfter limit stop at left = ⊥
 
+-- What is left where a write or an allocation failed. Where the last message decided, or the outbox refused what was sent for it, all
+-- that follows that message is left. Elsewhere a part of what came next may be taken, and nothing behind it.
+abbrev pub LeftWithin : ℕ → Stop → List ℕ → Option (List ℕ) → Type 0
+LeftWithin limit decided at left = left ≡ Some at
+LeftWithin limit (refused refusal) at left = left ≡ Some at
+LeftWithin limit timed_out at left = ⊥
+LeftWithin limit stop at left = StopsWithin left (reading_within limit at)
+
 -- For what a session over bytes answers: the answer by the lifecycle, and what is left of the text, of which `at` follows the last
--- message that was used. Where a write failed, no byte after that message was taken, but perhaps after the null, which is not waited for.
+-- message that was used. The first row that fits counts.
 abbrev pub Ends : ℕ → Option (List ℕ) → Result SessionEnd SessionFault → SessionAnswer → Stop → Option Message → List ℕ → Type 0
 Ends limit left (Ok end) answer stop null at = (answer ≡ Ok end) × LeftAfter limit stop at left
 Ends limit left (Err (Protocol fault)) answer stop null at = (answer ≡ Err fault) × LeftAfter limit stop at left
@@ -57,21 +67,21 @@ Ends limit left (Err (Read (Input kind))) answer stop null at = (stop ≡ no_mor
 Ends limit left (Err (Read NoMemoryToRead)) answer stop null at = ⊥
 Ends limit left (Err (Read fault)) answer stop null at =
     (stop ≡ no_more) × (rest : List ℕ) × (reading_within limit at ≡ record { outcome = Err fault; rest = rest }) × (left ≡ Some rest)
-Ends limit left (Err (Write fault)) answer stop None at = left ≡ Some at
-Ends limit left (Err (Write fault)) answer stop (Some null) at = StopsWithin left (reading_within limit at)
-Ends limit left (Err Memory) answer stop null at = StopsWithin left (reading_within limit at)
+Ends limit left (Err (Write fault)) answer stop null at = LeftWithin limit stop at left
+Ends limit left (Err Memory) answer stop null at = LeftWithin limit stop at left
 
 -- What the writer got of all that was sent: frames of it; or, where a write failed, frames of all but the last message, which was
--- not sent, and a beginning of a frame of that one; or, where an allocation failed, frames of the first messages.
+-- not sent, and a beginning of a frame of that one; or, where an allocation failed, frames of all, or of all but the last message,
+-- which was not sent.
 abbrev pub Wrote : Option (List ℕ) → Option (List ℕ) → Result SessionEnd SessionFault → Stop → Option Message → List Message → Type 0
 Wrote old new (Err (Write fault)) stop null sends =
     IsOutput fault × IsUnsent stop null × (whole : List Message) × (last : Message) × (sends ≡ whole ++ last ∷ []) × GetsFramesAndPart whole last old new
-Wrote old new (Err Memory) stop null sends = GetsFirst sends old new
+Wrote old new (Err Memory) stop null sends = GetsFrames sends old new ⊎ (IsUnsent stop null × GetsAllButLast sends old new)
 Wrote old new result stop null sends = GetsFrames sends old new
 
 -- bytes in to bytes out
 abbrev pub Gives : ℕ → SessionPart → List ℕ → Option (List ℕ) → Option (List ℕ) → Option (List ℕ) → Result SessionEnd SessionFault → Type 0
-Gives limit P text left old new result = SessionOver limit P text (Ends limit left result) (Wrote old new result)
+Gives limit P text left old new result = SessionOver (ReadsMessage limit) P text (Ends limit left result) (Wrote old new result)
 
 -- what a fault prints
 abbrev pub session_fault_text : SessionFault → Option (List ℕ)

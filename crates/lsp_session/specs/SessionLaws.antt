@@ -2,19 +2,65 @@
 use Rattle.serde_json.specs.Data.{Data}
 use Rattle.std.specs.Bool.{MatchBool}
 use Rattle.std.specs.List.{list_all}
-use Rattle.std.specs.Prelude.{◌≡◌, ◌⊎◌, ℕ, Bool, true, false, not, List, [], ◌∷◌, ◌++◌, Option, Some, None, IsSome, IsSomeAnd, Ok, IsErrAnd}
+use Rattle.std.specs.Prelude.{◌≡◌, ◌⊎◌, ℕ, Bool, true, false, not, List, [], ◌∷◌, ◌++◌, Option, Some, None, IsSomeAnd, Ok, Err, IsErrAnd}
 use Rattle.lsp_message.specs.Id.{Id}
 use Rattle.lsp_message.specs.Message.{Message, request, notification, response}
 use Rattle.lsp_message.specs.Methods.{is_initialize, is_initialized, is_shutdown, is_exit}
 use Rattle.lsp_session.specs.Answered.{AllReplied}
-use Rattle.lsp_session.specs.ProtocolError.{Shows, ShowsUnallowed, expected_initialized, unexpected_in_shutdown}
+use Rattle.lsp_session.specs.ProtocolError.{ProtocolFault, Shows, disconnected, expected_initialize, expected_initialized, unexpected_in_shutdown, shutdown_timeout, shutdown_disconnected, out_of_memory, fault_of_refusal}
 use Rattle.lsp_session.specs.Replies.{null_reply}
-use Rattle.lsp_session.specs.Session.{Exchange, letters_of, sends_of, SessionAnswer, SessionPart, Stop, decided}
-use Rattle.lsp_session.specs.declared.loops.handler.SessionEnd.TheVariants.{ShutDown}
+use Rattle.lsp_session.specs.Session.{Exchange, letters_of, sends_of, SessionAnswer, SessionPart, Stop, decided, no_more, timed_out, refused, exhausted, Phase, starting, replied as awaiting, serving, asked, ended, is_served}
+use Rattle.lsp_session.specs.declared.loops.handler.SessionEnd.TheVariants.{Closed, ShutDown}
 
 -- of one session, both hold, and of the same exchanges
 abbrev pub Both : SessionPart → SessionPart → SessionPart
 Both P Q exchanges stop null answer = P exchanges stop null answer × Q exchanges stop null answer
+
+-- a reply that is an error
+abbrev pub is_refusal : Message → Bool
+is_refusal (response i (Err error)) = true
+is_refusal m = false
+
+-- Nothing but errors is sent for these.
+abbrev pub AllRefused : List Exchange → Type 0
+AllRefused exchanges = list_all is_refusal (sends_of exchanges) ≡ true
+
+-- a message that may come before `initialize` got its result: neither `exit` nor a response
+abbrev pub comes_early : Message → Bool
+comes_early (request i method params) = true
+comes_early (notification method params) = not (is_exit (notification method params))
+comes_early (response i outcome) = false
+
+-- Such a message came at each of these, and no wake.
+abbrev pub AllEarly : List Exchange → Type 0
+AllEarly [] = Unit {0}
+AllEarly (x ∷ xs) = IsSomeAnd x.letter (λ m. comes_early m ≡ true) × AllEarly xs
+
+-- In this phase a session may stop so, and then gives this answer: what the table of `Stops` says of any service.
+abbrev pub StopsAt : Phase → Stop → SessionAnswer → Type 0
+StopsAt (ended null by) decided answer = answer ≡ by
+StopsAt (ended null by) stop answer = ⊥
+StopsAt phase decided answer = ⊥
+StopsAt starting no_more answer = answer ≡ Err disconnected
+StopsAt awaiting no_more answer = answer ≡ Err disconnected
+StopsAt serving no_more answer = answer ≡ Ok Closed
+StopsAt (asked i) no_more answer = answer ≡ Err shutdown_disconnected
+StopsAt (asked i) timed_out answer = answer ≡ Err shutdown_timeout
+StopsAt phase timed_out answer = ⊥
+StopsAt (asked i) (refused fault) answer = ⊥
+StopsAt phase (refused fault) answer = answer ≡ Err (fault_of_refusal fault)
+StopsAt phase exhausted answer = answer ≡ Err out_of_memory
+
+-- No message is left, and the session stopped in this phase; or one is left that is none of those awaited: it decided, nothing is sent
+-- for it, and the fault shows it.
+abbrev pub StopsBefore : Phase → (Message → Bool) → (List ℕ → ProtocolFault) → List Exchange → Stop → SessionAnswer → Type 0
+StopsBefore phase is_awaited fault [] stop answer = StopsAt phase stop answer
+StopsBefore phase is_awaited fault (x ∷ rest) stop answer =
+    (rest ≡ []) × IsSomeAnd x.letter (λ m. is_awaited m ≡ false) × (x.said ≡ []) × (stop ≡ decided) × IsErrAnd answer (Shows fault)
+
+-- `initialize` got no result: the session stopped before, or at an `exit` or a response
+abbrev pub IsUnstarted : List Exchange → Stop → SessionAnswer → Type 0
+IsUnstarted = StopsBefore starting comes_early expected_initialize
 
 -- the last of these messages is `initialize`, and it gets its result
 pub record EndsWithResult (exchanges : List Exchange) : Type 0 where
@@ -31,22 +77,19 @@ abbrev pub IsInvited : List Exchange → Type 0
 IsInvited [] = ⊥
 IsInvited (x ∷ rest) = IsSomeAnd x.letter (λ m. is_initialized m ≡ true)
 
--- No message is left, or the one that decided: it came in the place of `initialized`, nothing is sent for it, and the fault shows it.
+-- `initialized` did not come: the session stopped before, or at another message
 abbrev pub IsUnopened : List Exchange → Stop → SessionAnswer → Type 0
-IsUnopened [] stop answer = Unit {0}
-IsUnopened (x ∷ rest) stop answer = (rest ≡ []) × IsSome x.letter × (x.said ≡ []) × (stop ≡ decided) × IsErrAnd answer (Shows expected_initialized)
+IsUnopened = StopsBefore awaiting is_initialized expected_initialized
 
--- After the null no message comes, or one that decides, and nothing is sent for it.
-abbrev pub AfterNull : List Exchange → Stop → SessionAnswer → Type 0
-AfterNull [] stop answer = Unit {0}
-AfterNull (x ∷ rest) stop answer =
+-- After the null, which went out under this id, no message comes, or one that decides, and nothing is sent for it. The session shut
+-- down only where that one is `exit`.
+abbrev pub AfterNull : Id → List Exchange → Stop → SessionAnswer → Type 0
+AfterNull id [] stop answer = StopsAt (asked id) stop answer
+AfterNull id (x ∷ rest) stop answer =
     (rest ≡ []) × (x.said ≡ []) × (stop ≡ decided)
     × IsSomeAnd x.letter (λ m. MatchBool (is_exit m) (answer ≡ Ok ShutDown) (IsErrAnd answer (Shows unexpected_in_shutdown)))
 
-abbrev pub is_no_shutdown : Message → Bool
-is_no_shutdown m = not (is_shutdown m)
-
--- the first `shutdown` gets null, under its id, and that is the last message that is sent
+-- the first `shutdown` gets null, under its id, and that is the last message that is sent; no `exit` comes before it
 pub record EndsWithNull (exchanges : List Exchange) (stop : Stop) (null : Option Message) (answer : SessionAnswer) : Type 0 where
   pub before : List Exchange
   pub id : Id
@@ -54,26 +97,42 @@ pub record EndsWithNull (exchanges : List Exchange) (stop : Stop) (null : Option
   pub params : Data
   pub after : List Exchange
   pub cut : exchanges ≡ before ++ record { letter = Some (request id method params); said = null_reply id ∷ [] } ∷ after
-  pub none_before : list_all is_no_shutdown (letters_of before) ≡ true
+  pub none_before : list_all is_served (letters_of before) ≡ true
   pub asks : is_shutdown (request id method params) ≡ true
   pub is_null : null ≡ Some (null_reply id)
-  pub after_null : AfterNull after stop answer
+  pub after_null : AfterNull id after stop answer
 
--- No `shutdown` comes, no null is sent, and no message is shown that the lifecycle does not allow.
-abbrev pub HasNoShutdown : List Exchange → Option Message → SessionAnswer → Type 0
-HasNoShutdown exchanges null answer =
-    (list_all is_no_shutdown (letters_of exchanges) ≡ true) × (null ≡ None) × (IsErrAnd answer ShowsUnallowed → ⊥)
+-- `exit` is the last of these messages, and the first one: it decided, and nothing is sent for it
+pub record EndsWithExit (exchanges : List Exchange) (stop : Stop) (answer : SessionAnswer) : Type 0 where
+  pub before : List Exchange
+  pub last : Message
+  pub cut : exchanges ≡ before ++ record { letter = Some last; said = [] } ∷ []
+  pub none_before : list_all is_served (letters_of before) ≡ true
+  pub leaves : is_exit last ≡ true
+  pub decides : stop ≡ decided
+  pub closes : answer ≡ Ok Closed
 
--- Up to and with `initialize` each request gets one reply, and nothing else is sent; the result of `initialize` is the last. Then
--- `initialized` comes, and from there on `shutdown` gets the null that is the last message sent. Where `initialized` does not come,
--- nothing more is sent.
+-- No `shutdown` comes, no null is sent, and no message comes after `exit`. Where none comes the session stopped as it does while it serves.
+abbrev pub HasNoShutdown : List Exchange → Stop → Option Message → SessionAnswer → Type 0
+HasNoShutdown exchanges stop null answer =
+    (((list_all is_served (letters_of exchanges) ≡ true) × StopsAt serving stop answer) ⊎ EndsWithExit exchanges stop answer) × (null ≡ None)
+
+-- `initialize` got its result, and errors alone came before it. Then `initialized` comes, and from there on `shutdown` gets the null
+-- that is the last message sent. Where `initialized` does not come, nothing more is sent.
+pub record IsOpened (early rest : List Exchange) (stop : Stop) (null : Option Message) (answer : SessionAnswer) : Type 0 where
+  pub ends : EndsWithResult early
+  pub refused : AllRefused ends.before
+  pub came : AllEarly ends.before
+  pub later : (IsInvited rest × (HasNoShutdown rest stop null answer ⊎ EndsWithNull rest stop null answer)) ⊎ (IsUnopened rest stop answer × (null ≡ None))
+
+-- Up to and with `initialize` each request gets one reply, and nothing else is sent: errors, and last its result. Neither `exit` nor a
+-- response comes before that result, unless it is the last message and decides. Each end has the answer of its phase.
 pub record KeepsOrder (exchanges : List Exchange) (stop : Stop) (null : Option Message) (answer : SessionAnswer) : Type 0 where
   pub early : List Exchange
   pub rest : List Exchange
   pub cut : exchanges ≡ early ++ rest
   pub replied : AllReplied early
-  pub opened : (EndsWithResult early × IsInvited rest × (HasNoShutdown rest null answer ⊎ EndsWithNull rest stop null answer))
-      ⊎ (IsUnopened rest stop answer × (null ≡ None))
+  pub opened : IsOpened early rest stop null answer ⊎ (AllRefused early × AllEarly early × IsUnstarted rest stop answer × (null ≡ None))
 
 abbrev pub is_reply : Message → Bool
 is_reply (response i outcome) = true

@@ -77,7 +77,7 @@ pub trait Inbox {
         ensures never_timeout { event_view result ≢ timeout };
 
     /// Waits for a message or a wake, without limit. A session calls it from `initialized` up to `shutdown` and nowhere else, so that
-    /// no service is woken before or after. An inbox that wakes writes it; any other one leaves it as it is, and gives no wake.
+    /// no service is woken before or after; that it calls it there, and not `receive`, is tested and no part of a contract. An inbox that wakes writes it; any other one leaves it as it is, and gives no wake.
     fn receive_or_woken(&mut self) -> Arrival
         ensures { WaitsFor receives self.old (arrival_view result) self.new }
     {

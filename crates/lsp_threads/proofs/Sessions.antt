@@ -1,5 +1,5 @@
 -- A session over relays, as its contract says it: it is one over bytes, but what is left of them is not known.
-use Rattle.std.proofs.Common.{◌≡◌, refl, ◌∙◌, ap, subst, ℕ, false, List, [], ◌∷◌, ◌++◌, map, Some, None, Option, IfSome}
+use Rattle.std.proofs.Common.{◌≡◌, refl, sym, ◌∙◌, ap, subst, inl, inr, append-nil, ℕ, false, List, [], ◌∷◌, ◌++◌, map, Some, None, Option, IfSome}
 use Rattle.std.specs.Bool.{MatchBool}
 use Rattle.std.specs.List.{FoldsTo}
 use Rattle.std.specs.Prelude.{Result, Ok, Err, IfOk}
@@ -17,9 +17,9 @@ use Rattle.lsp_relay.specs.Relay.{ended, has_end, Sending}
 use Rattle.lsp_relay.specs.declared.ends.Parcel.{Parcel}
 use Rattle.lsp_relay.specs.declared.ends.Parcel.TheVariants as parcel
 use Rattle.lsp_session.proofs.Ran.{Facts}
-use Rattle.lsp_session.proofs.SessionGives.{left_within, stop_ends, NotRefused, WakingGives}
-use Rattle.lsp_session.specs.Session.{Exchange, came_of, letters_of, sends_of, SessionAnswer, SessionPart, Stop}
-use Rattle.lsp_session.specs.SessionBytes.{BeginsWith, Wrote}
+use Rattle.lsp_session.proofs.SessionGives.{BeginsWith, letters_in, left_after, stop_ends, NotRefused, WakingGives}
+use Rattle.lsp_session.specs.Session.{Exchange, came_of, letters_of, sends_of, SessionAnswer, SessionPart, Stop, decided, refused}
+use Rattle.lsp_session.specs.SessionBytes.{LeftWithin, Wrote}
 use Rattle.lsp_session.specs.SessionFault.{read_answer, session_answer}
 use Rattle.lsp_session.specs.SessionRun.{all_of, Runs}
 use Rattle.lsp_session.specs.Streams.{Stream}
@@ -29,7 +29,7 @@ use Rattle.lsp_session.specs.declared.loops.stream_session.SessionFault.{Session
 use Rattle.lsp_session.specs.declared.loops.stream_session.SessionFault.TheVariants.{Write, Memory}
 use Rattle.lsp_threads.proofs.RelayStream.{Posted, all_posted, as_stream}
 use Rattle.lsp_threads.specs.RelayBoxes.{HandsOn, RelayGives, RelaySends, Receiving, WritesAll, WritesTaken}
-use Rattle.lsp_threads.specs.Threads.{EndsInThreads, ThreadsGive, WroteInThreads, session_end}
+use Rattle.lsp_threads.specs.Threads.{ReadsOrWakes, EndsInThreads, ThreadsGive, WroteInThreads, session_end}
 use Rattle.lsp_session.proofs.Lending.{over_as}
 
 -- what was written of a session over bytes, as one in threads says it
@@ -37,8 +37,15 @@ wrote_so : (a b : Option (List ℕ)) (result : Result SessionEnd SessionFault) (
     → WroteInThreads a b result stop null sends
 wrote_so a b (Err (Write fault)) stop null sends (output, unsent, whole, last, cut, got) =
     (output, record { whole = whole; next = last; unwritten = []; cut = cut; got = got })
-wrote_so a b (Err Memory) stop null sends wrote = wrote
+wrote_so a b (Err Memory) stop null sends (inl wrote) = (sends, [], sym (append-nil sends), wrote)
+wrote_so a b (Err Memory) stop null sends (inr most) = (most.1.0, most.1.1 ∷ [], most.1.2, most.1.3)
 wrote_so a b result stop null sends wrote = wrote
+
+-- the messages of a text are what was read of it, and a wake reads nothing
+reads_all : (limit : ℕ) (came : List (Option Sent)) (text at : List ℕ) → BeginsWith limit text (letters_in came) at → FoldsTo (ReadsOrWakes limit) text came at
+reads_all limit [] text at begins = begins
+reads_all limit (Some m ∷ came) text at begins = (begins.0, begins.1, reads_all limit came begins.0 at begins.2)
+reads_all limit (None ∷ came) text at begins = (text, refl, reads_all limit came text at begins)
 
 module _ (limit : ℕ) (P : SessionPart)
     (knows : (xs : List Exchange) (stop : Stop) (null : Option Sent) (answer : SessionAnswer) → P xs stop null answer → Facts stop (letters_of xs) answer)
@@ -57,7 +64,7 @@ module _ (limit : ℕ) (P : SessionPart)
     over result at read ends wrote = record {
       exchanges = runs.exchanges;
       at = at;
-      read = read;
+      read = reads_all limit (came_of runs.exchanges) text at read;
       stop = runs.stop;
       null = runs.null;
       answer = answer;
@@ -66,23 +73,18 @@ module _ (limit : ℕ) (P : SessionPart)
       wrote = wrote;
     }
 
-    -- a write failed
-    unwritten : (null : Option Sent) (at : List ℕ) (fault : WriteFault) → EndsInThreads limit (Err (Write fault)) answer runs.stop null at
-    unwritten None at fault = (Some at, refl)
-    unwritten (Some null) at fault = (Some at, frame_unread body_means limit at)
-
     gives : (fault : Option WriteFault) → WritesAll (sends_of runs.exchanges) fault a b → ThreadsGive limit P text a b (session_answer answer s.end fault)
     gives None written =
         let all = stop_ends limit text _ s refl refl runs.events run (came_of runs.exchanges) runs.null answer (sends_of runs.exchanges) a b written runs.stop runs.brought posts.0 facts in
         over (read_answer answer s.end) all.0 all.1 (s.remaining, all.2.0) (wrote_so a b (read_answer answer s.end) runs.stop runs.null (sends_of runs.exchanges) all.2.1)
     gives (Some fault) written = at fault written
       where
-        read : (at : List ℕ) × BeginsWith limit text (letters_of runs.exchanges) at × StopsWithin s.remaining (reading_within limit at)
-        read = left_within limit text _ s refl refl runs.events run (came_of runs.exchanges) runs.stop answer runs.brought facts
+        read : (at : List ℕ) × BeginsWith limit text (letters_of runs.exchanges) at × LeftWithin limit runs.stop at s.remaining
+        read = left_after limit text _ s refl refl runs.events run (came_of runs.exchanges) runs.null answer runs.stop runs.brought facts
 
         at : (fault : WriteFault) → WritesAll (sends_of runs.exchanges) (Some fault) a b → ThreadsGive limit P text a b (session_answer answer s.end (Some fault))
         at (Output kind) (whole, next, others, cut, got) =
-            over (Err (Write (Output kind))) read.0 read.1 (unwritten runs.null read.0 (Output kind)) (tt, record { whole = whole; next = next; unwritten = others; cut = cut; got = got })
+            over (Err (Write (Output kind))) read.0 read.1 (s.remaining, read.2) (tt, record { whole = whole; next = next; unwritten = others; cut = cut; got = got })
         at NoMemory (whole, next, others, cut, got) = over (Err Memory) read.0 read.1 (s.remaining, read.2) (whole, next ∷ others, cut, got)
 
   -- what the threads of a session come to in bytes
@@ -114,5 +116,5 @@ module _ (P Q : SessionPart)
       → IfSome known (λ text. IfOk result (λ done. ThreadsGive limit P text old (contents done) (answer_of done)))
       → IfSome known (λ text. IfOk result (λ done. ThreadsGive limit Q text old (contents done) (answer_of done)))
   started_as contents answer_of None old result gives = tt
-  started_as contents answer_of (Some text) old (Ok done) gives = over_as P Q to limit text _ _ gives
+  started_as contents answer_of (Some text) old (Ok done) gives = over_as P Q to _ text _ _ gives
   started_as contents answer_of (Some text) old (Err fault) gives = tt

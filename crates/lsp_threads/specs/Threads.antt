@@ -1,9 +1,10 @@
 -- A session whose reader and writer run in threads of their own: bytes in to bytes out (LSP 3.17, "Base Protocol" and "Server lifecycle").
 use Rattle.std.specs.Prelude.{◌≡◌, Bool, true, false, ℕ, List, ◌∷◌, ◌++◌, Option, Some, None, Result, Err}
+use Rattle.lsp_message.specs.Frame.{Begins}
 use Rattle.lsp_message.specs.Message.{Message}
 use Rattle.lsp_message.specs.Written.{GetsFrames, GetsFramesAndPart, IsOutput}
 use Rattle.lsp_session.specs.Session.{SessionAnswer, SessionPart, Stop}
-use Rattle.lsp_session.specs.SessionBytes.{Ends, GetsFirst, SessionOver}
+use Rattle.lsp_session.specs.SessionBytes.{Ends, SessionOver}
 use Rattle.lsp_session.specs.declared.loops.ReadEnd.{ReadEnd}
 use Rattle.lsp_session.specs.declared.loops.ReadEnd.TheVariants.{Exit}
 use Rattle.lsp_session.specs.declared.loops.handler.SessionEnd.{SessionEnd}
@@ -18,6 +19,15 @@ pub record BreaksOffWithin (ms : List Message) (old new : Option (List ℕ)) : T
   pub cut : ms ≡ whole ++ next ∷ unwritten
   pub got : GetsFramesAndPart whole next old new
 
+-- the writer got frames of the first of these messages, and nothing of the others
+abbrev pub GetsFirst : List Message → Option (List ℕ) → Option (List ℕ) → Type 0
+GetsFirst ms old new = (sent : List Message) × (unsent : List Message) × (ms ≡ sent ++ unsent) × GetsFrames sent old new
+
+-- The first frame of the text is this message, and the rest follows it; or others woke the session, and nothing was read.
+abbrev pub ReadsOrWakes : ℕ → List ℕ → Option Message → List ℕ → Type 0
+ReadsOrWakes limit text (Some m) rest = Begins limit text m rest
+ReadsOrWakes limit text None rest = rest ≡ text
+
 -- For what a session in threads answers: as one over bytes ends, whatever is left of the text, since the reader is gone.
 abbrev pub EndsInThreads : ℕ → Result SessionEnd SessionFault → SessionAnswer → Stop → Option Message → List ℕ → Type 0
 EndsInThreads limit result answer stop null at = (left : Option (List ℕ)) × Ends limit left result answer stop null at
@@ -31,7 +41,7 @@ WroteInThreads old new result stop null sends = GetsFrames sends old new
 
 -- bytes in to bytes out
 abbrev pub ThreadsGive : ℕ → SessionPart → List ℕ → Option (List ℕ) → Option (List ℕ) → Result SessionEnd SessionFault → Type 0
-ThreadsGive limit P text old new result = SessionOver limit P text (EndsInThreads limit result) (WroteInThreads old new result)
+ThreadsGive limit P text old new result = SessionOver (ReadsOrWakes limit) P text (EndsInThreads limit result) (WroteInThreads old new result)
 
 -- What ended the messages of a session whose inbox was closed so, and gave an `exit` so: a reader's end counts where the
 -- session came to it. For private clauses.

@@ -196,10 +196,11 @@ where
 }
 
 /// As `run_threads_of_service_by`, over a relay that the caller made, which no message has passed. Wakers of the relay wake the
-/// service, from `initialized` up to `shutdown`; a wake before or after is passed over.
+/// service, from `initialized` up to `shutdown`; a wake before or after is passed over. That a wake arrives is tested, and no part of
+/// this contract.
 ///
 /// Both ends of the relay are gone when this returns, also after a fault: a wake gives false from then on, and one that waits for
-/// room gives up. `service` runs on the caller's thread, and should not wake itself: the relay may be full.
+/// room gives up (tested as well). `service` runs on the caller's thread, and should not wake itself: the relay may be full.
 pub fn run_threads_of_service_over<T, R, W, S>(
     rt: &T,
     builders: Builders,

@@ -11,12 +11,12 @@ use Rattle.lsp_message.specs.declared.frame.WriteFault.TheVariants.{Output, Memo
 use Rattle.lsp_message.specs.declared.frame.WriteFault.{WriteFault}
 use Rattle.lsp_session.proofs.Handing.{begins}
 use Rattle.lsp_session.proofs.Ran.{is_no_exit, Facts}
-use Rattle.lsp_session.proofs.SessionGives.{no_timeout as stream_no_timeout, left_within as stream_left_within, stop_ends as stream_stop_ends, NotRefused, GetsPart, gets_written, gets_keeps, ran_out_answer, ran_out_gives, whole_first}
+use Rattle.lsp_session.proofs.SessionGives.{no_timeout as stream_no_timeout, left_within as stream_left_within, stop_ends as stream_stop_ends, NotRefused, GetsPart, gets_written, gets_keeps, ran_out_answer, ran_out_gives}
 use Rattle.lsp_session.proofs.Waiting.{FoldsTo-split}
 use Rattle.lsp_session.specs.Event.{Event, closed, message, timeout, woken}
 use Rattle.lsp_session.specs.FrameBoxes.{FrameOutboxSends}
 use Rattle.lsp_session.specs.Session.{Exchange, came_of, letters_of, sends_of, SessionAnswer, SessionPart, Stop, decided, no_more, timed_out, refused, exhausted}
-use Rattle.lsp_session.specs.SessionBytes.{IsUnsent, LeftAfter, Ends, Wrote}
+use Rattle.lsp_session.specs.SessionBytes.{IsUnsent, LeftAfter, LeftWithin, Ends, Wrote}
 use Rattle.lsp_session.specs.SessionFault.{ran_out, came_to_no_more, plain_answer, read_answer, session_answer}
 use Rattle.lsp_session.specs.SessionRun.{came_in, is_open, Brings, Runs}
 use Rattle.lsp_session.specs.Streams.{Stream, StreamGives, Reads}
@@ -28,13 +28,17 @@ use Rattle.lsp_session.specs.declared.loops.stream_session.SessionFault.TheVaria
 use Rattle.lsp_session.specs.declared.loops.stream_session.SessionFault.{SessionFault}
 use Rattle.lsp_tolerant.specs.Passing.{is_of_body, TolerantGives}
 use Rattle.lsp_tolerant.specs.TolerantBoxes.{stream_of, TolerantInboxGives}
-use Rattle.lsp_tolerant.specs.TolerantBytes.{PassesOver, ReadsFrame, ReadsFrames, HearsLast, GivesTolerantly}
+use Rattle.lsp_tolerant.specs.TolerantBytes.{PassesOver, ReadsFrame, HearsLast, GivesTolerantly}
 use Rattle.lsp_tolerant.specs.declared.inbox.TolerantInbox.{TolerantInbox}
 use Rattle.std.proofs.Common.{◌≡◌, refl, sym, ◌∙◌, ap, subst, inl, inr, ℕ, Bool, true, false, true≢false, List, [], ◌∷◌, ◌++◌, append-nil, Some, None, Option, IfSome}
 use Rattle.std.proofs.lemmas.List.Elements.{filter_map-append}
 use Rattle.std.specs.List.{FoldsTo, list_all, filter_map}
 use Rattle.std.specs.Prelude.{Result, Ok, Err, MatchOption, if◌then◌else◌}
 use Rattle.std.specs.declared.io.ErrorKind.{ErrorKind}
+
+-- the first frames of a text, one after another
+abbrev ReadsFrames : {L : Type 0} (hears : L → ReadFault → L → Type 0) (limit : ℕ) → List ℕ × L → List (Option Message) → List ℕ × L → Type 0
+ReadsFrames hears limit = FoldsTo (ReadsFrame hears limit)
 
 -- the messages of what came
 abbrev letters_in : List (Option Message) → List Message
@@ -222,14 +226,14 @@ module _ {L : Type 0} (hears : L → ReadFault → L → Type 0) (limit : ℕ) w
         (parts.0, parts.1, inl step.1, ([], all.left ∙ ap (λ (r : Reading Message). Some r.rest) (sym step.0)))
     left_within came stop answer brought facts = let all = open_brought came brought.0 brought.1 in ((all.at, new.1), all.read, refl, open_within came all)
 
-    -- where a message was not sent, nothing after the last one was taken, but for what is awaited after the null
-    left_unsent : (came : List (Option Message)) (answer : SessionAnswer) (kind : ErrorKind) (null : Option Message) (stop : Stop) → Brings events came stop
-        → Facts stop (letters_in came) answer → IsUnsent stop null
-        → Reached came stop (λ at. Ends limit new.0.remaining (Err (Write (Output kind))) answer stop null at.0)
-    left_unsent came answer kind (Some null) stop brought facts unsent = left_within came stop answer brought facts
-    left_unsent came answer kind None (refused fault) brought facts unsent = let all = open_brought came brought.0 brought.1 in
-        ((all.at, new.1), all.read, refl, all.left)
-    left_unsent came answer kind None stop brought facts unsent = absurd unsent
+    -- what is left where a write or an allocation failed
+    left_after : (came : List (Option Message)) (answer : SessionAnswer) (stop : Stop) → Brings events came stop → Facts stop (letters_in came) answer
+        → Reached came stop (λ at. LeftWithin limit stop at.0 new.0.remaining)
+    left_after came answer decided brought facts = let all = open_brought came brought.0 brought.1 in ((all.at, new.1), all.read, refl, all.left)
+    left_after came answer (refused fault) brought facts = let all = open_brought came brought.0 brought.1 in ((all.at, new.1), all.read, refl, all.left)
+    left_after came answer no_more brought facts = left_within came no_more answer brought facts
+    left_after came answer timed_out brought facts = absurd (no_timeout brought.1.0 old new (rw brought.1.1 at run))
+    left_after came answer exhausted brought facts = left_within came exhausted answer brought facts
 
     module _ (came : List (Option Message)) (null : Option Message) (answer : SessionAnswer) (sends : List Message) (a b : Option (List ℕ))
         (wrote : GetsFrames sends a b) where
@@ -260,7 +264,7 @@ module _ {L : Type 0} (hears : L → ReadFault → L → Type 0) (limit : ℕ) w
 
       -- an allocation failed
       exhausted_ends : ran_out answer ≡ true → (at : List ℕ × L) → Within at → Ended exhausted at.0
-      exhausted_ends ran at stops = rw (ran_out_answer answer ran, ran_out_gives new.0.end) (stops, whole_first sends a b wrote)
+      exhausted_ends ran at stops = rw (ran_out_answer answer ran, ran_out_gives new.0.end) (stops, inl wrote)
 
       -- no write failed
       frames_end : (stop : Stop) → Brings events came stop → NotRefused stop → Facts stop (letters_in came) answer → Reached came stop (λ at. Ended stop at.0)
@@ -324,8 +328,7 @@ module _ {L : Type 0} (hears : L → ReadFault → L → Type 0) (limit : ℕ) w
           null = runs.null;
           answer = answer;
           part = runs.part;
-          ends = reached.3;
-          hears_last = reached.2;
+          ends = (reached.3, reached.2);
           wrote = wrote;
         }
 
@@ -341,11 +344,11 @@ module _ {L : Type 0} (hears : L → ReadFault → L → Type 0) (limit : ℕ) w
             gives (read_answer answer inbox'.end) (all.0, all.1, all.2, all.3.0) all.3.1
         at (Some (Output kind)) unwritten =
             gives (Err (Write (Output kind)))
-            (left_unsent text before after unended known runs.events run (came_of runs.exchanges) answer kind runs.null runs.stop runs.brought facts unwritten.0)
+            (left_after text before after unended known runs.events run (came_of runs.exchanges) answer runs.stop runs.brought facts)
             (tt, unwritten.0, unwritten.1.0, unwritten.1.1, unwritten.1.2, unwritten.1.3)
         at (Some NoMemory) unwritten =
-            gives (Err Memory) (left_within text before after unended known runs.events run
-            (came_of runs.exchanges) runs.stop answer runs.brought facts) unwritten.1
+            gives (Err Memory) (left_after text before after unended known runs.events run (came_of runs.exchanges) answer runs.stop runs.brought facts)
+            (inr (unwritten.0, unwritten.1))
 
     -- the same of the reader and the writer that were lent, and of the listener
     pub session_gives : (first last : R) (first' last' : W) (heard heard' : L) → inbox.reader.now ≡ first → outbox.writer.now ≡ first'

@@ -18,14 +18,19 @@ use crate::loops::{Handler, Service};
 
 /// Each request of a handler's session gets exactly one reply, under its id and in order, and no reply goes to anything else
 /// (JSON-RPC 2.0, section 5): those that came too early, `initialize`, those that the handler answered, and `shutdown`. Only a
-/// last request that the lifecycle does not allow has none. A fact of each session that was run, over its exchanges, and from
-/// bytes to bytes with a limit or without one.
-pub fn session_answers_requests<H: Handler>()
+/// last request that the lifecycle does not allow has none; which these are the order of the lifecycle says, which the session keeps as
+/// well (`session_keeps_order`). A fact of each session that was run, over its exchanges, over boxes, and from bytes to bytes with a
+/// limit or without one.
+pub fn session_answers_requests<I: Inbox, O: Outbox, H: Handler>()
     ensures exchanges { (capabilities : Data) (old new : H) (exchanges : List Exchange) (stop : Stop) (null : Option Message) (answer : SessionAnswer)
-        → SessionOut (of_handler H.answers H.notes capabilities) old new exchanges stop null answer → AnswersRequests exchanges stop null answer }
+        → SessionOut (of_handler H.answers H.notes capabilities) old new exchanges stop null answer
+        → Both AnswersRequests KeepsOrder exchanges stop null answer }
+    ensures boxes { (capabilities : Data) (old new : H) (before after : I × O) (answer : SessionAnswer)
+        → Runs I.receives O.sends (SessionOut (of_handler H.answers H.notes capabilities) old new) before answer after
+        → Runs I.receives O.sends (Both (SessionOut (of_handler H.answers H.notes capabilities) old new) (Both AnswersRequests KeepsOrder)) before answer after }
     ensures bytes { (limit : ℕ) (capabilities : Data) (old new : H) (text : List ℕ) (left before after : Option (List ℕ)) (answer : Result EndOfSession FaultOfSession)
         → Gives limit (SessionOut (of_handler H.answers H.notes capabilities) old new) text left before after answer
-        → Gives limit (Both (SessionOut (of_handler H.answers H.notes capabilities) old new) AnswersRequests) text left before after answer }
+        → Gives limit (Both (SessionOut (of_handler H.answers H.notes capabilities) old new) (Both AnswersRequests KeepsOrder)) text left before after answer }
 {}
 
 /// Where the answer is that the client is gone, each request that the session read has its reply: a request is left without
@@ -51,9 +56,11 @@ pub fn only_replies_come_first()
 {}
 
 /// A session keeps the order of the lifecycle (LSP 3.17, "Server lifecycle"), whatever its service gives: up to and with `initialize`
-/// each request gets one reply, the result of `initialize` last, and nothing else is sent before `initialized` comes; then the
-/// first `shutdown` gets null, which is the last message that is sent. A fact of each session that was run, over its exchanges,
-/// over boxes, and from bytes to bytes with a limit or without one.
+/// each request gets one reply, errors first and last the result of `initialize`, and nothing else is sent before `initialized` comes;
+/// then the first `shutdown` gets null, which is the last message that is sent. Where no `initialize` gets a result, nothing but
+/// errors is sent. No message comes after an `exit`, nor after a response that comes before `initialize`. The answer is that of the
+/// phase in which the session stopped: it is shut down only by an `exit` after the null of `shutdown`. A fact of each session that was
+/// run, over its exchanges, over boxes, and from bytes to bytes with a limit or without one.
 pub fn session_keeps_order<I: Inbox, O: Outbox, S: Service>()
     ensures exchanges { (old new : S) (exchanges : List Exchange) (stop : Stop) (null : Option Message) (answer : SessionAnswer)
         → SessionOut S.behavior old new exchanges stop null answer → KeepsOrder exchanges stop null answer }

@@ -10,5 +10,5 @@ returns g c = record {
   bytes = λ limit first last text before after answer gives.
       over_as (JobSession g.row.T.Denot g.S.Server g.S.JobServer.starts g.S.JobServer.finishes g.J.Job.answers first last)
       (LawfulJobSession g.row.T.Denot g.S.Server g.S.JobServer.starts g.S.JobServer.finishes g.J.Job.answers first last)
-      (lawful_jobs g.row.T.Denot g.S.Server g.S.JobServer.starts g.S.JobServer.finishes g.J.Job.answers first last) limit text _ _ gives;
+      (lawful_jobs g.row.T.Denot g.S.Server g.S.JobServer.starts g.S.JobServer.finishes g.J.Job.answers first last) _ text _ _ gives;
 }

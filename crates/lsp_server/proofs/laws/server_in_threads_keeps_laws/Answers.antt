@@ -6,4 +6,4 @@ use Rattle.lsp_server.proofs.laws.server_in_threads_keeps_laws.Goals as goal
 
 pub returns : goal.returns
 returns g c = λ limit first last text before after answer gives.
-    over_as (ServerSession g.S.Server first last) (LawfulSession g.S.Server first last) (lawful g.S.Server first last) limit text _ _ gives
+    over_as (ServerSession g.S.Server first last) (LawfulSession g.S.Server first last) (lawful g.S.Server first last) _ text _ _ gives

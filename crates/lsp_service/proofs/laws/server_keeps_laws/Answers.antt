@@ -8,5 +8,5 @@ pub returns : goal.returns
 returns g c = record {
   exchanges = keeps_laws g.S.Server;
   bytes = λ limit first last text left before after answer gives.
-      over_as (ServerSession g.S.Server first last) (LawfulSession g.S.Server first last) (lawful g.S.Server first last) limit text _ _ gives;
+      over_as (ServerSession g.S.Server first last) (LawfulSession g.S.Server first last) (lawful g.S.Server first last) _ text _ _ gives;
 }

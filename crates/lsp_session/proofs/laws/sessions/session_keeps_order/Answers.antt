@@ -16,4 +16,4 @@ returns-clause-boxes g c = λ old new before after answer runs.
 pub returns-clause-bytes : goal.returns-clause-bytes
 returns-clause-bytes g c = λ limit old new text left before after answer gives.
     let P = SessionOut g.S.Service.behavior old new in
-    over_as P (Both P KeepsOrder) (λ xs stop null answer out. (out, keeps_order g.S.Service.behavior old new xs stop null answer out)) limit text _ _ gives
+    over_as P (Both P KeepsOrder) (λ xs stop null answer out. (out, keeps_order g.S.Service.behavior old new xs stop null answer out)) _ text _ _ gives

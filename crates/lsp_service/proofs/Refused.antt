@@ -1,0 +1,115 @@
+-- Runs of a server that keep no laws: replies that nobody asked for, requests that nobody answers, and replies of the client that
+-- come to the server with another payload than their own.
+use Rattle.lsp_message.specs.Id.{Id, id_cmp, number}
+use Rattle.lsp_message.specs.IdLaws.{id_decides}
+use Rattle.lsp_message.specs.Message.{Message, ErrorObject, request, notification, response}
+use Rattle.lsp_message.specs.Methods.{is_initialize}
+use Rattle.lsp_queue.specs.Queue.{Pending}
+use Rattle.lsp_service.specs.Desk.{Act, asks}
+use Rattle.lsp_service.specs.Law.{one_if, acts_of, all_sent, kept_under, was_given, is_reply_under, is_request_under, how_many, held_under, NeverMore, OnceOrEnded, Turn, GivesOwnPayloads, KeepsLaws}
+use Rattle.lsp_service.specs.declared.server.Server.{Ghosts as Stated}
+use Rattle.lsp_session.proofs.Refused.{served_first}
+use Rattle.lsp_session.specs.Session.{Exchange, sends_of, SessionAnswer, Stop, exhausted}
+use Rattle.lsp_session.specs.declared.loops.handler.SessionEnd.{SessionEnd}
+use Rattle.serde_json.specs.Data.{Data}
+use Rattle.std.proofs.Common.{◌≡◌, refl, sym, ◌∙◌, ap, subst, inl, inr, ℕ, ◌+◌, ◌≤◌, Bool, true, false, List, [], ◌∷◌, ◌++◌, arith, Option, Some, None}
+use Rattle.std.specs.Ordering.{eq_by_cmp}
+use Rattle.std.specs.Prelude.{Result, Ok, pos, ◌||◌, if◌then◌else◌}
+
+-- an id is itself
+same : (id : Id) → eq_by_cmp id_cmp id id ≡ true
+same id = (id_decides id id).1 refl
+
+-- one reply under an id is one
+replies_one : (id : Id) (outcome : Result Data ErrorObject) → how_many (is_reply_under id) (response id outcome ∷ []) ≡ 1
+replies_one id outcome = ap (λ (b : Bool). one_if b + 0) (same id)
+
+-- a request under this id, for which this is sent
+abbrev asked : Id → List ℕ → Data → List Message → Exchange
+asked id method params said = record { letter = Some (request id method params); said = said }
+
+-- ---- no more replies than requests
+
+-- a reply goes out for a notification that comes first
+pub replies_to_nobody : (id : Id) (method : List ℕ) (params : Data) (outcome : Result Data ErrorObject) (more : List Exchange)
+    → NeverMore id (record { letter = Some (notification method params); said = response id outcome ∷ [] } ∷ more) → ⊥
+replies_to_nobody id method params outcome more never =
+    let none : 1 ≤ 0 = subst (λ (n : ℕ). n ≤ 0) (replies_one id outcome)
+    (never (record { letter = Some (notification method params); said = response id outcome ∷ [] } ∷ []) more refl) in
+    omega (arith, none)
+
+-- a reply goes out at a wake, and no request has come
+pub replies_woken : (id : Id) (outcome : Result Data ErrorObject) (more : List Exchange)
+    → NeverMore id (record { letter = None; said = response id outcome ∷ [] } ∷ more) → ⊥
+replies_woken id outcome more never =
+    let none : 1 ≤ 0 = subst (λ (n : ℕ). n ≤ 0) (replies_one id outcome) (never (record { letter = None; said = response id outcome ∷ [] } ∷ []) more refl) in
+    omega (arith, none)
+
+-- one request gets two replies
+pub replies_twice : (id : Id) (method : List ℕ) (params : Data) (first second : Result Data ErrorObject) (more : List Exchange)
+    → NeverMore id (asked id method params (response id first ∷ response id second ∷ []) ∷ more) → ⊥
+replies_twice id method params first second more never =
+    let two : how_many (is_reply_under id) (response id first ∷ response id second ∷ []) ≡ 2 = ap (λ (b : Bool). one_if b + (one_if b + 0)) (same id) in
+    let once : how_many (is_request_under id) (request id method params ∷ []) ≡ 1 = ap (λ (b : Bool). one_if b + 0) (same id) in
+    let few : 2 ≤ how_many (is_request_under id) (request id method params ∷ []) =
+    subst (λ (n : ℕ). n ≤ how_many (is_request_under id) (request id method params ∷ [])) two
+    (never (asked id method params (response id first ∷ response id second ∷ []) ∷ []) more refl) in
+    let over : 2 ≤ 1 = subst (λ (n : ℕ). 2 ≤ n) once few in
+    omega (arith, over)
+
+-- ---- exactly one, or still held
+
+-- a request has no reply, it is not held, and the session ended well
+pub never_replies : (id : Id) (exchanges : List Exchange) (stop : Stop) (held : Pending (Unit {0})) (end : SessionEnd)
+    → how_many (is_reply_under id) (sends_of exchanges) ≡ 0 → held_under id held ≡ 0 → OnceOrEnded id exchanges stop held (Ok end) → ⊥
+never_replies id exchanges stop held end none free (inl one) = let e : 0 ≡ 1 = sym none ∙ one in cc (e)
+never_replies id exchanges stop held end none free (inr (nothing, inl kept)) = let e : 0 ≡ 1 = sym free ∙ kept in cc (e)
+never_replies id exchanges stop held end none free (inr (nothing, inr ended)) = ended.2
+
+-- a request whose id was used once has two replies
+pub replies_again : (id : Id) (exchanges : List Exchange) (stop : Stop) (held : Pending (Unit {0})) (answer : SessionAnswer)
+    → how_many (is_reply_under id) (sends_of exchanges) ≡ 2 → OnceOrEnded id exchanges stop held answer → ⊥
+replies_again id exchanges stop held answer two (inl one) = let e : 2 ≡ 1 = sym two ∙ one in cc (e)
+replies_again id exchanges stop held answer two (inr rest) = let e : 2 ≡ 0 = sym two ∙ rest.0 in cc (e)
+
+-- ---- replies of the client
+
+module _ {P : Type 0} where
+  -- a reply came, and the server was given this with it
+  abbrev given : Id → Result Data ErrorObject → Option P → List (Act P) → Turn P
+  given id outcome payload acts = record { letter = Some (response id outcome); payload = payload; acts = acts }
+
+  -- the server is given a payload, and it has asked for nothing
+  pub given_unasked : (id : Id) (outcome : Result Data ErrorObject) (payload : P) (acts : List (Act P)) (more : List (Turn P))
+      → GivesOwnPayloads [] (given id outcome (Some payload) acts ∷ more) → ⊥
+  given_unasked id outcome payload acts more gives =
+      let e : Some payload ≡ None = gives [] more (given id outcome (Some payload) acts) id refl (same id) in
+      cc (e)
+
+  -- the server is given a payload for the second reply under an id
+  pub given_twice : (id : Id) (first second : Result Data ErrorObject) (one two : P) (begun acts others : List (Act P)) (more : List (Turn P))
+      → GivesOwnPayloads begun (given id first (Some one) acts ∷ given id second (Some two) others ∷ more) → ⊥
+  given_twice id first second one two begun acts others more gives =
+      let before : List (Turn P) = given id first (Some one) acts ∷ [] in
+      let over : was_given id before ≡ true = ap (λ (b : Bool). b || false) (same id) in
+      let e : Some two ≡ None = subst (λ (b : Bool). Some two ≡ (if b then None else kept_under id (all_sent 0 (begun ++ acts_of before)))) over
+      (gives before more (given id second (Some two) others) id refl (same id)) in
+      cc (e)
+
+  -- what the server asked first comes back with the payload of another, or with none
+  pub given_another : (outcome : Result Data ErrorObject) (method : List ℕ) (params : Data) (own : P) (payload : Option P) (acts : List (Act P)) (more : List (Turn P))
+      → (payload ≡ Some own → ⊥) → GivesOwnPayloads (asks method params own ∷ []) (given (number (pos 0)) outcome payload acts ∷ more) → ⊥
+  given_another outcome method params own payload acts more other gives =
+      other (gives [] more (given (number (pos 0)) outcome payload acts) (number (pos 0)) refl refl)
+
+-- ---- all of it
+
+module _ {S P : Type 0} (may : Stated S P) (first last : S) (held : Pending (Unit {0})) (exchanges more : List Exchange) (stop : Stop) (null : Option Message) (answer : SessionAnswer) where
+  -- before `initialize` a request gets a result
+  pub serves_first : (id : Id) (method : List ℕ) (params result : Data) → is_initialize (request id method params) ≡ false
+      → KeepsLaws may first last held (asked id method params (response id (Ok result) ∷ []) ∷ more) stop null answer → ⊥
+  serves_first id method params result other laws = served_first stop null answer id method params result more other laws.order
+
+  -- the server is left in a state that its last exchange did not lead to
+  pub forgets : (stop ≡ exhausted → ⊥) → (laws : KeepsLaws may first last held exchanges stop null answer) → (last ≡ laws.after → ⊥) → ⊥
+  forgets enough laws other = elim laws.kept [ inl ran ↦ enough ran | inr kept ↦ other kept ]

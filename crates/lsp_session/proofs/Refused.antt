@@ -1,0 +1,401 @@
+-- Runs that keep no order, whatever follows them and however the session ends; and wakes that no text brings.
+use Rattle.lsp_message.specs.Id.{Id}
+use Rattle.lsp_message.specs.Message.{Message, request, notification, response}
+use Rattle.lsp_message.specs.Methods.{is_initialize, is_exit}
+use Rattle.lsp_session.specs.ProtocolError.{expected_initialized, fault_of_refusal}
+use Rattle.lsp_session.specs.Replies.{null_reply}
+use Rattle.lsp_session.specs.Session.{Exchange, letters_of, sends_of, SessionAnswer, Stop, decided, no_more, timed_out, refused as cut_off, exhausted, Phase, starting, replied as awaiting, serving, asked as shut, is_served}
+use Rattle.lsp_session.specs.SessionBytes.{ReadsMessage, Ends, Wrote, GetsAllButLast}
+use Rattle.lsp_session.specs.declared.loops.stream_session.SessionFault.TheVariants.{Write, Memory as NoMemory}
+use Rattle.lsp_message.specs.declared.frame.WriteFault.{WriteFault}
+use Rattle.lsp_message.specs.Written.{GetsFrames}
+use Rattle.lsp_session.specs.SessionLaws.{IsInvited, IsUnopened, AfterNull, EndsWithExit, EndsWithNull, HasNoShutdown, KeepsOrder, IsOpened, IsUnstarted, StopsAt, comes_early, AllEarly, is_refusal, AllRefused}
+use Rattle.serde_json.specs.Data.{Data, null as null_data}
+use Rattle.std.proofs.Common.{◌≡◌, refl, sym, ◌∙◌, ap, subst, inl, inr, ◌⊎◌, ℕ, true, false, List, [], ◌∷◌, ◌++◌, Option, Some, None}
+use Rattle.std.proofs.lemmas.List.Folds.{list_all-append}
+use Rattle.std.specs.List.{FoldsTo, list_all}
+use Rattle.std.specs.Prelude.{Ok, Err, IsSomeAnd, codes, is_some, ◌&&◌}
+use Rattle.lsp_session.specs.declared.lifecycle.SendFault.TheVariants.{Closed as Lost, Memory}
+use Rattle.lsp_session.specs.declared.loops.handler.SessionEnd.{SessionEnd}
+use Rattle.lsp_session.specs.declared.loops.handler.SessionEnd.TheVariants.{ShutDown}
+
+-- a request that gets a result
+abbrev granted : Id → List ℕ → Data → Data → Exchange
+granted i method params result = record { letter = Some (request i method params); said = response i (Ok result) ∷ [] }
+
+-- `initialize` gets its result
+abbrev begun : Id → Data → Data → Exchange
+begun i params result = granted i (codes "initialize") params result
+
+-- `initialized`, for which this is sent
+abbrev invited : Data → List Message → Exchange
+invited params said = record { letter = Some (notification (codes "initialized") params); said = said }
+
+-- `shutdown`, for which this is sent
+abbrev shutting : Id → Data → List Message → Exchange
+shutting i params said = record { letter = Some (request i (codes "shutdown") params); said = said }
+
+-- `exit`, for which this is sent
+abbrev leaving : Data → List Message → Exchange
+leaving params said = record { letter = Some (notification (codes "exit") params); said = said }
+
+-- a session ends well only while it serves, or by a message
+none_ends_well : (p : Phase) (stop : Stop) (end : SessionEnd) → (p ≡ starting) ⊎ (p ≡ awaiting) → StopsAt p stop (Ok end) → ⊥
+none_ends_well starting decided end is stops = stops
+none_ends_well starting no_more end is stops = cc (stops)
+none_ends_well starting timed_out end is stops = stops
+none_ends_well starting (cut_off fault) end is stops = cc (stops)
+none_ends_well starting exhausted end is stops = cc (stops)
+none_ends_well awaiting decided end is stops = stops
+none_ends_well awaiting no_more end is stops = cc (stops)
+none_ends_well awaiting timed_out end is stops = stops
+none_ends_well awaiting (cut_off fault) end is stops = cc (stops)
+none_ends_well awaiting exhausted end is stops = cc (stops)
+none_ends_well serving stop end is stops = elim is [ inl e ↦ cc (e) | inr e ↦ cc (e) ]
+none_ends_well (shut i) stop end is stops = elim is [ inl e ↦ cc (e) | inr e ↦ cc (e) ]
+none_ends_well p stop end is stops = elim is [ inl e ↦ cc (e) | inr e ↦ cc (e) ]
+
+-- while it serves no message is awaited in the place of `initialized`, and it is not shut down
+serves_on : (stop : Stop) (answer : SessionAnswer) (shown : List ℕ) → (answer ≡ Ok ShutDown) ⊎ (answer ≡ Err (expected_initialized shown)) → StopsAt serving stop answer → ⊥
+serves_on decided answer shown is stops = stops
+serves_on no_more answer shown is stops = elim is [ inl e ↦ cc (sym e ∙ stops) | inr e ↦ cc (sym e ∙ stops) ]
+serves_on timed_out answer shown is stops = stops
+serves_on (cut_off (Lost m)) answer shown is stops = elim is [ inl e ↦ cc (sym e ∙ stops) | inr e ↦ cc (sym e ∙ stops) ]
+serves_on (cut_off (Memory m)) answer shown is stops = elim is [ inl e ↦ cc (sym e ∙ stops) | inr e ↦ cc (sym e ∙ stops) ]
+serves_on exhausted answer shown is stops = elim is [ inl e ↦ cc (sym e ∙ stops) | inr e ↦ cc (sym e ∙ stops) ]
+
+-- after the null it is shut down by a message alone
+waits_for_exit : (i : Id) (stop : Stop) → StopsAt (shut i) stop (Ok ShutDown) → ⊥
+waits_for_exit i decided stops = stops
+waits_for_exit i no_more stops = cc (stops)
+waits_for_exit i timed_out stops = cc (stops)
+waits_for_exit i (cut_off fault) stops = stops
+waits_for_exit i exhausted stops = cc (stops)
+
+-- no exchanges have a last one
+never_last : (before : List Exchange) (y : Exchange) → ◌≡◌ {A = List Exchange} [] (before ++ y ∷ []) → ⊥
+never_last [] y e = cc (e)
+never_last (b ∷ before) y e = cc (e)
+
+-- not all are errors
+mixed : (x : Exchange) (xs : List Exchange) → list_all is_refusal x.said ≡ false → AllRefused (x ∷ xs) → ⊥
+mixed x xs served all =
+    let both : (list_all is_refusal x.said && list_all is_refusal (sends_of xs)) ≡ true = sym (list_all-append is_refusal x.said (sends_of xs)) ∙ all in
+    let e = (rw served at both) in
+    cc (e)
+
+module _ (stop : Stop) (null : Option Message) (answer : SessionAnswer) where
+  -- what is said after the result of `initialize`
+  abbrev Later : List Exchange → Type 0
+  Later more = (IsInvited more × (HasNoShutdown more stop null answer ⊎ EndsWithNull more stop null answer)) ⊎ (IsUnopened more stop answer × (null ≡ None))
+
+  -- Where more than errors is sent for the first message, it is `initialize`.
+  record Starts (x : Exchange) (more : List Exchange) : Type 0 where
+    id : Id
+    method : List ℕ
+    params : Data
+    asks : is_initialize (request id method params) ≡ true
+    came : x.letter ≡ Some (request id method params)
+    later : Later more
+
+  starts : (x : Exchange) (more : List Exchange) → list_all is_refusal x.said ≡ false → KeepsOrder (x ∷ more) stop null answer → Starts x more
+  starts x more served order = at order.early order.rest order.cut order.opened
+    where
+      last : (e : Exchange) (early rest before : List Exchange) (i : Id) (method : List ℕ) (params result : Data) → x ≡ e → more ≡ early ++ rest
+          → is_initialize (request i method params) ≡ true → e ∷ early ≡ before ++ granted i method params result ∷ [] → AllRefused before → Later rest → Starts x more
+      last e early rest [] i method params result same tail asks cut refused later =
+          let is : e ≡ granted i method params result = cc (cut) in
+          let none : early ≡ [] = cc (cut) in
+          let all : more ≡ rest = rw none at tail in
+          record {
+            id = i;
+            method = method;
+            params = params;
+            asks = asks;
+            came = ap (λ (y : Exchange). y.letter) (same ∙ is);
+            later = rw all later;
+          }
+      last e early rest (b ∷ before) i method params result same tail asks cut refused later =
+          let is : e ≡ b = cc (cut) in
+          absurd (mixed b before (ap (λ (y : Exchange). list_all is_refusal y.said) (sym (same ∙ is)) ∙ served) refused)
+
+      at : (early rest : List Exchange) → x ∷ more ≡ early ++ rest → IsOpened early rest stop null answer ⊎ (AllRefused early × AllEarly early × IsUnstarted rest stop answer × (null ≡ None)) → Starts x more
+      at [] rest cut (inl opened) = absurd (never_last opened.ends.before _ opened.ends.cut)
+      at [] rest cut (inr unopened) =
+          let unstarted : IsUnstarted (x ∷ more) stop answer = subst (λ (xs : List Exchange). IsUnstarted xs stop answer) (sym cut) unopened.2 in
+          let e : true ≡ false = (rw unstarted.2 at served) in
+          absurd (cc (e))
+      at (e ∷ early) rest cut (inl opened) =
+          let same : x ≡ e = cc (cut) in
+          let tail : more ≡ early ++ rest = cc (cut) in
+          let ends = opened.ends in
+          last e early rest ends.before ends.id ends.method ends.params ends.result same tail ends.asks ends.cut opened.refused opened.later
+      at (e ∷ early) rest cut (inr unopened) =
+          let same : x ≡ e = cc (cut) in
+          absurd (mixed e early (ap (λ (y : Exchange). list_all is_refusal y.said) (sym same) ∙ served) unopened.0)
+
+  -- a request but `initialize` gets a result first: a hover, or the null of `shutdown`
+  pub served_first : (i : Id) (method : List ℕ) (params result : Data) (more : List Exchange) → is_initialize (request i method params) ≡ false
+      → KeepsOrder (granted i method params result ∷ more) stop null answer → ⊥
+  served_first i method params result more other order =
+      let begins = starts (granted i method params result) more refl order in
+      let same : request i method params ≡ request begins.id begins.method begins.params = cc (begins.came) in
+      let both : true ≡ false = sym begins.asks ∙ ap (λ (m : Message). is_initialize m) (sym same) ∙ other in
+      cc (both)
+
+  -- Between the result of `initialize` and `initialized` a request is answered: a hover, or a second `initialize`.
+  pub served_uninvited : (i j : Id) (params result given : Data) (method : List ℕ) (reply : Message) (others : List Message) (more : List Exchange)
+      → KeepsOrder (begun i params result ∷ record { letter = Some (request j method given); said = reply ∷ others } ∷ more) stop null answer → ⊥
+  served_uninvited i j params result given method reply others more order = at (starts (begun i params result) _ refl order).later
+    where
+      at : Later (record { letter = Some (request j method given); said = reply ∷ others } ∷ more) → ⊥
+      at (inl invites) = let e : false ≡ true = invites.0 in cc (e)
+      at (inr unopened) = let e : reply ∷ others ≡ [] = unopened.0.2 in cc (e)
+
+  -- what a `shutdown` that comes first after `initialized` gets, and what follows
+  shuts : (k : Id) (given asked : Data) (opening said : List Message) (more : List Exchange) → Later (invited given opening ∷ shutting k asked said ∷ more)
+      → (said ≡ null_reply k ∷ []) × AfterNull k more stop answer
+  shuts k given asked opening said more (inr unopened) = let e : shutting k asked said ∷ more ≡ [] = unopened.0.0 in absurd (cc (e))
+  shuts k given asked opening said more (inl (invites, inl (inl all, rest))) = let e : false ≡ true = all.0 in absurd (cc (e))
+  shuts k given asked opening said more (inl (invites, inl (inr left, rest))) = absurd (at left.before left.last left.cut left.none_before left.leaves)
+    where
+      at : (before : List Exchange) (last : Message) → invited given opening ∷ shutting k asked said ∷ more ≡ before ++ record { letter = Some last; said = [] } ∷ []
+          → list_all is_served (letters_of before) ≡ true → is_exit last ≡ true → ⊥
+      at [] last cut passed leaves = let e : shutting k asked said ∷ more ≡ [] = cc (cut) in cc (e)
+      at (a ∷ []) last cut passed leaves =
+          let second : shutting k asked said ≡ record { letter = Some last; said = [] } = cc (cut) in
+          let came : Some (request k (codes "shutdown") asked) ≡ Some last = ap (λ (x : Exchange). x.letter) second in
+          let same : request k (codes "shutdown") asked ≡ last = cc (came) in
+          let e : false ≡ true = ap (λ (m : Message). is_exit m) same ∙ leaves in
+          cc (e)
+      at (a ∷ b ∷ before) last cut passed leaves =
+          let first : a ≡ invited given opening = cc (cut) in
+          let second : b ≡ shutting k asked said = cc (cut) in
+          let e : false ≡ true = (rw (first, second) at passed) in
+          cc (e)
+  shuts k given asked opening said more (inl (invites, inr last)) = at last.before last.id last.method last.params last.after last.cut last.none_before last.after_null
+    where
+      at : (before : List Exchange) (id : Id) (method : List ℕ) (params : Data) (after : List Exchange)
+          → invited given opening ∷ shutting k asked said ∷ more ≡ before ++ record { letter = Some (request id method params); said = null_reply id ∷ [] } ∷ after
+          → list_all is_served (letters_of before) ≡ true → AfterNull id after stop answer → (said ≡ null_reply k ∷ []) × AfterNull k more stop answer
+      at [] id method params after cut passed follows =
+          let first : invited given opening ≡ record { letter = Some (request id method params); said = null_reply id ∷ [] } = cc (cut) in
+          let came : Some (notification (codes "initialized") given) ≡ Some (request id method params) = ap (λ (x : Exchange). x.letter) first in
+          absurd (cc (came))
+      at (a ∷ []) id method params after cut passed follows =
+          let second : shutting k asked said ≡ record { letter = Some (request id method params); said = null_reply id ∷ [] } = cc (cut) in
+          let tail : more ≡ after = cc (cut) in
+          let came : Some (request k (codes "shutdown") asked) ≡ Some (request id method params) = ap (λ (x : Exchange). x.letter) second in
+          let named : k ≡ id = cc (came) in
+          (rw named (ap (λ (x : Exchange). x.said) second), rw (named, tail) follows)
+      at (a ∷ b ∷ before) id method params after cut passed follows =
+          let first : a ≡ invited given opening = cc (cut) in
+          let second : b ≡ shutting k asked said = cc (cut) in
+          let e : false ≡ true = (rw (first, second) at passed) in
+          absurd (cc (e))
+
+  -- the first `shutdown` gets something else than null: an error, or nothing
+  pub shut_otherwise : (i k : Id) (params result given asked : Data) (opening said : List Message) (more : List Exchange) → (said ≡ null_reply k ∷ [] → ⊥)
+      → KeepsOrder (begun i params result ∷ invited given opening ∷ shutting k asked said ∷ more) stop null answer → ⊥
+  shut_otherwise i k params result given asked opening said more other order =
+      other (shuts k given asked opening said more (starts (begun i params result) _ refl order).later).0
+
+  -- After the null a message is sent: a result, a second null, or a whole second session.
+  pub speaks_after_null : (i k : Id) (params result given asked : Data) (opening said : List Message) (letter : Option Message) (sent : Message)
+      (others : List Message) (more : List Exchange)
+      → KeepsOrder (begun i params result ∷ invited given opening ∷ shutting k asked said ∷ record { letter = letter; said = sent ∷ others } ∷ more) stop null answer
+      → ⊥
+  speaks_after_null i k params result given asked opening said letter sent others more order =
+      let follows = (shuts k given asked opening said _ (starts (begun i params result) _ refl order).later).1 in
+      let e : sent ∷ others ≡ [] = follows.1 in
+      cc (e)
+
+  -- a message comes after `exit`
+  pub goes_on_after_exit : (i : Id) (params result given asked : Data) (opening said : List Message) (x : Exchange) (more : List Exchange)
+      → KeepsOrder (begun i params result ∷ invited given opening ∷ leaving asked said ∷ x ∷ more) stop null answer
+      → ⊥
+  goes_on_after_exit i params result given asked opening said x more order = at (starts (begun i params result) _ refl order).later
+    where
+      left : (before : List Exchange) (last : Message) → invited given opening ∷ leaving asked said ∷ x ∷ more ≡ before ++ record { letter = Some last; said = [] } ∷ []
+          → list_all is_served (letters_of before) ≡ true → ⊥
+      left [] last cut passed = let e : leaving asked said ∷ x ∷ more ≡ [] = cc (cut) in cc (e)
+      left (a ∷ []) last cut passed = let e : x ∷ more ≡ [] = cc (cut) in cc (e)
+      left (a ∷ b ∷ before) last cut passed =
+          let first : a ≡ invited given opening = cc (cut) in
+          let second : b ≡ leaving asked said = cc (cut) in
+          let e : false ≡ true = (rw (first, second) at passed) in
+          cc (e)
+
+      nulled : (before : List Exchange) (id : Id) (method : List ℕ) (params : Data) (after : List Exchange)
+          → invited given opening ∷ leaving asked said ∷ x ∷ more ≡ before ++ record { letter = Some (request id method params); said = null_reply id ∷ [] } ∷ after
+          → list_all is_served (letters_of before) ≡ true → ⊥
+      nulled [] id method params after cut passed =
+          let first : invited given opening ≡ record { letter = Some (request id method params); said = null_reply id ∷ [] } = cc (cut) in
+          let came : Some (notification (codes "initialized") given) ≡ Some (request id method params) = ap (λ (y : Exchange). y.letter) first in
+          cc (came)
+      nulled (a ∷ []) id method params after cut passed =
+          let second : leaving asked said ≡ record { letter = Some (request id method params); said = null_reply id ∷ [] } = cc (cut) in
+          let came : Some (notification (codes "exit") asked) ≡ Some (request id method params) = ap (λ (y : Exchange). y.letter) second in
+          cc (came)
+      nulled (a ∷ b ∷ before) id method params after cut passed =
+          let first : a ≡ invited given opening = cc (cut) in
+          let second : b ≡ leaving asked said = cc (cut) in
+          let e : false ≡ true = (rw (first, second) at passed) in
+          cc (e)
+
+      at : Later (invited given opening ∷ leaving asked said ∷ x ∷ more) → ⊥
+      at (inl (invites, inl (inl all, rest))) = let e : false ≡ true = all.0 in cc (e)
+      at (inl (invites, inl (inr last, rest))) = left last.before last.last last.cut last.none_before
+      at (inl (invites, inr last)) = nulled last.before last.id last.method last.params last.after last.cut last.none_before
+      at (inr unopened) = let e : leaving asked said ∷ x ∷ more ≡ [] = unopened.0.0 in cc (e)
+
+  -- after the null of `shutdown` the session is shut down without an `exit`
+  pub shut_down_without_exit : (i k : Id) (params result given asked : Data) (opening said : List Message) → answer ≡ Ok ShutDown
+      → KeepsOrder (begun i params result ∷ invited given opening ∷ shutting k asked said ∷ []) stop null answer → ⊥
+  shut_down_without_exit i k params result given asked opening said is order =
+      let follows = (shuts k given asked opening said [] (starts (begun i params result) _ refl order).later).1 in
+      waits_for_exit k stop (subst (λ (a : SessionAnswer). StopsAt (shut k) stop a) is follows)
+
+  -- what holds of the first message: it may come before `initialize` got its result, or it decided
+  abbrev Begins : Exchange → List Exchange → Type 0
+  Begins x more = IsSomeAnd x.letter (λ m. comes_early m ≡ true) ⊎ IsUnstarted (x ∷ more) stop answer
+
+  begins : (x : Exchange) (more : List Exchange) → KeepsOrder (x ∷ more) stop null answer → Begins x more
+  begins x more order = at order.early order.rest order.cut order.opened
+    where
+      early_one : (e : Exchange) (early before : List Exchange) (i : Id) (method : List ℕ) (params result : Data) → x ≡ e
+          → e ∷ early ≡ before ++ granted i method params result ∷ [] → AllEarly before → IsSomeAnd x.letter (λ m. comes_early m ≡ true)
+      early_one e early [] i method params result same cut came =
+          let is : e ≡ granted i method params result = cc (cut) in
+          subst (λ (y : Exchange). IsSomeAnd y.letter (λ m. comes_early m ≡ true)) (sym (same ∙ is)) refl
+      early_one e early (b ∷ before) i method params result same cut came =
+          let is : e ≡ b = cc (cut) in
+          subst (λ (y : Exchange). IsSomeAnd y.letter (λ m. comes_early m ≡ true)) (sym (same ∙ is)) came.0
+
+      at : (early rest : List Exchange) → x ∷ more ≡ early ++ rest
+          → IsOpened early rest stop null answer ⊎ (AllRefused early × AllEarly early × IsUnstarted rest stop answer × (null ≡ None)) → Begins x more
+      at [] rest cut (inl opened) = absurd (never_last opened.ends.before _ opened.ends.cut)
+      at [] rest cut (inr unopened) = inr (subst (λ (xs : List Exchange). IsUnstarted xs stop answer) (sym cut) unopened.2)
+      at (e ∷ early) rest cut (inl opened) =
+          let same : x ≡ e = cc (cut) in
+          let ends = opened.ends in
+          inl (early_one e early ends.before ends.id ends.method ends.params ends.result same ends.cut opened.came)
+      at (e ∷ early) rest cut (inr unopened) =
+          let same : x ≡ e = cc (cut) in
+          inl (subst (λ (y : Exchange). IsSomeAnd y.letter (λ m. comes_early m ≡ true)) (sym same) unopened.1.0)
+
+  -- a message comes after an `exit` or a response that came first
+  pub goes_on_after_early : (m : Message) (said : List Message) (x : Exchange) (more : List Exchange) → comes_early m ≡ false
+      → KeepsOrder (record { letter = Some m; said = said } ∷ x ∷ more) stop null answer → ⊥
+  goes_on_after_early m said x more late order = at (begins (record { letter = Some m; said = said }) (x ∷ more) order)
+    where
+      at : Begins (record { letter = Some m; said = said }) (x ∷ more) → ⊥
+      at (inl early) = let e : true ≡ false = sym early ∙ late in cc (e)
+      at (inr unstarted) = let e : x ∷ more ≡ [] = unstarted.0 in cc (e)
+
+  -- a wake comes first
+  pub woken_first : (said : List Message) (more : List Exchange) → KeepsOrder (record { letter = None; said = said } ∷ more) stop null answer → ⊥
+  woken_first said more order = at (begins (record { letter = None; said = said }) more order)
+    where
+      at : Begins (record { letter = None; said = said }) more → ⊥
+      at (inl early) = early
+      at (inr unstarted) = unstarted.1
+
+  -- what holds where no message came
+  unstarted_at : KeepsOrder [] stop null answer → StopsAt starting stop answer
+  unstarted_at order = at order.early order.rest order.cut order.opened
+    where
+      at : (early rest : List Exchange) → [] ≡ early ++ rest
+          → IsOpened early rest stop null answer ⊎ (AllRefused early × AllEarly early × IsUnstarted rest stop answer × (null ≡ None)) → StopsAt starting stop answer
+      at [] rest cut (inl opened) = absurd (never_last opened.ends.before _ opened.ends.cut)
+      at [] rest cut (inr unopened) = subst (λ (xs : List Exchange). IsUnstarted xs stop answer) (sym cut) unopened.2
+      at (e ∷ early) rest cut opened = absurd (cc (cut))
+
+  -- no message came, and one decided
+  pub decides_unasked : stop ≡ decided → KeepsOrder [] stop null answer → ⊥
+  decides_unasked is order = subst (λ (s : Stop). StopsAt starting s answer) is (unstarted_at order)
+
+  -- no message came, and the session ended well
+  pub ends_unopened : (end : SessionEnd) → answer ≡ Ok end → KeepsOrder [] stop null answer → ⊥
+  ends_unopened end is order = none_ends_well starting stop end (inl refl) (subst (λ (a : SessionAnswer). StopsAt starting stop a) is (unstarted_at order))
+
+  -- `initialize` came alone, and the session ended well
+  pub ends_uninvited : (i : Id) (params result : Data) (end : SessionEnd) → answer ≡ Ok end → KeepsOrder (begun i params result ∷ []) stop null answer → ⊥
+  ends_uninvited i params result end is order = at (starts (begun i params result) [] refl order).later
+    where
+      at : Later [] → ⊥
+      at (inl invites) = invites.0
+      at (inr unopened) = none_ends_well awaiting stop end (inr refl) (subst (λ (a : SessionAnswer). StopsAt awaiting stop a) is unopened.0)
+
+  -- the session is shut down, and no null was sent: no `shutdown` came
+  pub shut_down_unasked : (xs : List Exchange) → null ≡ None → answer ≡ Ok ShutDown → KeepsOrder xs stop null answer → ⊥
+  shut_down_unasked xs none is order = at order.rest order.opened
+    where
+      unstarted : (rest : List Exchange) → IsUnstarted rest stop answer → ⊥
+      unstarted [] stops = none_ends_well starting stop ShutDown (inl refl) (subst (λ (a : SessionAnswer). StopsAt starting stop a) is stops)
+      unstarted (x ∷ rest) stops = (rw is at stops.4)
+
+      unopened : (rest : List Exchange) → IsUnopened rest stop answer → ⊥
+      unopened [] stops = none_ends_well awaiting stop ShutDown (inr refl) (subst (λ (a : SessionAnswer). StopsAt awaiting stop a) is stops)
+      unopened (x ∷ rest) stops = (rw is at stops.4)
+
+      later : (rest : List Exchange) → Later rest → ⊥
+      later rest (inl (invites, inl (inl all, other))) = serves_on stop answer [] (inl is) all.1
+      later rest (inl (invites, inl (inr left, other))) = let e = sym is ∙ left.closes in cc (e)
+      later rest (inl (invites, inr last)) = let e = sym none ∙ last.is_null in cc (e)
+      later rest (inr stops) = unopened rest stops.0
+
+      at : (rest : List Exchange) → IsOpened order.early rest stop null answer
+          ⊎ (AllRefused order.early × AllEarly order.early × IsUnstarted rest stop answer × (null ≡ None)) → ⊥
+      at rest (inl opened) = later rest opened.later
+      at rest (inr stops) = unstarted rest stops.2
+
+-- After a whole handshake a request that the lifecycle allows gets no reply, and the answer is that it came in the place of `initialized`.
+pub refuses_allowed : (i k : Id) (params result given asked : Data) (method : List ℕ) (opening : List Message) (stop : Stop) (null : Option Message) (shown : List ℕ)
+    → null ≡ None
+    → KeepsOrder (begun i params result ∷ invited given opening ∷ record { letter = Some (request k method asked); said = [] } ∷ []) stop null (Err (expected_initialized shown)) → ⊥
+refuses_allowed i k params result given asked method opening stop null shown none order =
+    at (starts stop null (Err (expected_initialized shown)) (begun i params result) _ refl order).later
+  where
+    at : Later stop null (Err (expected_initialized shown)) (invited given opening ∷ record { letter = Some (request k method asked); said = [] } ∷ []) → ⊥
+    at (inl (invites, inl (inl all, rest))) = serves_on stop _ shown (inr refl) all.1
+    at (inl (invites, inl (inr left, rest))) = let e = left.closes in cc (e)
+    at (inl (invites, inr last)) = let e = (sym none ∙ last.is_null) in cc (e)
+    at (inr unopened) = let e = unopened.0.0 in cc (e)
+
+-- no `initialize` comes; `shutdown` gets a null, then a request gets a result and another `shutdown` another null
+pub goes_on_after_shutdown : (i j k : Id) (asked given result : Data) (method : List ℕ) (stop : Stop) (sent : Option Message) (answer : SessionAnswer)
+    → KeepsOrder (shutting i asked (null_reply i ∷ []) ∷ granted j method given result ∷ shutting k asked (null_reply k ∷ []) ∷ []) stop sent answer → ⊥
+goes_on_after_shutdown i j k asked given result method stop sent answer order =
+    served_first stop sent answer i (codes "shutdown") asked null_data (granted j method given result ∷ shutting k asked (null_reply k ∷ []) ∷ []) refl order
+
+-- a whole session comes before the `initialize` of another
+pub second_session : (i j k : Id) (params result given asked : Data) (stop : Stop) (sent : Option Message) (answer : SessionAnswer) (more : List Exchange)
+    → KeepsOrder (begun i params result ∷ invited given [] ∷ shutting k asked (null_reply k ∷ []) ∷ begun j params result ∷ more) stop sent answer → ⊥
+second_session i j k params result given asked stop sent answer more order =
+    speaks_after_null stop sent answer i k params result given asked [] (null_reply k ∷ []) _ (response j (Ok result)) [] more order
+
+-- The write of the last message failed, the session was decided, and something behind the message that decided was taken; the same
+-- where memory ran out.
+pub eats_past_exit : (limit : ℕ) (fault : WriteFault) (answer : SessionAnswer) (sent : Option Message) (at rest : List ℕ) → (rest ≡ at → ⊥)
+    → Ends limit (Some rest) (Err (Write fault)) answer decided sent at ⊎ Ends limit (Some rest) (Err NoMemory) answer decided sent at → ⊥
+eats_past_exit limit fault answer sent at rest other (inl left) = let same : rest ≡ at = cc (left) in other same
+eats_past_exit limit fault answer sent at rest other (inr left) = let same : rest ≡ at = cc (left) in other same
+
+-- memory ran out, and two messages were not written
+pub loses_two : (a b : Option (List ℕ)) (stop : Stop) (sent : Option Message) (sends : List Message)
+    → ((GetsFrames sends a b → ⊥) × (GetsAllButLast sends a b → ⊥)) → Wrote a b (Err NoMemory) stop sent sends → ⊥
+loses_two a b stop sent sends lost (inl all) = lost.0 all
+loses_two a b stop sent sends lost (inr most) = lost.1 most.1
+
+-- memory ran out for a reply that the outbox took, and no null was sent
+pub loses_a_reply : (a b : Option (List ℕ)) (sends : List Message) → (GetsFrames sends a b → ⊥) → Wrote a b (Err NoMemory) decided None sends → ⊥
+loses_a_reply a b sends lost (inl all) = lost all
+loses_a_reply a b sends lost (inr most) = most.0
+
+-- a wake among what was read of a text
+pub woken_by_nobody : (limit : ℕ) (came : List (Option Message)) (text at : List ℕ) → FoldsTo (ReadsMessage limit) text came at
+    → list_all (λ (c : Option Message). is_some c) came ≡ false → ⊥
+woken_by_nobody limit [] text at run woken = cc (woken)
+woken_by_nobody limit (Some m ∷ came) text at run woken = woken_by_nobody limit came run.0 at run.2 woken
+woken_by_nobody limit (None ∷ came) text at run woken = run.1
