@@ -174,10 +174,7 @@ impl<M: Drop> RelayWaker<M> {
         ensures relay { self.new.relay ≡ self.old.relay }
         ensures given { MatchBool result (self.new.given ≡ self.old.given + 1) (self.new.given ≡ self.old.given) }
     {
-        match self
-            .sender
-            .send_as::<Woken, R>(rt, &mut self.pass, None)
-        {
+        match self.sender.send_as::<Woken, R>(rt, &mut self.pass, None) {
             Ok(()) => true,
             Err(_) => false,
         }
