@@ -71,7 +71,7 @@ module _ (T : Type 0) {S J P : Type 0} (may : Stated S P) (may_start : S → Lis
     pub refused : List Id
     pub all : acts ≡ first ++ replies id outcome ∷ map refuses refused
 
-  -- at a wake nothing is done, or a job reports, or a request is answered by its job
+  -- at a wake nothing is done, or one notification is sent, or a request is answered by its job
   abbrev pub ActsByJobs : List (Event P J) → S → List (Act P) → Type 0
   ActsByJobs events old acts = (acts ≡ []) ⊎ (((method : List ℕ) × (params : Data) × (acts ≡ tells method params ∷ [])) ⊎ AnswersByJob events old acts)
 
