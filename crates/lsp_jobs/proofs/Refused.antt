@@ -1,13 +1,13 @@
 -- Wakes, turns and sessions that the laws of jobs refuse, whatever the server states. Events stand with the latest first.
 use Rattle.serde_json.specs.Data.{Data}
-use Rattle.std.proofs.Common.{◌≡◌, ◌⊎◌, refl, sym, ◌∙◌, ap, subst, inl, inr, ℕ, ◌≤◌, Bool, true, false, List, [], ◌∷◌, ◌++◌, map, append-nil, arith, Option, Some, None}
+use Rattle.std.proofs.Common.{◌≡◌, refl, sym, ◌∙◌, ap, subst, inl, inr, ℕ, ◌≤◌, Bool, true, false, List, [], ◌∷◌, ◌++◌, map, append-nil, arith, Option, Some, None}
 use Rattle.std.specs.Bool.{MatchBool}
 use Rattle.std.specs.Ordering.{eq_by_cmp}
 use Rattle.lsp_message.specs.Id.{Id, id_cmp}
 use Rattle.lsp_message.specs.IdLaws.{id_decides}
-use Rattle.lsp_message.specs.Message.{Message, request, notification, response}
+use Rattle.lsp_message.specs.Message.{Message, request, notification}
 use Rattle.lsp_session.specs.Session.{Exchange, SessionAnswer, Stop, letters_of, sends_of}
-use Rattle.lsp_service.specs.Desk.{Act, tells, replies, cancelled_by}
+use Rattle.lsp_service.specs.Desk.{Act, replies, cancelled_by}
 use Rattle.lsp_service.specs.Law.{TakesTurns, Turn, how_many, is_reply_under, is_request_under}
 use Rattle.lsp_service.specs.declared.server.Server.{Ghosts as Stated}
 use Rattle.lsp_jobs.specs.JobLaw.{Event, comes, does, starts, concerns, WaitsFor, after, ActsByJobs, LawfulJobSession, WakesActByJobs, refuses, started_at, is_that}
@@ -112,11 +112,11 @@ module _ (T : Type 0) {S J P : Type 0} (may : Stated S P) (may_start : S → Lis
   cancelled_then_answered : (events : List (Event P J)) (count : ℕ) (old new : PooledServer T S J) (id : Id) (outcome : Outcome) (method : List ℕ) (params : Data) (turns : List (Turn P))
       → cancelled_by method params ≡ Some id
       → (took : TakesTurns (seen_with_jobs T may may_start may_finish answers) count old (
-        record { letter = Some (notification method params); payload = None; acts = [] } ∷ record { letter = None; payload = None; acts = replies id outcome ∷ [] } ∷ turns
+      record { letter = Some (notification method params); payload = None; acts = [] } ∷ record { letter = None; payload = None; acts = replies id outcome ∷ [] } ∷ turns
       ) new)
       → started_at T may may_start may_finish answers old took.0 (Some (notification method params)) None [] took.2 ≡ []
       → WakesActByJobs T may may_start may_finish answers events count old (
-        record { letter = Some (notification method params); payload = None; acts = [] } ∷ record { letter = None; payload = None; acts = replies id outcome ∷ [] } ∷ turns
+      record { letter = Some (notification method params); payload = None; acts = [] } ∷ record { letter = None; payload = None; acts = replies id outcome ∷ [] } ∷ turns
       ) new took → ⊥
   cancelled_then_answered events count old new id outcome method params turns is took none law =
       let came : List (Event P J) = comes (Some (notification method params)) ∷ events in

@@ -47,11 +47,7 @@ impl Starved {
 
 impl<M: Drop> Bell<M> {
     /// A bell over a channel alone, or over a relay too.
-    pub fn new(
-        said: Sender<RequestId>,
-        starved: Starved,
-        waker: Option<RelayWaker<M>>,
-    ) -> Bell<M> {
+    pub fn new(said: Sender<RequestId>, starved: Starved, waker: Option<RelayWaker<M>>) -> Bell<M> {
         Bell {
             said,
             starved,

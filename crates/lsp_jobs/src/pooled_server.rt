@@ -55,16 +55,6 @@ impl<T: Wait + Drop, S: Drop, J: Job> PooledServer<T, S, J> {
         (server, pool)
     }
 
-    /// Nothing is done, where no id came. The error means that no memory held one.
-    fn no_news<P: Drop>(&self, alloc: Global) -> Result<Vec<Act<P>>, AllocError>
-        ensures { IfOk result (λ acts. map act_view acts.items ≡ []) }
-    {
-        if self.pool.has_starved() {
-            return Err(AllocError);
-        }
-        Ok(Vec::new(alloc))
-    }
-
     /// A request that the server answers by itself needs no job any more.
     fn forget_answered<P: Drop>(&mut self, acts: &[Act<P>])
         ensures { seen self.new ≡ (self.old.server, unanswered (map act_view acts.now) (table_of self.old.pool)) }
@@ -230,7 +220,10 @@ where
 
     fn woken(&mut self, alloc: Global) -> Result<Vec<Act<S::Payload>>, AllocError> {
         let Ok(id) = self.news.try_recv(&self.rt) else {
-            return self.no_news(alloc);
+            if self.pool.has_starved() {
+                return Err(AllocError);
+            }
+            return Ok(Vec::new(alloc));
         };
         match self.pool.take_news(&id)? {
             Some(JobNews::Report(notification)) => one_act(alloc, Act::Tell(notification)),
