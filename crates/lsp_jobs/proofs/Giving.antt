@@ -14,7 +14,7 @@ use Rattle.lsp_session.specs.Session.{Exchange, Stop}
 use Rattle.lsp_service.specs.Desk.{Act, tells, asks, replies, cancels, TakesBack, Woken, unsent, cancelled_by}
 use Rattle.lsp_service.specs.Law.{AnswersInitialize, Initializes, Handed, TakesTurns, TakesPart, Turn, ids_after_all}
 use Rattle.lsp_service.specs.declared.server.Server.{Ghosts as Stated}
-use Rattle.lsp_jobs.specs.JobLaw.{Event, comes, does, starts, concerns, WaitsFor, after, ActsByJobs, PartActsByJobs, WakesActByJobs, refuses, started_at, started_at_wake, is_that}
+use Rattle.lsp_jobs.specs.JobLaw.{Event, comes, does, starts, concerns, WaitsFor, after, ActsByJobs, PartActsByJobs, WakesActByJobs, refuses, jobs_of, started_at, started_at_wake, taken_first, taken_on, is_that}
 use Rattle.lsp_jobs.specs.JobSession.{seen_with_jobs}
 use Rattle.lsp_jobs.specs.Pooled.{StartsJobs, StartsOne, unanswered, without_cancelled}
 use Rattle.lsp_jobs.specs.PoolView.{seen, table_of}
@@ -134,21 +134,24 @@ module _ {P J : Type 0} where
       at false is e = not_first id job start jobs events is (all id job e)
 
   keeps_refusal : (start : Id × J) (jobs : List (Id × J)) (events : List (Event P J)) (table : Table J) → AllBut (start ∷ jobs) events table
-      → AllBut jobs (starts start.0 start.1 ∷ events) (without start.0 table)
+      → AllBut jobs events (without start.0 table)
   keeps_refusal start jobs events table all id job e = at (eq_by_cmp id_cmp id start.0) refl e
     where
-      at : (b : Bool) → eq_by_cmp id_cmp id start.0 ≡ b → cond b None (table id) ≡ Some job
-          → IsOwn b (starts start.0 start.1) events id job ⊎ IsNamed id jobs
+      at : (b : Bool) → eq_by_cmp id_cmp id start.0 ≡ b → cond b None (table id) ≡ Some job → WaitsFor events id job ⊎ IsNamed id jobs
       at true is e = absurd (cc (e))
       at false is e = not_first id job start jobs events is (all id job e)
 
-  keeps_started : (jobs : List (Id × J)) (old new : Table J × List (Act P)) → FoldsTo StartsOne old jobs new → (events : List (Event P J)) → AllBut jobs events old.0
-      → AllWait (fold (λ es start. starts start.0 start.1 ∷ es) events jobs) new.0
+  keeps_started : (jobs : List (Id × J)) (old new : Table J × List (Act P)) (run : FoldsTo StartsOne old jobs new) (events : List (Event P J)) → AllBut jobs events old.0
+      → AllWait (fold (λ es start. starts start.0 start.1 ∷ es) events (taken_on jobs old new run)) new.0
   keeps_started [] old new run events all = subst (λ (x : Table J × List (Act P)). AllWait events x.0) run (λ id job e. elim (all id job e) [ inl waits ↦ waits | inr none ↦ absurd none ])
-  keeps_started (start ∷ jobs) old new run events all = keeps_started jobs run.0 new run.2 (starts start.0 start.1 ∷ events) (elim run.1 [
-    | inl is ↦ subst (λ (x : Table J × List (Act P)). AllBut jobs (starts start.0 start.1 ∷ events) x.0) (sym is) (keeps_with start jobs events old.0 all)
-    | inr is ↦ subst (λ (x : Table J × List (Act P)). AllBut jobs (starts start.0 start.1 ∷ events) x.0) (sym is) (keeps_refusal start jobs events old.0 all)
-  ])
+  keeps_started (start ∷ jobs) old new run events all = at run.0 run.1 run.2
+    where
+      at : (mid : Table J × List (Act P)) (one : StartsOne old start mid) (rest : FoldsTo StartsOne mid jobs new)
+          → AllWait (fold (λ es start. starts start.0 start.1 ∷ es) events (taken_first start old mid one ++ taken_on jobs mid new rest)) new.0
+      at mid (inl is) rest = keeps_started jobs mid new rest (starts start.0 start.1 ∷ events)
+          (subst (λ (x : Table J × List (Act P)). AllBut jobs (starts start.0 start.1 ∷ events) x.0) (sym is) (keeps_with start jobs events old.0 all))
+      at mid (inr is) rest = keeps_started jobs mid new rest events
+          (subst (λ (x : Table J × List (Act P)). AllBut jobs events x.0) (sym is) (keeps_refusal start jobs events old.0 all))
 
 module _ (T : Type 0) {S J P : Type 0} (may : Stated S P) (may_start : S → List (Id × J) → S → Type 0) (may_finish : S → Id → Outcome → List (Act P) → S → Type 0)
     (answers : J → Outcome → Type 0) where
@@ -156,7 +159,7 @@ module _ (T : Type 0) {S J P : Type 0} (may : Stated S P) (may_start : S → Lis
   W = seen_with_jobs T may may_start may_finish answers
 
   starts_jobs : (old new : S × Table J) (acts all : List (Act P)) (s : StartsJobs may_start may_finish old acts all new) (events : List (Event P J)) → AllWait events old.1
-      → AllWait (after events all s.started) new.1 × ((refused : List Id) × (all ≡ acts ++ map refuses refused))
+      → AllWait (after events all (jobs_of s)) new.1 × ((refused : List Id) × (all ≡ acts ++ map refuses refused))
   starts_jobs old new acts all s events before =
       let r = refused_of s.started (unanswered acts old.1, acts) (new.1, all) s.taken in
       let one : AllWait (acted events acts) (unanswered acts old.1) = keeps_acts acts events old.1 before in
@@ -247,7 +250,7 @@ module _ (T : Type 0) {S J P : Type 0} (may : Stated S P) (may_start : S → Lis
       → table_of start.pool ≡ no_jobs → PartActsByJobs T may may_start may_finish answers start last came stop requests part
   part_jobs start last came stop requests part none =
       let begun = starts_jobs (part.began.1, table_of start.pool) (seen part.did) part.began.0 part.begun part.began.3 [] (subst (AllWait {P = P} {J = J} []) (sym none) none_wait) in
-      let events : List (Event P J) = after [] part.begun part.began.3.started in
+      let events : List (Event P J) = after [] part.begun (jobs_of part.began.3) in
       turns_jobs (ids_after_all 0 part.begun) part.turns part.first last part.took_turns events (back_jobs (unsent 0 part.begun) part.did part.first part.took_back events begun.0)
 
 module _ (T : Type 0) {S J P : Type 0} (may : Stated S P) (may_start : S → List (Id × J) → S → Type 0) (may_finish : S → Id → Outcome → List (Act P) → S → Type 0)

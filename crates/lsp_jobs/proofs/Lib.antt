@@ -3,5 +3,6 @@ mod Giving
 mod JobSessions
 mod OneTask
 pub mod OrderSend
+mod Refused
 pub mod SayingSend
 pub mod Tables

@@ -3,6 +3,7 @@
 use Rattle.serde_json.specs.Data.{Data}
 use mathlib.Core.Logic.{inl, inr}
 use Rattle.std.specs.Bool.{MatchBool}
+use Rattle.std.specs.List.{FoldsTo}
 use Rattle.std.specs.Ordering.{eq_by_cmp}
 use Rattle.std.specs.Prelude.{◌≡◌, ◌⊎◌, ℕ, Bool, false, List, [], ◌∷◌, ◌++◌, fold, map, Option, Some, None, Err}
 use Rattle.lsp_message.specs.Id.{Id, id_cmp}
@@ -13,8 +14,8 @@ use Rattle.lsp_service.specs.Law.{Handed, KeepsLaws, TakesPart, TakesTurns, Turn
 use Rattle.lsp_service.specs.QueuedServer.{held_by}
 use Rattle.lsp_service.specs.declared.server.Server.{Ghosts as Stated}
 use Rattle.lsp_jobs.specs.JobSession.{JobSession, seen_with_jobs}
-use Rattle.lsp_jobs.specs.Pooled.{too_many}
-use Rattle.lsp_jobs.specs.Table.{Outcome}
+use Rattle.lsp_jobs.specs.Pooled.{too_many, unanswered, StartsJobs, StartsOne}
+use Rattle.lsp_jobs.specs.Table.{Outcome, Table}
 use Rattle.lsp_jobs.specs.declared.pooled_server.PooledServer.{PooledServer}
 
 -- the answer of a request whose job found no room
@@ -55,6 +56,21 @@ module _ {P J : Type 0} where
   abbrev pub after : List (Event P J) → List (Act P) → List (Id × J) → List (Event P J)
   after events acts jobs = fold (λ es start. starts start.0 start.1 ∷ es) (fold (λ es act. does act ∷ es) events acts) jobs
 
+  -- the job, if it was taken on
+  abbrev pub taken_first : (start : Id × J) (old mid : Table J × List (Act P)) → StartsOne old start mid → List (Id × J)
+  taken_first start old mid (inl taken) = start ∷ []
+  taken_first start old mid (inr refused) = []
+
+  -- the jobs that were taken on: the others found no room
+  abbrev pub taken_on : (jobs : List (Id × J)) (old new : Table J × List (Act P)) → FoldsTo StartsOne old jobs new → List (Id × J)
+  taken_on [] old new run = []
+  taken_on (start ∷ jobs) old new run = taken_first start old run.0 run.1 ++ taken_on jobs run.0 new run.2
+
+-- the jobs that a server started, and that found room
+abbrev pub jobs_of : {S J P : Type 0} {may_start : S → List (Id × J) → S → Type 0} {may_finish : S → Id → Outcome → List (Act P) → S → Type 0} {old new : S × Table J} {acts all : List (Act P)}
+    → StartsJobs may_start may_finish old acts all new → List (Id × J)
+jobs_of {S} {J} {P} {may_start} {may_finish} {old} {new} {acts} {all} s = taken_on s.started (unanswered acts old.1, acts) (new.1, all) s.taken
+
 module _ (T : Type 0) {S J P : Type 0} (may : Stated S P) (may_start : S → List (Id × J) → S → Type 0) (may_finish : S → Id → Outcome → List (Act P) → S → Type 0)
     (answers : J → Outcome → Type 0) where
   -- After these events the server, in this state, sees this outcome and does something first. Then the request gets the outcome, to which
@@ -71,23 +87,23 @@ module _ (T : Type 0) {S J P : Type 0} (may : Stated S P) (may_start : S → Lis
     pub refused : List Id
     pub all : acts ≡ first ++ replies id outcome ∷ map refuses refused
 
-  -- at a wake nothing is done, or a job reports, or a request is answered by its job
+  -- at a wake nothing is done, or one notification is sent, or a request is answered by its job
   abbrev pub ActsByJobs : List (Event P J) → S → List (Act P) → Type 0
   ActsByJobs events old acts = (acts ≡ []) ⊎ (((method : List ℕ) × (params : Data) × (acts ≡ tells method params ∷ [])) ⊎ AnswersByJob events old acts)
 
   abbrev pub Seen : Stated (PooledServer T S J) P
   Seen = seen_with_jobs T may may_start may_finish answers
 
-  -- the jobs that the server started when it was woken
+  -- the jobs that the server started when it was woken, and that found room
   abbrev pub started_at_wake : (old did : PooledServer T S J) (acts : List (Act P)) → Woken Seen.wakes old acts did → List (Id × J)
-  started_at_wake old did acts (inl (inr (inr finishes))) = finishes.4.3.started
+  started_at_wake old did acts (inl (inr (inr finishes))) = jobs_of finishes.4.3
   started_at_wake old did acts woken = []
 
   -- the jobs that it started when it was handed a letter, or woken
   abbrev pub started_at : (old did : PooledServer T S J) (letter : Option Message) (payload : Option P) (acts : List (Act P)) → Handed Seen old letter payload acts did → List (Id × J)
-  started_at old did (Some (request id method params)) payload acts handed = handed.0.3.started
-  started_at old did (Some (notification method params)) payload acts handed = handed.0.3.started
-  started_at old did (Some (response id outcome)) (Some payload) acts handed = handed.3.started
+  started_at old did (Some (request id method params)) payload acts handed = jobs_of handed.0.3
+  started_at old did (Some (notification method params)) payload acts handed = jobs_of handed.0.3
+  started_at old did (Some (response id outcome)) (Some payload) acts handed = jobs_of handed.3
   started_at old did (Some (response id outcome)) None acts handed = []
   started_at old did None payload acts handed = started_at_wake old did acts handed.0
 
@@ -104,7 +120,7 @@ module _ (T : Type 0) {S J P : Type 0} (may : Stated S P) (may_start : S → Lis
   abbrev pub PartActsByJobs : (start last : PooledServer T S J) (came : List (Option Message)) (stop : Stop) (requests : List Message)
       → TakesPart Seen start last came stop requests → Type 0
   PartActsByJobs start last came stop requests part =
-      WakesActByJobs (after [] part.begun part.began.3.started) (ids_after_all 0 part.begun) part.first part.turns last part.took_turns
+      WakesActByJobs (after [] part.begun (jobs_of part.began.3)) (ids_after_all 0 part.begun) part.first part.turns last part.took_turns
 
   -- a session of a server with jobs, which keeps the laws of a session of a server
   pub record LawfulJobSession (first last : S) (exchanges : List Exchange) (stop : Stop) (null : Option Message) (answer : SessionAnswer) : Type 0 where

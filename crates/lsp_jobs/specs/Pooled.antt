@@ -49,7 +49,7 @@ module _ {S J P : Type 0} (may_start : S → List (Id × J) → S → Type 0) (m
   Finishes old id outcome all new =
       (acts : List (Act P)) × (mid : S) × may_finish old.0 id outcome acts mid × StartsJobs (mid, old.1) (acts ++ replies id outcome ∷ []) all new
 
-  -- At a wake nothing is done. Or the job of a waiting request reports. Or a waiting request gets an outcome that its own job may come to.
+  -- At a wake nothing is done. Or one notification is sent while a request waits for its job. Or a waiting request gets an outcome that its own job may come to.
   abbrev pub Wakes : (J → Outcome → Type 0) → S × Table J → List (Act P) → S × Table J → Type 0
   Wakes answers old all new =
       ((all ≡ []) × (new ≡ old))

@@ -39,7 +39,8 @@ pub trait JobServer<J: Job>: Server {
     fn take_jobs(&mut self) -> Result<Vec<Start<J>>, AllocError>
         ensures { IfOk result (λ jobs. starts self.old (map start_view jobs.items) self.new) };
 
-    /// Sees what a job came to, before it is sent as the reply: to keep it, or to tell the client something first.
+    /// Sees what a job came to, before it is sent as the reply: to keep it, or to tell the client something first. It is not called for a
+    /// job that found no room, that was cancelled or replaced, or whose request was answered otherwise.
     fn finished(
         &mut self,
         id: &RequestId,

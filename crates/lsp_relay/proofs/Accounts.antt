@@ -1,5 +1,5 @@
 -- Each step keeps the rule of the relay.
-use Rattle.std.proofs.Common.{◌≡◌, ◌≢◌, ℕ, zero, suc, true, false, true≢false, List, [], ◌∷◌, ◌++◌, length, set, sym, refl, ap, ◌∙◌, subst, ⊎_elim, append_assoc, append-nil, Option, Some, None}
+use Rattle.std.proofs.Common.{◌≡◌, ◌≢◌, ℕ, zero, suc, ◌+◌, true, false, true≢false, List, [], ◌∷◌, ◌++◌, length, set, sym, refl, ap, ◌∙◌, subst, ⊎_elim, append_assoc, append-nil, Option, Some, None}
 use mathlib.Core.Option.{some, some-ne-none}
 use lib.ListN.{get_elem?}
 use Rattle.crossbeam_channel.specs.Fifo.{Pushes, Pops, Forks, Merges}
@@ -8,7 +8,7 @@ use Rattle.std.proofs.lemmas.List.Elements.{filter_map-append}
 use Rattle.lsp_relay.specs.declared.account.Account.{Account}
 use Rattle.lsp_relay.specs.declared.ends.Parcel.{Parcel}
 use Rattle.lsp_relay.specs.declared.ends.Parcel.TheVariants as parcel
-use Rattle.lsp_relay.specs.Relay.{sender_account, receiver_account, both_account, no_account, parcels_of, sends_one, takes_one, Agrees, IsOpen, has_end, EndsAtMostOnce, TakenThenHeldIsSent}
+use Rattle.lsp_relay.specs.Relay.{sender_account, receiver_account, both_account, no_account, parcels_of, sends_one, takes_one, gives_wake, wakes_with, Agrees, IsOpen, has_end, EndsAtMostOnce, TakenThenHeldIsSent}
 
 -- no pass may do what the flag is false for
 never : {A : Type 0} → false ≡ true → A
@@ -30,14 +30,14 @@ module _ {M : Type 0} where
   each_set F accounts pass new mine others j u e = ⊎_elim (λ (x : (j ≡ pass) × (new ≡ u)). subst (λ (y : ℕ × Account M). F y.0 y.1) (λ i. (sym x.0 i, x.1 i)) mine)
       (λ (x : (j ≢ pass) × (get_elem? accounts j ≡ some u)). others j u x.0 x.1) (at_set accounts pass j new u e)
 
-  pub begins : TakenThenHeldIsSent {M = M} [] (both_account [] [] ∷ [])
+  pub begins : TakenThenHeldIsSent {M = M} [] (both_account [] [] 0 ∷ [])
   begins = record {
     sender = 0;
     receiver = 0;
     sent = [];
     taken = [];
     whole = refl;
-    agree = each_set (Agrees 0 0 [] []) (both_account [] [] ∷ []) 0 (both_account [] []) ((λ _. (refl, refl)), λ _. (refl, refl))
+    agree = each_set (Agrees 0 0 [] []) (both_account [] [] 0 ∷ []) 0 (both_account [] [] 0) ((λ _. (refl, refl)), λ _. (refl, refl))
         (λ j u other e. absurd (other (at_end [] _ u j (λ x. some-ne-none u (sym x)) e)));
   }
 
@@ -60,24 +60,25 @@ module _ {M : Type 0} where
         refl,
       )
 
-  -- a wake changes no account, whatever the pass may do
-  pub wakes : (room pass : ℕ) (v : Account M) → Pushes TakenThenHeldIsSent room pass v None (λ w. w ≡ v)
-  wakes room pass v held accounts _ h at = (
-    v,
-    record {
-      sender = h.sender;
-      receiver = h.receiver;
-      sent = h.sent;
-      taken = h.taken;
-      whole = h.whole ∙ ap (λ l. h.taken ++ l) (sym (parcels_append held (None ∷ []) ∙ append-nil (parcels_of held)));
-      agree = each_set (Agrees h.sender h.receiver h.sent h.taken) accounts pass v (h.agree pass v at) (λ j u other e. h.agree j u e);
-    },
-    refl,
-  )
+  -- a wake changes no account of parcels, whatever the pass may do
+  pub wakes : (room pass : ℕ) (v : Account M) → Pushes TakenThenHeldIsSent room pass v None (gives_wake v None)
+  wakes room pass v held accounts _ h at =
+      let w : Account M = record v { wakes = v.wakes + 1 } in (
+        w,
+        record {
+          sender = h.sender;
+          receiver = h.receiver;
+          sent = h.sent;
+          taken = h.taken;
+          whole = h.whole ∙ ap (λ l. h.taken ++ l) (sym (parcels_append held (None ∷ []) ∙ append-nil (parcels_of held)));
+          agree = each_set (Agrees h.sender h.receiver h.sent h.taken) accounts pass w (h.agree pass v at) (λ j u other e. h.agree j u e);
+        },
+        refl,
+      )
 
   pub takes : (pass : ℕ) (v : Account M) → v.takes ≡ true → Pops TakenThenHeldIsSent pass v (takes_one v)
   takes pass v may item held accounts h at =
-      let came = parcels_of (item ∷ []) in let w : Account M = record v { taken = v.taken ++ came } in let mine = h.agree pass v at in let taken = h.taken ++ came in (
+      let came = parcels_of (item ∷ []) in let w : Account M = record v { taken = v.taken ++ came; wakes = wakes_with item v.wakes } in let mine = h.agree pass v at in let taken = h.taken ++ came in (
         w,
         record {
           sender = h.sender;
@@ -107,9 +108,9 @@ module _ {M : Type 0} where
       }
 
   -- one pass with both roles becomes a sender and a receiver
-  pub parts : (pass : ℕ) (v : Account M) → v.sends ≡ true → v.takes ≡ true → Forks TakenThenHeldIsSent pass v (sender_account v.sent) (receiver_account v.taken)
+  pub parts : (pass : ℕ) (v : Account M) → v.sends ≡ true → v.takes ≡ true → Forks TakenThenHeldIsSent pass v (sender_account v.sent) (receiver_account v.taken v.wakes)
   parts pass v a b held accounts h at =
-      let left : Account M = sender_account v.sent in let right : Account M = receiver_account v.taken in let mine = h.agree pass v at in
+      let left : Account M = sender_account v.sent in let right : Account M = receiver_account v.taken v.wakes in let mine = h.agree pass v at in
       let now : List (Account M) = set accounts pass left in
       let Old : ℕ → Account M → Type 0 = λ j u. (u.sends ≡ true → (j ≡ h.sender) × (u.sent ≡ h.sent)) × (u.takes ≢ true) in
       let old : Each Old now = each_set Old accounts pass left ((λ _. mine.0 a), λ p. true≢false (sym p)) (λ j u other e. ((h.agree j u e).0, λ p. other (((h.agree j u e).1 p).0 ∙ sym (mine.1 b).0))) in record {
@@ -124,9 +125,9 @@ module _ {M : Type 0} where
       }
 
   -- the receiver's role moves to a new pass
-  pub lends : (pass : ℕ) (v : Account M) → v.sends ≡ false → v.takes ≡ true → Forks TakenThenHeldIsSent pass v no_account (receiver_account v.taken)
+  pub lends : (pass : ℕ) (v : Account M) → v.sends ≡ false → v.takes ≡ true → Forks TakenThenHeldIsSent pass v no_account (receiver_account v.taken v.wakes)
   lends pass v a b held accounts h at =
-      let left : Account M = no_account in let right : Account M = receiver_account v.taken in let mine = h.agree pass v at in
+      let left : Account M = no_account in let right : Account M = receiver_account v.taken v.wakes in let mine = h.agree pass v at in
       let now : List (Account M) = set accounts pass left in
       let Old : ℕ → Account M → Type 0 = λ j u. (u.sends ≡ true → (j ≡ h.sender) × (u.sent ≡ h.sent)) × (u.takes ≢ true) in
       let old : Each Old now = each_set Old accounts pass left ((λ p. never p), λ p. true≢false (sym p)) (λ j u other e. ((h.agree j u e).0, λ p. other (((h.agree j u e).1 p).0 ∙ sym (mine.1 b).0))) in record {
@@ -141,9 +142,9 @@ module _ {M : Type 0} where
       }
 
   -- a sender takes in the receiver's role
-  pub joins : (pass : ℕ) (v : Account M) (other : ℕ) (u : Account M) → v.sends ≡ true → u.takes ≡ true → Merges TakenThenHeldIsSent pass v other u (both_account v.sent u.taken) no_account
+  pub joins : (pass : ℕ) (v : Account M) (other : ℕ) (u : Account M) → v.sends ≡ true → u.takes ≡ true → Merges TakenThenHeldIsSent pass v other u (both_account v.sent u.taken u.wakes) no_account
   joins pass v other u a b held accounts h at two at' =
-      let both : Account M = both_account v.sent u.taken in let mine = h.agree pass v at in let now : List (Account M) = set accounts pass both in
+      let both : Account M = both_account v.sent u.taken u.wakes in let mine = h.agree pass v at in let now : List (Account M) = set accounts pass both in
       let was : get_elem? accounts other ≡ some u = ⊎_elim (λ x. absurd (two x.0)) (λ x. x.1) (at_set accounts pass other both u at') in let theirs = (h.agree other u was).1 b in
       let Apart : ℕ → Account M → Type 0 = λ j y. j ≢ other → Agrees h.sender pass h.sent h.taken j y in
       let apart : Each Apart now = each_set Apart accounts pass both (λ _. ((λ _. mine.0 a), λ _. (refl, theirs.1))) (λ j y _ e away. ((h.agree j y e).0, λ p. absurd (away (((h.agree j y e).1 p).0 ∙ sym theirs.0)))) in

@@ -1,6 +1,6 @@
 -- A relay between two threads: what was taken, and then the parcels that are held, is what was sent.
 use Rattle.std.specs.List.{filter_map}
-use Rattle.std.specs.Prelude.{◌≡◌, ℕ, Bool, true, false, List, [], ◌∷◌, ◌++◌, map, Option}
+use Rattle.std.specs.Prelude.{◌≡◌, ℕ, ◌+◌, Bool, true, false, List, [], ◌∷◌, ◌++◌, map, Option, Some, None}
 use mathlib.Core.Option.{some}
 use lib.ListN.{get_elem?}
 use Rattle.atomic_table.specs.Seated.{TableId}
@@ -19,16 +19,16 @@ Relay M = TableId × Badge (Key (Option (Parcel M)))
 
 module _ {M : Type 0} where
   abbrev pub sender_account : List (Parcel M) → Account M
-  sender_account sent = record { sends = true; takes = false; sent = sent; taken = [] }
+  sender_account sent = record { sends = true; takes = false; sent = sent; taken = []; wakes = 0 }
 
-  abbrev pub receiver_account : List (Parcel M) → Account M
-  receiver_account taken = record { sends = false; takes = true; sent = []; taken = taken }
+  abbrev pub receiver_account : List (Parcel M) → ℕ → Account M
+  receiver_account taken wakes = record { sends = false; takes = true; sent = []; taken = taken; wakes = wakes }
 
-  abbrev pub both_account : List (Parcel M) → List (Parcel M) → Account M
-  both_account sent taken = record { sends = true; takes = true; sent = sent; taken = taken }
+  abbrev pub both_account : List (Parcel M) → List (Parcel M) → ℕ → Account M
+  both_account sent taken wakes = record { sends = true; takes = true; sent = sent; taken = taken; wakes = wakes }
 
   abbrev pub no_account : Account M
-  no_account = record { sends = false; takes = false; sent = []; taken = [] }
+  no_account = record { sends = false; takes = false; sent = []; taken = []; wakes = 0 }
 
   -- the parcels among what a channel holds: the others are wakes
   abbrev pub parcels_of : List (Option (Parcel M)) → List (Parcel M)
@@ -38,21 +38,35 @@ module _ {M : Type 0} where
   abbrev pub sends_one : Account M → Option (Parcel M) → Account M → Type 0
   sends_one before item after = after ≡ record before { sent = before.sent ++ parcels_of (item ∷ []) }
 
-  -- a take tells that the parcel joined what was taken, and of a wake that nothing did
+  -- a wake that is sent is counted
+  abbrev pub gives_wake : Account M → Option (Parcel M) → Account M → Type 0
+  gives_wake before item after = after ≡ record before { wakes = before.wakes + 1 }
+
+  -- one wake more, if this is one
+  abbrev pub wakes_with : Option (Parcel M) → ℕ → ℕ
+  wakes_with None count = count + 1
+  wakes_with (Some parcel) count = count
+
+  -- a take tells that the parcel joined what was taken, or that a wake was taken
   abbrev pub takes_one : Account M → Option (Parcel M) → Account M → Type 0
-  takes_one before item after = after ≡ record before { taken = before.taken ++ parcels_of (item ∷ []) }
+  takes_one before item after = after ≡ record before { taken = before.taken ++ parcels_of (item ∷ []); wakes = wakes_with item before.wakes }
 
   -- what a take found, and what was taken before and after it: a parcel joined that, a wake did not
   abbrev pub TakenIs : front.Taken M → List (Parcel M) → List (Parcel M) → Type 0
   TakenIs (taken.Parcel x) old new = new ≡ old ++ x ∷ []
   TakenIs found old new = new ≡ old
 
+  -- how many wakes were taken, where so many were before this was found
+  abbrev pub wakes_after : front.Taken M → ℕ → ℕ
+  wakes_after taken.Wake count = count + 1
+  wakes_after found count = count
+
   -- one pass at most may send, and its account has what was sent; the same for takes
   abbrev pub Agrees : ℕ → ℕ → List (Parcel M) → List (Parcel M) → ℕ → Account M → Type 0
   Agrees sender receiver sent taken pass account =
       (account.sends ≡ true → (pass ≡ sender) × (account.sent ≡ sent)) × (account.takes ≡ true → (pass ≡ receiver) × (account.taken ≡ taken))
 
-  -- The rule of a relay: what was taken, and then the parcels that are held, is what was sent. A wake is in no account.
+  -- The rule of a relay: what was taken, and then the parcels that are held, is what was sent. Wakes are no part of it.
   pub record TakenThenHeldIsSent (held : List (Option (Parcel M))) (accounts : List (Account M)) : Type 0 where
     pub sender : ℕ
     pub receiver : ℕ
@@ -99,3 +113,9 @@ pub record Sending (M : Type 0) : Type 0 where
 pub record Taking (M : Type 0) : Type 0 where
   pub relay : Relay M
   pub taken : List (Parcel M)
+  pub wakes : ℕ
+
+-- a waker, as callers see it
+pub record Waking (M : Type 0) : Type 0 where
+  pub relay : Relay M
+  pub given : ℕ

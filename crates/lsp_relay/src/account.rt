@@ -13,6 +13,8 @@ pub struct Account<M> {
     pub sent: LinkedList<Parcel<M>>,
     /// What was taken with it, in order.
     pub taken: LinkedList<Parcel<M>>,
+    /// How many wakes were sent or taken with it.
+    pub wakes: u64,
 }
 
 /// The rule of a relay: what was taken, and then the parcels that are held, is what was sent. The channel holds `None` for a wake.
@@ -24,7 +26,7 @@ impl<M> Protocol<Option<Parcel<M>>, Account<M>> for InOrder {
 
     ghost holds = { TakenThenHeldIsSent };
 
-    ghost first = { both_account [] [] };
+    ghost first = { both_account [] [] 0 };
 }
 
 /// The two roles are given to two passes, and come together again.
@@ -35,13 +37,13 @@ impl<M> Split<Account<M>> for Roles {
 
     ghost left = { λ v. sender_account v.sent };
 
-    ghost right = { λ v. receiver_account v.taken };
+    ghost right = { λ v. receiver_account v.taken v.wakes };
 }
 
 impl<M> Join<Account<M>> for Roles {
     ghost use Rattle.lsp_relay.specs.Relay.{both_account, no_account};
 
-    ghost both = { λ v w. both_account v.sent w.taken };
+    ghost both = { λ v w. both_account v.sent w.taken w.wakes };
 
     ghost spent = { no_account };
 }
@@ -54,7 +56,7 @@ impl<M> Split<Account<M>> for Lend {
 
     ghost left = { λ v. no_account };
 
-    ghost right = { λ v. receiver_account v.taken };
+    ghost right = { λ v. receiver_account v.taken v.wakes };
 }
 
 /// A pass without a role is made, and this one stays as it is.
@@ -81,13 +83,13 @@ impl<M> Lesson<Option<Parcel<M>>, Account<M>> for Sent {
     ghost fact = { λ v items. Unit {0} };
 }
 
-/// A wake was added at the back. No account changes.
+/// A wake was added at the back. The account has one more of them.
 pub(crate) struct Woken;
 
 impl<M> Outcome<Option<Parcel<M>>, Account<M>> for Woken {
-    ghost use Rattle.std.specs.Prelude.{◌≡◌};
+    ghost use Rattle.lsp_relay.specs.Relay.{gives_wake};
 
-    ghost then = { λ v item w. w ≡ v };
+    ghost then = { gives_wake };
 }
 
 impl<M> Lesson<Option<Parcel<M>>, Account<M>> for Woken {

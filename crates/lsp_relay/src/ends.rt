@@ -1,6 +1,7 @@
 //! The two ends of a relay: a bounded channel with one sender and one receiver, each of which keeps account of its parcels. The
-//! channel holds a parcel as `Some`, and a wake, which is in no account, as `None`.
-ghost use Rattle.std.specs.Prelude.{◌≡◌, ◌<◌, [], ◌∷◌, ◌++◌, IfErr, IfNone, IfOk, IfSome, OnOk};
+//! channel holds a parcel as `Some`, and a wake as `None`. The account of the one that takes, and of each waker, counts wakes.
+ghost use Rattle.std.specs.Bool.{MatchBool};
+ghost use Rattle.std.specs.Prelude.{◌≡◌, ◌<◌, ◌+◌, [], ◌∷◌, ◌++◌, IfErr, IfNone, IfOk, IfSome, OnOk};
 ghost use mathlib.Core.List.{IsPrefix};
 
 use crate::account::{Account, Admit, InOrder, Lend, Received, Roles, Sent, Whole, Woken};
@@ -52,7 +53,8 @@ impl<M: Drop> Model for RelayTx<M> {
     ghost invariant = { λ t. IsSeatAt (sends_on t.sender) t.pass × (account_of t.pass ≡ sender_account (account_of t.pass).sent) × EndsAtMostOnce (account_of t.pass).sent };
 }
 
-/// The receiver's end of a relay. Contracts see which relay it belongs to and the parcels that were taken, in order.
+/// The receiver's end of a relay. Contracts see which relay it belongs to, the parcels that were taken, in order, and how many wakes
+/// were.
 #[derive(Drop)]
 #[derive_where(Debug)]
 pub struct RelayRx<M: Drop> {
@@ -70,12 +72,12 @@ impl<M: Drop> Model for RelayRx<M> {
 
     ghost Value = { Taking M };
 
-    ghost view = { λ r. record { relay = relay_of r.pass; taken = (account_of r.pass).taken } };
+    ghost view = { λ r. record { relay = relay_of r.pass; taken = (account_of r.pass).taken; wakes = (account_of r.pass).wakes } };
 
-    ghost invariant = { λ r. IsSeatAt (receives_on r.receiver) r.pass × (account_of r.pass ≡ receiver_account (account_of r.pass).taken) };
+    ghost invariant = { λ r. IsSeatAt (receives_on r.receiver) r.pass × (account_of r.pass ≡ receiver_account (account_of r.pass).taken (account_of r.pass).wakes) };
 }
 
-/// Wakes the thread that takes from a relay. Contracts see which relay it belongs to. It sends no parcel.
+/// Wakes the thread that takes from a relay. Contracts see which relay it belongs to, and how many wakes it gave. It sends no parcel.
 #[derive(Drop)]
 #[derive_where(Debug)]
 pub struct RelayWaker<M: Drop> {
@@ -88,11 +90,11 @@ pub struct RelayWaker<M: Drop> {
 impl<M: Drop> Model for RelayWaker<M> {
     ghost use Rattle.crossbeam_channel.specs.Claims.{IsSeatAt};
     ghost use Rattle.crossbeam_channel.specs.Ends.{sends_on};
-    ghost use Rattle.lsp_relay.specs.Relay.{Relay, relay_of};
+    ghost use Rattle.lsp_relay.specs.Relay.{Waking, account_of, relay_of};
 
-    ghost Value = { Relay M };
+    ghost Value = { Waking M };
 
-    ghost view = { λ w. relay_of w.pass };
+    ghost view = { λ w. record { relay = relay_of w.pass; given = (account_of w.pass).wakes } };
 
     ghost invariant = { λ w. IsSeatAt (sends_on w.sender) w.pass };
 }
@@ -102,6 +104,7 @@ pub fn relay<M: Drop>(alloc: Global, room: usize) -> Result<(RelayTx<M>, RelayRx
     requires { 0 < room }
     ensures one_relay { IfOk result (λ ends. ends.1.relay ≡ ends.0.relay) }
     ensures empty { IfOk result (λ ends. (ends.0.sent ≡ []) × (ends.1.taken ≡ [])) }
+    ensures unwoken { IfOk result (λ ends. ends.1.wakes ≡ 0) }
 {
     let (sender, receiver, mut sends) = bounded_with(alloc, room)?;
     let takes = sender.another::<Roles>(&mut sends);
@@ -142,7 +145,7 @@ impl<M: Drop> RelayTx<M> {
 
     /// Makes a waker of the thread that takes. The error means that an allocation failed.
     pub fn waker(&mut self) -> Result<RelayWaker<M>, AllocError>
-        ensures relay { IfOk result (λ waker. waker ≡ self.old.relay) }
+        ensures relay { IfOk result (λ waker. waker ≡ record { relay = self.old.relay; given = 0 }) }
         ensures same { self.new ≡ self.old }
     {
         let sender = self.sender.try_clone()?;
@@ -154,7 +157,7 @@ impl<M: Drop> RelayTx<M> {
 impl<M: Drop> RelayWaker<M> {
     /// Makes another one, for another thread. The error means that an allocation failed.
     pub fn another(&mut self) -> Result<RelayWaker<M>, AllocError>
-        ensures relay { IfOk result (λ waker. waker ≡ self.old) }
+        ensures relay { IfOk result (λ waker. waker ≡ record { relay = self.old.relay; given = 0 }) }
         ensures same { self.new ≡ self.old }
     {
         let sender = self.sender.try_clone()?;
@@ -165,19 +168,22 @@ impl<M: Drop> RelayWaker<M> {
     /// Wakes the thread that takes. A wake takes room in the relay as a parcel does, and while the relay is full this waits. So the
     /// thread that takes should not wake itself.
     ///
-    /// False means that nobody is woken, since the receiver's end is gone.
+    /// True means that the wake is in the relay, to be taken after all that is there. False means that none was given. It comes if the
+    /// receiver's end is gone; no contract says so.
     pub fn wake<R: Wait>(&mut self, rt: &R) -> bool
-        ensures { self.new ≡ self.old }
+        ensures relay { self.new.relay ≡ self.old.relay }
+        ensures given { MatchBool result (self.new.given ≡ self.old.given + 1) (self.new.given ≡ self.old.given) }
     {
-        self.sender
-            .send_as::<Woken, R>(rt, &mut self.pass, None)
-            .is_ok()
+        match self.sender.send_as::<Woken, R>(rt, &mut self.pass, None) {
+            Ok(()) => true,
+            Err(_) => false,
+        }
     }
 }
 
 impl<M: Drop> RelayRx<M> {
     ghost use Rattle.std.specs.Prelude.{true};
-    ghost use Rattle.lsp_relay.specs.Relay.{TakenIs, has_end};
+    ghost use Rattle.lsp_relay.specs.Relay.{TakenIs, has_end, wakes_after};
 
     /// Takes the parcel at the front in one step. It waits while the relay is empty, and passes over wakes.
     ///
@@ -198,11 +204,12 @@ impl<M: Drop> RelayRx<M> {
         unreachable!()
     }
 
-    /// Takes the parcel or the wake at the front in one step. It waits while the relay is empty. `Taken::Nothing` comes where
-    /// `take` gives `None`.
+    /// Takes the parcel or the wake at the front in one step. It waits while the relay is empty. `Taken::Wake` means that one wake was
+    /// taken, and no other answer takes one. `Taken::Nothing` comes where `take` gives `None`.
     pub fn take_or_wake<R: Wait>(&mut self, rt: &R) -> Taken<M>
         ensures relay { self.new.relay ≡ self.old.relay }
         ensures taken { TakenIs result self.old.taken self.new.taken }
+        ensures wakes { self.new.wakes ≡ wakes_after result self.old.wakes }
     {
         match self.receiver.recv_as::<Received, R>(rt, &mut self.pass) {
             Ok(Some(parcel)) => Taken::Parcel(parcel),

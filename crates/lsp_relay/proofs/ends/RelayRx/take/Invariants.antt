@@ -2,4 +2,4 @@ use Rattle.std.specs.Prelude.{◌≡◌}
 use Rattle.lsp_relay.proofs.ends.RelayRx.take.Given as goal
 
 abbrev pub invariant-loop : goal.invariant-loop
-invariant-loop g l = l.self ≡ l.fn.self
+invariant-loop g l = (l.self.relay ≡ l.fn.self.relay) × (l.self.taken ≡ l.fn.self.taken)
