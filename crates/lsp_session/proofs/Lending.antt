@@ -5,7 +5,7 @@ use Rattle.lsp_session.proofs.Ran.{Row, row, at_initialize, at_initialized, at_s
 use Rattle.lsp_session.specs.Event.{Event}
 use Rattle.lsp_session.specs.HandlerService.{KeepsHandler, lent_handler}
 use Rattle.lsp_session.specs.HandlerSession.{initialize_result, of_handler}
-use Rattle.lsp_session.specs.Session.{Behavior, SessionAnswer, Exchange, Stop, decided, no_more, timed_out, refused, exhausted, Phase, starting, replied, serving, asked, ended, phase_after, Step, Steps, Reaches, Stops, SessionOut, SessionPart}
+use Rattle.lsp_session.specs.Session.{Behavior, SessionAnswer, Exchange, Stop, decided, timed_out, refused, exhausted, Phase, starting, replied, serving, asked, ended, phase_after, Step, Steps, Reaches, Stops, SessionOut, SessionPart}
 use Rattle.lsp_session.specs.SessionBytes.{ReadsMessage, SessionOver, Gives}
 use Rattle.lsp_session.specs.SessionRun.{Runs}
 use Rattle.lsp_session.specs.declared.lifecycle.SendFault.{SendFault}

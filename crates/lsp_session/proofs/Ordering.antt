@@ -6,11 +6,10 @@ use Rattle.lsp_session.proofs.Ran.{part_none, part_one, Ran, reaches_ran, stops_
 use Rattle.lsp_session.proofs.Handshake.{AllZip-append}
 use Rattle.lsp_session.specs.Answered.{IsReplied, RepliesTo, RepliesToEach, requests_of, AllReplied, AnswersRequests, LastUnanswered}
 use Rattle.lsp_session.specs.HandlerSession.{Handles, of_handler}
-use Rattle.lsp_session.specs.ProtocolError.{ProtocolFault, disconnected, out_of_memory, fault_of_refusal, ShowsUnallowed, expected_initialize, expected_initialized, unexpected_in_shutdown, is_disconnected}
+use Rattle.lsp_session.specs.ProtocolError.{ProtocolFault, ShowsUnallowed, expected_initialize, expected_initialized, unexpected_in_shutdown, is_disconnected}
 use Rattle.lsp_session.specs.Replies.{null_reply}
 use Rattle.lsp_session.specs.Session.{Behavior, Exchange, letters_of, sends_of, SessionAnswer, Stop, decided, no_more, timed_out, refused, exhausted, Phase, starting, replied as in_reply, serving, asked, ended, null_of, phase_after, is_served, Stops, SessionOut, request_id}
-use Rattle.lsp_session.specs.SessionLaws.{IsInvited, IsUnopened, AfterNull, EndsWithNull, HasNoShutdown, KeepsOrder, IsOpened, IsUnstarted, comes_early, AllEarly, StopsAt, StopsBefore, is_refusal, AllRefused, is_reply, OpenedBy}
-use Rattle.lsp_session.specs.declared.lifecycle.SendFault.TheVariants.{Closed as Shut, Memory as Full}
+use Rattle.lsp_session.specs.SessionLaws.{IsInvited, IsUnopened, AfterNull, EndsWithNull, HasNoShutdown, KeepsOrder, IsUnstarted, comes_early, StopsAt, StopsBefore, is_refusal, AllRefused, is_reply, OpenedBy}
 use Rattle.lsp_session.specs.declared.lifecycle.SendFault.{SendFault}
 use Rattle.lsp_session.specs.declared.loops.handler.SessionEnd.TheVariants.{Closed, ShutDown}
 use Rattle.serde_json.specs.Data.{Data}
@@ -18,7 +17,7 @@ use Rattle.std.proofs.Common.{◌≡◌, refl, sym, ◌∙◌, ap, subst, inl, i
 use Rattle.std.proofs.lemmas.List.Elements.{filter_map-append}
 use Rattle.std.proofs.lemmas.List.Folds.{list_all-append}
 use Rattle.std.specs.List.{list_all}
-use Rattle.std.specs.Prelude.{Result, Ok, Err, IsErrAnd, IsSomeAnd, Bool, MatchOption, ◌&&◌}
+use Rattle.std.specs.Prelude.{Result, Ok, Err, IsSomeAnd, Bool, MatchOption}
 
 initialized_served : (m : Message) → is_initialized m ≡ true → is_served m ≡ true
 initialized_served (request i method params) is = absurd (cc (is))

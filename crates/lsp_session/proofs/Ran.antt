@@ -1,7 +1,7 @@
 -- Exchanges of a session, one after another: by the rows of the table of steps, the last of which may be cut off, and what they say of its answer.
 use Rattle.lsp_message.specs.Message.{Message, ErrorObject, request, notification, response}
 use Rattle.lsp_session.specs.ProtocolError.{disconnected, shutdown_disconnected, fault_of_refusal, expected_initialize, expected_initialized, unexpected_in_shutdown}
-use Rattle.lsp_session.specs.Session.{Behavior, Exchange, came_of, letters_of, SessionAnswer, Stop, decided, no_more, refused, Phase, starting, replied, serving, asked, ended, Reaches, Stops, SessionFrom, sends_of, null_of, phase_after, Step, Steps, timed_out, exhausted, is_served, Fails, Leaves, is_shutdown}
+use Rattle.lsp_session.specs.Session.{Behavior, Exchange, came_of, letters_of, SessionAnswer, Stop, decided, no_more, refused, Phase, starting, replied, serving, asked, ended, Reaches, Stops, SessionFrom, sends_of, null_of, phase_after, Step, Steps, exhausted, is_served, Fails, Leaves, is_shutdown}
 use Rattle.lsp_session.specs.SessionRun.{all_of}
 use Rattle.lsp_session.specs.declared.lifecycle.SendFault.{SendFault}
 use Rattle.lsp_session.specs.declared.loops.handler.SessionEnd.TheVariants.{Closed, ShutDown}

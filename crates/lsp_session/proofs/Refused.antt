@@ -2,14 +2,14 @@
 use Rattle.lsp_message.specs.Id.{Id}
 use Rattle.lsp_message.specs.Message.{Message, request, notification, response}
 use Rattle.lsp_message.specs.Methods.{is_initialize, is_exit}
-use Rattle.lsp_session.specs.ProtocolError.{expected_initialized, fault_of_refusal}
+use Rattle.lsp_session.specs.ProtocolError.{expected_initialized}
 use Rattle.lsp_session.specs.Replies.{null_reply}
 use Rattle.lsp_session.specs.Session.{Exchange, letters_of, sends_of, SessionAnswer, Stop, decided, no_more, timed_out, refused as cut_off, exhausted, Phase, starting, replied as awaiting, serving, asked as shut, is_served}
 use Rattle.lsp_session.specs.SessionBytes.{ReadsMessage, Ends, Wrote, GetsAllButLast}
 use Rattle.lsp_session.specs.declared.loops.stream_session.SessionFault.TheVariants.{Write, Memory as NoMemory}
 use Rattle.lsp_message.specs.declared.frame.WriteFault.{WriteFault}
 use Rattle.lsp_message.specs.Written.{GetsFrames}
-use Rattle.lsp_session.specs.SessionLaws.{IsInvited, IsUnopened, AfterNull, EndsWithExit, EndsWithNull, HasNoShutdown, KeepsOrder, IsOpened, IsUnstarted, StopsAt, comes_early, AllEarly, is_refusal, AllRefused}
+use Rattle.lsp_session.specs.SessionLaws.{IsInvited, IsUnopened, AfterNull, EndsWithNull, HasNoShutdown, KeepsOrder, IsOpened, IsUnstarted, StopsAt, comes_early, AllEarly, is_refusal, AllRefused}
 use Rattle.serde_json.specs.Data.{Data, null as null_data}
 use Rattle.std.proofs.Common.{◌≡◌, refl, sym, ◌∙◌, ap, subst, inl, inr, ◌⊎◌, ℕ, true, false, List, [], ◌∷◌, ◌++◌, Option, Some, None}
 use Rattle.std.proofs.lemmas.List.Folds.{list_all-append}

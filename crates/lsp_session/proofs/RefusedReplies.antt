@@ -2,16 +2,15 @@
 use Rattle.lsp_message.specs.Id.{Id}
 use Rattle.lsp_message.specs.Message.{Message, ErrorObject, request, notification, response}
 use Rattle.lsp_session.specs.Answered.{IsReplied, AllReplied, AnswersRequests}
-use Rattle.lsp_session.specs.ProtocolError.{ShowsUnallowed}
 use Rattle.lsp_session.specs.Session.{Exchange, sends_of, SessionAnswer, Stop}
 use Rattle.lsp_session.specs.SessionLaws.{EndsWithResult, IsInvited, OpenedBy, is_refusal}
 use Rattle.lsp_session.specs.declared.loops.handler.SessionEnd.{SessionEnd}
 use Rattle.lsp_session.proofs.Ran.{sends_both}
 use Rattle.serde_json.specs.Data.{Data}
-use Rattle.std.proofs.Common.{◌≡◌, refl, sym, ◌∙◌, ap, inl, inr, ◌⊎◌, ℕ, Bool, true, false, List, [], ◌∷◌, ◌++◌, Option, Some, None}
+use Rattle.std.proofs.Common.{◌≡◌, refl, sym, ◌∙◌, ap, inl, inr, ℕ, Bool, true, false, List, [], ◌∷◌, ◌++◌, Option, Some}
 use Rattle.std.proofs.lemmas.List.Folds.{list_all-append}
 use Rattle.std.specs.List.{list_all}
-use Rattle.std.specs.Prelude.{Result, Ok, Err, IsErrAnd, codes, ◌&&◌}
+use Rattle.std.specs.Prelude.{Result, Ok, ◌&&◌}
 
 -- a message that came, for which this is sent
 abbrev said_for : Message → List Message → Exchange

@@ -39,7 +39,6 @@ use Rattle.std.proofs.lemmas.List.Folds.{list_all-append}
 use Rattle.std.specs.Io.KnownBytes.{Keeps}
 use Rattle.std.specs.List.{FoldsTo, list_all, filter_map}
 use Rattle.std.specs.Prelude.{Result, Ok, Err, MatchOption, if◌then◌else◌, is_some, ◌&&◌}
-use Rattle.std.specs.declared.io.ErrorKind.{ErrorKind}
 
 module _ {R : Type 0} (remaining : R → Option (List ℕ)) (limit : ℕ) where
   -- receives from an inbox over a reader, as they are seen, and the reader that it was lent
