@@ -141,17 +141,21 @@ module _ {P J : Type 0} where
       at true is e = absurd (cc (e))
       at false is e = not_first id job start jobs events is (all id job e)
 
+  -- the first job is started or refused, and then the others
+  keeps_first : (start : Id × J) (jobs : List (Id × J)) (old mid new : Table J × List (Act P)) (one : StartsOne old start mid) (rest : FoldsTo StartsOne mid jobs new)
+      (events : List (Event P J)) → AllBut (start ∷ jobs) events old.0
+      → ((es : List (Event P J)) → AllBut jobs es mid.0 → AllWait (fold (λ es start. starts start.0 start.1 ∷ es) es (taken_on jobs mid new rest)) new.0)
+      → AllWait (fold (λ es start. starts start.0 start.1 ∷ es) events (taken_first start old mid one ++ taken_on jobs mid new rest)) new.0
+  keeps_first start jobs old mid new (inl is) rest events all more =
+      more (starts start.0 start.1 ∷ events) (subst (λ (x : Table J × List (Act P)). AllBut jobs (starts start.0 start.1 ∷ events) x.0) (sym is) (keeps_with start jobs events old.0 all))
+  keeps_first start jobs old mid new (inr is) rest events all more =
+      more events (subst (λ (x : Table J × List (Act P)). AllBut jobs events x.0) (sym is) (keeps_refusal start jobs events old.0 all))
+
   keeps_started : (jobs : List (Id × J)) (old new : Table J × List (Act P)) (run : FoldsTo StartsOne old jobs new) (events : List (Event P J)) → AllBut jobs events old.0
       → AllWait (fold (λ es start. starts start.0 start.1 ∷ es) events (taken_on jobs old new run)) new.0
   keeps_started [] old new run events all = subst (λ (x : Table J × List (Act P)). AllWait events x.0) run (λ id job e. elim (all id job e) [ inl waits ↦ waits | inr none ↦ absurd none ])
-  keeps_started (start ∷ jobs) old new run events all = at run.0 run.1 run.2
-    where
-      at : (mid : Table J × List (Act P)) (one : StartsOne old start mid) (rest : FoldsTo StartsOne mid jobs new)
-          → AllWait (fold (λ es start. starts start.0 start.1 ∷ es) events (taken_first start old mid one ++ taken_on jobs mid new rest)) new.0
-      at mid (inl is) rest = keeps_started jobs mid new rest (starts start.0 start.1 ∷ events)
-          (subst (λ (x : Table J × List (Act P)). AllBut jobs (starts start.0 start.1 ∷ events) x.0) (sym is) (keeps_with start jobs events old.0 all))
-      at mid (inr is) rest = keeps_started jobs mid new rest events
-          (subst (λ (x : Table J × List (Act P)). AllBut jobs events x.0) (sym is) (keeps_refusal start jobs events old.0 all))
+  keeps_started (start ∷ jobs) old new run events all =
+      keeps_first start jobs old run.0 new run.1 run.2 events all (λ es but. keeps_started jobs run.0 new run.2 es but)
 
 module _ (T : Type 0) {S J P : Type 0} (may : Stated S P) (may_start : S → List (Id × J) → S → Type 0) (may_finish : S → Id → Outcome → List (Act P) → S → Type 0)
     (answers : J → Outcome → Type 0) where

@@ -18,6 +18,11 @@ use Rattle.lsp_jobs.specs.declared.pooled_server.PooledServer.{PooledServer}
 same : (id : Id) → eq_by_cmp id_cmp id id ≡ true
 same id = (id_decides id id).1 refl
 
+module _ {P : Type 0} where
+  not_empty : {A : Type 0} (acts rest : List (Act P)) (act : Act P) → [] ≡ acts ++ act ∷ rest → A
+  not_empty [] rest act e = absurd (cc (e))
+  not_empty (first ∷ acts) rest act e = absurd (cc (e))
+
 module _ {P J : Type 0} where
   -- what concerned the request last was not the start of this job
   concerned : (event : Event P J) (events : List (Event P J)) (id : Id) (job : J) → concerns id event ≡ true → (event ≡ starts id job → ⊥) → WaitsFor (event ∷ events) id job → ⊥
@@ -45,22 +50,18 @@ module _ {P J : Type 0} where
 
   never_started : (events : List (Event P J)) (id : Id) (job : J) → IsNotStarted id events → WaitsFor events id job → ⊥
   never_started [] id job none waits = waits
-  never_started (comes letter ∷ events) id job none waits = at (concerns id (comes letter)) waits
+  never_started (comes letter ∷ events) id job none waits = at (concerns id (comes letter)) (never_started events id job none) waits
     where
-      at : (b : Bool) → MatchBool b (comes letter ≡ starts id job) (WaitsFor events id job) → ⊥
-      at true e = absurd (cc (e))
-      at false earlier = never_started events id job none earlier
-  never_started (does act ∷ events) id job none waits = at (concerns id (does act)) waits
+      at : (b : Bool) → (WaitsFor events id job → ⊥) → MatchBool b (comes letter ≡ starts id job) (WaitsFor events id job) → ⊥
+      at true never e = absurd (cc (e))
+      at false never earlier = never earlier
+  never_started (does act ∷ events) id job none waits = at (concerns id (does act)) (never_started events id job none) waits
     where
-      at : (b : Bool) → MatchBool b (does act ≡ starts id job) (WaitsFor events id job) → ⊥
-      at true e = absurd (cc (e))
-      at false earlier = never_started events id job none earlier
+      at : (b : Bool) → (WaitsFor events id job → ⊥) → MatchBool b (does act ≡ starts id job) (WaitsFor events id job) → ⊥
+      at true never e = absurd (cc (e))
+      at false never earlier = never earlier
   never_started (starts i other ∷ events) id job none waits =
       never_started events id job none.1 (subst (λ (b : Bool). MatchBool b (starts i other ≡ starts id job) (WaitsFor events id job)) none.0 waits)
-
-  not_empty : {A : Type 0} (acts rest : List (Act P)) (act : Act P) → [] ≡ acts ++ act ∷ rest → A
-  not_empty [] rest act e = absurd (cc (e))
-  not_empty (first ∷ acts) rest act e = absurd (cc (e))
 
 module _ (T : Type 0) {S J P : Type 0} (may : Stated S P) (may_start : S → List (Id × J) → S → Type 0) (may_finish : S → Id → Outcome → List (Act P) → S → Type 0)
     (answers : J → Outcome → Type 0) where

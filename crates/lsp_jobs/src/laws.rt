@@ -30,12 +30,9 @@ pub fn session_with_jobs_keeps_laws<T: Wait + Drop, S: JobServer<J>, J: Job>()
 
 /// At each wake nothing is done, or one notification is sent, or a request is answered: with an outcome to which the job may come that the
 /// server started for this very request. Nothing else concerned the request after that job was started: no request under its id came, no
-/// cancellation, no reply was given, and no other job was started for it. It is told of the turns from `initialized` on; no request waits
-/// for a job then, since the handshake starts none. Which jobs were started is told by what the server states in `starts`: if it states
-/// nothing, that there are such jobs.
-///
-/// A job that found no room counts as started, behind the error that its request got. That it answers nothing is said by the session's
-/// own table (`JobSession`), and by `session_with_jobs_keeps_laws`.
+/// cancellation, no reply was given, and no other job was started for it. A job that found no room was not started. It is told of the
+/// turns from `initialized` on; no request waits for a job then, since the handshake starts none. Which jobs were started is told by what
+/// the server states in `starts`: if it states nothing, that there are such jobs.
 pub fn requests_are_answered_by_their_jobs<T: Wait + Drop, S: JobServer<J>, J: Job>()
     ensures turns { (start last : PooledServer T S J) (came : List (Option Message)) (stop : Stop) (requests : List Message)
         → (part : TakesPart (seen_with_jobs T S.Server S.starts S.finishes J.answers) start last came stop requests)
