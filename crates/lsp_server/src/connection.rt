@@ -86,7 +86,7 @@ impl Connection {
     /// Waits for the request `initialize`, and gives its id and its params. Use it in place of `initialize` if your answer depends
     /// on the params, or has more than capabilities in it:
     ///
-    /// <!-- from crates/example_pieces/src/handshake.rt -->
+    /// <!-- from crates/example_connection/src/handshake.rt -->
     /// ```rust
     /// let (id, params) = connection.initialize_start(rt)?;
     /// let result = json!(in rt.alloc(); {
@@ -189,7 +189,7 @@ impl Connection {
 
     /// As `initialize`, until `running` answers false, which is an error then. Here another thread may set a flag:
     ///
-    /// <!-- from crates/example_pieces/src/handshake.rt -->
+    /// <!-- from crates/example_connection/src/handshake.rt -->
     /// ```rust
     /// let running = || !stopped.load(Ordering::SeqCst);
     /// let params = connection.initialize_while(rt, capabilities, running)?;
@@ -213,21 +213,18 @@ impl Connection {
     /// If the request is `shutdown`, answers it with null and waits up to 30 seconds for the notification `exit`: then `Ok(true)`,
     /// and the session is over. For any other request it gives `Ok(false)` at once, and the request is yours to answer.
     ///
-    /// <!-- from crates/example_pieces/src/handshake.rt -->
+    /// <!-- from crates/example_connection/src/main.rt -->
     /// ```rust
     /// for message in connection.receiver.iter(rt) {
-    ///     let Message::Request(request) = message else {
-    ///         continue;
-    ///     };
-    ///     if connection.handle_shutdown(rt, &request)? {
-    ///         return Ok(());
-    ///     }
-    ///     let reply = Response {
-    ///         id: request.id,
-    ///         response_result: Ok(Value::Null),
-    ///     };
-    ///     if connection.sender.send(rt, Message::from(reply)).is_err() {
-    ///         bail!("the client is gone");
+    ///     match message {
+    ///         Message::Request(request) => {
+    ///             if connection.handle_shutdown(rt, &request)? {
+    ///                 return Ok(());
+    ///             }
+    ///             send(rt, &connection, Message::from(paths.answer(request)?))?;
+    ///         }
+    ///         Message::Response(response) => paths.take(response)?,
+    ///         Message::Notification(_note) => {}
     ///     }
     /// }
     /// ```

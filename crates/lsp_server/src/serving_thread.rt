@@ -21,7 +21,7 @@ impl<T> Promise<T> for Anything {
 /// Starts a thread that calls `serve` with the runtime and the connection, and gives its handle. `join` waits for the thread, and
 /// gives what `serve` gave.
 ///
-/// <!-- from crates/example_pieces/src/in_thread.rt -->
+/// <!-- from crates/example_connection/src/in_thread.rt -->
 /// ```rust
 /// let (client, server) = Connection::memory(rt.alloc())?;
 /// let thread = spawn(rt, server, serve)?;
