@@ -17,6 +17,7 @@ use lsp_threads::{
 };
 use serde_json::{Map, Value};
 use std::alloc::{AllocError, Global};
+use std::io::{BufRead, Write};
 use std::sync::{Arc, Wait};
 use std::thread::{Builder, Threads};
 use std::time::Clock;
@@ -201,7 +202,7 @@ where
 {
     let talker = Talker::new(alloc, Arc::try_clone(signals)?);
     let limit = run.limit();
-    let (talker, ran) = run_jobs_within(rt, alloc, reader, writer, run.pool, talker, limit);
+    let (talker, ran) = run_talker(rt, alloc, reader, writer, run.pool, talker, limit);
     let came = threads_answer(alloc, ran, run, signals)?;
     let Attempt::Came(came) = came else {
         return Ok(came);
@@ -213,6 +214,25 @@ where
         _ => format!(in alloc; "{came}; {begun} begun, {stopped} stopped; finished{finished}")?,
     };
     Ok(Attempt::Came(told))
+}
+
+/// A session of the server with its jobs, over any reader and writer: so it is proved in one place that threads may own a job, and in
+/// another that they may own these two.
+fn run_talker<R, S, W>(
+    rt: &R,
+    alloc: Global,
+    reader: S,
+    writer: W,
+    size: PoolSize,
+    talker: Talker,
+    limit: u64,
+) -> (Talker, Result<Threaded<W>, StartFault>)
+where
+    R: Threads + Wait + Copy + Drop + Send + 'static,
+    S: BufRead + Drop + Send + 'static,
+    W: Write + Drop + Send + 'static,
+{
+    run_jobs_within(rt, alloc, reader, writer, size, talker, limit)
 }
 
 /// Builders of threads. No thread gets a stack of `usize::MAX` bytes.
