@@ -5,12 +5,11 @@ ghost use Rattle.lsp_jobs.specs.Table.{no_jobs, without, with_job, IsReport, Tel
 ghost use Rattle.lsp_jobs.specs.PoolView.{job_of, news_view, table_of};
 
 use crate::assignment::{Awaited, Saying, assign};
-use crate::bell::{Bell, Starved};
+use crate::bell::Bell;
 use crate::cancellation::CancellationToken;
 use crate::job::{Job, Ran};
-use crate::line::{WaitingErrands, line_of_errands};
 use crate::workers::{Order, join_all, start_job_workers};
-use crossbeam_channel::{Receiver, unbounded};
+use crossbeam_channel::{Receiver, Sender, bounded, unbounded};
 use lsp_message::{Notification, RequestId, ResponseError};
 use lsp_queue::{Incoming, ReqQueue};
 use lsp_relay::RelayWaker;
@@ -25,8 +24,7 @@ use std::thread::{JoinHandle, Threads};
 pub struct PoolSize {
     /// How many threads run jobs: at least one.
     pub workers: usize,
-    /// How many jobs may wait for a thread: at least one. A job that is cancelled before a thread takes it waits no more. `None` sets
-    /// no bound.
+    /// How many jobs may wait for a thread: at least one. `None` sets no bound.
     pub waiting: Option<usize>,
 }
 
@@ -47,7 +45,7 @@ impl From<usize> for PoolSize {
 pub enum TakeFault {
     /// 1: as many jobs wait for a thread as may.
     Full,
-    /// 2: an allocation failed, here or where a job told of its news.
+    /// 2: an allocation failed.
     Memory,
 }
 
@@ -82,8 +80,7 @@ pub struct JobPool<T: Wait + Drop, J: Job> {
     alloc: Global,
     tokens: CancellationToken,
     jobs: Incoming<Entry<J>>,
-    orders: WaitingErrands<Order<J, Ran>>,
-    starved: Starved,
+    orders: Sender<Order<J, Ran>>,
     workers: Vec<JoinHandle<()>>,
 }
 
@@ -93,8 +90,7 @@ where
     J: Job + Send + 'static,
 {
     /// Starts threads that run jobs. It gives the pool, with no job, and the end of a channel on which comes the id of a job that has
-    /// news: then ask `take_news`, once for each id. The channel has room for all ids, so no job waits for your loop. Where no memory holds
-    /// an id, each `take_news` and `take_on` from then on says that an allocation failed.
+    /// news: then ask `take_news`, once for each id. The channel has room for all ids, so no job waits for your loop.
     ///
     /// After a fault no thread is left.
     pub fn start(
@@ -119,7 +115,6 @@ where
             ..
         } = self;
         tokens.cancel_all();
-        orders.drop_unwanted(&rt);
         drop(jobs);
         drop(orders);
         join_all(&rt, workers);
@@ -142,15 +137,8 @@ where
     let Ok((said, news)) = unbounded(alloc) else {
         return Err(StartFault::Memory);
     };
-    let Ok(starved) = Starved::new(alloc) else {
-        return Err(StartFault::Memory);
-    };
-    let Ok(theirs) = starved.share() else {
-        return Err(StartFault::Memory);
-    };
-    let mut bell = Bell::new(said, theirs, waker);
-    let room = size.waiting.map(|waiting| waiting.max(1));
-    let Ok((orders, taken)) = line_of_errands(alloc, room) else {
+    let mut bell = Bell::new(said, waker);
+    let Ok((orders, taken)) = orders_with_room(alloc, size.waiting) else {
         return Err(StartFault::Memory);
     };
     let Ok(tokens) = CancellationToken::new(alloc) else {
@@ -163,7 +151,6 @@ where
         tokens,
         jobs: queue.incoming,
         orders,
-        starved,
         workers: Vec::new(alloc),
     };
     match start_job_workers(rt, size.workers.max(1), taken, &mut bell, &mut pool.workers) {
@@ -172,6 +159,17 @@ where
             pool.end();
             Err(fault)
         }
+    }
+}
+
+/// A channel of orders that has room for so many.
+fn orders_with_room<O: Drop>(
+    alloc: Global,
+    room: Option<usize>,
+) -> Result<(Sender<O>, Receiver<O>), AllocError> {
+    match room {
+        Some(room) => bounded(alloc, room.max(1)),
+        None => unbounded(alloc),
     }
 }
 
@@ -191,15 +189,11 @@ impl<T: Wait + Drop, J: Job> JobPool<T, J> {
 
     /// Hands an order to the workers.
     fn hand_over(&self, order: Order<J, Ran>) -> Result<(), TakeFault> {
-        if self.has_starved() {
-            return Err(TakeFault::Memory);
+        match self.orders.try_send(&self.rt, order) {
+            Ok(()) => Ok(()),
+            Err(refused) if refused.is_full() => Err(TakeFault::Full),
+            Err(_) => Err(TakeFault::Memory),
         }
-        self.orders.add(&self.rt, order)
-    }
-
-    /// Whether some job found no memory to tell of its news.
-    pub(crate) fn has_starved(&self) -> bool {
-        self.starved.is_told()
     }
 
     /// Whether the request with this id waits for its job.
@@ -210,31 +204,25 @@ impl<T: Wait + Drop, J: Job> JobPool<T, J> {
     }
 
     /// The request with this id needs no outcome any more, since it was cancelled or answered otherwise: cancels the job's token, and
-    /// what it says is dropped. A job that no thread took yet is dropped itself, and another may wait in its place.
+    /// what it says is dropped.
     pub fn forget(&mut self, id: &RequestId)
         ensures { table_of self.new ≡ without id.now (table_of self.old) }
     {
         if let Some(entry) = self.jobs.complete(id) {
             entry.token.cancel();
-            self.orders.drop_unwanted(&self.rt);
         }
     }
 
     /// What the job of this request said next: a report, and the request goes on waiting; or the outcome, and it waits no more. `None`
     /// means that the request waits for no job, or that its job said nothing new.
     ///
-    /// The error is a failed allocation: here, in the job, or where some job told of its news. The request has no job any more then, so
-    /// it is still yours to answer.
+    /// The error is a failed allocation, here or in the job: the request has no job any more then, so it is still yours to answer.
     pub fn take_news(&mut self, id: &RequestId) -> Result<Option<JobNews>, AllocError>
         ensures some { IfOk result (λ found. IfSome found (λ news.
             Tells J.answers id.now (table_of self.old) (news_view news) (table_of self.new))) }
         ensures none { IfOk result (λ found. IfNone found (table_of self.new ≡ table_of self.old)) }
         ensures err { OnErr result (table_of self.new ≡ without id.now (table_of self.old)) }
     {
-        if self.has_starved() {
-            self.forget(id);
-            return Err(AllocError);
-        }
         let Some(mut entry) = self.jobs.complete(id) else {
             return Ok(None);
         };

@@ -220,9 +220,6 @@ where
 
     fn woken(&mut self, alloc: Global) -> Result<Vec<Act<S::Payload>>, AllocError> {
         let Ok(id) = self.news.try_recv(&self.rt) else {
-            if self.pool.has_starved() {
-                return Err(AllocError);
-            }
             return Ok(Vec::new(alloc));
         };
         match self.pool.take_news(&id)? {

@@ -28,10 +28,8 @@ const ROOM: usize = 32;
 ///
 /// - A `$/cancelRequest` for a request that waits for its job is answered at once, with what the server does at it or else with the
 ///   error -32800. The job's token is cancelled, and what it comes to is dropped (LSP 3.17, "Cancellation Support").
-/// - A job that finds no room is dropped, and its request gets the error -32803, `too many requests are waiting`. A job whose request was
-///   cancelled takes no room.
+/// - A job that finds no room is dropped, and its request gets the error -32803, `too many requests are waiting`.
 /// - Reports and outcomes are sent up to `shutdown`. What a job says later is dropped.
-/// - If no memory holds what a job said, the session ends with a fault, `out of memory`.
 /// - At the end all tokens are cancelled and all threads joined: it returns only when the jobs that run do.
 pub fn run_jobs<T, R, W, S, J>(
     rt: &T,

@@ -12,7 +12,7 @@ use Rattle.lsp_tolerant.specs.TolerantBytes.{PassesOver, ReadsFrame, HearsLast}
 
 module _ {L : Type 0} (hears : L → ReadFault → L → Type 0) (limit : ℕ) where
   -- what a reading came to
-  outcome_at : (text : List ℕ) → Result (Option Message) ReadFault
+  abbrev outcome_at : (text : List ℕ) → Result (Option Message) ReadFault
   outcome_at text = (reading_within limit text).outcome
 
   -- where nothing that is no message stands, none is passed over
