@@ -37,7 +37,7 @@ impl<'a> Source<'a> {
     }
 
     /// The bytes that were not taken, up to this place.
-    fn piece(&self, end: usize) -> &[u8] {
+    fn piece(&self, end: usize) -> &'a [u8] {
         let piece = self.bytes.get(self.taken..end);
         piece.unwrap_or(&[])
     }
@@ -71,7 +71,8 @@ impl BufRead for Source<'_> {
         }
         let end = self.taken.saturating_add(self.step);
         let end = end.min(self.bytes.len()).min(fails_at).min(pause);
-        Ok(self.piece(end))
+        let piece = self.piece(end);
+        Ok(piece)
     }
 
     fn consume(&mut self, amount: usize) {
