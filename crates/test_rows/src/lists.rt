@@ -63,6 +63,18 @@ fn inbox<'a>(
     })
 }
 
+/// How many messages an outbox takes, and how many bytes a writer, without a new allocation. Where that fails in a call, the null of
+/// `shutdown` may be missing, and a message that is handed on: both are no refusal.
+const MESSAGES: usize = 32;
+const BYTES: usize = 4096;
+
+/// An empty outbox that takes its messages without a new allocation.
+fn roomy(alloc: Global, room: usize) -> Result<ListOutbox, AllocError> {
+    let mut outbox = ListOutbox::new(alloc, room);
+    outbox.sent = Vec::with_capacity(alloc, MESSAGES)?;
+    Ok(outbox)
+}
+
 /// The boxes of a row of calls, and the id that the last start gave.
 #[derive(Drop)]
 struct Boxes<'a> {
@@ -236,7 +248,7 @@ fn session(alloc: Global, word: &str, row: &str) -> Result<Attempt, Stop> {
     };
     let mut inbox = inbox(alloc, events, habit, &sent)?;
     let mut outbox = Sent {
-        list: ListOutbox::new(alloc, room.parse()?),
+        list: roomy(alloc, room.parse()?)?,
         is_some: &sent,
     };
     let mut echo = Echo::new(alloc);
@@ -270,11 +282,11 @@ fn written(alloc: Global, row: &str) -> Result<Attempt, Stop> {
     let (sent, flushed) = (Cell::new(false), Cell::new(0));
     let mut inbox = inbox(alloc, events, Habit::Gives, &sent)?;
     let mut spent = Sent {
-        list: ListOutbox::new(alloc, room.parse()?),
+        list: roomy(alloc, room.parse()?)?,
         is_some: &sent,
     };
     let mut writer = Sink {
-        taken: Vec::new(alloc),
+        taken: Vec::with_capacity(alloc, BYTES)?,
         written: &flushed,
         step: usize::MAX,
         room: fills.parse()?,
