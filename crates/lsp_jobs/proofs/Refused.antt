@@ -56,11 +56,14 @@ module _ {P J : Type 0} where
   never_started : (events : List (Event P J)) (id : Id) (job : J) → IsNotStarted id events → WaitsFor events id job → ⊥
   never_started [] id job none waits = waits
   never_started (comes letter ∷ events) id job none waits =
-      earlier (comes letter) events id job (λ e. absurd (cc (e))) (never_started events id job none) (concerns id (comes letter)) waits
+      let came : Event P J = comes letter in
+      earlier came events id job (λ e. absurd (cc (e))) (never_started events id job none) (concerns id came) waits
   never_started (does act ∷ events) id job none waits =
-      earlier (does act) events id job (λ e. absurd (cc (e))) (never_started events id job none) (concerns id (does act)) waits
+      let came : Event P J = does act in
+      earlier came events id job (λ e. absurd (cc (e))) (never_started events id job none) (concerns id came) waits
   never_started (starts i other ∷ events) id job none waits =
-      never_started events id job none.1 (subst (λ (b : Bool). MatchBool b (starts i other ≡ starts id job) (WaitsFor events id job)) none.0 waits)
+      let came : Event P J = starts i other in
+      never_started events id job none.1 (subst (λ (b : Bool). MatchBool b (came ≡ starts id job) (WaitsFor events id job)) none.0 waits)
 
 module _ (T : Type 0) {S J P : Type 0} (may : Stated S P) (may_start : S → List (Id × J) → S → Type 0) (may_finish : S → Id → Outcome → List (Act P) → S → Type 0)
     (answers : J → Outcome → Type 0) where

@@ -66,6 +66,7 @@ fn inbox<'a>(
 /// How many messages an outbox takes, and how many bytes a writer, without a new allocation. Where that fails in a call, the null of
 /// `shutdown` may be missing, and a message that is handed on: both are no refusal.
 const MESSAGES: usize = 32;
+
 const BYTES: usize = 4096;
 
 /// An empty outbox that takes its messages without a new allocation.
