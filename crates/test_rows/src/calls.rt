@@ -200,7 +200,10 @@ fn loop_answer(
     let end = end_text(alloc, end)?;
     let texts = member_texts(alloc, outbox.sent.as_slice())?;
     let left = reader.left().len();
-    Ok(run.answer(format!(in alloc; "{end}; sent {texts}; left {left}")?, is_refused))
+    Ok(run.answer(
+        format!(in alloc; "{end}; sent {texts}; left {left}")?,
+        is_refused,
+    ))
 }
 
 /// The member texts of messages, one after another.
@@ -329,8 +332,14 @@ fn tolerant_answer(
 ) -> Result<Attempt, AllocError> {
     let server = Talker::new(alloc);
     if let Some(limit) = run.limit() {
-        let (_, end) =
-            tolerant_session_with_within(alloc, reader, writer, server, &mut Ignore, limit);
+        let (_, end) = tolerant_session_with_within(
+            alloc,
+            reader,
+            writer,
+            server,
+            &mut Ignore,
+            limit,
+        );
         return ended_answer(alloc, run, end, writer.taken.as_slice(), "");
     }
     let mut counts = FaultCounts::new();
@@ -359,5 +368,8 @@ fn ended_answer(
         Err(fault) => format!(in alloc; "{fault}")?,
     };
     let written = escape(alloc, taken)?;
-    Ok(run.answer(format!(in alloc; "{end}; wrote {written}{counted}")?, is_refused))
+    Ok(run.answer(
+        format!(in alloc; "{end}; wrote {written}{counted}")?,
+        is_refused,
+    ))
 }

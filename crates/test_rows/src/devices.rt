@@ -36,6 +36,12 @@ impl<'a> Source<'a> {
         usize::MAX
     }
 
+    /// The bytes that were not taken, up to this place.
+    fn piece(&self, end: usize) -> &'a [u8] {
+        let piece = self.bytes.get(self.taken..end);
+        piece.unwrap_or(&[])
+    }
+
     /// The bytes that were not taken.
     pub fn left(&self) -> &'a [u8] {
         let left = self.bytes.get(self.taken..);
@@ -65,8 +71,8 @@ impl BufRead for Source<'_> {
         }
         let end = self.taken.saturating_add(self.step);
         let end = end.min(self.bytes.len()).min(fails_at).min(pause);
-        let piece = self.bytes.get(self.taken..end);
-        Ok(piece.unwrap_or(&[]))
+        let piece = self.piece(end);
+        Ok(piece)
     }
 
     fn consume(&mut self, amount: usize) {

@@ -50,7 +50,8 @@ fn inbox<'a>(
         if event == "timeout" {
             list.events.push_back(Event::Timeout)?;
         } else if !event.is_empty() {
-            list.events.push_back(Event::Message(message_in(alloc, event)?))?;
+            list.events
+                .push_back(Event::Message(message_in(alloc, event)?))?;
         }
     }
     Ok(Events {
@@ -157,7 +158,10 @@ fn call(alloc: Global, boxes: &mut Boxes<'_>, name: &str) -> Result<Said, Stop> 
     boxes.inbox.habit = habit;
     match name {
         "start" => started(alloc, boxes, turns),
-        "wait" => done(alloc, wait_within(alloc, &mut boxes.inbox, &mut boxes.gate, turns)),
+        "wait" => done(
+            alloc,
+            wait_within(alloc, &mut boxes.inbox, &mut boxes.gate, turns),
+        ),
         "finish" => finished(alloc, boxes, turns),
         method => shut(alloc, boxes, method),
     }
@@ -202,7 +206,10 @@ fn finished(alloc: Global, boxes: &mut Boxes<'_>, turns: u64) -> Result<Said, St
     if turns == 0 {
         return done(alloc, Some(finish(alloc, inbox, outbox, id, result)));
     }
-    done(alloc, finish_within(alloc, inbox, outbox, gate, id, result, turns))
+    done(
+        alloc,
+        finish_within(alloc, inbox, outbox, gate, id, result, turns),
+    )
 }
 
 /// What `shutdown` answers to a request of this method.

@@ -77,7 +77,11 @@ impl Rows {
         for count in case.from..=case.to {
             let came = self.run_at(said, case, count)?;
             if came != last {
-                add_came(self.alloc, said, format!(in self.alloc; "{count}: {came}")?.as_str())?;
+                add_came(
+                    self.alloc,
+                    said,
+                    format!(in self.alloc; "{count}: {came}")?.as_str(),
+                )?;
             }
             last = came;
         }

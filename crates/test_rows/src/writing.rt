@@ -214,7 +214,11 @@ fn symbols(alloc: Global, found: &Value) -> Result<Vec<DocumentSymbol>, Stop> {
     Ok(symbols)
 }
 
-fn symbol(alloc: Global, found: &Value, children: Vec<DocumentSymbol>) -> Result<DocumentSymbol, Stop> {
+fn symbol(
+    alloc: Global,
+    found: &Value,
+    children: Vec<DocumentSymbol>,
+) -> Result<DocumentSymbol, Stop> {
     Ok(DocumentSymbol {
         name: text(alloc, found, "name")?,
         detail: text_in(alloc, found, "detail")?,
