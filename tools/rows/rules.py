@@ -236,11 +236,12 @@ def read_text(came):
     return f"read fault {came}" if isinstance(came, int) else text_of(came)
 
 
-def read_answer(data, breaks, unread, limit):
-    """What one read gives of these bytes, behind which the reader may fail, and what it leaves of them and of the unread ones."""
+def read_answer(data, breaks, unread, limit, kind="BrokenPipe"):
+    """What one read gives of these bytes, behind which the reader may fail by an error of this kind, and what it leaves of them and of
+    the unread ones."""
     came, left = read(data, limit)
-    if breaks and not left and not isinstance(came, dict):
-        came = 1
+    if is_cut(came, left, breaks):
+        return f"read fault 1 by {kind}; left {escape(unread)}"
     return f"{read_text(came)}; left {escape(left + unread)}"
 
 
@@ -362,15 +363,21 @@ class Talker:
             return self.replied(came)
         if "id" not in came:
             pushed = {"method": "demo/pushed", **({} if came.get("params") is None else {"params": came["params"]})}
-            said = [pushed, self.configuration(), *({"id": it, "result": None} for it in self.held)]
-            self.held = []
-            return said
+            return [pushed, self.configuration(), *self.released()]
         if came["method"] == "demo/ask":
             return [self.ask("demo/asked", came.get("params"), came)]
         if came["method"] == "demo/hold":
             self.held.append(came["id"])
             return []
         return Echo().heard(came)
+
+    def released(self):
+        """The answers to what it keeps."""
+        held, self.held = self.held, []
+        return [{"id": it, "result": None} for it in held]
+
+    def woken(self):
+        return [{"method": "demo/woken"}, *self.released()]
 
     def replied(self, came):
         """A reply counts once, and only to a request that was sent."""
@@ -382,40 +389,102 @@ class Talker:
         return [{**came, "id": why["id"]}]
 
 
+class Session:
+    """A session of a server with no capabilities, message by message. There is room for so many messages."""
+
+    def __init__(self, server, room=GREATEST):
+        self.server, self.room, self.sent, self.state = server, room, [], "new"
+
+    def sends(self, messages):
+        """How the session ends where these are not all taken."""
+        for it in messages:
+            if len(self.sent) == self.room:
+                return AT_END["new"]
+            self.sent.append(it)
+        return None
+
+    def hears(self, came):
+        """How the session ends at this message, or None."""
+        if self.state == "new":
+            return self.begins(came)
+        if self.state == "asked" and is_note(came, "initialized"):
+            self.state = "open"
+            return self.sends(self.server.opened())
+        if self.state == "open":
+            return self.serves(came)
+        if self.state == "ending" and is_note(came, "exit"):
+            return "shut down"
+        return AT_WRONG_TIME[self.state] + debug_message(came)
+
+    def begins(self, came):
+        if is_request(came, "initialize"):
+            self.state = "asked"
+            return self.sends([{"id": came["id"], "result": {"capabilities": {}}}])
+        if "id" in came and "method" in came:
+            return self.sends([too_early(came)])
+        if "method" in came and not is_note(came, "exit"):
+            return None
+        return AT_WRONG_TIME["new"] + debug_message(came)
+
+    def serves(self, came):
+        if is_note(came, "exit"):
+            return "closed"
+        if is_request(came, "shutdown"):
+            self.state = "ending"
+            # That the reply could not be sent is passed over.
+            self.sends([{"id": came["id"], "result": None}])
+            return None
+        return self.sends(self.server.heard(came))
+
+
+def too_early(came):
+    """The reply to a request that comes before `initialize`."""
+    shown = debug_message(came).removeprefix("Request(").removesuffix(")")
+    return {"id": came["id"], "error": {"code": -32002, "message": AT_WRONG_TIME["new"] + shown}}
+
+
 def served(server, data, breaks, limit):
     """What a session of a server with no capabilities says at its end, and the messages that it sends for these bytes.
 
     `breaks` says whether the reader fails behind them; else they end. Each reply is there before the next read.
     """
-    sent, state = [], "new"
+    end, session = run_of(server, data, breaks, limit, None)
+    return end, session.sent
+
+
+# Faults of a content part that is no message: not UTF-8, no JSON, no message, a list.
+OF_BODY = [8, 9, 10, 13]
+
+
+def served_tolerantly(server, data, breaks, limit, room=GREATEST):
+    """The same where content parts that are no messages are passed over, and how many of each kind there were. There is room for so many
+    messages."""
+    counts = dict.fromkeys(OF_BODY, 0)
+    end, session = run_of(server, data, breaks, limit, counts, room)
+    return end, session.sent, list(counts.values())
+
+
+def is_cut(came, data, breaks):
+    """Whether a reader that fails behind what was read fails here: a frame is not whole. The failure comes before its end does."""
+    return breaks and not data and not isinstance(came, dict) and came not in OF_BODY
+
+
+def run_of(server, data, breaks, limit, counts, room=GREATEST):
+    session = Session(server, room)
     while True:
         came, data = read(data, limit)
-        if breaks and not data and not isinstance(came, dict):
-            # (a frame that is not whole: the failure comes before its end does)
-            return "read fault 1", sent
+        if is_cut(came, data, breaks):
+            return "read fault 1", session
         if came == "end":
-            return AT_END[state], sent
-        if isinstance(came, int):
-            return "out of memory" if came == 11 else f"read fault {came}", sent
-        if state == "ending" and is_note(came, "exit"):
-            return "shut down", sent
-        if state == "open" and is_note(came, "exit"):
-            return "closed", sent
-        if state == "new" and is_request(came, "initialize"):
-            sent.append({"id": came["id"], "result": {"capabilities": {}}})
-            state = "asked"
-        elif state == "asked" and is_note(came, "initialized"):
-            sent += server.opened()
-            state = "open"
-        elif state == "open" and is_request(came, "shutdown"):
-            sent.append({"id": came["id"], "result": None})
-            state = "ending"
-        elif state == "open":
-            sent += server.heard(came)
-        elif state == "new" and "method" in came and not is_note(came, "exit"):
-            raise SystemExit(f"this session is not worked out here: {came}")
-        else:
-            return AT_WRONG_TIME[state] + debug_message(came), sent
+            return AT_END[session.state], session
+        if counts and came in OF_BODY and session.state == "open":
+            counts[came] += 1
+        elif isinstance(came, int):
+            return "out of memory" if came == 11 else f"read fault {came}", session
+        # (what is passed over wakes the server)
+        end = session.hears(came) if isinstance(came, dict) else session.sends(server.woken())
+        if end:
+            return end, session
 
 
 def pumped(data, breaks, limit):
@@ -423,7 +492,7 @@ def pumped(data, breaks, limit):
     sent = []
     while True:
         came, data = read(data, limit)
-        if breaks and not data and not isinstance(came, dict):
+        if is_cut(came, data, breaks):
             return "read fault 1", sent
         if came == "end":
             return "passed on", sent
@@ -437,9 +506,76 @@ def pumped(data, breaks, limit):
 STREAMS = {
     "session": lambda *words: served(Echo(), *words),
     "speaks": lambda *words: served(Talker(), *words),
+    "tolerant": lambda *words: served_tolerantly(Talker(), *words)[:2],
     "pump": pumped,
     "burst": pumped,
 }
+
+
+def messages_of(data):
+    """The messages that come of these bytes, up to and with an `exit`, and what comes then."""
+    messages = []
+    while True:
+        came, data = read(data)
+        if not isinstance(came, dict):
+            return messages, came
+        messages.append(came)
+        if is_note(came, "exit"):
+            return messages, "exit"
+
+
+def end_text(end):
+    return {"end": "the end", "exit": "exit", "closed": "closed"}.get(end) or f"read fault {end}"
+
+
+def inbox_answer(data):
+    messages, end = messages_of(data)
+    return "".join(f"{text_of(it)} " for it in messages) + f"{end_text(end)}, closed true"
+
+
+def loop_answer(data, breaks, unread, limit, room):
+    """What a loop hands on to an outbox with so much room, how it ends, and how many bytes it leaves."""
+    texts = []
+    while True:
+        came, data = read(data, limit)
+        came = 1 if is_cut(came, data, breaks) else came
+        if isinstance(came, dict):
+            end = "closed" if len(texts) == room else "exit" if is_note(came, "exit") else None
+            texts += [text_of(came)] if end != "closed" else []
+        else:
+            end = came
+        if end:
+            return f"{end_text(end)}; sent {''.join(texts)}; left {len(data + unread)}"
+
+
+def frames_answer(data, room, bad_flush, kind):
+    """What comes of one write and one flush of these frames."""
+    if room < len(data):
+        return f"write fault 1 by {kind}; wrote {escape(data[:room])}, 0 flushes"
+    said = f"write fault 1 by {kind}" if bad_flush == 1 else "written"
+    return f"{said}; wrote {escape(data)}, 1 flushes"
+
+
+def write_answer(data, *words):
+    return frames_answer(frame(read(data)[0]), *words)
+
+
+def outbox_answer(data, room, bad_flush, _):
+    """Each message is written and flushed, up to the first that fails, which comes back, as all behind it do."""
+    texts, written, flushes, fault = [], b"", 0, "no fault"
+    came, data = read(data)
+    while isinstance(came, dict):
+        if fault == "no fault":
+            written += frame(came)
+            flushes += len(written) <= room
+            if len(written) > room or flushes == bad_flush:
+                fault, written = "write fault 1", written[:room]
+        texts.append("taken, " if fault == "no fault" else f"{text_of(came)} back, ")
+        came, data = read(data)
+    return f"{''.join(texts)}{fault}; wrote {shown(written)}, {flushes} flushes"
+
+
+WRITERS = {"write": write_answer, "frames": frames_answer, "outbox": outbox_answer}
 
 
 def written_by(call, data):
@@ -458,22 +594,30 @@ def gathered(frames):
     return parts
 
 
-def answer(call, device, count, data, is_at_once):
-    """What has to come of a case at one of its places. `is_at_once` says whether all bytes are shown at once."""
+def answer(call, device, count, data, is_at_once, kind="BrokenPipe"):
+    """What has to come of a case at one of its places. `is_at_once` says whether all bytes are shown at once, `kind` is that of the error
+    with which a device fails."""
     if device in ("no_reader", "no_writer"):
         return "thread not started, 0 calls"
     if device == "ends":
         data = data[:count]
-    breaks, unread = device in ("breaks", "looks") and count <= len(data), b""
+    # (a read that was interrupted goes on)
+    breaks, unread = device in ("breaks", "looks") and count <= len(data) and kind != "Interrupted", b""
     if breaks:
         data, unread = data[:count], data[count:]
     limit = count if device == "limits" or device == "huge" and count else GREATEST
     if call == "read":
-        return read_answer(data, breaks, unread, limit)
+        return read_answer(data, breaks, unread, limit, kind)
     if call == "stream":
         return stream_answer(data)
     if call == "front":
         return front(data)
+    if call == "inbox":
+        return inbox_answer(data)
+    if call == "loop":
+        return loop_answer(data, breaks, unread, limit, count if device == "fills" else GREATEST)
+    if call in ("write", "frames", "outbox"):
+        return WRITERS[call](data, count if device == "fills" else GREATEST, count if device == "flushes" else 0, kind)
     end, sent = STREAMS[call](data, breaks, limit)
     frames = [frame(it) for it in sent]
     if call in ("pump", "burst") and is_at_once:
@@ -484,6 +628,10 @@ def answer(call, device, count, data, is_at_once):
     if device == "flushes" and count <= len(frames):
         end, written = "write fault 1", b"".join(frames[:count])
     writes = f", in {len(frames)} writes" if call == "burst" else ""
+    if call == "tolerant" and device != "limits":
+        whole = sum(len(b"".join(frames[: it + 1])) <= len(written) for it in range(len(frames)))
+        counts = served_tolerantly(Talker(), data, breaks, limit, whole if whole < len(frames) else GREATEST)[2]
+        return f"{end}; wrote {shown(written)}; passed {' '.join(map(str, counts))}"
     return f"{end}; wrote {shown(written)}{writes}"
 
 
@@ -492,6 +640,18 @@ def answer(call, device, count, data, is_at_once):
 
 def of_char(data):
     return f"Some('{data}')" if data else "None"
+
+
+def debug_queues(incoming, outgoing, count):
+    """The queues as Rust's `{:?}` prints them: ids in their order, numbers before texts."""
+
+    def pending(table):
+        order = sorted(table, key=lambda name: (isinstance(name, str), name))
+        return "{" + ", ".join(f"{debug_id(name)}: '{table[name]}'" for name in order) + "}"
+
+    given = f"Incoming {{ alloc: Global, pending: {pending(incoming)} }}"
+    own = f"Outgoing {{ alloc: Global, next: {count}, pending: {pending(outgoing)} }}"
+    return f"ReqQueue {{ incoming: {given}, outgoing: {own} }}"
 
 
 def queue_answers(steps):
@@ -514,6 +674,17 @@ def queue_answers(steps):
             answers.append(f"received {name}")
         elif verb == "answer":
             answers.append(f"answer {of_char(incoming.pop(json.loads(words), None))}")
+        elif verb == "deep":
+            method, levels, data = words.split(" ")
+            if int(levels) > LEVELS:
+                answers.append(f"register fault 2, {data} back")
+                continue
+            outgoing[count] = data
+            params = json.loads("[" * int(levels) + "]" * int(levels))
+            answers.append("sent " + text_of({"id": count, "method": method, "params": params}))
+            count += 1
+        elif verb == "shown":
+            answers.append(debug_queues(incoming, outgoing, count))
         elif verb == "pending":
             answers.append(f"pending {'true' if outgoing or incoming else 'false'}")
         else:

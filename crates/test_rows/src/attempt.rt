@@ -9,7 +9,7 @@ use std::{fmt, io};
 pub enum Attempt {
     /// It answered so.
     Came(String),
-    /// It answered that an allocation failed, or that a thread was not started: which call, and what it left.
+    /// It answered that an allocation failed: which call, and what it left.
     Refused(String),
 }
 
@@ -17,6 +17,11 @@ impl Attempt {
     /// The call of this name answered that an allocation failed.
     pub fn refused(alloc: Global, name: &str) -> Result<Attempt, AllocError> {
         Ok(Attempt::Refused(String::from_str(alloc, name)?))
+    }
+
+    /// It answered with these words.
+    pub fn came(alloc: Global, words: &str) -> Result<Attempt, AllocError> {
+        Ok(Attempt::Came(String::from_str(alloc, words)?))
     }
 
     /// What came of a call that was made once more.
@@ -99,14 +104,12 @@ impl From<io::Error> for Stop {
     }
 }
 
-/// Prints that a call was refused. It is made once more then.
-pub fn print_refused<R: Print>(rt: &R, alloc: Global, what: &str) -> Result<(), Stop> {
-    rt.println(format!(in alloc; "  refused: {what}")?.as_str())?;
-    Ok(())
+/// Adds the line of a call that was refused. It is made once more then.
+pub fn add_refused(alloc: Global, said: &mut String, what: &str) -> Result<(), AllocError> {
+    said.push_str(format!(in alloc; "  refused: {what}\n")?.as_str())
 }
 
-/// Prints what came of a call.
-pub fn print_came<R: Print>(rt: &R, alloc: Global, came: &str) -> Result<(), Stop> {
-    rt.println(format!(in alloc; "  {came}")?.as_str())?;
-    Ok(())
+/// Adds the line of what came of a call.
+pub fn add_came(alloc: Global, said: &mut String, came: &str) -> Result<(), AllocError> {
+    said.push_str(format!(in alloc; "  {came}\n")?.as_str())
 }

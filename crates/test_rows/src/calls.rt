@@ -1,42 +1,32 @@
 // The calls over a reader and a writer.
 use crate::attempt::{Attempt, Stop};
-use crate::devices::{Pause, Signal, Signals, Sink, Source, is_alone};
+use crate::devices::{Sink, Source};
 use crate::escapes::escape;
 use crate::servers::{Echo, Talker};
-use crate::table::{Call, Device, Given};
-use lsp_message::{Front, Message, ReadFault, WriteFault, front};
-use lsp_service::{QueuedServer, session_of_service_within};
-use lsp_session::{SessionEnd, SessionFault, session_within};
-use lsp_threads::{
-    Builders, PumpFault, StartFault, Threaded, pump_by, run_threads_by,
-    run_threads_of_service_within,
+use crate::table::{Call, Case, Device, Given};
+use lsp_message::{Front, Message, ReadFault, WriteFault, front, write_frames};
+use lsp_service::{QueuedServer, session_with_within};
+use lsp_session::{
+    Event, FrameOutbox, Inbox, ListOutbox, Outbox, ReadEnd, SendFault, SessionEnd, SessionFault,
+    StreamInbox, read_loop, read_loop_within, session, session_of_service, session_within,
 };
+use lsp_tolerant::{FaultCounts, Ignore, tolerant_session_with, tolerant_session_with_within};
 use serde_json::{Map, Value};
 use std::alloc::{AllocError, Global};
-use std::sync::{Arc, Wait};
-use std::thread::{Builder, Threads};
-use std::time::Clock;
+use std::cell::Cell;
 
-/// A case at one of its places, in one way and with one size of pieces.
+/// A case at one of its places, with one size of pieces.
 #[derive(Clone, Copy)]
-pub struct Run {
-    pub call: Call,
-    pub device: Device,
-    /// Whether the call has threads of its own.
-    pub in_threads: bool,
+pub struct Run<'a> {
+    pub case: Case<'a>,
     pub step: usize,
     pub count: usize,
-    pub written: u64,
 }
 
-impl Run {
-    fn is_over(self, device: Device) -> bool {
-        self.device == device
-    }
-
+impl Run<'_> {
     /// The count of the device, if the case has this one.
     fn at(self, device: Device) -> Option<usize> {
-        if self.device == device {
+        if self.case.device == device {
             Some(self.count)
         } else {
             None
@@ -45,138 +35,86 @@ impl Run {
 
     /// How many bytes a content part may have, if the call has a limit.
     fn limit(self) -> Option<u64> {
-        match self.device {
+        match self.case.device {
             Device::Limits => Some(self.count as u64),
             Device::Huge if self.count > 0 => Some(self.count as u64),
             _ => None,
         }
     }
 
-    /// Whether a thread is not started.
-    fn lacks_thread(self) -> bool {
-        matches!(self.device, Device::NoReader | Device::NoWriter)
-    }
-}
-
-/// What comes of a run.
-pub fn attempt_of<R>(rt: &R, alloc: Global, run: Run, given: &Given) -> Result<Attempt, Stop>
-where
-    R: Threads + Wait + Clock + Copy + Drop + Send + 'static,
-{
-    let signals = Arc::new(alloc, Signals::new())?;
-    let came = call(rt, alloc, run, given, &signals)?;
-    if signals.is_late() {
-        return Err(Stop::Broken("a wait took ten seconds"));
-    }
-    if !is_alone(rt, &signals) {
-        return Err(Stop::Broken("a thread is left"));
-    }
-    Ok(came)
-}
-
-fn call<R>(
-    rt: &R,
-    alloc: Global,
-    run: Run,
-    given: &Given,
-    signals: &Arc<Signals>,
-) -> Result<Attempt, AllocError>
-where
-    R: Threads + Wait + Clock + Copy + Drop + Send + 'static,
-{
-    let reader = source(rt, alloc, run, given, signals)?;
-    match run.call {
-        Call::Front => front_answer(alloc, reader.left()),
-        Call::Read => read_answer(alloc, run, reader),
-        Call::Stream => stream_answer(alloc, reader),
-        Call::Session => session_answer(rt, alloc, run, reader, signals),
-        Call::Speaks => speaks_answer(rt, alloc, run, reader, signals),
-        Call::Pump | Call::Burst => pump_answer(rt, alloc, run, reader, signals),
-    }
-}
-
-fn source<C: Clock + Copy>(
-    clock: &C,
-    alloc: Global,
-    run: Run,
-    given: &Given,
-    signals: &Arc<Signals>,
-) -> Result<Source<C>, AllocError> {
-    let bytes = given.bytes.as_slice();
-    let end = run.at(Device::Ends).unwrap_or(usize::MAX).min(bytes.len());
-    Ok(Source {
-        clock: *clock,
-        signals: Arc::try_clone(signals)?,
-        bytes: Vec::from_slice(alloc, &bytes[..end])?,
-        taken: 0,
-        shown: 0,
-        step: run.step,
-        fails_at: run.at(Device::Breaks).or(run.at(Device::Looks)),
-        shows_on: run.is_over(Device::Looks),
-        pauses: pauses(alloc, run, given)?,
-        over: 0,
-    })
-}
-
-fn pauses(alloc: Global, run: Run, given: &Given) -> Result<Vec<Pause>, AllocError> {
-    match run.device {
-        Device::Slow | Device::Gated => Vec::from_slice(alloc, given.pauses.as_slice()),
-        Device::Waits => {
-            let pause = Pause {
-                at: run.count,
-                signal: Signal::Written,
-                wanted: run.written,
-            };
-            Vec::from_slice(alloc, &[pause])
+    /// What was refused is the answer where no memory can hold the content part.
+    fn answer(self, text: String, is_refused: bool) -> Attempt {
+        if is_refused && self.case.device != Device::Huge {
+            Attempt::Refused(text)
+        } else {
+            Attempt::Came(text)
         }
-        _ => Ok(Vec::new(alloc)),
     }
 }
 
 /// How many bytes are written without a new allocation, which could fail in the call.
 const ROOM: usize = 65536;
 
-fn sink<C: Clock + Copy>(
-    clock: &C,
-    alloc: Global,
-    run: Run,
-    signals: &Arc<Signals>,
-) -> Result<Sink<C>, AllocError> {
-    Ok(Sink {
-        clock: *clock,
-        signals: Arc::try_clone(signals)?,
+/// What comes of a run.
+pub fn attempt_of(alloc: Global, run: Run<'_>, given: &Given) -> Result<Attempt, Stop> {
+    let bytes = given.bytes.as_slice();
+    let end = run.at(Device::Ends).unwrap_or(usize::MAX).min(bytes.len());
+    let written = Cell::new(0);
+    let mut reader = Source {
+        bytes: &bytes[..end],
+        pauses: given.pauses.as_slice(),
+        written: &written,
+        taken: 0,
+        step: run.step,
+        fails_at: run.at(Device::Breaks),
+        kind: run.case.kind,
+    };
+    let mut writer = Sink {
         taken: Vec::with_capacity(alloc, ROOM)?,
+        written: &written,
+        step: run.step,
         room: run.at(Device::Fills).unwrap_or(usize::MAX),
+        kind: run.case.kind,
         bad_flush: run.at(Device::Flushes).unwrap_or(0),
         flushes: 0,
-        writes: 0,
-        is_slow: run.is_over(Device::Slow),
-        is_gated: run.is_over(Device::Gated),
-    })
+    };
+    match run.case.call {
+        Call::Front => Ok(front_answer(alloc, reader.left())?),
+        Call::Read => Ok(read_answer(alloc, run, &mut reader)?),
+        Call::Stream => Ok(stream_answer(alloc, &mut reader)?),
+        Call::Inbox => Ok(inbox_answer(alloc, &mut reader)?),
+        Call::Loop => Ok(loop_answer(alloc, run, &mut reader)?),
+        Call::Write => write_answer(alloc, run, &mut reader, &mut writer),
+        Call::Frames => frames_answer(alloc, run, &reader, &mut writer),
+        Call::Outbox => outbox_answer(alloc, &mut reader, &mut writer),
+        Call::Session => Ok(session_answer(alloc, run, &mut reader, &mut writer)?),
+        Call::Speaks => Ok(speaks_answer(alloc, run, &mut reader, &mut writer)?),
+        Call::Tolerant => Ok(tolerant_answer(alloc, run, &mut reader, &mut writer)?),
+    }
 }
 
 fn front_answer(alloc: Global, bytes: &[u8]) -> Result<Attempt, AllocError> {
     match front(bytes) {
         Front::Whole(length) => Ok(Attempt::Came(format!(in alloc; "whole, {length} bytes")?)),
-        Front::More => Ok(Attempt::Came(String::from_str(alloc, "more")?)),
+        Front::More => Attempt::came(alloc, "more"),
         Front::Fault(number) => Ok(Attempt::Came(format!(in alloc; "read fault {number}")?)),
     }
 }
 
 /// What one read gives, and what it leaves.
-fn read_answer<C: Clock + Drop>(
+fn read_answer(
     alloc: Global,
-    run: Run,
-    mut reader: Source<C>,
+    run: Run<'_>,
+    reader: &mut Source<'_>,
 ) -> Result<Attempt, AllocError> {
     let read = match run.limit() {
-        Some(limit) => Message::read_within(alloc, &mut reader, limit),
-        None => Message::read(alloc, &mut reader),
+        Some(limit) => Message::read_within(alloc, reader, limit),
+        None => Message::read(alloc, reader),
     };
     let is_refused = matches!(&read, Err(ReadFault::Memory));
     let came = read_text(alloc, read)?;
     let left = escape(alloc, reader.left())?;
-    Ok(answer(run, format!(in alloc; "{came}; left {left}")?, is_refused))
+    Ok(run.answer(format!(in alloc; "{came}; left {left}")?, is_refused))
 }
 
 /// The member text of a message, or what came in its place.
@@ -187,21 +125,26 @@ fn read_text(
     match read {
         Ok(Some(message)) => message.member_text(alloc),
         Ok(None) => String::from_str(alloc, "the end"),
-        Err(fault) => format!(in alloc; "{fault}"),
+        Err(fault) => fault_text(alloc, fault),
+    }
+}
+
+/// A fault, with the kind of the reader's error.
+fn fault_text(alloc: Global, fault: ReadFault) -> Result<String, AllocError> {
+    match fault {
+        ReadFault::Input(kind) => format!(in alloc; "{fault} by {kind:?}"),
+        _ => format!(in alloc; "{fault}"),
     }
 }
 
 /// How many messages are read of a text at most.
-const MOST: usize = 9;
+const MOST: usize = 20;
 
 /// What reads give, up to the end or a fault.
-fn stream_answer<C: Clock + Drop>(
-    alloc: Global,
-    mut reader: Source<C>,
-) -> Result<Attempt, AllocError> {
+fn stream_answer(alloc: Global, reader: &mut Source<'_>) -> Result<Attempt, AllocError> {
     let mut texts = String::new(alloc);
     for _ in 0..MOST {
-        let read = Message::read(alloc, &mut reader);
+        let read = Message::read(alloc, reader);
         let is_last = !matches!(&read, Ok(Some(_)));
         texts.push_str(read_text(alloc, read)?.as_str())?;
         if is_last {
@@ -212,106 +155,202 @@ fn stream_answer<C: Clock + Drop>(
     Ok(Attempt::Came(texts))
 }
 
-/// How a session of the echo ends, and what it wrote.
-fn session_answer<R>(
-    rt: &R,
-    alloc: Global,
-    run: Run,
-    mut reader: Source<R>,
-    signals: &Arc<Signals>,
-) -> Result<Attempt, AllocError>
-where
-    R: Threads + Wait + Clock + Copy + Drop + Send + 'static,
-{
-    let mut writer = sink(rt, alloc, run, signals)?;
-    let none = Value::Object(Map::new(alloc));
-    let mut echo = Echo {
-        alloc,
-        clock: *rt,
-        signals: Arc::try_clone(signals)?,
-        is_gated: run.is_over(Device::Gated),
-    };
-    let limit = run.limit().unwrap_or(u64::MAX);
-    if run.in_threads {
-        let builders = builders(run);
-        let ran = run_threads_by(rt, builders, alloc, reader, writer, none, &mut echo, limit);
-        threads_answer(alloc, ran, run, signals)
-    } else {
-        let end = session_within(alloc, &mut reader, &mut writer, none, &mut echo, limit);
-        ended_answer(alloc, run, end, writer.taken.as_slice())
+/// What an inbox over the reader gives, how it ended, and what it gives then.
+fn inbox_answer(alloc: Global, reader: &mut Source<'_>) -> Result<Attempt, AllocError> {
+    let mut inbox = StreamInbox::new(alloc, reader);
+    let mut texts = String::new(alloc);
+    for _ in 0..MOST {
+        match inbox.receive_for(1) {
+            Event::Message(message) => texts.push_str(message.member_text(alloc)?.as_str())?,
+            Event::Timeout => texts.push_str("timeout")?,
+            Event::Closed => break,
+        }
+        texts.push_str(" ")?;
     }
+    let end = match inbox.end() {
+        Some(end) => end_text(alloc, end)?,
+        None => String::from_str(alloc, "open")?,
+    };
+    let is_closed = matches!(inbox.receive(), Event::Closed);
+    Ok(Attempt::Came(format!(in alloc; "{texts}{end}, closed {is_closed}")?))
+}
+
+fn end_text(alloc: Global, end: ReadEnd) -> Result<String, AllocError> {
+    match end {
+        ReadEnd::Exit => String::from_str(alloc, "exit"),
+        ReadEnd::End => String::from_str(alloc, "the end"),
+        ReadEnd::Fault(fault) => format!(in alloc; "{fault}"),
+        ReadEnd::Closed => String::from_str(alloc, "closed"),
+        ReadEnd::Memory => String::from_str(alloc, "out of memory"),
+    }
+}
+
+/// What a loop hands on, how it ends, and how many bytes it leaves.
+fn loop_answer(
+    alloc: Global,
+    run: Run<'_>,
+    reader: &mut Source<'_>,
+) -> Result<Attempt, AllocError> {
+    let mut outbox = ListOutbox::new(alloc, run.at(Device::Fills).unwrap_or(usize::MAX));
+    let end = match run.limit() {
+        Some(limit) => read_loop_within(alloc, reader, &mut outbox, limit),
+        None => read_loop(alloc, reader, &mut outbox),
+    };
+    let is_refused = matches!(end, ReadEnd::Memory | ReadEnd::Fault(ReadFault::Memory));
+    let end = end_text(alloc, end)?;
+    let texts = member_texts(alloc, outbox.sent.as_slice())?;
+    let left = reader.left().len();
+    Ok(run.answer(format!(in alloc; "{end}; sent {texts}; left {left}")?, is_refused))
+}
+
+/// The member texts of messages, one after another.
+pub fn member_texts(alloc: Global, messages: &[Message]) -> Result<String, AllocError> {
+    let mut texts = String::new(alloc);
+    for message in messages {
+        texts.push_str(message.member_text(alloc)?.as_str())?;
+    }
+    Ok(texts)
+}
+
+/// What comes of writing the first message, and what the writer got.
+fn write_answer(
+    alloc: Global,
+    run: Run<'_>,
+    reader: &mut Source<'_>,
+    writer: &mut Sink<'_>,
+) -> Result<Attempt, Stop> {
+    let Ok(Some(message)) = Message::read(alloc, reader) else {
+        return Err(Stop::Table);
+    };
+    let written = message.write(alloc, writer);
+    Ok(written_answer(alloc, run, written, writer)?)
+}
+
+/// What comes of writing all frames at once, and what the writer got.
+fn frames_answer(
+    alloc: Global,
+    run: Run<'_>,
+    reader: &Source<'_>,
+    writer: &mut Sink<'_>,
+) -> Result<Attempt, Stop> {
+    let Ok(frames) = str::from_utf8(reader.left()) else {
+        return Err(Stop::Table);
+    };
+    let written = write_frames(writer, frames);
+    Ok(written_answer(alloc, run, written, writer)?)
+}
+
+fn written_answer(
+    alloc: Global,
+    run: Run<'_>,
+    written: Result<(), WriteFault>,
+    writer: &Sink<'_>,
+) -> Result<Attempt, AllocError> {
+    let said = match written {
+        Ok(()) => String::from_str(alloc, "written")?,
+        Err(WriteFault::Output(kind)) => {
+            format!(in alloc; "{} by {kind:?}", WriteFault::Output(kind))?
+        }
+        Err(WriteFault::Memory) => format!(in alloc; "{}", WriteFault::Memory)?,
+    };
+    let is_refused = matches!(written, Err(WriteFault::Memory));
+    let got = escape(alloc, writer.taken.as_slice())?;
+    let text = format!(in alloc; "{said}; wrote {got}, {} flushes", writer.flushes)?;
+    Ok(run.answer(text, is_refused))
+}
+
+/// What becomes of each message that is sent to an outbox over the writer, and what the writer got.
+fn outbox_answer(
+    alloc: Global,
+    reader: &mut Source<'_>,
+    writer: &mut Sink<'_>,
+) -> Result<Attempt, Stop> {
+    let mut outbox = FrameOutbox::new(alloc, writer);
+    let mut texts = String::new(alloc);
+    for _ in 0..MOST {
+        let Ok(Some(message)) = Message::read(alloc, reader) else {
+            break;
+        };
+        match outbox.send(message) {
+            Ok(()) => texts.push_str("taken, ")?,
+            Err(SendFault::Closed(message)) => {
+                texts.push_str(message.member_text(alloc)?.as_str())?;
+                texts.push_str(" back, ")?;
+            }
+            Err(SendFault::Memory(_)) => return Ok(Attempt::refused(alloc, "send")?),
+        }
+    }
+    let fault = match outbox.fault() {
+        Some(fault) => format!(in alloc; "{fault}")?,
+        None => String::from_str(alloc, "no fault")?,
+    };
+    let got = escape(alloc, writer.taken.as_slice())?;
+    let flushes = writer.flushes;
+    Ok(Attempt::Came(format!(in alloc; "{texts}{fault}; wrote {got}, {flushes} flushes")?))
+}
+
+/// How a session of the echo ends, and what it wrote.
+fn session_answer(
+    alloc: Global,
+    run: Run<'_>,
+    reader: &mut Source<'_>,
+    writer: &mut Sink<'_>,
+) -> Result<Attempt, AllocError> {
+    let none = Value::Object(Map::new(alloc));
+    let mut echo = Echo::new(alloc);
+    let end = match run.limit() {
+        Some(limit) => session_within(alloc, reader, writer, none, &mut echo, limit),
+        None => session(alloc, reader, writer, none, &mut echo),
+    };
+    ended_answer(alloc, run, end, writer.taken.as_slice(), "")
 }
 
 /// How a session of the server that speaks ends, and what it wrote.
-fn speaks_answer<R>(
-    rt: &R,
+fn speaks_answer(
     alloc: Global,
-    run: Run,
-    mut reader: Source<R>,
-    signals: &Arc<Signals>,
-) -> Result<Attempt, AllocError>
-where
-    R: Threads + Wait + Clock + Copy + Drop + Send + 'static,
-{
-    let mut writer = sink(rt, alloc, run, signals)?;
-    let mut talker = QueuedServer::new(alloc, Talker::new(alloc));
-    let limit = run.limit().unwrap_or(u64::MAX);
-    if run.in_threads {
-        let ran = run_threads_of_service_within(rt, alloc, reader, writer, &mut talker, limit);
-        threads_answer(alloc, ran, run, signals)
-    } else {
-        let end = session_of_service_within(alloc, &mut reader, &mut writer, &mut talker, limit);
-        ended_answer(alloc, run, end, writer.taken.as_slice())
-    }
-}
-
-/// Builders of threads. No thread gets a stack of `usize::MAX` bytes.
-fn builders(run: Run) -> Builders {
-    Builders {
-        writer: builder(run.is_over(Device::NoWriter)),
-        reader: builder(run.is_over(Device::NoReader)),
-    }
-}
-
-fn builder(is_refused: bool) -> Builder {
-    if is_refused {
-        Builder::new().stack_size(usize::MAX)
-    } else {
-        Builder::new()
-    }
-}
-
-fn threads_answer<C: Clock + Drop>(
-    alloc: Global,
-    ran: Result<Threaded<Sink<C>>, StartFault>,
-    run: Run,
-    signals: &Arc<Signals>,
+    run: Run<'_>,
+    reader: &mut Source<'_>,
+    writer: &mut Sink<'_>,
 ) -> Result<Attempt, AllocError> {
-    match ran {
-        Ok(done) => ended_answer(alloc, run, done.answer, done.writer.taken.as_slice()),
-        Err(fault) => not_started(alloc, fault, run, signals),
-    }
+    let talker = Talker::new(alloc);
+    let end = match run.limit() {
+        Some(limit) => session_with_within(alloc, reader, writer, talker, limit).1,
+        None => session_of_service(alloc, reader, writer, &mut QueuedServer::new(alloc, talker)),
+    };
+    ended_answer(alloc, run, end, writer.taken.as_slice(), "")
 }
 
-/// What a call says that started no thread, or not both. A case that refuses a thread tells how often a device was called.
-fn not_started(
+/// The same where content parts are passed over, and how many of each kind: not UTF-8, no JSON, no message, lists.
+fn tolerant_answer(
     alloc: Global,
-    fault: StartFault,
-    run: Run,
-    signals: &Arc<Signals>,
+    run: Run<'_>,
+    reader: &mut Source<'_>,
+    writer: &mut Sink<'_>,
 ) -> Result<Attempt, AllocError> {
-    if run.lacks_thread() {
-        let calls = signals.calls();
-        return Ok(Attempt::Came(format!(in alloc; "{fault}, {calls} calls")?));
+    let server = Talker::new(alloc);
+    if let Some(limit) = run.limit() {
+        let (_, end) =
+            tolerant_session_with_within(alloc, reader, writer, server, &mut Ignore, limit);
+        return ended_answer(alloc, run, end, writer.taken.as_slice(), "");
     }
-    Ok(Attempt::Refused(format!(in alloc; "{fault}; wrote ")?))
+    let mut counts = FaultCounts::new();
+    let (_, end) = tolerant_session_with(alloc, reader, writer, server, &mut counts);
+    let FaultCounts {
+        not_text,
+        no_json,
+        no_message,
+        batches,
+    } = counts;
+    let counted = format!(in alloc; "; passed {not_text} {no_json} {no_message} {batches}")?;
+    ended_answer(alloc, run, end, writer.taken.as_slice(), counted.as_str())
 }
 
 fn ended_answer(
     alloc: Global,
-    run: Run,
+    run: Run<'_>,
     ended: Result<SessionEnd, SessionFault>,
     taken: &[u8],
+    counted: &str,
 ) -> Result<Attempt, AllocError> {
     let is_refused = matches!(&ended, Err(SessionFault::Memory));
     let end = match ended {
@@ -320,53 +359,5 @@ fn ended_answer(
         Err(fault) => format!(in alloc; "{fault}")?,
     };
     let written = escape(alloc, taken)?;
-    Ok(answer(
-        run,
-        format!(in alloc; "{end}; wrote {written}")?,
-        is_refused,
-    ))
-}
-
-fn answer(run: Run, text: String, is_refused: bool) -> Attempt {
-    if is_refused && !run.is_over(Device::Huge) {
-        Attempt::Refused(text)
-    } else {
-        Attempt::Came(text)
-    }
-}
-
-/// How passing messages on ends, and what it wrote.
-fn pump_answer<R>(
-    rt: &R,
-    alloc: Global,
-    run: Run,
-    reader: Source<R>,
-    signals: &Arc<Signals>,
-) -> Result<Attempt, AllocError>
-where
-    R: Threads + Wait + Clock + Copy + Drop + Send + 'static,
-{
-    let mut writer = sink(rt, alloc, run, signals)?;
-    let builder = builder(run.is_over(Device::NoReader));
-    let limit = run.limit().unwrap_or(u64::MAX);
-    let ended = pump_by(rt, builder, alloc, reader, &mut writer, limit);
-    let is_refused = matches!(
-        &ended,
-        Err(PumpFault::Read(ReadFault::Memory) | PumpFault::Write(WriteFault::Memory))
-    );
-    let end = match ended {
-        Ok(()) => String::from_str(alloc, "passed on")?,
-        Err(PumpFault::Start(fault)) => return not_started(alloc, fault, run, signals),
-        Err(fault) => format!(in alloc; "{fault}")?,
-    };
-    let written = written_text(alloc, run, &writer)?;
-    Ok(answer(run, format!(in alloc; "{end}; {written}")?, is_refused))
-}
-
-fn written_text<C>(alloc: Global, run: Run, writer: &Sink<C>) -> Result<String, AllocError> {
-    let written = escape(alloc, writer.taken.as_slice())?;
-    match run.call {
-        Call::Burst => format!(in alloc; "wrote {written}, in {} writes", writer.writes),
-        _ => format!(in alloc; "wrote {written}"),
-    }
+    Ok(run.answer(format!(in alloc; "{end}; wrote {written}{counted}")?, is_refused))
 }

@@ -29,7 +29,8 @@ fn deliver(alloc: Global, dispatcher: &mut Dispatcher, message: Message) -> Resu
             if back.member_text(alloc)? != before {
                 return Err(Stop::Broken("another message came back"));
             }
-            Ok(Attempt::refused(alloc, "deliver")?)
+            let fault = DispatchFault::Memory(back);
+            Ok(Attempt::Refused(format!(in alloc; "deliver: {fault}")?))
         }
         Err(DispatchFault::Spent(_)) => Err(Stop::Broken("no ticket is left")),
     }

@@ -1,44 +1,44 @@
 //! Runs a table of rows on standard input, and prints below each row what came of it. `tools/rows/make` writes the table, and
-//! beside it what must come. A row begins with a word:
+//! beside it what must come. No row needs a thread, a clock or a socket. A row begins with a word:
 //!
 //! - `#`: a remark.
 //! - `=`: the bytes that the next cases are about, with the escapes `\r`, `\n` and `\x` with two digits. `+` adds a text so
-//!   many times, and `pauses` says where a reader waits (`table.rt`).
+//!   many times, and `pauses` says where a reader has nothing yet (`table.rt`).
+//! - The name of a call over a reader and a writer: a case (`table.rt`).
+//! - `calls`, `serve`, `woken`, `writes`: the calls over lists (`lists.rt`).
 //! - `body`: what a content part means. `id`: how an id prints. `values`: a message that is cloned, converted and written.
-//! - `handshake`, `handshake_within`: the calls of the lifecycle over lists.
-//! - `queues`, `dispatch`, `replay`: calls of the request queues and of a dispatcher. `relay`, `waker`: a relay alone.
-//! - The name of a call that reads: a case (`table.rt`).
+//! - `ok`, `error`, `extract`: messages that are made, and params that are taken out (`made.rt`).
+//! - `queues`, `dispatch`, `link`: calls on a state, as steps (`steps.rt`). `replay`: all steps of a dispatcher at once.
+//! - `reads`, `writes_as`: params and results by the types of `lsp_types`. `document`: a notification of an open document.
 //!
-//! If an allocation or the start of a thread fails in a call, its line is `refused: ..`, and it is made once more. The program
-//! ends with status 1 if that is refused too, or if it has no memory of its own; and with status 2 if a call breaks a promise, or
-//! if a wait takes ten seconds.
+//! If an allocation fails in a call, its line is `refused: ..`, and it is made once more. The program ends with status 1 if that
+//! is refused too, or if it has no memory of its own; and with status 2 if a call breaks a promise.
 #![tactic(auto)]
 
 mod attempt;
+mod boxes;
 mod calls;
 mod devices;
 mod dispatching;
+mod documents;
 mod escapes;
-mod handshake;
+mod links;
+mod lists;
+mod made;
 mod messages;
 mod queues;
-mod relays;
+mod reading;
+mod rows;
 mod servers;
 mod steps;
 mod table;
+mod writing;
 
-use attempt::{Attempt, Stop, print_came, print_refused};
-use calls::{Run, attempt_of};
-use handshake::{Finishing, handshake};
-use std::alloc::Global;
+use attempt::Stop;
+use rows::Rows;
 use std::io;
 use std::io::Write;
 use std::process::ExitCode;
-use std::sync::Wait;
-use std::thread::Threads;
-use std::time::Clock;
-use steps::Machine;
-use table::{Case, Given, case_of};
 
 fn main(rt: HostRuntime) -> ExitCode {
     match run(&rt) {
@@ -50,140 +50,13 @@ fn main(rt: HostRuntime) -> ExitCode {
     }
 }
 
-fn run<R>(rt: &R) -> Result<(), Stop>
-where
-    R: Input + Print + AllocGlobal + Clock + Threads + Wait + Copy + Drop + Send + 'static,
-{
+fn run<R: Input + Print + AllocGlobal>(rt: &R) -> Result<(), Stop> {
     let alloc = rt.alloc();
     let table = io::read_to_string(alloc, rt.reader())?;
-    let mut given = Given::new(alloc, "")?;
+    let mut rows = Rows::new(alloc)?;
     for line in table.as_str().lines() {
         rt.println(line)?;
-        let (word, rest) = line.split_once(" ").unwrap_or(("#", ""));
-        match word {
-            "#" => {}
-            "=" => given = Given::new(alloc, rest)?,
-            "+" => given.repeat(alloc, rest)?,
-            "pauses" => given.pause(rest)?,
-            _ => run_row(rt, alloc, word, rest, &given)?,
-        }
+        rt.print(rows.run(line)?.as_str())?;
     }
     Ok(())
-}
-
-fn run_row<R>(rt: &R, alloc: Global, word: &str, rest: &str, given: &Given) -> Result<(), Stop>
-where
-    R: Print + Clock + Threads + Wait + Copy + Drop + Send + 'static,
-{
-    if let Some(case) = case_of(word, rest) {
-        return run_case(rt, alloc, case, given);
-    }
-    match word {
-        "queues" => Machine::queues(alloc).run(rt, alloc, rest),
-        "dispatch" => Machine::dispatcher(alloc).run(rt, alloc, rest),
-        _ => run_whole(rt, alloc, word, rest),
-    }
-}
-
-/// Runs a row that is run again as a whole if it was refused.
-fn run_whole<R: Print + Wait>(rt: &R, alloc: Global, word: &str, rest: &str) -> Result<(), Stop> {
-    match whole_of(rt, alloc, word, rest)? {
-        Attempt::Came(came) => return print_came(rt, alloc, came.as_str()),
-        Attempt::Refused(what) => print_refused(rt, alloc, what.as_str())?,
-    }
-    let came = whole_of(rt, alloc, word, rest)?.again()?;
-    print_came(rt, alloc, came.as_str())
-}
-
-fn whole_of<R: Wait>(rt: &R, alloc: Global, word: &str, rest: &str) -> Result<Attempt, Stop> {
-    match word {
-        "body" => messages::meaning(alloc, rest),
-        "id" => messages::id_text(alloc, rest),
-        "values" => messages::values(alloc, rest),
-        "handshake" => handshake(alloc, Finishing::Waits, rest),
-        "handshake_within" => handshake(alloc, Finishing::Asks, rest),
-        "replay" => dispatching::replayed(alloc, rest),
-        "relay" => relays::relayed(rt, alloc, rest),
-        "waker" => relays::woken(rt, alloc, rest),
-        _ => Err(Stop::Table),
-    }
-}
-
-/// Runs a case at each of its places. What came is printed where it is another than at the place before.
-fn run_case<R>(rt: &R, alloc: Global, case: Case<'_>, given: &Given) -> Result<(), Stop>
-where
-    R: Print + Clock + Threads + Wait + Copy + Drop + Send + 'static,
-{
-    let mut last = String::new(alloc);
-    for count in case.from..=case.to {
-        let came = run_at(rt, alloc, case, given, count)?;
-        if came != last {
-            print_came(rt, alloc, format!(in alloc; "{count}: {came}")?.as_str())?;
-        }
-        last = came;
-    }
-    Ok(())
-}
-
-/// What comes of a case at one of its places.
-fn run_at<R>(
-    rt: &R,
-    alloc: Global,
-    case: Case<'_>,
-    given: &Given,
-    count: usize,
-) -> Result<String, Stop>
-where
-    R: Print + Clock + Threads + Wait + Copy + Drop + Send + 'static,
-{
-    let mut came = String::new(alloc);
-    for way in case.ways.split(',') {
-        came = run_in(rt, alloc, case, given, count, way, came)?;
-    }
-    Ok(came)
-}
-
-/// What comes of it in one way: the same as before with each size of pieces, or both are told.
-fn run_in<R>(
-    rt: &R,
-    alloc: Global,
-    case: Case<'_>,
-    given: &Given,
-    count: usize,
-    way: &str,
-    before: String,
-) -> Result<String, Stop>
-where
-    R: Print + Clock + Threads + Wait + Copy + Drop + Send + 'static,
-{
-    let mut all = before;
-    for word in case.steps.split(',') {
-        let step: usize = word.parse()?;
-        let run = Run {
-            call: case.call,
-            device: case.device,
-            in_threads: way == "threads",
-            step,
-            count,
-            written: case.written,
-        };
-        let came = run_once(rt, alloc, run, given)?;
-        if all.is_empty() {
-            all = came;
-        } else if all != came {
-            all = format!(in alloc; "{all}, but in {way} by {step}: {came}")?;
-        }
-    }
-    Ok(all)
-}
-
-fn run_once<R>(rt: &R, alloc: Global, run: Run, given: &Given) -> Result<String, Stop>
-where
-    R: Print + Clock + Threads + Wait + Copy + Drop + Send + 'static,
-{
-    match attempt_of(rt, alloc, run, given)? {
-        Attempt::Came(came) => return Ok(came),
-        Attempt::Refused(what) => print_refused(rt, alloc, what.as_str())?,
-    }
-    attempt_of(rt, alloc, run, given)?.again()
 }

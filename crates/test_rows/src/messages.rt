@@ -16,6 +16,17 @@ pub fn message_in(alloc: Global, text: &str) -> Result<Message, Stop> {
     Message::from_value(alloc, &tree)?.ok_or(Stop::Table)
 }
 
+/// So many lists, each in the next.
+pub fn nested(alloc: Global, levels: u32) -> Result<Value, AllocError> {
+    let mut value = Value::Array(Vec::new(alloc));
+    for _ in 1..levels {
+        let mut values = Vec::new(alloc);
+        values.push(value)?;
+        value = Value::Array(values);
+    }
+    Ok(value)
+}
+
 /// How the id in a JSON text prints.
 pub fn id_text(alloc: Global, text: &str) -> Result<Attempt, Stop> {
     let tree = value_in(alloc, text)?;

@@ -3,12 +3,14 @@
 // | Step | The call |
 // |---|---|
 // | `register METHOD PARAMS DATA`, `register_value METHOD PARAMS DATA`, `complete ID` | of `Outgoing` |
+// | `deep METHOD LEVELS DATA` | `register` with so many lists, each in the next |
 // | `receive ID DATA`, `cancel ID`, `answer ID` | `register`, `cancel` and `complete` of `Incoming` |
 // | `pending` | `has_pending` |
+// | `shown` | how the queues print for a programmer |
 //
 // If a call is refused, its data has to come back and both queues have to be as before.
 use crate::attempt::{Attempt, Stop};
-use crate::messages::value_in;
+use crate::messages::{nested, value_in};
 use lsp_message::{Message, Request, RequestId};
 use lsp_queue::{RegisterFault, ReqQueue};
 use std::alloc::{AllocError, Global};
@@ -43,6 +45,8 @@ fn call(alloc: Global, queue: &mut Queue, step: &str) -> Result<Attempt, Stop> {
     let (verb, words) = step.split_once(" ").unwrap_or((step, ""));
     match verb {
         "register" | "register_value" => register(alloc, queue, verb, words),
+        "deep" => register_deep(alloc, queue, words),
+        "shown" => Ok(Attempt::Came(format!(in alloc; "{queue:?}")?)),
         "receive" => receive(alloc, queue, words),
         "cancel" => cancel(alloc, queue, words),
         "complete" | "answer" | "pending" => ask(alloc, queue, verb, words),
@@ -71,6 +75,22 @@ fn register(alloc: Global, queue: &mut Queue, verb: &str, words: &str) -> Result
         queue.outgoing.register_value(method, params, data)
     };
     registered_text(alloc, verb, registered, data)
+}
+
+/// Params that nest too deep are refused, however often they come.
+fn register_deep(alloc: Global, queue: &mut Queue, words: &str) -> Result<Attempt, Stop> {
+    let (method, rest) = words.split_once(" ").ok_or(Stop::Table)?;
+    let (levels, data) = rest.split_once(" ").ok_or(Stop::Table)?;
+    let data = data_in(data)?;
+    let params = nested(alloc, levels.parse()?)?;
+    let method = String::from_str(alloc, method)?;
+    match queue.outgoing.register(method, params, data) {
+        Err(RegisterFault::Unwritable(back)) => {
+            let fault = RegisterFault::Unwritable(back);
+            Ok(Attempt::Came(format!(in alloc; "{fault}, {back} back")?))
+        }
+        registered => registered_text(alloc, "register", registered, data),
+    }
 }
 
 fn registered_text(

@@ -1,25 +1,33 @@
 // A handler, and a server that speaks.
-use crate::devices::{Signal, Signals};
-use lsp_message::{ErrorCode, Notification, Request, RequestId, ResponseError};
+use lsp_message::{Notification, Request, RequestId, ResponseError};
 use lsp_service::{Act, Server};
 use lsp_session::Handler;
 use serde_json::{Map, Value, json};
 use std::alloc::{AllocError, Global};
 use std::mem;
-use std::sync::Arc;
-use std::time::Clock;
 
-/// Answers `demo/echo` with its params, and knows no other method.
+/// Answers `demo/echo` with its params, knows no other method, and counts what comes.
 #[derive(Drop)]
-pub struct Echo<C> {
-    pub alloc: Global,
-    pub clock: C,
-    pub signals: Arc<Signals>,
-    /// Whether it waits with an answer until the reader came to its second pause.
-    pub is_gated: bool,
+pub struct Echo {
+    alloc: Global,
+    /// How many requests came.
+    pub asked: u32,
+    /// How many notifications came.
+    pub told: u32,
 }
 
-impl<C: Clock> Handler for Echo<C> {
+impl Echo {
+    /// A handler to which nothing came.
+    pub fn new(alloc: Global) -> Echo {
+        Echo {
+            alloc,
+            asked: 0,
+            told: 0,
+        }
+    }
+}
+
+impl Handler for Echo {
     ghost use Rattle.std.specs.Prelude.{⊤};
 
     ghost answers = { λ _ _ _ _ _ _. ⊤ };
@@ -27,17 +35,15 @@ impl<C: Clock> Handler for Echo<C> {
     ghost notes = { λ _ _ _ _. ⊤ };
 
     fn answer(&mut self, request: &Request) -> Result<Result<Value, ResponseError>, AllocError> {
-        self.signals.tell(Signal::Requests);
-        if self.is_gated && self.signals.wait(&self.clock, Signal::Pauses, 2).is_err() {
-            return Ok(Ok(Value::Null));
-        }
+        self.asked = self.asked.saturating_add(1);
         if request.method.as_str() == "demo/echo" {
             return Ok(Ok(request.params.clone()?));
         }
-        Ok(Err(method_not_found(self.alloc)?))
+        Ok(Err(ResponseError::method_not_found(self.alloc)?))
     }
 
     fn note(&mut self, _notification: &Notification) -> Result<(), AllocError> {
+        self.told = self.told.saturating_add(1);
         Ok(())
     }
 }
@@ -55,9 +61,10 @@ pub enum Asked {
 ///
 /// - It says `demo/hello` first, and asks for the configuration.
 /// - It answers `demo/echo` with its params, asks its client `demo/asked` at `demo/ask` and answers with the reply, keeps `demo/hold`
-///   until the next notification, and knows no other method.
+///   until the next notification or wake, and knows no other method.
 /// - At a notification it pushes its params, asks for the configuration and answers what it keeps.
 /// - At a reply with the configuration it pushes the number of the question.
+/// - At a wake it pushes `demo/woken`, and answers what it keeps.
 #[derive(Drop)]
 pub struct Talker {
     alloc: Global,
@@ -93,6 +100,14 @@ impl Talker {
         let method = String::from_str(self.alloc, "workspace/configuration")?;
         Ok(Act::Ask(method, Value::Null, Asked::Configuration(self.questions)))
     }
+
+    /// Adds the answers to what it keeps.
+    fn release(&mut self, mut acts: Acts) -> Result<Acts, AllocError> {
+        for id in mem::replace(&mut self.held, Vec::new(self.alloc)) {
+            acts.push(Act::Reply(id, Ok(Value::Null)))?;
+        }
+        Ok(acts)
+    }
 }
 
 impl Server for Talker {
@@ -109,6 +124,8 @@ impl Server for Talker {
     ghost notified = { λ _ _ _ _ _. ⊤ };
 
     ghost replied = { λ _ _ _ _ _. ⊤ };
+
+    ghost wakes = { λ _ _ _. ⊤ };
 
     ghost takes_back = { λ _ _ _. ⊤ };
 
@@ -134,17 +151,14 @@ impl Server for Talker {
                 self.held.push(id)?;
                 Ok(Vec::new(self.alloc))
             }
-            _ => self.one(Act::Reply(id, Err(method_not_found(self.alloc)?))),
+            _ => self.one(Act::method_not_found(self.alloc, id)?),
         }
     }
 
     fn notification(&mut self, notification: Notification) -> Result<Acts, AllocError> {
         let mut acts = self.one(self.tell("demo/pushed", notification.params)?)?;
         acts.push(self.configuration()?)?;
-        for id in mem::replace(&mut self.held, Vec::new(self.alloc)) {
-            acts.push(Act::Reply(id, Ok(Value::Null)))?;
-        }
-        Ok(acts)
+        self.release(acts)
     }
 
     fn response(
@@ -160,15 +174,12 @@ impl Server for Talker {
         }
     }
 
+    fn woken(&mut self, _alloc: Global) -> Result<Acts, AllocError> {
+        let acts = self.one(self.tell("demo/woken", Value::Null)?)?;
+        self.release(acts)
+    }
+
     fn unsent(&mut self, _asked: Asked) -> Result<(), AllocError> {
         Ok(())
     }
-}
-
-fn method_not_found(alloc: Global) -> Result<ResponseError, AllocError> {
-    Ok(ResponseError {
-        code: ErrorCode::MethodNotFound.number(),
-        message: String::from_str(alloc, "method not found")?,
-        data: None,
-    })
 }

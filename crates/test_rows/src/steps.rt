@@ -1,7 +1,8 @@
 // Calls over a state, as steps of a row with `; ` between them. A step that is refused is made once more.
-use crate::attempt::{Attempt, Stop, print_came, print_refused};
-use crate::{dispatching, queues};
+use crate::attempt::{Attempt, Stop, add_came, add_refused};
+use crate::{dispatching, links, queues};
 use lsp_dispatch::Dispatcher;
+use lsp_peers::Link;
 use lsp_queue::ReqQueue;
 use std::alloc::Global;
 
@@ -10,6 +11,7 @@ use std::alloc::Global;
 pub enum Machine {
     Queues(ReqQueue<char, char>),
     Dispatcher(Dispatcher),
+    Link(Link),
 }
 
 impl Machine {
@@ -23,19 +25,24 @@ impl Machine {
         Machine::Dispatcher(Dispatcher::default(alloc))
     }
 
-    /// Makes these steps, and prints what came of each.
-    pub fn run<R: Print>(mut self, rt: &R, alloc: Global, steps: &str) -> Result<(), Stop> {
+    /// A link without bytes.
+    pub fn link(alloc: Global) -> Machine {
+        Machine::Link(Link::default(alloc))
+    }
+
+    /// Makes these steps, and adds what came of each.
+    pub fn run(mut self, alloc: Global, said: &mut String, steps: &str) -> Result<(), Stop> {
         for step in steps.split("; ") {
-            let came = self.step(rt, alloc, step)?;
-            print_came(rt, alloc, came.as_str())?;
+            let came = self.step(alloc, said, step)?;
+            add_came(alloc, said, came.as_str())?;
         }
         Ok(())
     }
 
-    fn step<R: Print>(&mut self, rt: &R, alloc: Global, step: &str) -> Result<String, Stop> {
+    fn step(&mut self, alloc: Global, said: &mut String, step: &str) -> Result<String, Stop> {
         match self.attempt(alloc, step)? {
             Attempt::Came(came) => return Ok(came),
-            Attempt::Refused(what) => print_refused(rt, alloc, what.as_str())?,
+            Attempt::Refused(what) => add_refused(alloc, said, what.as_str())?,
         }
         self.attempt(alloc, step)?.again()
     }
@@ -44,6 +51,7 @@ impl Machine {
         match self {
             Machine::Queues(queue) => queues::attempt(alloc, queue, step),
             Machine::Dispatcher(dispatcher) => dispatching::attempt(alloc, dispatcher, step),
+            Machine::Link(link) => links::attempt(alloc, link, step),
         }
     }
 }

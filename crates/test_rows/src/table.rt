@@ -1,10 +1,11 @@
 // The words of a case, and the bytes that cases are about.
 use crate::attempt::Stop;
-use crate::devices::{Pause, Signal};
+use crate::devices::Pause;
 use crate::escapes::unescape;
 use std::alloc::Global;
+use std::io::ErrorKind;
 
-/// The bytes that cases are about, and where a reader waits in them.
+/// The bytes that cases are about, and where a reader has nothing yet.
 #[derive(Drop)]
 pub struct Given {
     pub bytes: Vec<u8>,
@@ -12,7 +13,7 @@ pub struct Given {
 }
 
 impl Given {
-    /// The bytes of a text with escapes, in which no reader waits.
+    /// The bytes of a text with escapes, with no pauses.
     pub fn new(alloc: Global, text: &str) -> Result<Given, Stop> {
         Ok(Given {
             bytes: unescape(alloc, text)?,
@@ -31,45 +32,30 @@ impl Given {
         Ok(())
     }
 
-    /// `AT:SIGNAL:COUNT ..`: at these places, which rise, a reader waits until the signal has come so often.
+    /// `AT:COUNT ..`: at these places, which rise, a reader has nothing until so many bytes were written and flushed.
     pub fn pause(&mut self, words: &str) -> Result<(), Stop> {
         for word in words.split(' ') {
-            self.pauses.push(pause_of(word).ok_or(Stop::Table)?)?;
+            let (at, written) = word.split_once(":").ok_or(Stop::Table)?;
+            self.pauses.push(Pause {
+                at: at.parse()?,
+                written: written.parse()?,
+            })?;
         }
         Ok(())
     }
 }
 
-fn pause_of(word: &str) -> Option<Pause> {
-    let mut words = word.split(':');
-    let at = words.next()?.parse::<usize>().ok()?;
-    let signal = signal_of(words.next()?)?;
-    let wanted = words.next()?.parse::<u64>().ok()?;
-    Some(Pause { at, signal, wanted })
-}
-
-fn signal_of(word: &str) -> Option<Signal> {
-    match word {
-        "written" => Some(Signal::Written),
-        "writes" => Some(Signal::Writes),
-        "requests" => Some(Signal::Requests),
-        _ => None,
-    }
-}
-
-/// A case: `CALL WAYS PIECES DEVICE FROM TO`, and with the device `waits` how many bytes have to be written. The call is made in
-/// each way, with each size of pieces, for each count of the device, from the first to the last.
+/// A case: `CALL PIECES DEVICE FROM TO`, and perhaps the kind of the error with which the device fails. The call is made with each
+/// size of pieces, for each count of the device, from the first to the last.
 #[derive(Clone, Copy)]
 pub struct Case<'a> {
     pub call: Call,
-    /// `bytes`, `threads`, or both with a comma between them.
-    pub ways: &'a str,
-    /// How many bytes the reader gives at a time, with commas between the sizes.
+    /// How many bytes the reader gives and the writer takes at a time, with commas between the sizes.
     pub steps: &'a str,
     pub device: Device,
     pub from: usize,
     pub to: usize,
-    pub written: u64,
+    pub kind: ErrorKind,
 }
 
 /// What is called.
@@ -81,14 +67,22 @@ pub enum Call {
     Read,
     /// `Message::read` up to the end or a fault.
     Stream,
-    /// `session_within` or `run_threads_by`, with no capabilities and an echo.
+    /// A `StreamInbox`, up to the first event that is no message, and once more.
+    Inbox,
+    /// `read_loop` into a list, for which the count of `fills` is the room; with a limit `read_loop_within`.
+    Loop,
+    /// `Message::write` of the first message.
+    Write,
+    /// `write_frames` of all bytes.
+    Frames,
+    /// A `FrameOutbox` to which all messages are sent.
+    Outbox,
+    /// `session` of the echo, with no capabilities; with a limit `session_within`.
     Session,
-    /// The same with a server that speaks.
+    /// `session_of_service` of the server that speaks; with a limit `session_with_within`.
     Speaks,
-    /// `pump_by`.
-    Pump,
-    /// The same. It says how many writes there were, too.
-    Burst,
+    /// `tolerant_session_with` of the same; with a limit `tolerant_session_with_within`.
+    Tolerant,
 }
 
 /// What happens after a count of bytes or calls.
@@ -100,8 +94,6 @@ pub enum Device {
     Ends,
     /// The reader fails once after so many bytes, and goes on.
     Breaks,
-    /// The reader shows what follows, fails once when it is asked for more after so many bytes were taken, and goes on.
-    Looks,
     /// The writer fails once after so many bytes, and takes more.
     Fills,
     /// The flush of this number fails, from 1.
@@ -110,79 +102,64 @@ pub enum Device {
     Limits,
     /// No memory holds the content part, so the refusal is the answer. The count is the limit, or 0 where there is none.
     Huge,
-    /// The reader waits after so many bytes until the bytes that the case names were written and flushed.
-    Waits,
-    /// The reader waits at the pauses of the text. The writer is slow, so that messages come faster than they are written.
-    Slow,
-    /// The same, and the writer waits for a request to come to the handler, which waits for the second pause.
-    Gated,
-    /// The thread that reads is not started.
-    NoReader,
-    /// The thread that writes is not started.
-    NoWriter,
 }
 
 /// The case of these words. There is none where they are no case.
 pub fn case_of<'a>(call: &str, rest: &'a str) -> Option<Case<'a>> {
     let call = call_of(call)?;
     let mut words = rest.split(' ');
-    let ways = words.next()?;
     let steps = words.next()?;
     let device = device_of(words.next()?)?;
     let from = words.next()?.parse::<usize>().ok()?;
     let to = words.next()?.parse::<usize>().ok()?;
-    let written = words.next().unwrap_or("0").parse::<u64>().ok()?;
+    let kind = kind_of(words.next().unwrap_or("BrokenPipe"))?;
     Some(Case {
         call,
-        ways,
         steps,
         device,
         from,
         to,
-        written,
+        kind,
     })
 }
 
-static CALLS: [(&str, Call); 7] = [
-    ("front", Call::Front),
-    ("read", Call::Read),
-    ("stream", Call::Stream),
-    ("session", Call::Session),
-    ("speaks", Call::Speaks),
-    ("pump", Call::Pump),
-    ("burst", Call::Burst),
-];
-
 fn call_of(word: &str) -> Option<Call> {
-    for (name, call) in CALLS {
-        if name == word {
-            return Some(call);
-        }
+    match word {
+        "front" => Some(Call::Front),
+        "read" => Some(Call::Read),
+        "stream" => Some(Call::Stream),
+        "inbox" => Some(Call::Inbox),
+        "loop" => Some(Call::Loop),
+        "write" => Some(Call::Write),
+        "frames" => Some(Call::Frames),
+        "outbox" => Some(Call::Outbox),
+        "session" => Some(Call::Session),
+        "speaks" => Some(Call::Speaks),
+        "tolerant" => Some(Call::Tolerant),
+        _ => None,
     }
-    None
 }
 
-static DEVICES: [(&str, Device); 13] = [
-    ("whole", Device::Whole),
-    ("ends", Device::Ends),
-    ("breaks", Device::Breaks),
-    ("looks", Device::Looks),
-    ("fills", Device::Fills),
-    ("flushes", Device::Flushes),
-    ("limits", Device::Limits),
-    ("huge", Device::Huge),
-    ("waits", Device::Waits),
-    ("slow", Device::Slow),
-    ("gated", Device::Gated),
-    ("no_reader", Device::NoReader),
-    ("no_writer", Device::NoWriter),
-];
-
 fn device_of(word: &str) -> Option<Device> {
-    for (name, device) in DEVICES {
-        if name == word {
-            return Some(device);
-        }
+    match word {
+        "whole" => Some(Device::Whole),
+        "ends" => Some(Device::Ends),
+        "breaks" => Some(Device::Breaks),
+        "fills" => Some(Device::Fills),
+        "flushes" => Some(Device::Flushes),
+        "limits" => Some(Device::Limits),
+        "huge" => Some(Device::Huge),
+        _ => None,
     }
-    None
+}
+
+fn kind_of(word: &str) -> Option<ErrorKind> {
+    match word {
+        "BrokenPipe" => Some(ErrorKind::BrokenPipe),
+        "Interrupted" => Some(ErrorKind::Interrupted),
+        "OutOfMemory" => Some(ErrorKind::OutOfMemory),
+        "UnexpectedEof" => Some(ErrorKind::UnexpectedEof),
+        "WriteZero" => Some(ErrorKind::WriteZero),
+        _ => None,
+    }
 }

@@ -1,10 +1,11 @@
-// What a server sends, made of the members of a recorded message, and written by its types.
-use anyhow::{Result, bail};
+// What a server sends: a value is made of the members that its type has, and written by its type.
+use crate::attempt::{Attempt, Stop};
+use crate::messages::value_in;
 use lsp_types::{
     CompletionItem, CompletionItemKind, CompletionList, CompletionOptions, ConfigurationItem,
     ConfigurationParams, Diagnostic, DiagnosticSeverity, DocumentSymbol, Hover, InitializeResult,
     InsertTextFormat, Location, MarkupContent, MarkupKind, MessageType, NumberOrString,
-    PublishDiagnosticsParams, Range, ServerCapabilities, ServerInfo, ShowMessageParams, SymbolKind,
+    PublishDiagnosticsParams, Range, ServerCapabilities, ShowMessageParams, SymbolKind,
     TextDocumentSyncKind, TextEdit, WorkspaceEdit, methods,
 };
 use serde::Serialize;
@@ -12,45 +13,52 @@ use serde_json::{Value, from_value, to_value};
 use std::alloc::Global;
 use std::collections::BTreeMap;
 
-/// What the params of a server's own message are written as, where the method is one of these.
-pub fn of_params(alloc: Global, method: &str, params: &Value) -> Result<Option<String>> {
-    Ok(Some(match method {
-        methods::PUBLISH_DIAGNOSTICS => written(alloc, &diagnostics(alloc, params)?)?,
-        methods::SHOW_MESSAGE => written(alloc, &message(alloc, params)?)?,
-        methods::CONFIGURATION => written(alloc, &configuration(alloc, params)?)?,
-        "workspace/applyEdit" => written(alloc, &workspace_edit(alloc, member(params, "edit")?)?)?,
-        _ => return Ok(None),
-    }))
+/// What comes of a message with a method and params, or a result.
+pub fn attempt(alloc: Global, text: &str) -> Result<Attempt, Stop> {
+    let message = value_in(alloc, text)?;
+    let method = message.get("method").and_then(Value::as_str).unwrap_or("");
+    let text = match message.get("result") {
+        Some(result) => of_result(alloc, method, result)?,
+        None => of_params(alloc, method, member(&message, "params")?)?,
+    };
+    Ok(Attempt::Came(text))
 }
 
-/// What the result of a method is written as.
-pub fn of_result(alloc: Global, method: &str, found: &Value) -> Result<String> {
+fn of_params(alloc: Global, method: &str, params: &Value) -> Result<String, Stop> {
+    match method {
+        methods::PUBLISH_DIAGNOSTICS => written(alloc, &diagnostics(alloc, params)?),
+        methods::SHOW_MESSAGE => written(alloc, &message(alloc, params)?),
+        methods::CONFIGURATION => written(alloc, &configuration(alloc, params)?),
+        "workspace/applyEdit" => written(alloc, &workspace_edit(alloc, member(params, "edit")?)?),
+        _ => Err(Stop::Table),
+    }
+}
+
+fn of_result(alloc: Global, method: &str, found: &Value) -> Result<String, Stop> {
     match method {
         "initialize" => written(alloc, &initialize(alloc, found)?),
         methods::HOVER => written(alloc, &hover(alloc, found)?),
         methods::COMPLETION => written(alloc, &completions(alloc, found)?),
         methods::DEFINITION => written(alloc, &locations(alloc, found)?),
         "textDocument/documentSymbol" => written(alloc, &symbols(alloc, found)?),
-        _ => bail!("no type for {method}"),
+        _ => Err(Stop::Table),
     }
 }
 
-fn written<T: Serialize>(alloc: Global, value: &T) -> Result<String> {
+fn written<T: Serialize>(alloc: Global, value: &T) -> Result<String, Stop> {
     Ok(to_value(alloc, value)?.to_string(alloc)?)
 }
 
-fn initialize(alloc: Global, found: &Value) -> Result<InitializeResult> {
+fn initialize(alloc: Global, found: &Value) -> Result<InitializeResult, Stop> {
     let info = member(found, "serverInfo")?;
-    Ok(InitializeResult {
-        capabilities: capabilities(alloc, member(found, "capabilities")?)?,
-        server_info: ServerInfo {
-            name: text(alloc, info, "name")?,
-            version: text_in(alloc, info, "version")?,
-        },
-    })
+    let capabilities = capabilities(alloc, member(found, "capabilities")?)?;
+    let name = text(alloc, info, "name")?;
+    let mut result = InitializeResult::new(alloc, capabilities, name.as_str())?;
+    result.server_info.version = text_in(alloc, info, "version")?;
+    Ok(result)
 }
 
-fn capabilities(alloc: Global, found: &Value) -> Result<ServerCapabilities> {
+fn capabilities(alloc: Global, found: &Value) -> Result<ServerCapabilities, Stop> {
     let sync = found.pointer("/textDocumentSync/change");
     let completion = match found.get("completionProvider") {
         Some(options) => Some(completion_options(alloc, options)?),
@@ -69,14 +77,14 @@ fn capabilities(alloc: Global, found: &Value) -> Result<ServerCapabilities> {
     })
 }
 
-fn completion_options(alloc: Global, found: &Value) -> Result<CompletionOptions> {
+fn completion_options(alloc: Global, found: &Value) -> Result<CompletionOptions, Stop> {
     Ok(CompletionOptions {
         trigger_characters: from_value(alloc, or_null(found, "triggerCharacters")?)?,
         resolve_provider: flag(found, "resolveProvider"),
     })
 }
 
-fn diagnostics(alloc: Global, params: &Value) -> Result<PublishDiagnosticsParams> {
+fn diagnostics(alloc: Global, params: &Value) -> Result<PublishDiagnosticsParams, Stop> {
     let mut diagnostics = Vec::new(alloc);
     for found in list(params, "diagnostics")? {
         diagnostics.push(diagnostic(alloc, found)?)?;
@@ -88,33 +96,37 @@ fn diagnostics(alloc: Global, params: &Value) -> Result<PublishDiagnosticsParams
     })
 }
 
-fn diagnostic(alloc: Global, found: &Value) -> Result<Diagnostic> {
+fn diagnostic(alloc: Global, found: &Value) -> Result<Diagnostic, Stop> {
     let code = match found.get("code") {
         Some(Value::String(code)) => Some(NumberOrString::String(code.clone()?)),
         Some(code) => Some(NumberOrString::Number(from_value(alloc, code.clone()?)?)),
         None => None,
     };
-    Ok(Diagnostic {
-        range: range(alloc, found, "range")?,
-        severity: number(found, "severity").map(DiagnosticSeverity),
-        code,
-        source: text_in(alloc, found, "source")?,
-        message: text(alloc, found, "message")?,
-        data: match found.get("data") {
-            Some(data) => Some(data.clone()?),
-            None => None,
-        },
-    })
+    let severity = number(found, "severity");
+    let mut diagnostic = Diagnostic::new(
+        range(alloc, found, "range")?,
+        DiagnosticSeverity(severity.unwrap_or(0)),
+        text(alloc, found, "message")?,
+    );
+    if severity.is_none() {
+        diagnostic.severity = None;
+    }
+    diagnostic.code = code;
+    diagnostic.source = text_in(alloc, found, "source")?;
+    if let Some(data) = found.get("data") {
+        diagnostic.data = Some(data.clone()?);
+    }
+    Ok(diagnostic)
 }
 
-fn hover(alloc: Global, found: &Value) -> Result<Hover> {
-    Ok(Hover {
-        contents: markup(alloc, member(found, "contents")?)?,
-        range: from_value(alloc, or_null(found, "range")?)?,
-    })
+fn hover(alloc: Global, found: &Value) -> Result<Hover, Stop> {
+    let MarkupContent { kind, value } = markup(alloc, member(found, "contents")?)?;
+    let mut hover = Hover::new(kind, value);
+    hover.range = from_value(alloc, or_null(found, "range")?)?;
+    Ok(hover)
 }
 
-fn markup(alloc: Global, found: &Value) -> Result<MarkupContent> {
+fn markup(alloc: Global, found: &Value) -> Result<MarkupContent, Stop> {
     let kind = match member(found, "kind")?.as_str() {
         Some("markdown") => MarkupKind::Markdown,
         _ => MarkupKind::PlainText,
@@ -125,7 +137,7 @@ fn markup(alloc: Global, found: &Value) -> Result<MarkupContent> {
     })
 }
 
-fn completions(alloc: Global, found: &Value) -> Result<CompletionList> {
+fn completions(alloc: Global, found: &Value) -> Result<CompletionList, Stop> {
     let mut items = Vec::new(alloc);
     for item in list(found, "items")? {
         items.push(completion(alloc, item)?)?;
@@ -136,38 +148,38 @@ fn completions(alloc: Global, found: &Value) -> Result<CompletionList> {
     })
 }
 
-fn completion(alloc: Global, found: &Value) -> Result<CompletionItem> {
-    Ok(CompletionItem {
-        label: text(alloc, found, "label")?,
-        kind: number(found, "kind").map(CompletionItemKind),
-        detail: text_in(alloc, found, "detail")?,
-        documentation: match found.get("documentation") {
-            Some(shown) => Some(markup(alloc, shown)?),
-            None => None,
-        },
-        sort_text: text_in(alloc, found, "sortText")?,
-        filter_text: text_in(alloc, found, "filterText")?,
-        insert_text: text_in(alloc, found, "insertText")?,
-        insert_text_format: number(found, "insertTextFormat").map(InsertTextFormat),
-        text_edit: match found.get("textEdit") {
-            Some(edit) => Some(text_edit(alloc, edit)?),
-            None => None,
-        },
-        data: None,
-    })
+fn completion(alloc: Global, found: &Value) -> Result<CompletionItem, Stop> {
+    let kind = number(found, "kind");
+    let label = text(alloc, found, "label")?;
+    let mut item = CompletionItem::new(label, CompletionItemKind(kind.unwrap_or(0)));
+    if kind.is_none() {
+        item.kind = None;
+    }
+    item.detail = text_in(alloc, found, "detail")?;
+    if let Some(shown) = found.get("documentation") {
+        item.documentation = Some(markup(alloc, shown)?);
+    }
+    item.sort_text = text_in(alloc, found, "sortText")?;
+    item.filter_text = text_in(alloc, found, "filterText")?;
+    item.insert_text = text_in(alloc, found, "insertText")?;
+    item.insert_text_format = number(found, "insertTextFormat").map(InsertTextFormat);
+    if let Some(edit) = found.get("textEdit") {
+        item.text_edit = Some(text_edit(alloc, edit)?);
+    }
+    Ok(item)
 }
 
-fn text_edit(alloc: Global, found: &Value) -> Result<TextEdit> {
+fn text_edit(alloc: Global, found: &Value) -> Result<TextEdit, Stop> {
     Ok(TextEdit {
         range: range(alloc, found, "range")?,
         new_text: text(alloc, found, "newText")?,
     })
 }
 
-fn workspace_edit(alloc: Global, found: &Value) -> Result<WorkspaceEdit> {
+fn workspace_edit(alloc: Global, found: &Value) -> Result<WorkspaceEdit, Stop> {
     let mut changes = BTreeMap::new(alloc);
     let Some(documents) = member(found, "changes")?.as_object() else {
-        bail!("changes are an object");
+        return Err(Stop::Table);
     };
     for (uri, edits) in documents.iter() {
         let mut kept = Vec::new(alloc);
@@ -179,7 +191,7 @@ fn workspace_edit(alloc: Global, found: &Value) -> Result<WorkspaceEdit> {
     Ok(WorkspaceEdit { changes })
 }
 
-fn locations(alloc: Global, found: &Value) -> Result<Vec<Location>> {
+fn locations(alloc: Global, found: &Value) -> Result<Vec<Location>, Stop> {
     let mut locations = Vec::new(alloc);
     for found in items_of(found)? {
         locations.push(Location {
@@ -190,7 +202,7 @@ fn locations(alloc: Global, found: &Value) -> Result<Vec<Location>> {
     Ok(locations)
 }
 
-fn symbols(alloc: Global, found: &Value) -> Result<Vec<DocumentSymbol>> {
+fn symbols(alloc: Global, found: &Value) -> Result<Vec<DocumentSymbol>, Stop> {
     let mut symbols = Vec::new(alloc);
     for found in items_of(found)? {
         let mut children = Vec::new(alloc);
@@ -202,7 +214,7 @@ fn symbols(alloc: Global, found: &Value) -> Result<Vec<DocumentSymbol>> {
     Ok(symbols)
 }
 
-fn symbol(alloc: Global, found: &Value, children: Vec<DocumentSymbol>) -> Result<DocumentSymbol> {
+fn symbol(alloc: Global, found: &Value, children: Vec<DocumentSymbol>) -> Result<DocumentSymbol, Stop> {
     Ok(DocumentSymbol {
         name: text(alloc, found, "name")?,
         detail: text_in(alloc, found, "detail")?,
@@ -213,14 +225,14 @@ fn symbol(alloc: Global, found: &Value, children: Vec<DocumentSymbol>) -> Result
     })
 }
 
-fn message(alloc: Global, params: &Value) -> Result<ShowMessageParams> {
+fn message(alloc: Global, params: &Value) -> Result<ShowMessageParams, Stop> {
     Ok(ShowMessageParams {
         typ: MessageType(number(params, "type").unwrap_or(0)),
         message: text(alloc, params, "message")?,
     })
 }
 
-fn configuration(alloc: Global, params: &Value) -> Result<ConfigurationParams> {
+fn configuration(alloc: Global, params: &Value) -> Result<ConfigurationParams, Stop> {
     let mut items = Vec::new(alloc);
     for item in list(params, "items")? {
         items.push(ConfigurationItem {
@@ -231,40 +243,40 @@ fn configuration(alloc: Global, params: &Value) -> Result<ConfigurationParams> {
     Ok(ConfigurationParams { items })
 }
 
-fn member<'v>(found: &'v Value, key: &str) -> Result<&'v Value> {
+fn member<'v>(found: &'v Value, key: &str) -> Result<&'v Value, Stop> {
     match found.get(key) {
         Some(value) => Ok(value),
-        None => bail!("no member {key}"),
+        None => Err(Stop::Table),
     }
 }
 
-fn or_null(found: &Value, key: &str) -> Result<Value> {
+fn or_null(found: &Value, key: &str) -> Result<Value, Stop> {
     Ok(found.get(key).unwrap_or(&Value::Null).clone()?)
 }
 
-fn items_of(found: &Value) -> Result<&[Value]> {
+fn items_of(found: &Value) -> Result<&[Value], Stop> {
     match found.as_array() {
         Some(items) => Ok(items.as_slice()),
-        None => bail!("not a list"),
+        None => Err(Stop::Table),
     }
 }
 
-fn list<'v>(found: &'v Value, key: &str) -> Result<&'v [Value]> {
+fn list<'v>(found: &'v Value, key: &str) -> Result<&'v [Value], Stop> {
     items_of(member(found, key)?)
 }
 
-fn range(alloc: Global, found: &Value, key: &str) -> Result<Range> {
+fn range(alloc: Global, found: &Value, key: &str) -> Result<Range, Stop> {
     Ok(from_value(alloc, member(found, key)?.clone()?)?)
 }
 
-fn text(alloc: Global, found: &Value, key: &str) -> Result<String> {
+fn text(alloc: Global, found: &Value, key: &str) -> Result<String, Stop> {
     match text_in(alloc, found, key)? {
         Some(text) => Ok(text),
-        None => bail!("no text {key}"),
+        None => Err(Stop::Table),
     }
 }
 
-fn text_in(alloc: Global, found: &Value, key: &str) -> Result<Option<String>> {
+fn text_in(alloc: Global, found: &Value, key: &str) -> Result<Option<String>, Stop> {
     match found.get(key).and_then(Value::as_str) {
         Some(text) => Ok(Some(String::from_str(alloc, text)?)),
         None => Ok(None),

@@ -1,4 +1,6 @@
-// What a client sends, read by its types.
+// What a client sends, read by its types: the fields of the params, texts in quotes, or `refused`.
+use crate::attempt::{Attempt, Stop};
+use crate::messages::value_in;
 use lsp_types::{
     DidChangeTextDocumentParams, DidCloseTextDocumentParams, DidOpenTextDocumentParams,
     DidSaveTextDocumentParams, InitializeParams, Range, TextDocumentContentChangeEvent,
@@ -6,10 +8,19 @@ use lsp_types::{
 };
 use serde_json::{Error, Value, from_value};
 use std::alloc::{AllocError, Global};
-use std::fmt::Write;
 
-/// The fields of the params.
-pub fn of_params(alloc: Global, method: &str, params: Value) -> Result<String, Error> {
+/// What comes of a message with a method and params.
+pub fn attempt(alloc: Global, text: &str) -> Result<Attempt, Stop> {
+    let message = value_in(alloc, text)?;
+    let method = message.get("method").and_then(Value::as_str).unwrap_or("");
+    let params = message.get("params").ok_or(Stop::Table)?.clone()?;
+    match fields(alloc, method, params) {
+        Ok(row) => Ok(Attempt::Came(row)),
+        Err(_) => Ok(Attempt::came(alloc, "refused")?),
+    }
+}
+
+fn fields(alloc: Global, method: &str, params: Value) -> Result<String, Error> {
     match method {
         "initialize" => Ok(initialize(alloc, from_value(alloc, params)?)?),
         methods::DID_OPEN => Ok(did_open(alloc, from_value(alloc, params)?)?),

@@ -1,18 +1,13 @@
-#!/usr/bin/env python3
-"""Writes the table of notifications of crates/document_rows, its stdin, and what has to come of it, its stdout.
+"""A model of open documents: what has to come of the notifications of crates/test_rows, and the rows that tell of them.
 
 The model knows nothing of bytes: a text is a list of code points, a line a list of code points with its end, and a column a sum
 of what each code point takes in the encoding. It follows LSP 3.17, "Text Document Synchronization" and "Position", and what
-docs/DECISIONS.md says where they are silent; it was never made to follow the program. `--check` writes nothing, and ends in
-status 1 where a file is another. `--more SEED COUNT FOLDER` writes other rows into a folder.
+docs/DECISIONS.md says where they are silent; it was never made to follow the program.
 """
 import json
 import random
 import re
-import sys
-from pathlib import Path
 
-CRATE = Path(__file__).resolve().parent.parent.parent / "crates" / "document_rows"
 UNITS = {
     "utf-8": lambda c: len(c.encode("utf-8")),
     "utf-16": lambda c: len(c.encode("utf-16-le")) // 2,
@@ -92,6 +87,15 @@ def span_of(change):
     return None if given is None else (position_member(given, "start"), position_member(given, "end"))
 
 
+def agreed(params):
+    """The encoding for what a client offers in `initialize`: the first that is known, or the one that each client has to know."""
+    value = params
+    for name in ["capabilities", "general", "positionEncodings"]:
+        value = value.get(name) if isinstance(value, dict) else None
+    offered = value if isinstance(value, list) else []
+    return next((it for it in offered if isinstance(it, str) and it in UNITS), "utf-16")
+
+
 class Documents:
     """What a server holds, and what it answers."""
 
@@ -99,6 +103,15 @@ class Documents:
         self.encoding = encoding
         self.open = {}
         self.seen = []
+
+    def answers(self, text):
+        """What comes of a row."""
+        message = json.loads(text)
+        method, params = message["method"], message.get("params")
+        if method == "initialize":
+            self.__init__(agreed(params))
+            return [self.encoding]
+        return [self.row(method, params)]
 
     def hears(self, method, params):
         """What is answered. Params of another shape raise."""
@@ -152,19 +165,17 @@ class Documents:
 
 class Table:
     def __init__(self):
-        self.asked, self.wanted = [], []
-        self.documents = None
+        self.asked, self.documents = [], Documents("utf-16")
 
     def tell(self, method, params):
         self.asked.append(json.dumps({"method": method, "params": params}, ensure_ascii=False, separators=(",", ":")))
-        if method != "initialize":
-            self.wanted.append(self.documents.row(method, params))
+        self.documents.answers(self.asked[-1])
 
     def begin(self, encoding, params=None):
         offered = {"capabilities": {"general": {"positionEncodings": [encoding]}}}
         self.tell("initialize", offered if params is None else params)
-        self.documents = Documents(encoding)
-        self.wanted.append(encoding)
+        if self.documents.encoding != encoding:
+            raise SystemExit(f"another encoding than {encoding}: {params}")
 
     def opens(self, uri, text, version=1, language="plain"):
         self.tell("textDocument/didOpen", {"textDocument": {"uri": uri, "languageId": language, "version": version, "text": text}})
@@ -332,21 +343,4 @@ def rows(seed, sessions):
     wrong(table)
     for _ in range(sessions):
         session(table, source, 24)
-    return {"stdin": table.asked, "stdout": table.wanted}
-
-
-def main():
-    more = "--more" in sys.argv
-    made = rows(int(sys.argv[2]), int(sys.argv[3])) if more else rows(1, 9)
-    folder = Path(sys.argv[4]) if more else CRATE
-    right = True
-    for name, text in made.items():
-        data = "".join(line + "\n" for line in text).encode()
-        if "--check" in sys.argv:
-            right = right and (folder / name).read_bytes() == data
-        else:
-            (folder / name).write_bytes(data)
-    sys.exit(0 if right else 1)
-
-
-main()
+    return [f"document {it}" for it in table.asked]

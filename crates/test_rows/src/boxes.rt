@@ -1,0 +1,90 @@
+// An inbox and an outbox over lists that know of each other.
+ghost use Rattle.std.specs.Prelude.{◌≢◌};
+ghost use Rattle.lsp_session.specs.Event.{event_view, timeout};
+
+use lsp_message::Message;
+use lsp_session::{Arrival, Event, Inbox, ListInbox, ListOutbox, Outbox, SendFault};
+use std::cell::Cell;
+
+/// What an inbox does beside giving the events of its list.
+#[derive(Clone, Copy, PartialEq, Eq)]
+pub enum Habit {
+    /// Nothing.
+    Gives,
+    /// Before each event, the first too, it is ready to wake whoever asks for that.
+    Wakes,
+    /// It is closed as long as nothing was sent.
+    Follows,
+}
+
+/// Gives the events of a list.
+#[derive(Drop)]
+pub struct Events<'a> {
+    pub list: ListInbox,
+    pub habit: Habit,
+    /// Whether something was sent.
+    pub sent: &'a Cell<bool>,
+    /// Whether it is ready to wake.
+    pub is_ready: bool,
+    /// For how many seconds it was last asked to wait at most, or 0 where it was without limit.
+    pub seconds: u64,
+}
+
+impl Events<'_> {
+    /// Whether it is closed, since nothing was sent.
+    fn is_closed(&self) -> bool {
+        self.habit == Habit::Follows && !self.sent.get()
+    }
+}
+
+impl Inbox for Events<'_> {
+    ghost use Rattle.std.specs.Prelude.{⊤};
+
+    ghost receives = { λ _ _ _. ⊤ };
+
+    fn receive_for(&mut self, seconds: u64) -> Event {
+        self.is_ready = true;
+        self.seconds = seconds;
+        if self.is_closed() {
+            return Event::Closed;
+        }
+        self.list.receive_for(seconds)
+    }
+
+    fn receive(&mut self) -> Event {
+        self.is_ready = true;
+        self.seconds = 0;
+        if self.is_closed() {
+            return Event::Closed;
+        }
+        self.list.receive()
+    }
+
+    fn receive_or_woken(&mut self) -> Arrival {
+        if self.habit == Habit::Wakes && self.is_ready {
+            self.is_ready = false;
+            return Arrival::Woken;
+        }
+        self.is_ready = true;
+        self.list.receive_or_woken()
+    }
+}
+
+/// Keeps what it is sent, up to its room, and tells that something was sent.
+#[derive(Drop)]
+pub struct Sent<'a> {
+    pub list: ListOutbox,
+    pub is_some: &'a Cell<bool>,
+}
+
+impl Outbox for Sent<'_> {
+    ghost use Rattle.std.specs.Prelude.{⊤};
+
+    ghost sends = { λ _ _ _ _. ⊤ };
+
+    fn send(&mut self, message: Message) -> Result<(), SendFault> {
+        self.list.send(message)?;
+        self.is_some.set(true);
+        Ok(())
+    }
+}
