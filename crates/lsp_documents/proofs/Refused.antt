@@ -12,7 +12,7 @@ use Rattle.lsp_documents.specs.Session.{Notice, Sent, Sent.made, Sent.unmade, Se
 never : {P : Type 0} → false ≡ true → P
 never h = grind (arith, h)
 
-shows : Option Open → Bool
+abbrev shows : Option Open → Bool
 shows kept = is_some (option_and_then shown kept)
 
 missed_shows : (kept : Option Open) → shows (missed kept) ≡ false
@@ -49,7 +49,7 @@ whole_lost : (before now : Documents) (uri l : List ℕ) (o : Open) (version : O
 whole_lost before now uri l o version list b w h k =
     never (ap shows (sym k ∙ h.own ∙ ap (λ o. option_map (λ o. changed_in before.encoding o version list) o) b) ∙ in_whole before.encoding o version list w)
 
-text_of : Option Open → List ℕ
+abbrev text_of : Option Open → List ℕ
 text_of None = []
 text_of (Some (Known d)) = d.text
 text_of (Some (Lost l)) = []

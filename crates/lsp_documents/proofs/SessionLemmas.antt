@@ -1,6 +1,6 @@
 -- What notifications make of what is kept of one URI, beside the client's own document.
-use Rattle.std.proofs.Common.{◌≡◌, ℕ, ℤ, Bool, true, false, ◌||◌, List, [], ◌∷◌, ◌++◌, Option, Some, None, refl, sym, ap, subst, ◌∙◌, arith, is_none, option_and_then, option_map}
-use Rattle.std.specs.Prelude.{if◌then◌else◌, not, ◌&&◌}
+use Rattle.std.proofs.Common.{◌≡◌, ℕ, ℤ, Bool, true, false, ◌||◌, List, [], ◌∷◌, ◌++◌, Option, Some, None, refl, sym, ap, subst, ◌∙◌, arith, inl, inr, is_none, option_and_then, option_map}
+use Rattle.std.specs.Prelude.{if◌then◌else◌, not, ◌&&◌, is_some, unwrap_or}
 use Rattle.std.specs.Str.{bytes_eq}
 use Rattle.std.proofs.lemmas.Slice.Eq.{bytes_eq-Decides}
 use Rattle.lsp_text.specs.Documents.{Document, Change}
@@ -8,10 +8,10 @@ use Rattle.lsp_text.specs.Edits.{edited, edited_by}
 use Rattle.lsp_text.specs.declared.position.PositionEncoding.{PositionEncoding}
 use Rattle.lsp_text.specs.declared.position.Range.{Range}
 use Rattle.lsp_documents.specs.declared.fault.DocumentFault.{DocumentFault}
-use Rattle.lsp_documents.specs.declared.fault.DocumentFault.TheVariants.{OutOfStep}
+use Rattle.lsp_documents.specs.declared.fault.DocumentFault.TheVariants.{OutOfStep, Memory}
 use Rattle.lsp_documents.specs.declared.kept.Open.{Open}
 use Rattle.lsp_documents.specs.declared.kept.Open.TheVariants.{Known, Lost}
-use Rattle.lsp_documents.specs.Session.{Event, Event.opened, Event.changed, Event.saved, Event.closed, Notice, Sent, Sent.made, Sent.unmade, Sent.unread, Documents, Keeps, Puts, Makes, MissesAll, Takes, TakesAll, Agrees, IsClients, IsVersion, SavesOwn, SavesItsText, after, missed, kept_after, kept_after_all, told, told_all, events_in, events_of, notices_of, is_current, closes_it, has_whole, shown, fault_of, change_fault, changed_to, changed_in, saved_in, document, opens}
+use Rattle.lsp_documents.specs.Session.{Event, Event.opened, Event.changed, Event.saved, Event.closed, Notice, Sent, Sent.made, Sent.unmade, Sent.unread, Documents, Keeps, Puts, Makes, MissesAll, Takes, TakesAll, Agrees, IsClients, IsVersion, SavesOwn, SavesItsText, after, missed, kept_after, kept_after_all, told, told_all, events_in, events_of, notices_of, is_current, closes_it, has_whole, shown, fault_of, change_fault, changed_to, changed_in, saved_in, document, opens, edits, Failed}
 
 never : {P : Type 0} → false ≡ true → P
 never h = grind (arith, h)
@@ -130,19 +130,19 @@ abbrev pub IsCurrent : Option Document → Option Open → Type 0
 IsCurrent client kept = (d : Document) × (client ≡ Some d) × (kept ≡ Some (Known d))
 
 own_current : (e : PositionEncoding) (d : Document) (event : Event) → closes_it event ≡ false → IsCurrent (told e (Some d) event) (after e (Some (Known d)) event)
-own_current e d (opened o) h = (o, (refl, refl))
-own_current e d (changed version list) h = (changed_to e d version list, (refl, refl))
-own_current e d (saved None) h = (d, (refl, refl))
-own_current e d (saved (Some text)) h = (d, (refl, refl))
+own_current e d (opened o) h = (o, refl, refl)
+own_current e d (changed version list) h = (changed_to e d version list, refl, refl)
+own_current e d (saved None) h = (d, refl, refl)
+own_current e d (saved (Some text)) h = (d, refl, refl)
 own_current e d closed h = never (sym h)
 
 made_current : (e : PositionEncoding) (b : Bool) (d : Document) (event : Event) → b && closes_it event ≡ false → IsCurrent (told_all e (Some d) (if b then event ∷ [] else [])) (if b then after e (Some (Known d)) event else Some (Known d))
 made_current e true d event h = own_current e d event h
-made_current e false d event h = (d, (refl, refl))
+made_current e false d event h = (d, refl, refl)
 
 unmade_current : (e : PositionEncoding) (b : Bool) (d : Document) (event : Event) → b ≡ false → IsCurrent (told_all e (Some d) (if b then event ∷ [] else [])) (if b then missed (Some (Known d)) else Some (Known d))
 unmade_current e true d event h = never (sym h)
-unmade_current e false d event h = (d, (refl, refl))
+unmade_current e false d event h = (d, refl, refl)
 
 not_and : (b c : Bool) → not b && c ≡ true → (b ≡ false) × (c ≡ true)
 not_and true c h = never h
@@ -152,10 +152,10 @@ go_on : (e : PositionEncoding) (uri : List ℕ) (kept : Option Open) (xs : List 
     ((f : Document) → IsCurrent (told_all e (Some f) (events_of uri ss)) (kept_after_all e uri (Some (Known f)) ss)) → IsCurrent (told_all e (Some d) (xs ++ events_of uri ss)) (kept_after_all e uri kept ss)
 go_on e uri kept xs d ss c rest =
     let r = rest c.0 in
-    (r.0, (told_append e (Some d) xs (events_of uri ss) ∙ ap (λ x. told_all e x (events_of uri ss)) c.1.0 ∙ r.1.0, ap (λ k. kept_after_all e uri k ss) c.1.1 ∙ r.1.1))
+    (r.0, told_append e (Some d) xs (events_of uri ss) ∙ ap (λ x. told_all e x (events_of uri ss)) c.1 ∙ r.1, ap (λ k. kept_after_all e uri k ss) c.2 ∙ r.2)
 
 all_current : (e : PositionEncoding) (uri : List ℕ) (sent : List Sent) → is_current uri sent ≡ true → (d : Document) → IsCurrent (told_all e (Some d) (events_of uri sent)) (kept_after_all e uri (Some (Known d)) sent)
-all_current e uri [] h d = (d, (refl, refl))
+all_current e uri [] h d = (d, refl, refl)
 all_current e uri (made n ∷ ss) h d =
     let p = not_and (bytes_eq uri n.uri && closes_it n.event) (is_current uri ss) h in
     go_on e uri (kept_after e uri (Some (Known d)) (made n)) (events_in uri (n ∷ [])) d ss (made_current e (bytes_eq uri n.uri) d n.event p.0) (all_current e uri ss p.1)
@@ -169,7 +169,7 @@ pub opened_current : (before : Documents) (uri language_id : List ℕ) (version 
 opened_current before uri language_id version text sent now h c =
     let r = all_current before.encoding uri sent c (document language_id version text) in
     let k = all_kept h.0 sent now h.2 uri in
-    (r.0, (r.1.0, k ∙ ap (λ x. kept_after_all x uri (h.0.held uri) sent) h.1.encoding ∙ ap (λ o. kept_after_all before.encoding uri o sent) h.1.own ∙ r.1.1))
+    (r.0, r.1, k ∙ ap (λ x. kept_after_all x uri (h.0.held uri) sent) h.1.encoding ∙ ap (λ o. kept_after_all before.encoding uri o sent) h.1.own ∙ r.2)
 
 -- ---- faults
 
@@ -206,3 +206,52 @@ keeps_at uri f g own others q =
 -- where one URI keeps its document, and each other one too, nothing is changed
 pub keeps : (before now : Documents) (uri : List ℕ) → now.encoding ≡ before.encoding → now.held uri ≡ before.held uri → ((q : List ℕ) → bytes_eq q uri ≡ false → now.held q ≡ before.held q) → Keeps before now
 keeps before now uri e own others = record { encoding = e; held = keeps_at uri now.held before.held own others }
+
+some_value : {A : Type 0} {a b : A} → Some a ≡ Some b → a ≡ b
+some_value {A} {a} {b} h = ap (λ o. unwrap_or o a) h
+
+none_value : {A P : Type 0} {a : A} → None ≡ Some a → P
+none_value h = never (ap is_some h)
+
+-- ---- changes that can be read
+
+-- they are refused by name
+pub change_refused : (before : Documents) (uris : Option (List ℕ)) (versions : Option (Option ℤ)) (changes : Option (List Change)) (u : List ℕ) (v : Option ℤ) (w : Bool) (fault said : DocumentFault) → uris ≡ Some u → versions ≡ Some v → option_map has_whole changes ≡ Some w →
+    change_fault (before.held u) w ≡ Some fault → said ≡ fault → Failed before (option_and_then (λ uri. option_and_then (λ version. option_map (edits uri version) changes) versions) uris) uris said before
+change_refused before None versions changes u v w fault said hu hv hw hf hs = none_value hu
+change_refused before (Some a) None changes u v w fault said hu hv hw hf hs = none_value hv
+change_refused before (Some a) (Some b) None u v w fault said hu hv hw hf hs = none_value hw
+change_refused before (Some a) (Some b) (Some cs) u v w fault said hu hv hw hf hs =
+    let ea : a ≡ u = some_value hu in
+    let ew : has_whole cs ≡ w = some_value hw in
+    let f : change_fault (before.held a) (has_whole cs) ≡ Some said = ap (λ x. change_fault (before.held x) (has_whole cs)) ea ∙ ap (change_fault (before.held u)) ew ∙ hf ∙ ap Some (sym hs) in
+    inl (f, record { encoding = refl; held = λ q. refl })
+
+needed : (k : Option Open) (w : Bool) → change_fault k w ≡ None → is_some k ≡ true
+needed None w h = none_value (sym h)
+needed (Some o) w h = refl
+
+-- no memory was left for them
+pub change_starved : (before now : Documents) (uris : Option (List ℕ)) (versions : Option (Option ℤ)) (changes : Option (List Change)) (u : List ℕ) (v : Option ℤ) (w : Bool) (said : DocumentFault) → uris ≡ Some u → versions ≡ Some v → option_map has_whole changes ≡ Some w →
+    change_fault (before.held u) w ≡ None → said ≡ Memory → Puts before u (missed (before.held u)) now → Failed before (option_and_then (λ uri. option_and_then (λ version. option_map (edits uri version) changes) versions) uris) uris said now
+change_starved before now None versions changes u v w said hu hv hw hf hs m = none_value hu
+change_starved before now (Some a) None changes u v w said hu hv hw hf hs m = none_value hv
+change_starved before now (Some a) (Some b) None u v w said hu hv hw hf hs m = none_value hw
+change_starved before now (Some a) (Some b) (Some cs) u v w said hu hv hw hf hs m =
+    let ea : a ≡ u = some_value hu in
+    let ew : has_whole cs ≡ w = some_value hw in
+    let f : change_fault (before.held a) (has_whole cs) ≡ None = ap (λ x. change_fault (before.held x) (has_whole cs)) ea ∙ ap (change_fault (before.held u)) ew ∙ hf in
+    inr (record {
+      why = hs;
+      right = f;
+      needed = needed (before.held a) (has_whole cs) f;
+      misses = subst (λ x. Puts before x (missed (before.held x)) now) (sym ea) m;
+    })
+
+-- one more change, read
+pub whole_more : (w b : Bool) (first : Option Change) (rest : Option (List Change)) → Some b ≡ option_map (λ c. is_none c.range) first →
+    option_map (λ cs. w || has_whole cs) (option_and_then (λ c. option_map (λ cs. c ∷ cs) rest) first) ≡ option_map (λ cs. (w || b) || has_whole cs) rest
+whole_more w b None rest h = none_value (sym h)
+whole_more w b (Some c) None h = refl
+whole_more true b (Some c) (Some cs) h = refl
+whole_more false b (Some c) (Some cs) h = ap (λ x. Some (x || has_whole cs)) (sym (some_value h))

@@ -4,7 +4,7 @@ ghost use Rattle.std.specs.Option.{option_copied};
 ghost use Rattle.std.specs.Str.{bytes_eq};
 ghost use Rattle.serde_json.specs.View.{view};
 ghost use Rattle.lsp_documents.specs.Held.{documents_of};
-ghost use Rattle.lsp_documents.specs.Session.{document, opens, edits, closes, saves, shown, lost, missed, goes_back as is_back, changed_in, saved_in, change_fault, has_whole as has_whole_text, is_known, loses, Keeps, Misses, MissesAll, Took, Refused, Failed, FailedSave};
+ghost use Rattle.lsp_documents.specs.Session.{document, opens, edits, closes, saves, shown, lost, missed, goes_back as is_back, changed_in, saved_in, change_fault, has_whole as has_whole_text, is_known, loses, MissesAll, Took, Refused, Failed, FailedSave};
 ghost use Rattle.lsp_documents.specs.declared.kept.Open.TheVariants.{Known};
 ghost use Rattle.lsp_documents.specs.declared.fault.DocumentFault.TheVariants.{Params};
 ghost use Rattle.lsp_documents.specs.Params.{uri_in, did_open_in, did_change_in, did_save_in, did_close_in};
@@ -196,7 +196,9 @@ impl TextDocuments {
 
     /// Makes the text of the document of a URI unknown, if there is one: something that the client told of it was missed.
     pub fn lose(&mut self, uri: &str)
-        ensures { Misses (documents_of self.old) uri.now (documents_of self.new) }
+        ensures own { (documents_of self.new).held uri.now ≡ missed ((documents_of self.old).held uri.now) }
+        ensures others { (q : List ℕ) → bytes_eq q uri.now ≡ false → (documents_of self.new).held q ≡ (documents_of self.old).held q }
+        ensures encoding { self.new.encoding ≡ self.old.encoding }
     {
         if let Some(open) = self.documents.get_mut(uri) {
             lose_text(self.alloc, open);
@@ -205,7 +207,8 @@ impl TextDocuments {
 
     /// Makes the text of each document unknown: something was missed that the client may have told of any of them.
     pub fn lose_all(&mut self)
-        ensures { MissesAll (documents_of self.old) (documents_of self.new) }
+        ensures held { (q : List ℕ) → (documents_of self.new).held q ≡ missed ((documents_of self.old).held q) }
+        ensures encoding { self.new.encoding ≡ self.old.encoding }
     {
         let alloc = self.alloc;
         self.documents.retain(|_, open| {
@@ -360,7 +363,9 @@ impl TextDocuments {
         ensures named { option_map (λ s. s.now) result.uri ≡ Some uri.now }
         ensures why { result.fault ≡ fault }
         ensures lost { result.lost ≡ loses (documents_of self.old) (Some uri.now) (documents_of self.new) }
-        ensures misses { Misses (documents_of self.old) uri.now (documents_of self.new) }
+        ensures own { (documents_of self.new).held uri.now ≡ missed ((documents_of self.old).held uri.now) }
+        ensures others { (q : List ℕ) → bytes_eq q uri.now ≡ false → (documents_of self.new).held q ≡ (documents_of self.old).held q }
+        ensures encoding { self.new.encoding ≡ self.old.encoding }
     {
         self.lose(uri);
         not_made(Some(uri), fault, known)

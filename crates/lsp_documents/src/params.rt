@@ -1,5 +1,5 @@
 // What the params of notifications say.
-ghost use Rattle.std.specs.Prelude.{◌≡◌, ℕ, List, Option, option_map, option_and_then, codes, IfOk, string_bytes, ◌||◌};
+ghost use Rattle.std.specs.Prelude.{◌≡◌, ℕ, List, Option, option_map, option_and_then, codes, IfOk, string_bytes, is_none};
 ghost use Rattle.serde_json.specs.Find.{get, as_array};
 ghost use Rattle.serde_json.specs.View.{view, items_view};
 ghost use Rattle.lsp_text.specs.Documents.{Change, Document};
@@ -83,14 +83,23 @@ fn change_in(alloc: Global, change: &Value) -> Result<Option<ContentChange>, All
     Ok(Some(ContentChange { range, text }))
 }
 
+/// Whether a change is of the whole text, if the value is one.
+fn is_whole_text(change: &Value) -> Option<bool>
+    ensures { result ≡ option_map (λ c. is_none c.range) (change_of (view change.now)) }
+{
+    text_in(change, "text")?;
+    let range = given_range(change)?;
+    Some(range.is_none())
+}
+
 /// Whether one of the values is a change of the whole text, if each value is a change.
 fn whole_among(values: &[Value]) -> Option<bool>
     ensures { result ≡ option_map has_whole (changes_of (items_view values.now)) }
 {
     let mut whole = false;
     for value in values {
-        text_in(value, "text")?;
-        whole = whole || given_range(value)?.is_none();
+        let is_whole = is_whole_text(value)?;
+        whole = whole | is_whole;
     }
     Some(whole)
 }
