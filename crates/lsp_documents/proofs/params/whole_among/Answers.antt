@@ -12,4 +12,4 @@ loop-value-preserved c =
     c.loop-value.invariant
     ∙ ap (λ vs. option_map (λ cs. c.loop-value.whole || has_whole cs) (changes_in (items_view vs))) (drop_more c.args.values.now i c.value-item.result c.loop-value-test.true)
     ∙ ap (λ v. option_map (λ cs. c.loop-value.whole || has_whole cs) (changes_in (items_view (v ∷ drop (i + 1) c.args.values.now)))) (sym c.value-item.is)
-    ∙ whole_more c.loop-value.whole c.in_ok-is_whole.field-0 (change_in (view c.value-item.result)) (changes_in (items_view (drop (i + 1) c.args.values.now))) c.in_ok-is_whole.ensures
+    ∙ whole_more c.loop-value.whole c.in_ok-is_whole.is_whole (change_in (view c.value-item.result)) (changes_in (items_view (drop (i + 1) c.args.values.now))) (sym c.in_ok-is_whole.was ∙ c.is_whole_text.ensures)
