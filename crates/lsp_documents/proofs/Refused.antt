@@ -7,7 +7,7 @@ use Rattle.lsp_text.specs.Edits.{edited_by}
 use Rattle.lsp_text.specs.declared.position.PositionEncoding.{PositionEncoding}
 use Rattle.lsp_documents.specs.declared.kept.Open.{Open}
 use Rattle.lsp_documents.specs.declared.kept.Open.TheVariants.{Known, Lost}
-use Rattle.lsp_documents.specs.Session.{Notice, Sent, Sent.made, Sent.unmade, Sent.unread, Documents, Takes, missed, changed_in, has_whole, shown, opens, edits, closes, document}
+use Rattle.lsp_documents.specs.Session.{Notice, Sent.made, Sent.unmade, Sent.unread, Documents, Takes, missed, changed_in, has_whole, shown, opens, edits, closes, document}
 
 never : {P : Type 0} → false ≡ true → P
 never h = grind (arith, h)

@@ -11,7 +11,7 @@ use Rattle.lsp_documents.specs.declared.fault.DocumentFault.{DocumentFault}
 use Rattle.lsp_documents.specs.declared.fault.DocumentFault.TheVariants.{OutOfStep, Memory}
 use Rattle.lsp_documents.specs.declared.kept.Open.{Open}
 use Rattle.lsp_documents.specs.declared.kept.Open.TheVariants.{Known, Lost}
-use Rattle.lsp_documents.specs.Session.{Event, Event.opened, Event.changed, Event.saved, Event.closed, Notice, Sent, Sent.made, Sent.unmade, Sent.unread, Documents, Keeps, Puts, Makes, MissesAll, Takes, TakesAll, Agrees, IsClients, IsVersion, SavesOwn, SavesItsText, after, missed, kept_after, kept_after_all, told, told_all, events_in, events_of, notices_of, is_current, closes_it, has_whole, shown, fault_of, change_fault, changed_to, changed_in, saved_in, document, opens, edits, Failed}
+use Rattle.lsp_documents.specs.Session.{Event, Event.opened, Event.changed, Event.saved, Event.closed, Notice, Sent, Sent.made, Sent.unmade, Sent.unread, Documents, Keeps, Puts, Makes, Takes, TakesAll, Agrees, IsVersion, SavesOwn, SavesItsText, after, missed, kept_after, kept_after_all, told, told_all, events_in, events_of, notices_of, is_current, closes_it, has_whole, fault_of, change_fault, changed_to, document, opens, edits, Failed}
 
 never : {P : Type 0} → false ≡ true → P
 never h = grind (arith, h)

@@ -1,6 +1,6 @@
 -- The documents that a client has opened, after any list of its notifications (LSP 3.17, "Text Document Synchronization"): the
 -- client's own, and those that a server keeps, which may have missed some of what the client did.
-use Rattle.std.specs.Prelude.{◌≡◌, ◌⊎◌, ℕ, ℤ, int_lt, Bool, true, false, not, ◌||◌, ◌&&◌, if◌then◌else◌, is_none, is_some, option_map, option_and_then, List, [], ◌∷◌, ◌++◌, Option, Some, None, IsSomeAnd}
+use Rattle.std.specs.Prelude.{◌≡◌, ◌⊎◌, ℕ, ℤ, int_lt, Bool, true, false, not, ◌&&◌, if◌then◌else◌, is_none, is_some, option_map, option_and_then, List, [], ◌∷◌, ◌++◌, Option, Some, None, IsSomeAnd}
 use Rattle.std.specs.List.{list_any}
 use Rattle.std.specs.Str.{bytes_eq}
 use Rattle.lsp_text.specs.Documents.{Document, Change}

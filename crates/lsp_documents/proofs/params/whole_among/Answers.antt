@@ -1,4 +1,4 @@
-use Rattle.std.proofs.Common.{◌≡◌, ◌||◌, ◌∙◌, ◌∷◌, ◌+◌, ap, sym, drop, option_map}
+use Rattle.std.proofs.Common.{◌||◌, ◌∙◌, ◌∷◌, ◌+◌, ap, sym, drop, option_map}
 use Rattle.serde_json.specs.View.{view, items_view}
 use Rattle.std.proofs.lemmas.List.{drop_more}
 use Rattle.lsp_documents.specs.Params.{change_in, changes_in}
