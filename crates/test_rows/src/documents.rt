@@ -34,7 +34,8 @@ impl Documents {
     /// What comes of a message. One for which there was no memory is missed, so all before it is told once more.
     pub fn attempt(&mut self, text: &str) -> Result<Attempt, Stop> {
         let message = value_in(self.alloc, text)?;
-        let params = params_of(&message);
+        let none = Value::Null;
+        let params = message.get("params").unwrap_or(&none);
         let method = method_of(&message);
         if method == "initialize" {
             self.documents = TextDocuments::new(self.alloc, position_encoding(params));
@@ -75,10 +76,11 @@ impl Documents {
     /// Tells all that was told to documents that begin anew.
     fn tell_again(&mut self) -> Result<(), Stop> {
         self.documents = TextDocuments::new(self.alloc, self.documents.encoding());
+        let none = Value::Null;
         for text in self.told.iter() {
             let message = value_in(self.alloc, text.as_str())?;
-            let method = method_of(&message);
-            if let Err(missed) = hear(&mut self.documents, method, params_of(&message)) {
+            let params = message.get("params").unwrap_or(&none);
+            if let Err(missed) = hear(&mut self.documents, method_of(&message), params) {
                 if missed.fault == DocumentFault::Memory {
                     return Err(Stop::Memory);
                 }
@@ -148,10 +150,6 @@ impl Documents {
         }
         Ok(places)
     }
-}
-
-fn params_of(message: &Value) -> &Value {
-    message.get("params").unwrap_or(&Value::Null)
 }
 
 fn method_of(message: &Value) -> &str {
