@@ -79,10 +79,12 @@ fn show_talk<R: Print>(rt: &R, alloc: Global) -> Result<()> {
 /// Lets A ask so often, and shows how many replies came back to their own request, and how many messages were handed out.
 fn show_long<R: Print>(rt: &R, alloc: Global, requests: u64) -> Result<()> {
     match ask_often(alloc, requests) {
-        Ok(Long {
-            returned,
-            handed_out,
-        }) => {
+        Ok(
+            Long {
+                returned,
+                handed_out,
+            },
+        ) => {
             println!(rt;
                 "{returned} of {requests} replies gave back the payload of their request."
             )?;

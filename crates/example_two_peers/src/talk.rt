@@ -112,12 +112,7 @@ fn take_all(alloc: Global, world: &mut World, side: Side) -> Result<(), WorldFau
 }
 
 /// What a side does once its Take came to this.
-fn react(
-    alloc: Global,
-    world: &mut World,
-    side: Side,
-    outcome: Outcome,
-) -> Result<(), WorldFault>
+fn react(alloc: Global, world: &mut World, side: Side, outcome: Outcome) -> Result<(), WorldFault>
     requires { IsTalk world.old }
     ensures { OnOk result (IsTalk world.new) }
 {

@@ -8,3 +8,6 @@ returns-in-Cancel-clause-ok c = rw c.in-Cancel.is (λ mine theirs old agrees pla
 
 pub returns-in-Answer-clause-ok : goal.returns-in-Answer-clause-ok
 returns-in-Answer-clause-ok c = rw c.in-Answer.is (λ mine theirs old agrees placed reads. c.answer.ensures.ok mine theirs old agrees)
+
+pub returns-in-Refuse-clause-ok : goal.returns-in-Refuse-clause-ok
+returns-in-Refuse-clause-ok c = rw c.in-Refuse.is (λ mine theirs old agrees placed reads. (rw c.new_err.ensures at c.answer-in-Refuse.ensures.ok) mine theirs old agrees)
