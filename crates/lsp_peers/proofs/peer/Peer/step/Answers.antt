@@ -1,3 +1,10 @@
+use Rattle.std.proofs.Common.{subst}
+use Rattle.std.specs.Prelude.{IfOk}
+use Rattle.lsp_message.specs.View.{response_view}
+use Rattle.lsp_message.specs.declared.msg.Response.{Response}
+use Rattle.lsp_peers.specs.Agreement.{Agrees}
+use Rattle.lsp_peers.specs.Steps.{Accounts, Replies}
+use Rattle.lsp_peers.specs.declared.step.Outcome.TheVariants.{Answered}
 use Rattle.lsp_peers.proofs.peer.Peer.step.Goals as goal
 
 pub returns-in-Take-clause-ok : goal.returns-in-Take-clause-ok
@@ -10,4 +17,6 @@ pub returns-in-Answer-clause-ok : goal.returns-in-Answer-clause-ok
 returns-in-Answer-clause-ok c = rw c.in-Answer.is (λ mine theirs old agrees placed reads. c.answer.ensures.ok mine theirs old agrees)
 
 pub returns-in-Refuse-clause-ok : goal.returns-in-Refuse-clause-ok
-returns-in-Refuse-clause-ok c = rw c.in-Refuse.is (λ mine theirs old agrees placed reads. (rw c.new_err.ensures at c.answer-in-Refuse.ensures.ok) mine theirs old agrees)
+returns-in-Refuse-clause-ok c =
+    rw c.in-Refuse.is (λ mine theirs old agrees placed reads.
+    subst (λ (r : Response). IfOk c.answer-in-Refuse.result (λ outcome. (new : Accounts) × Replies r.id (response_view r) (λ label. Answered label) old outcome new × Agrees c.answer-in-Refuse.new.self c.answer-in-Refuse.new.far mine theirs new)) c.new_err.ensures (c.answer-in-Refuse.ensures.ok mine theirs old agrees))
