@@ -48,18 +48,17 @@ module _ {P J : Type 0} where
   IsNotStarted id (does act ∷ events) = IsNotStarted id events
   IsNotStarted id (starts i job ∷ events) = (eq_by_cmp id_cmp id i ≡ false) × IsNotStarted id events
 
+  earlier : (event : Event P J) (events : List (Event P J)) (id : Id) (job : J) → (event ≡ starts id job → ⊥) → (WaitsFor events id job → ⊥) → (b : Bool)
+      → MatchBool b (event ≡ starts id job) (WaitsFor events id job) → ⊥
+  earlier event events id job other never true e = other e
+  earlier event events id job other never false waits = never waits
+
   never_started : (events : List (Event P J)) (id : Id) (job : J) → IsNotStarted id events → WaitsFor events id job → ⊥
   never_started [] id job none waits = waits
-  never_started (comes letter ∷ events) id job none waits = at (concerns id (comes letter)) (never_started events id job none) waits
-    where
-      at : (b : Bool) → (WaitsFor events id job → ⊥) → MatchBool b (comes letter ≡ starts id job) (WaitsFor events id job) → ⊥
-      at true never e = absurd (cc (e))
-      at false never earlier = never earlier
-  never_started (does act ∷ events) id job none waits = at (concerns id (does act)) (never_started events id job none) waits
-    where
-      at : (b : Bool) → (WaitsFor events id job → ⊥) → MatchBool b (does act ≡ starts id job) (WaitsFor events id job) → ⊥
-      at true never e = absurd (cc (e))
-      at false never earlier = never earlier
+  never_started (comes letter ∷ events) id job none waits =
+      earlier (comes letter) events id job (λ e. absurd (cc (e))) (never_started events id job none) (concerns id (comes letter)) waits
+  never_started (does act ∷ events) id job none waits =
+      earlier (does act) events id job (λ e. absurd (cc (e))) (never_started events id job none) (concerns id (does act)) waits
   never_started (starts i other ∷ events) id job none waits =
       never_started events id job none.1 (subst (λ (b : Bool). MatchBool b (starts i other ≡ starts id job) (WaitsFor events id job)) none.0 waits)
 
