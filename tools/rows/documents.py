@@ -78,8 +78,8 @@ def text_member(value, name):
 def position_member(value, name):
     shape(isinstance(value, dict) and isinstance(value.get(name), dict))
     numbers = [value[name].get("line"), value[name].get("character")]
-    shape(all(whole(it, 0, 2**64 - 1) for it in numbers))
-    return tuple(min(it, GREATEST) for it in numbers)
+    shape(all(whole(it, 0, GREATEST) for it in numbers))
+    return tuple(numbers)
 
 
 def span_of(change):
@@ -96,8 +96,15 @@ def agreed(params):
     return next((it for it in offered if isinstance(it, str) and it in UNITS), "utf-16")
 
 
+def version_member(item):
+    """A version. None may be given, and null is none."""
+    version = item.get("version")
+    shape(version is None or whole(version, -(2**31), 2**31 - 1))
+    return version
+
+
 class Documents:
-    """What a server holds, and what it answers."""
+    """What a server holds, and what it answers. A document whose text is lost has None for its text and its version."""
 
     def __init__(self, encoding):
         self.encoding = encoding
@@ -113,51 +120,83 @@ class Documents:
             return [self.encoding]
         return [self.row(method, params)]
 
-    def hears(self, method, params):
-        """What is answered. Params of another shape raise."""
-        shape(isinstance(params, dict))
-        item = params.get("textDocument")
-        uri = text_member(item, "uri")
-        if method == "textDocument/didOpen":
-            language, version, text = text_member(item, "languageId"), item.get("version"), text_member(item, "text")
-            shape(whole(version, -(2**31), 2**31 - 1))
-            if uri in self.open:
-                return "the document is open already"
-            self.open[uri] = (version, language, text)
-        elif method == "textDocument/didChange":
-            version, changes = item.get("version"), params.get("contentChanges")
-            shape(whole(version, -(2**31), 2**31 - 1) and isinstance(changes, list))
-            changes = [(text_member(change, "text"), span_of(change)) for change in changes]
-            if uri not in self.open:
-                return "the document is not open"
-            before, language, text = self.open[uri]
-            if version < before:
-                return "the version goes back"
-            for new, span in changes:
-                text = edited(text, span, new, self.encoding)
-            self.open[uri] = (version, language, text)
-        elif uri not in self.open:
-            return "the document is not open"
-        elif method == "textDocument/didClose":
-            del self.open[uri]
-        if uri not in self.seen:
-            self.seen.append(uri)
-        return "ok"
-
     def row(self, method, params):
+        known = {uri for uri in self.open if self.is_known(uri)}
+        uri = self.named(params)
         try:
-            answer = self.hears(method, params)
+            shape(uri is not None)
+            answer = self.hears(method, uri, params)
+            if answer.startswith("ok") and uri not in self.seen:
+                self.seen.append(uri)
         except ValueError:
             answer = "params of another shape"
-        return "\t".join([answer] + [self.shown(uri) for uri in self.seen])
+            if uri is not None:
+                self.lose(uri)
+            elif method != "textDocument/didSave":
+                for it in self.open:
+                    self.lose(it)
+        if any(it in self.open and not self.is_known(it) for it in known) or (uri is None and method != "textDocument/didSave"):
+            answer += ", its text is lost"
+        return "\t".join([answer] + [self.shown(it) for it in self.seen])
+
+    def named(self, params):
+        """The URI that params name, if any."""
+        item = params.get("textDocument") if isinstance(params, dict) else None
+        uri = item.get("uri") if isinstance(item, dict) else None
+        return uri if isinstance(uri, str) else None
+
+    def is_known(self, uri):
+        return uri in self.open and self.open[uri][2] is not None
+
+    def lose(self, uri):
+        """What the client told was missed: only the language is known for sure."""
+        if uri in self.open:
+            self.open[uri] = (None, self.open[uri][1], None)
+
+    def hears(self, method, uri, params):
+        """What is answered. Params of another shape raise."""
+        if method == "textDocument/didOpen":
+            return self.hears_open(uri, params["textDocument"])
+        if method == "textDocument/didChange":
+            return self.hears_change(uri, params)
+        if uri not in self.open:
+            return "the document is not open"
+        if method == "textDocument/didClose":
+            del self.open[uri]
+        elif not self.is_known(uri) and isinstance(params.get("text"), str):
+            self.open[uri] = (None, self.open[uri][1], params["text"])
+        return "ok"
+
+    def hears_open(self, uri, item):
+        language, version, text = text_member(item, "languageId"), version_member(item), text_member(item, "text")
+        answer = "ok: the document was open already" if uri in self.open else "ok"
+        self.open[uri] = (version, language, text)
+        return answer
+
+    def hears_change(self, uri, params):
+        version, changes = version_member(params["textDocument"]), params.get("contentChanges")
+        shape(isinstance(changes, list))
+        changes = [(text_member(change, "text"), span_of(change)) for change in changes]
+        if uri not in self.open:
+            return "the document is not open"
+        before, language, text = self.open[uri]
+        if text is None and all(span for _, span in changes):
+            return "the document is out of step"
+        for new, span in changes:
+            text = new if span is None else text if text is None else edited(text, span, new, self.encoding)
+        self.open[uri] = (version, language, text)
+        return "ok: the version goes back" if None not in (version, before) and version < before else "ok"
 
     def shown(self, uri):
         if uri not in self.open:
             return f"{uri} -"
+        if not self.is_known(uri):
+            return f"{uri} ?"
         version, language, text = self.open[uri]
         places = [position(text, i, self.encoding) for i in range(len(text) + 1)]
         written = json.dumps(text, ensure_ascii=False)
-        return f"{uri} {version} {language} {written} {len(lines(text))} " + " ".join("%d:%d" % it for it in places)
+        number = "none" if version is None else version
+        return f"{uri} {number} {language} {written} {len(lines(text))} " + " ".join("%d:%d" % it for it in places)
 
 
 # Rows.
@@ -238,8 +277,17 @@ OFFERS = [
 SPAN = {"start": {"line": 0, "character": 0}, "end": {"line": 0, "character": 1}}
 
 
+def back(table, uri):
+    """Each way in which a document comes back, or does not, after what was missed."""
+    return [
+        lambda: table.changes(uri, 9, [(((0, 0), (0, 0)), "-"), (None, "whole"), (((0, 5), (0, 5)), ".")]),
+        lambda: table.saves(uri, text="saved"), lambda: table.saves(uri), lambda: table.saves(uri, text=1),
+        lambda: table.opens(uri, "again", 1, "third"), lambda: table.closes(uri), lambda: table.opens(uri, "anew", None),
+    ]
+
+
 def wrong(table):
-    """Notifications with something wrong in them. Each leaves both documents as they are."""
+    """Notifications with something wrong in them, and after each one each way back."""
     table.begin("utf-16")
     a, b = "file:///a", "file:///b"
     table.opens(a, "abc", 5)
@@ -249,32 +297,43 @@ def wrong(table):
     table.changes(a, 4, [(None, "no")])
     table.changes(a, 5, [(((0, 3), (0, 3)), "d")])
     table.changes(a, 6, [])
+    table.changes(a, None, [(((0, 3), (0, 3)), "e")])
+    table.changes(a, 2, [(((0, 3), (0, 3)), "f")])
+    table.tell("textDocument/didChange", {"textDocument": {"uri": a}, "contentChanges": []})
     table.saves("file:///c")
     table.closes("file:///c")
     table.saves(a)
-    table.saves(b, text="not read")
+    table.saves(b, text=5)
+    table.saves(b, text="not taken: the text is known")
     item = {"uri": a, "version": 7}
+    at = lambda line, character: {"textDocument": item, "contentChanges": [{"text": "y", "range": {"start": {"line": line, "character": character}, "end": {"line": line, "character": character}}}]}
     for method, params in [
         ("didOpen", None), ("didOpen", []), ("didOpen", {}), ("didOpen", {"textDocument": 1}),
         ("didOpen", {"textDocument": {"languageId": "l", "version": 1, "text": ""}}),
         ("didOpen", {"textDocument": {"uri": 1, "languageId": "l", "version": 1, "text": ""}}),
         ("didOpen", {"textDocument": {"uri": "u", "version": 1, "text": ""}}),
-        ("didOpen", {"textDocument": {"uri": "u", "languageId": "l", "text": ""}}),
-        ("didOpen", {"textDocument": {"uri": "u", "languageId": "l", "version": 2147483648, "text": ""}}),
-        ("didOpen", {"textDocument": {"uri": "u", "languageId": "l", "version": 1.5, "text": ""}}),
-        ("didOpen", {"textDocument": {"uri": "u", "languageId": "l", "version": 1}}),
-        ("didChange", {"textDocument": {"uri": a}, "contentChanges": []}),
-        ("didChange", {"textDocument": {"uri": a, "version": None}, "contentChanges": []}),
+        ("didOpen", {"textDocument": {"uri": a, "version": 1, "text": ""}}),
+        ("didOpen", {"textDocument": {"uri": a, "languageId": "l", "version": 2147483648, "text": ""}}),
+        ("didOpen", {"textDocument": {"uri": a, "languageId": "l", "version": 1.5, "text": ""}}),
+        ("didOpen", {"textDocument": {"uri": a, "languageId": "l", "version": 1}}),
+        ("didChange", {"contentChanges": []}), ("didChange", {"textDocument": {"uri": a, "version": "8"}, "contentChanges": []}),
         ("didChange", {"textDocument": item}), ("didChange", {"textDocument": item, "contentChanges": {}}),
         ("didChange", {"textDocument": item, "contentChanges": [1]}),
         ("didChange", {"textDocument": item, "contentChanges": [{"text": "x"}, {"range": SPAN}]}),
         ("didChange", {"textDocument": item, "contentChanges": [{"text": "x"}, {"text": "y", "range": 1}]}),
         ("didChange", {"textDocument": item, "contentChanges": [{"text": "y", "range": {"start": SPAN["start"]}}]}),
-        ("didChange", {"textDocument": item, "contentChanges": [{"text": "y", "range": {"start": {"line": -1, "character": 0}, "end": SPAN["end"]}}]}),
         ("didChange", {"textDocument": item, "contentChanges": [{"text": "y", "range": {"start": {"line": 0}, "end": SPAN["end"]}}]}),
+        ("didChange", at(-1, 0)), ("didChange", at(0, -1)), ("didChange", at(0.5, 0)), ("didChange", at(0, 1.0)), ("didChange", at(2**32, 0)),
+        ("didChange", at(0, 2**53)), ("didChange", at(0, 2**64)), ("didChange", at(True, 0)), ("didChange", at(GREATEST, GREATEST)), ("didChange", at(2**31, 0)),
         ("didSave", {}), ("didClose", {"textDocument": {}}), ("didClose", None),
     ]:
-        table.tell("textDocument/" + method, params)
+        for way in back(table, a):
+            table.tell("textDocument/" + method, params)
+            table.changes(a, 8, [(((0, 1), (0, 1)), "-")])
+            way()
+            table.changes(a, 10, [(((0, 1), (0, 1)), "+")])
+        table.opens(a, "abc", 5)
+        table.opens(b, "x\r\ny", 1, "other")
     table.tell("textDocument/didChange", {"textDocument": item, "contentChanges": [{"text": "w", "range": None}, {"text": "y", "range": SPAN, "rangeLength": 9}]})
     table.closes(a)
     table.closes(a)
@@ -320,15 +379,24 @@ def session(table, source, count):
         uri = source.choice(URIS)
         held = table.documents.open.get(uri)
         kind = source.random()
-        if (held is None) == (source.random() < 0.9):
-            table.opens(uri, some_text(source, 14), source.randrange(-2, 4))
+        if held and source.random() < 0.06:
+            name = uri if source.random() < 0.8 else None
+            table.tell("textDocument/didChange", {"textDocument": {"uri": name, "version": 1}, "contentChanges": [{"text": None}]})
+        elif held and held[2] is None and source.random() < 0.4:
+            if source.random() < 0.5:
+                table.saves(uri, text=some_text(source, 14))
+            else:
+                table.changes(uri, 4, [(None, some_text(source, 14))] + some_changes(source, "", encoding))
+        elif (held is None) == (source.random() < 0.9):
+            table.opens(uri, some_text(source, 14), source.choice([None, -2, -1, 0, 1, 2, 3]))
         elif kind < 0.08:
             table.saves(uri)
         elif kind < 0.2:
             table.closes(uri)
         else:
             version, _, text = held or (0, "", "")
-            table.changes(uri, version + source.choice([1, 1, 1, 2, 0, -1]), some_changes(source, text, encoding))
+            next_version = None if source.random() < 0.05 else (version or 0) + source.choice([1, 1, 1, 2, 0, -1])
+            table.changes(uri, next_version, some_changes(source, text or "", encoding))
 
 
 def rows(seed, sessions):

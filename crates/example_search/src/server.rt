@@ -1,7 +1,7 @@
 // The server: the texts that are open, what the client is told, and what it asks.
 use crate::search::{Search, Silence, Source};
 use crate::sums::{Named, Span, sheet_of, value_of, words_of};
-use lsp_documents::{DocumentFault, TextDocuments, position_encoding, position_in};
+use lsp_documents::{DocumentFault, Made, NotMade, TextDocuments, position_encoding, position_in};
 use lsp_jobs::{CancellationToken, Job, JobServer, Start};
 use lsp_server::{Act, ErrorCode, Notification, Request, RequestId, ResponseError, Server};
 use lsp_text::{Position, PositionEncoding, Text};
@@ -112,9 +112,14 @@ impl Server for Sums {
             _ => return Ok(Vec::new(self.alloc)),
         };
         match heard {
-            Ok(uri) => self.check(uri),
-            Err(DocumentFault::Memory) => Err(AllocError),
-            Err(fault) => self.complain(fault),
+            Ok(made) => self.hear(made),
+            Err(
+                NotMade {
+                    fault: DocumentFault::Memory,
+                    ..
+                },
+            ) => Err(AllocError),
+            Err(missed) => self.complain(missed),
         }
     }
 
@@ -132,9 +137,11 @@ impl Server for Sums {
             .pointer("/0/largest")
             .and_then(|value| value.as_i64());
         self.largest = largest.unwrap_or(i64::MAX);
-        for (uri, document) in self.documents.iter() {
-            let (told, _) = self.marks(uri.as_str(), document.text())?;
-            acts.push(told)?;
+        for (uri, kept) in self.documents.iter() {
+            if let Some(document) = kept.document() {
+                let (told, _) = self.marks(uri.as_str(), document.text())?;
+                acts.push(told)?;
+            }
         }
         Ok(acts)
     }
@@ -205,11 +212,13 @@ impl Sums {
             return Ok(None);
         };
         let mut sources = Vec::new(self.alloc);
-        for (uri, document) in self.documents.iter() {
-            sources.push(Source {
-                uri: uri.clone()?,
-                text: String::from_str(self.alloc, document.text().as_str())?,
-            })?;
+        for (uri, kept) in self.documents.iter() {
+            if let Some(document) = kept.document() {
+                sources.push(Source {
+                    uri: uri.clone()?,
+                    text: String::from_str(self.alloc, document.text().as_str())?,
+                })?;
+            }
         }
         let progress = match params.get("workDoneToken") {
             Some(token) if token.as_str().is_some() || token.as_i64().is_some() => {
@@ -259,15 +268,40 @@ impl Sums {
         Ok(acts)
     }
 
-    /// Has the client show that a notification was wrong (LSP 3.17, "LogMessage Notification").
-    fn complain(&self, fault: DocumentFault) -> Result<Acts, AllocError> {
+    /// What the client is told after a notification that was made: what there is to say of it, and what is wrong with the text.
+    fn hear(&mut self, made: Made<'_>) -> Result<Acts, AllocError> {
         let mut acts = Vec::new(self.alloc);
-        let message = format!(in self.alloc; "{fault}")?;
-        acts.push(Act::Tell(Notification {
-            method: String::from_str(self.alloc, "window/logMessage")?,
-            params: json!(in self.alloc; { "type": 1, "message": message })?,
-        }))?;
+        if let Some(remark) = made.remark {
+            let uri = made.uri;
+            acts.push(self.log(2, format!(in self.alloc; "{uri}: {remark}")?)?)?;
+        }
+        for act in self.check(made.uri)? {
+            acts.push(act)?;
+        }
         Ok(acts)
+    }
+
+    /// What the client is told after a notification that was not made: why, and no marks of a text that was lost by it.
+    fn complain(&self, missed: NotMade<'_>) -> Result<Acts, AllocError> {
+        let mut acts = Vec::new(self.alloc);
+        let fault = missed.fault;
+        let Some(uri) = missed.uri else {
+            acts.push(self.log(1, format!(in self.alloc; "{fault}")?)?)?;
+            return Ok(acts);
+        };
+        acts.push(self.log(1, format!(in self.alloc; "{uri}: {fault}")?)?)?;
+        if missed.lost {
+            acts.push(diagnostics(self.alloc, uri, Vec::new(self.alloc))?)?;
+        }
+        Ok(acts)
+    }
+
+    /// Has the client log a message (LSP 3.17, "LogMessage Notification").
+    fn log(&self, kind: i64, message: String) -> Result<Act<Asked>, AllocError> {
+        Ok(Act::Tell(Notification {
+            method: String::from_str(self.alloc, "window/logMessage")?,
+            params: json!(in self.alloc; { "type": kind, "message": message })?,
+        }))
     }
 
     /// The notification that shows what is wrong with a text, and whether nothing is.
@@ -345,7 +379,7 @@ impl Sums {
 /// What the server can do. UTF-16 is what a client takes for granted.
 fn capabilities(alloc: Global, encoding: PositionEncoding) -> Result<Value, AllocError> {
     let mut can = json!(in alloc; {
-        "textDocumentSync": { "openClose": true, "change": 2 },
+        "textDocumentSync": { "openClose": true, "change": 2, "save": { "includeText": true } },
         "hoverProvider": true,
         "workspaceSymbolProvider": { "workDoneProgress": true }
     })?;

@@ -1,19 +1,47 @@
 -- What is known of a world while two sides talk in it, and at the end.
-use Rattle.std.specs.Prelude.{◌≡◌, List, [], map as each}
+use Rattle.std.specs.FinMap as map
+use Rattle.std.specs.Option.{option_map_or}
+use Rattle.std.specs.Prelude.{◌≡◌, ◌-◌, List, [], ◌∷◌, Bool, true, false, length, slice_get, map as each}
+use Rattle.lsp_message.specs.Message as plain
+use Rattle.lsp_message.specs.Methods.{is_initialize, is_exit}
 use Rattle.lsp_message.specs.View.{message_view}
+use Rattle.lsp_message.specs.declared.msg.Message.{Message}
+use Rattle.lsp_queue.specs.Queue.{pending_of}
 use Rattle.lsp_peers.specs.Exchange.{WorldAfter, seen_at}
-use Rattle.lsp_peers.specs.History.{Event, IsHistory, events_of, letters_written}
+use Rattle.lsp_peers.specs.History.{Event, written_in, events_of, letters_written}
 use Rattle.lsp_peers.specs.Letter.{messages}
 use Rattle.lsp_peers.specs.Shallow.{AreReadable}
-use Rattle.lsp_peers.specs.Sides.{other}
+use Rattle.lsp_peers.specs.Sides.{side_of, other}
 use Rattle.lsp_peers.specs.declared.step.Side.{Side}
+use Rattle.lsp_peers.specs.declared.step.Side.TheVariants.{A, B}
 use Rattle.lsp_peers.specs.declared.world.World.{World}
 
--- the world is what it is after some events, and each message that was written can be read back
-abbrev pub IsTalk : World → Type 0
-IsTalk world = (history : List Event) × WorldAfter world (λ side. []) history × AreReadable history
+-- the first event is of the client, who wrote the request `initialize`
+pub record Begins (history : List Event) : Type 0 where
+  pub first : Event
+  pub rest : List Event
+  pub message : plain.Message
+  pub history_is : first ∷ rest ≡ history
+  pub by : side_of first.step ≡ A
+  pub wrote : written_in first.step first.outcome ≡ message ∷ []
+  pub initializes : is_initialize message ≡ true
 
--- after some events each side has taken exactly the messages that the other one wrote, in order
-abbrev pub SawTheSame : World → Type 0
-SawTheSame world = (history : List Event) × IsHistory history
-    × ((side : Side) → each message_view (seen_at side world).taken ≡ messages (letters_written (events_of (other side) history)))
+-- The world is what it is after some events. The first wrote `initialize`, and each message that was written can be read back.
+abbrev pub IsTalk : World → Type 0
+IsTalk world = (history : List Event) × WorldAfter world (λ side. []) history × AreReadable history × Begins history
+
+-- whether the last of these messages is the notification `exit`
+abbrev pub last_is_exit : List Message → Bool
+last_is_exit taken = option_map_or (λ m. is_exit (message_view m)) (slice_get taken (length taken - 1)) false
+
+-- What a talk leaves that came to its end: of the very events that made this world.
+pub record HasEnded (world : World) : Type 0 where
+  pub history : List Event
+  pub after : WorldAfter world (λ side. []) history
+  pub begun : Begins history
+  -- each side took exactly the messages that the other one wrote, in order
+  pub saw : (side : Side) → each message_view (seen_at side world).taken ≡ messages (letters_written (events_of (other side) history))
+  -- the last of them that the server took is `exit`
+  pub exited : last_is_exit (seen_at B world).taken ≡ true
+  -- each request of the client has its reply
+  pub replied : map.len (pending_of (seen_at A world).queue.outgoing) ≡ 0

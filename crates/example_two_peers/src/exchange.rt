@@ -7,7 +7,6 @@ ghost use Rattle.lsp_peers.specs.Letter.{messages};
 ghost use Rattle.lsp_peers.specs.Shallow.{AllShallow};
 ghost use Rattle.lsp_peers.specs.Sides.{other};
 
-use lsp_peers::laws::a_shallow_run_is_a_history;
 use lsp_peers::{Outcome, Side, Step, World, WorldFault};
 use std::alloc::Global;
 
@@ -20,7 +19,6 @@ pub fn run_through(
         × (each (λ event. event.step) history ≡ steps.items) × (each (λ event. event.outcome) history ≡ r.1.items) × IsHistory history
         × ((side : Side) → each message_view (seen_at side r.0).taken ≡ messages (letters_written (events_of (other side) history)))) }
 {
-    a_shallow_run_is_a_history();
     let (world, outcomes) = World::run(alloc, steps)?;
     let all = is_idle(&world, Side::A) && is_idle(&world, Side::B);
     Ok((world, outcomes, all))

@@ -4,56 +4,65 @@ use lsp_peers::{Outcome, Side, Step, World, WorldFault};
 use serde_json::Value;
 use std::alloc::Global;
 
-/// Lets A ask this many times, one request after another, and B answer each. Says how many replies gave back their own payload.
-pub fn ask_often(alloc: Global, requests: u64) -> Result<u64, WorldFault> {
+/// What came of a long run.
+pub struct Long {
+    /// How many replies gave back their own payload.
+    pub returned: u64,
+    /// How many messages were handed out.
+    pub handed_out: usize,
+}
+
+/// Lets A ask this many times, one request after another, and B answer each.
+pub fn ask_often(alloc: Global, requests: u64) -> Result<Long, WorldFault> {
     let mut world = World::new(alloc);
-    let mut returned = 0;
+    let mut returned: u64 = 0;
+    let mut handed_out: usize = 0;
     for payload in 0..requests {
-        let (answered, own) = ask_once(alloc, world, payload)?;
-        world = answered;
-        world.hand_out(alloc, Side::A);
-        world.hand_out(alloc, Side::B);
-        if own && returned < requests {
-            returned += 1;
+        if ask_once(alloc, &mut world, payload)? {
+            returned = returned.saturating_add(1);
         }
+        let replies = world.hand_out(alloc, Side::A);
+        let asked = world.hand_out(alloc, Side::B);
+        handed_out = handed_out
+            .saturating_add(replies.len())
+            .saturating_add(asked.len());
     }
-    Ok(returned)
+    Ok(Long {
+        returned,
+        handed_out,
+    })
 }
 
 /// A asks and B answers. Says whether A got its payload back.
-fn ask_once(alloc: Global, world: World, payload: u64) -> Result<(World, bool), WorldFault> {
+fn ask_once(alloc: Global, world: &mut World, payload: u64) -> Result<bool, WorldFault> {
     let register = Step::Register {
         side: Side::A,
         method: String::from_str(alloc, "p")?,
         params: Value::Null,
         payload,
     };
-    let (world, outcome) = world.step(register)?;
-    let Outcome::Registered(id) = outcome else {
-        return Ok((world, false));
+    let Outcome::Registered(id) = world.step(register)? else {
+        return Ok(false);
     };
-    let world = carry(world, Side::B, payload)?.0;
-    let world = answer(world, id)?;
-    let (world, outcome) = carry(world, Side::A, payload)?;
-    let own = matches!(outcome, Outcome::Returned(_, Some(back)) if back == payload);
-    Ok((world, own))
+    carry(world, Side::B, payload)?;
+    answer(world, id)?;
+    let outcome = carry(world, Side::A, payload)?;
+    Ok(matches!(outcome, Outcome::Returned(_, Some(back)) if back == payload))
 }
 
-fn answer(world: World, id: RequestId) -> Result<World, WorldFault> {
-    let step = Step::Answer {
+fn answer(world: &mut World, id: RequestId) -> Result<Outcome, WorldFault> {
+    world.step(Step::Answer {
         side: Side::B,
         id,
         result: Value::Null,
-    };
-    Ok(world.step(step)?.0)
+    })
 }
 
 /// All bytes arrive at a side, and it takes the message.
-fn carry(world: World, to: Side, label: u64) -> Result<(World, Outcome), WorldFault> {
-    let all = Step::Pass {
+fn carry(world: &mut World, to: Side, label: u64) -> Result<Outcome, WorldFault> {
+    world.step(Step::Pass {
         to,
         bytes: usize::MAX,
-    };
-    let (world, _) = world.step(all)?;
+    })?;
     world.step(Step::Take { side: to, label })
 }

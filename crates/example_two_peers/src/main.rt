@@ -11,7 +11,7 @@ mod talk;
 
 use anyhow::Result;
 use exchange::run_through;
-use long::ask_often;
+use long::{Long, ask_often};
 use lsp_message::Message;
 use lsp_peers::{Outcome, Side, World, WorldFault};
 use script::{side_of, step_of};
@@ -65,22 +65,30 @@ fn run_lines<R: Print>(rt: &R, alloc: Global, lines: &[&str]) -> Result<()> {
 /// Lets a client and a server talk, and shows what each of them took.
 fn show_talk<R: Print>(rt: &R, alloc: Global) -> Result<()> {
     match talk(alloc) {
-        Ok((world, all)) => {
+        Ok((world, ended)) => {
             show_taken(rt, alloc, "A", world.taken(Side::A))?;
             show_taken(rt, alloc, "B", world.taken(Side::B))?;
-            show_end(rt, all)
+            let end = if ended { "came" } else { "did not come" };
+            println!(rt; "The talk {end} to its end.\n")?;
+            Ok(())
         }
         Err(fault) => show_fault(rt, fault),
     }
 }
 
-/// Lets A ask so often, and shows how many replies came back to their own request.
+/// Lets A ask so often, and shows how many replies came back to their own request, and how many messages were handed out.
 fn show_long<R: Print>(rt: &R, alloc: Global, requests: u64) -> Result<()> {
     match ask_often(alloc, requests) {
-        Ok(returned) => {
+        Ok(
+            Long {
+                returned,
+                handed_out,
+            },
+        ) => {
             println!(rt;
-                "{returned} of {requests} replies gave back the payload of their request.\n"
+                "{returned} of {requests} replies gave back the payload of their request."
             )?;
+            println!(rt; "{handed_out} messages were handed out.\n")?;
             Ok(())
         }
         Err(fault) => show_fault(rt, fault),

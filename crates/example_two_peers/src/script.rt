@@ -6,6 +6,7 @@
 //! B gets 59                   up to 59 bytes arrive at B
 //! B takes 2                   B takes a message; where it is a request, B holds it as 2
 //! B answers 0 true            B answers the request 0 with this result
+//! B refuses 0 -32601 text     B answers the request 0 with the error of this code and text
 //! B cancels 0                 B replies that the request 0 was cancelled
 //! B gives-up 0                B forgets the request 0
 //! B gives-up "x"              and the request whose id is this text
@@ -36,6 +37,7 @@ pub fn step_of(alloc: Global, line: &str) -> Result<Step> {
         "gets" => pass(side, rest),
         "takes" => take(side, rest),
         "answers" => answer(alloc, side, rest),
+        "refuses" => refuse(alloc, side, rest),
         "cancels" => cancel(alloc, side, rest),
         "gives-up" => give_up(alloc, side, rest),
         _ => bail!("no such step: {line}"),
@@ -78,6 +80,17 @@ fn answer(alloc: Global, side: Side, words: &str) -> Result<Step> {
         side,
         id: id_of(alloc, id)?,
         result: Value::from_str(alloc, result)?,
+    })
+}
+
+fn refuse(alloc: Global, side: Side, words: &str) -> Result<Step> {
+    let (id, rest) = words.split_once(" ").context("no code")?;
+    let (code, message) = rest.split_once(" ").context("no text")?;
+    Ok(Step::Refuse {
+        side,
+        id: id_of(alloc, id)?,
+        code: code.parse()?,
+        message: String::from_str(alloc, message)?,
     })
 }
 

@@ -1,13 +1,18 @@
 //! A test client and a server in one world, from the handshake to `exit` (LSP 3.17, "Server lifecycle"). The client is A and the
 //! server is B. Bytes arrive one by one, and each side does what the message that it took asks for.
-ghost use Rattle.std.specs.Prelude.{◌≡◌, ◌≤◌, true, IfOk, IfSome};
+ghost use Rattle.std.specs.FinMap as map;
+ghost use Rattle.std.specs.Prelude.{◌≡◌, ◌≤◌, true, IfOk, IfSome, OnOk};
 ghost use Rattle.serde_json.specs.Data.{depth};
 ghost use Rattle.serde_json.specs.View.{view};
-ghost use Rattle.example_two_peers.specs.Talk.{IsTalk, SawTheSame};
+ghost use Rattle.example_two_peers.specs.Talk.{IsTalk, HasEnded, last_is_exit};
+ghost use Rattle.lsp_message.specs.Methods.{is_exit as exit_spec};
+ghost use Rattle.lsp_message.specs.View.{message_view};
+ghost use Rattle.lsp_peers.specs.Exchange.{seen_at};
 ghost use Rattle.lsp_peers.specs.Shallow.{IsShallow};
+ghost use Rattle.lsp_queue.specs.Queue.{pending_of};
 
 use crate::exchange::is_idle;
-use lsp_message::{Message, RequestId};
+use lsp_message::{ErrorCode, Message, RequestId};
 use lsp_peers::laws::{a_readable_history_takes_any_step, a_shallow_step_keeps_a_history_readable};
 use lsp_peers::{Outcome, Side, Step, World, WorldFault};
 use serde_json::{Value, json};
@@ -18,45 +23,98 @@ const INITIALIZE: u64 = 1;
 
 const SLOW: u64 = 2;
 
-const SHUTDOWN: u64 = 3;
+const UNKNOWN: u64 = 3;
+
+const SHUTDOWN: u64 = 4;
 
 /// How often each side takes what the other one wrote.
-const ROUNDS: u32 = 4;
+const ROUNDS: u32 = 5;
 
-/// Lets the client and the server talk, and says whether nothing is left in the links. Then both saw the same messages.
+/// Lets the client and the server talk, and says whether they came to the end: the client has a reply to each of its requests, the
+/// server took `exit` last, and each saw the same messages.
 pub fn talk(alloc: Global) -> Result<(World, bool), WorldFault>
-    ensures { IfOk result (λ r. r.1 ≡ true → SawTheSame r.0) }
+    ensures begun { IfOk result (λ r. IsTalk r.0) }
+    ensures ended { IfOk result (λ r. r.1 ≡ true → HasEnded r.0) }
 {
-    let world = World::new(alloc);
     let params = json!(in alloc; { "capabilities": {} })?;
-    let mut world = ask(alloc, world, "initialize", params, INITIALIZE)?;
+    let mut world = begin(alloc, params)?;
     for _ in 0..ROUNDS {
-        world = take_all(alloc, world, Side::B)?;
-        world = take_all(alloc, world, Side::A)?;
+        take_all(alloc, &mut world, Side::B)?;
+        take_all(alloc, &mut world, Side::A)?;
+    }
+    if !has_ended(&world) {
+        return Ok((world, false));
     }
     let all = is_idle(&world, Side::A) && is_idle(&world, Side::B);
     Ok((world, all))
 }
 
-/// Lets the bytes on the way to a side arrive one by one. The side takes each message as soon as it is whole, and answers it.
-fn take_all(alloc: Global, world: World, side: Side) -> Result<World, WorldFault>
-    requires { IsTalk world }
-    ensures { IfOk result (λ new. IsTalk new) }
+/// Whether the client has its replies, and the server took `exit` last.
+fn has_ended(world: &World) -> bool
+    ensures replied { result ≡ true → map.len (pending_of (seen_at Side.A world.now).queue.outgoing) ≡ 0 }
+    ensures exited { result ≡ true → last_is_exit (seen_at Side.B world.now).taken ≡ true }
 {
-    let mut world = world;
-    let bytes = world.on_way(side).len();
-    for _ in 0..bytes {
-        let (passed, _) = act(world, Step::Pass { to: side, bytes: 1 })?;
-        let (taken, outcome) = act(passed, Step::Take { side, label: 0 })?;
-        world = react(alloc, taken, side, outcome)?;
+    if world.queue(Side::A).outgoing.has_pending() {
+        return false;
     }
+    is_last_exit(world.taken(Side::B))
+}
+
+/// A new world, in which the client has asked the server to initialize.
+fn begin(alloc: Global, params: Value) -> Result<World, WorldFault>
+    requires { depth (view params) ≤ 126 }
+    ensures { IfOk result (λ world. IsTalk world) }
+{
+    a_shallow_step_keeps_a_history_readable();
+    let mut world = World::new(alloc);
+    let method = String::from_str(alloc, "initialize")?;
+    let step = Step::Register {
+        side: Side::A,
+        method,
+        params,
+        payload: INITIALIZE,
+    };
+    world.step(step)?;
     Ok(world)
 }
 
+/// Whether the last of these messages is the notification `exit`.
+fn is_last_exit(taken: &[Message]) -> bool
+    ensures { result ≡ last_is_exit taken.now }
+{
+    match taken.last() {
+        Some(message) => is_exit(message),
+        None => false,
+    }
+}
+
+fn is_exit(message: &Message) -> bool
+    ensures { result ≡ exit_spec (message_view message.now) }
+{
+    match message {
+        Message::Notification(note) => note.method.as_str() == "exit",
+        Message::Request(_) | Message::Response(_) => false,
+    }
+}
+
+/// Lets the bytes on the way to a side arrive one by one. The side takes each message as soon as it is whole, and answers it.
+fn take_all(alloc: Global, world: &mut World, side: Side) -> Result<(), WorldFault>
+    requires { IsTalk world.old }
+    ensures { OnOk result (IsTalk world.new) }
+{
+    let bytes = world.on_way(side).len();
+    for _ in 0..bytes {
+        act(world, Step::Pass { to: side, bytes: 1 })?;
+        let outcome = act(world, Step::Take { side, label: 0 })?;
+        react(alloc, world, side, outcome)?;
+    }
+    Ok(())
+}
+
 /// What a side does once its Take came to this.
-fn react(alloc: Global, world: World, side: Side, outcome: Outcome) -> Result<World, WorldFault>
-    requires { IsTalk world }
-    ensures { IfOk result (λ new. IsTalk new) }
+fn react(alloc: Global, world: &mut World, side: Side, outcome: Outcome) -> Result<(), WorldFault>
+    requires { IsTalk world.old }
+    ensures { OnOk result (IsTalk world.new) }
 {
     match side {
         Side::A => client(alloc, world, outcome),
@@ -64,15 +122,16 @@ fn react(alloc: Global, world: World, side: Side, outcome: Outcome) -> Result<Wo
     }
 }
 
-/// What the client does once it has a reply: it asks for something slow and cancels it, then shuts the server down.
-fn client(alloc: Global, world: World, outcome: Outcome) -> Result<World, WorldFault>
-    requires { IsTalk world }
-    ensures { IfOk result (λ new. IsTalk new) }
+/// What the client does once it has a reply: it asks for something slow and cancels it, then for something that the server doesn't
+/// know, then it shuts the server down.
+fn client(alloc: Global, world: &mut World, outcome: Outcome) -> Result<(), WorldFault>
+    requires { IsTalk world.old }
+    ensures { OnOk result (IsTalk world.new) }
 {
     match outcome {
         Outcome::Returned(_, Some(INITIALIZE)) => {
-            let world = tell(alloc, world, "initialized", json!(in alloc; {})?)?;
-            let world = ask(alloc, world, "test/slow", Value::Null, SLOW)?;
+            tell(alloc, world, "initialized", json!(in alloc; {})?)?;
+            ask(alloc, world, "test/slow", SLOW)?;
             tell(
                 alloc,
                 world,
@@ -80,42 +139,61 @@ fn client(alloc: Global, world: World, outcome: Outcome) -> Result<World, WorldF
                 json!(in alloc; { "id": 1 })?,
             )
         }
-        Outcome::Returned(_, Some(SLOW)) => ask(alloc, world, "shutdown", Value::Null, SHUTDOWN),
+        Outcome::Returned(_, Some(SLOW)) => ask(alloc, world, "test/unknown", UNKNOWN),
+        Outcome::Returned(_, Some(UNKNOWN)) => ask(alloc, world, "shutdown", SHUTDOWN),
         Outcome::Returned(_, Some(SHUTDOWN)) => tell(alloc, world, "exit", Value::Null),
-        _ => Ok(world),
+        _ => Ok(()),
     }
 }
 
 /// What the server does with a request or a notification. The message is the last that it took.
-fn server(alloc: Global, world: World, outcome: Outcome) -> Result<World, WorldFault>
-    requires { IsTalk world }
-    ensures { IfOk result (λ new. IsTalk new) }
+fn server(alloc: Global, world: &mut World, outcome: Outcome) -> Result<(), WorldFault>
+    requires { IsTalk world.old }
+    ensures { OnOk result (IsTalk world.new) }
 {
     let side = Side::B;
     match outcome {
-        Outcome::Arrived(id) => match result_of(alloc, world.taken(side))? {
-            Some(result) => Ok(act(world, Step::Answer { side, id, result })?.0),
-            None => Ok(world),
-        },
-        Outcome::Notified => match cancelled_by(world.taken(side))? {
-            Some(id) => Ok(act(world, Step::Cancel { side, id })?.0),
-            None => Ok(world),
-        },
-        _ => Ok(world),
+        Outcome::Arrived(id) => {
+            if let Some(reply) = reply_to(alloc, id, world.taken(side))? {
+                act(world, reply)?;
+            }
+        }
+        Outcome::Notified => {
+            if let Some(id) = cancelled_by(world.taken(side))? {
+                act(world, Step::Cancel { side, id })?;
+            }
+        }
+        _ => {}
     }
+    Ok(())
 }
 
-/// The result of the last request, if it is one that the server answers at once.
-fn result_of(alloc: Global, taken: &[Message]) -> Result<Option<Value>, AllocError>
-    ensures { IfOk result (λ answer. IfSome answer (λ value. depth (view value) ≤ 126)) }
+/// The server's reply to the last request, if it gives one at once.
+fn reply_to(alloc: Global, id: RequestId, taken: &[Message]) -> Result<Option<Step>, AllocError>
+    ensures { IfOk result (λ reply. IfSome reply IsShallow) }
 {
+    let side = Side::B;
     let Some(Message::Request(request)) = taken.last() else {
         return Ok(None);
     };
     match request.method.as_str() {
-        "initialize" => Ok(Some(json!(in alloc; { "capabilities": {} })?)),
-        "shutdown" => Ok(Some(Value::Null)),
-        _ => Ok(None),
+        "initialize" => Ok(Some(Step::Answer {
+            side,
+            id,
+            result: json!(in alloc; { "capabilities": {} })?,
+        })),
+        "shutdown" => Ok(Some(Step::Answer {
+            side,
+            id,
+            result: Value::Null,
+        })),
+        "test/slow" => Ok(None),
+        _ => Ok(Some(Step::Refuse {
+            side,
+            id,
+            code: ErrorCode::MethodNotFound.number(),
+            message: String::from_str(alloc, "method not found")?,
+        })),
     }
 }
 
@@ -133,33 +211,27 @@ fn cancelled_by(taken: &[Message]) -> Result<Option<RequestId>, AllocError> {
     }
 }
 
-/// The client sends a request.
-fn ask(
-    alloc: Global,
-    world: World,
-    method: &str,
-    params: Value,
-    payload: u64,
-) -> Result<World, WorldFault>
-    requires talk { IsTalk world }
-    requires shallow { depth (view params) ≤ 126 }
-    ensures { IfOk result (λ new. IsTalk new) }
+/// The client sends a request without params.
+fn ask(alloc: Global, world: &mut World, method: &str, payload: u64) -> Result<(), WorldFault>
+    requires { IsTalk world.old }
+    ensures { OnOk result (IsTalk world.new) }
 {
     let method = String::from_str(alloc, method)?;
     let step = Step::Register {
         side: Side::A,
         method,
-        params,
+        params: Value::Null,
         payload,
     };
-    Ok(act(world, step)?.0)
+    act(world, step)?;
+    Ok(())
 }
 
 /// The client sends a notification.
-fn tell(alloc: Global, world: World, method: &str, params: Value) -> Result<World, WorldFault>
-    requires talk { IsTalk world }
+fn tell(alloc: Global, world: &mut World, method: &str, params: Value) -> Result<(), WorldFault>
+    requires talk { IsTalk world.old }
     requires shallow { depth (view params) ≤ 126 }
-    ensures { IfOk result (λ new. IsTalk new) }
+    ensures { OnOk result (IsTalk world.new) }
 {
     let method = String::from_str(alloc, method)?;
     let step = Step::Tell {
@@ -167,14 +239,15 @@ fn tell(alloc: Global, world: World, method: &str, params: Value) -> Result<Worl
         method,
         params,
     };
-    Ok(act(world, step)?.0)
+    act(world, step)?;
+    Ok(())
 }
 
 /// One step. What it writes can be read back, so each step after it may be taken too.
-fn act(world: World, step: Step) -> Result<(World, Outcome), WorldFault>
-    requires talk { IsTalk world }
+fn act(world: &mut World, step: Step) -> Result<Outcome, WorldFault>
+    requires talk { IsTalk world.old }
     requires shallow { IsShallow step }
-    ensures { IfOk result (λ r. IsTalk r.0) }
+    ensures { OnOk result (IsTalk world.new) }
 {
     a_readable_history_takes_any_step();
     a_shallow_step_keeps_a_history_readable();

@@ -1,6 +1,6 @@
 -- What the params of a notification say (LSP 3.17, "DidOpenTextDocumentParams" and the ones after it), and the encoding that a
 -- client offers ("GeneralClientCapabilities").
-use Rattle.std.specs.Prelude.{ℕ, ℤ, min, if◌then◌else◌, List, [], ◌∷◌, Option, Some, None, option_map, option_and_then, unwrap_or, codes, is_some}
+use Rattle.std.specs.Prelude.{ℕ, ℤ, nat_lt, if◌then◌else◌, List, [], ◌∷◌, Option, Some, None, option_map, option_and_then, unwrap_or, codes, is_some}
 use Rattle.std.specs.Str.{bytes_eq}
 use Rattle.serde_json.specs.Data.{Data, null, Items, no_items, item}
 use Rattle.serde_json.specs.Find.{get, as_str, as_number, as_u64, as_array}
@@ -10,19 +10,28 @@ use Rattle.lsp_text.specs.declared.position.Position.{Position}
 use Rattle.lsp_text.specs.declared.position.Range.{Range}
 use Rattle.lsp_text.specs.declared.position.PositionEncoding.{PositionEncoding}
 use Rattle.lsp_text.specs.declared.position.PositionEncoding.TheVariants.{Utf8, Utf16, Utf32}
-use Rattle.lsp_documents.specs.Session.{Notice, opens, edits, saves, closes}
+use Rattle.lsp_documents.specs.Session.{Notice, document, opens, edits, saves, closes}
 
 -- ---- members
 
 abbrev pub text_in : List ℕ → Data → Option (List ℕ)
 text_in name d = option_and_then as_str (get name d)
 
--- how many lines or units: a number that 32 bits don't hold counts as the greatest one that they do
-abbrev pub count_in : List ℕ → Data → Option ℕ
-count_in name d = option_map (λ n. min n 0xFFFF_FFFF) (option_and_then as_u64 (option_and_then as_number (get name d)))
+-- how many lines or units, if 32 bits hold the number
+abbrev pub small : ℕ → Option ℕ
+small n = if nat_lt n 0x1_0000_0000 then Some n else None
 
-abbrev pub version_in : Data → Option ℤ
-version_in d = option_and_then as_i32 (option_and_then as_number (get (codes "version") d))
+abbrev pub count_in : List ℕ → Data → Option ℕ
+count_in name d = option_and_then small (option_and_then as_u64 (option_and_then as_number (get name d)))
+
+-- a version. None may be given, and `null` is none
+abbrev pub given_version : Option Data → Option (Option ℤ)
+given_version None = Some None
+given_version (Some null) = Some None
+given_version (Some d) = option_map Some (option_and_then as_i32 (as_number d))
+
+abbrev pub version_in : Data → Option (Option ℤ)
+version_in d = given_version (get (codes "version") d)
 
 -- ---- changes
 
@@ -55,17 +64,22 @@ uri_in params = option_and_then (text_in (codes "uri")) (document_in params)
 
 -- the document that `textDocument/didOpen` tells of
 abbrev pub item_in : Data → Option Document
-item_in d = option_and_then (λ language_id. option_and_then (λ version. option_map (λ text. record { language_id = language_id; version = version; text = text }) (text_in (codes "text") d)) (version_in d)) (text_in (codes "languageId") d)
+item_in d = option_and_then (λ language_id. option_and_then (λ version. option_map (document language_id version) (text_in (codes "text") d)) (version_in d)) (text_in (codes "languageId") d)
+
+abbrev pub opened_in : Data → Option Document
+opened_in params = option_and_then item_in (document_in params)
 
 abbrev pub did_open_in : Data → Option Notice
-did_open_in params = option_and_then (λ uri. option_map (λ d. opens uri d.language_id d.version d.text) (option_and_then item_in (document_in params))) (uri_in params)
+did_open_in params = option_and_then (λ uri. option_map (λ d. opens uri d.language_id d.version d.text) (opened_in params)) (uri_in params)
+
+abbrev pub changes_given : Data → Option (List Change)
+changes_given params = option_and_then changes_in (option_and_then as_array (get (codes "contentChanges") params))
 
 abbrev pub did_change_in : Data → Option Notice
-did_change_in params = option_and_then (λ uri. option_and_then (λ version. option_map (edits uri version)
-    (option_and_then changes_in (option_and_then as_array (get (codes "contentChanges") params)))) (option_and_then version_in (document_in params))) (uri_in params)
+did_change_in params = option_and_then (λ uri. option_and_then (λ version. option_map (edits uri version) (changes_given params)) (option_and_then version_in (document_in params))) (uri_in params)
 
 abbrev pub did_save_in : Data → Option Notice
-did_save_in params = option_map saves (uri_in params)
+did_save_in params = option_map (λ uri. saves uri (text_in (codes "text") params)) (uri_in params)
 
 abbrev pub did_close_in : Data → Option Notice
 did_close_in params = option_map closes (uri_in params)

@@ -1,29 +1,35 @@
 // The documents that a client has opened, by their URIs.
-ghost use Rattle.std.specs.Prelude.{◌≡◌, ℕ, List, [], ◌∷◌, Option, Some, None, false, OnOk, OnErr, IfOk, IfErr, IsSomeAnd, codes};
-ghost use Rattle.std.specs.Option.{option_copied, ForSome};
+ghost use Rattle.std.specs.Prelude.{◌≡◌, ℕ, List, Option, Some, None, true, false, not, ◌&&◌, is_some, option_map, option_and_then, OnOk, OnErr, IfOk, IfErr, IsSomeAnd};
+ghost use Rattle.std.specs.Option.{option_copied};
 ghost use Rattle.std.specs.Str.{bytes_eq};
-ghost use Rattle.std.specs.BTreeMap.{get_by_text};
 ghost use Rattle.serde_json.specs.View.{view};
-ghost use Rattle.lsp_text.specs.Edits.{edited_by};
 ghost use Rattle.lsp_documents.specs.Held.{documents_of};
-ghost use Rattle.lsp_documents.specs.Session.{opens, edits, closes, saved, fault_of, Keeps, Took, Refuses};
-ghost use Rattle.lsp_documents.specs.Params.{did_open_in, did_change_in, did_save_in, did_close_in};
+ghost use Rattle.lsp_documents.specs.Session.{document, opens, edits, closes, saves, shown, lost, missed, goes_back as is_back, changed_in, saved_in, change_fault, has_whole as has_whole_text, is_known, loses, MissesAll, Took, Refused, Failed, FailedSave};
+ghost use Rattle.lsp_documents.specs.declared.kept.Open.TheVariants.{Known};
+ghost use Rattle.lsp_documents.specs.declared.fault.DocumentFault.TheVariants.{Params};
+ghost use Rattle.lsp_documents.specs.Params.{uri_in, did_open_in, did_change_in, did_save_in, did_close_in};
 
-use crate::fault::DocumentFault;
+use crate::fault::{DocumentFault, Made, NotMade, Remark};
+use crate::kept::Open;
+use crate::lost::LostDocument;
 use crate::params;
 use lsp_text::{ContentChange, PositionEncoding, TextDocument};
 use serde_json::Value;
 use std::alloc::{AllocError, Global};
 use std::collections::BTreeMap;
 use std::collections::btree_map::Iter;
+use std::mem;
 
-/// The documents that a client has opened, by their URIs. Two URIs are the same where they are the same text. Contracts see the
-/// encoding that was agreed on, and the document of each URI.
+/// The documents that a client has opened, by their URIs. Two URIs are the same where they are the same text. Where something that
+/// the client told of a document was missed, its text is lost, and not to be had until the client tells it whole. Contracts see
+/// the encoding that was agreed on, and what is kept of each URI.
+///
+/// A call that fails by `Memory` has missed what it was told. Don't make it again: the document is lost already.
 #[derive(Drop)]
 pub struct TextDocuments {
     alloc: Global,
     encoding: PositionEncoding,
-    documents: BTreeMap<String, TextDocument>,
+    documents: BTreeMap<String, Open>,
 }
 
 impl TextDocuments {
@@ -46,163 +52,204 @@ impl TextDocuments {
         self.encoding
     }
 
-    /// The document of a URI, where it is open.
+    /// The document of a URI, where it is open and its text is known.
     pub fn get(&self, uri: &str) -> Option<&TextDocument>
-        ensures { option_copied result ≡ (documents_of self.now).held uri.now }
+        ensures { option_copied result ≡ option_and_then shown ((documents_of self.now).held uri.now) }
     {
-        self.documents.get(uri)
+        self.documents.get(uri)?.document()
     }
 
-    /// The documents, each beside its URI, in the order of these.
-    pub fn iter(&self) -> Iter<'_, String, TextDocument>
+    /// Whether a document of the URI is open, its text known or lost.
+    pub fn is_open(&self, uri: &str) -> bool
+        ensures { result ≡ is_some ((documents_of self.now).held uri.now) }
+    {
+        self.documents.contains_key(uri)
+    }
+
+    /// What is kept of each document that is open, beside its URI, in the order of these.
+    pub fn iter(&self) -> Iter<'_, String, Open>
         ensures { result ≡ self.now.documents.entries }
     {
         self.documents.iter()
     }
 
-    /// Opens a document. Where the URI has one, the fault is `AlreadyOpen`. After a fault nothing is changed.
+    /// Whether the text of a URI is known.
+    fn knows(&self, uri: &str) -> bool
+        ensures { result ≡ is_known (documents_of self.now) uri.now }
+    {
+        self.get(uri).is_some()
+    }
+
+    /// Opens a document. Where the URI has one already, this one takes its place, and the remark is `OpenAlready`. Where memory
+    /// runs out, the text of the one that it had is lost.
     pub fn open(
         &mut self,
         uri: &str,
         language_id: &str,
-        version: i32,
+        version: Option<i32>,
         text: &str,
-    ) -> Result<(), DocumentFault>
-        ensures ok { OnOk result (Took (documents_of self.old) (opens uri.now language_id.now version text.now) (documents_of self.new)) }
-        ensures err { IfErr result (λ fault. Refuses (documents_of self.old) (Some (opens uri.now language_id.now version text.now)) fault) }
-        ensures kept { OnErr result (Keeps (documents_of self.old) (documents_of self.new)) }
+    ) -> Result<Option<Remark>, DocumentFault>
+        ensures ok { IfOk result (λ remark. Took (documents_of self.old) (opens uri.now language_id.now version text.now) remark (documents_of self.new)) }
+        ensures err { IfErr result (λ fault. Refused (documents_of self.old) (opens uri.now language_id.now version text.now) fault (documents_of self.new)) }
     {
-        if self.documents.contains_key(uri) {
-            return Err(DocumentFault::AlreadyOpen);
+        let remark = if self.documents.contains_key(uri) {
+            Some(Remark::OpenAlready)
+        } else {
+            None
+        };
+        match self.insert(uri, language_id, version, text) {
+            Ok(()) => Ok(remark),
+            Err(_) => {
+                self.lose(uri);
+                Err(DocumentFault::Memory)
+            }
         }
-        let document = TextDocument::new(self.alloc, language_id, version, text)?;
-        self.insert(uri, document)?;
-        Ok(())
     }
 
-    /// Puts the document of a URI in.
-    fn insert(&mut self, uri: &str, document: TextDocument) -> Result<(), AllocError>
-        ensures own { OnOk result ((documents_of self.new).held uri.now ≡ Some document) }
-        ensures others { (q : List ℕ) → bytes_eq q uri.now ≡ false → (documents_of self.new).held q ≡ (documents_of self.old).held q }
-        ensures kept { OnErr result (Keeps (documents_of self.old) (documents_of self.new)) }
+    /// Puts the document of a URI in. Where memory runs out, nothing is changed.
+    fn insert(
+        &mut self,
+        uri: &str,
+        language_id: &str,
+        version: Option<i32>,
+        text: &str,
+    ) -> Result<(), AllocError>
+        ensures own { OnOk result ((documents_of self.new).held uri.now ≡ Some (Known (document language_id.now version text.now))) }
+        ensures others { OnOk result ((q : List ℕ) → bytes_eq q uri.now ≡ false → (documents_of self.new).held q ≡ (documents_of self.old).held q) }
+        ensures err { OnErr result ((q : List ℕ) → (documents_of self.new).held q ≡ (documents_of self.old).held q) }
         ensures encoding { self.new.encoding ≡ self.old.encoding }
     {
+        let document = TextDocument::new(self.alloc, language_id, version, text)?;
         let uri = String::from_str(self.alloc, uri)?;
-        self.documents.insert(uri, document)?;
+        self.documents.insert(uri, Open::Known(document))?;
         Ok(())
     }
 
-    /// Makes the changes of one notification in a document, each in the text that the one before it left. Without a document of the
-    /// URI the fault is `NotOpen`, and `OldVersion` where the version is below the document's. After a fault nothing is changed.
+    /// Why changes of a document can't be made, where a whole text is among them or not.
+    fn refusal(&self, uri: &str, whole: bool) -> Option<DocumentFault>
+        ensures { result ≡ change_fault ((documents_of self.now).held uri.now) whole }
+    {
+        match self.documents.get(uri) {
+            None => Some(DocumentFault::NotOpen),
+            Some(Open::Known(_)) => None,
+            Some(Open::Lost(_)) => {
+                if whole {
+                    None
+                } else {
+                    Some(DocumentFault::OutOfStep)
+                }
+            }
+        }
+    }
+
+    /// Makes the changes of one notification in a document, each in the text that the one before it left. Where the version is
+    /// below the document's the remark is `VersionBack`. Without a document of the URI the fault is `NotOpen`, and `OutOfStep`
+    /// where its text is lost and no change is of the whole text: nothing is changed then. Where memory runs out, the text is
+    /// lost.
     pub fn change(
         &mut self,
         uri: &str,
-        version: i32,
+        version: Option<i32>,
         changes: &[ContentChange],
-    ) -> Result<(), DocumentFault>
-        ensures ok { OnOk result (Took (documents_of self.old) (edits uri.now version changes.now) (documents_of self.new)) }
-        ensures err { IfErr result (λ fault. Refuses (documents_of self.old) (Some (edits uri.now version changes.now)) fault) }
-        ensures kept { OnErr result (Keeps (documents_of self.old) (documents_of self.new)) }
+    ) -> Result<Option<Remark>, DocumentFault>
+        ensures ok { IfOk result (λ remark. Took (documents_of self.old) (edits uri.now version changes.now) remark (documents_of self.new)) }
+        ensures err { IfErr result (λ fault. Refused (documents_of self.old) (edits uri.now version changes.now) fault (documents_of self.new)) }
     {
-        let Some(document) = self.documents.get(uri) else {
-            return Err(DocumentFault::NotOpen);
-        };
-        if version < document.version() {
-            return Err(DocumentFault::OldVersion);
+        if let Some(fault) = self.refusal(uri, has_whole(changes)) {
+            return Err(fault);
         }
+        let remark = if goes_back(version, self.version_of(uri)) {
+            Some(Remark::VersionBack)
+        } else {
+            None
+        };
         self.edit(uri, version, changes)?;
-        Ok(())
+        Ok(remark)
     }
 
-    /// Makes changes in the document of a URI, if there is one.
-    fn edit(&mut self, uri: &str, version: i32, changes: &[ContentChange]) -> Result<(), AllocError>
-        ensures own { OnOk result (ForSome ((documents_of self.old).held uri.now) (λ d. (documents_of self.new).held uri.now ≡ Some (record { language_id = d.language_id; version = version; text = edited_by self.old.encoding d.text changes.now }))) }
+    /// The version of a document whose text is known, where it has one.
+    fn version_of(&self, uri: &str) -> Option<i32>
+        ensures { result ≡ option_and_then (λ d. d.version) (option_and_then shown ((documents_of self.now).held uri.now)) }
+    {
+        self.get(uri)?.version()
+    }
+
+    /// Makes changes in the document of a URI, if there is one: in the text that is known, or from the whole text on that is among
+    /// them.
+    fn edit(
+        &mut self,
+        uri: &str,
+        version: Option<i32>,
+        changes: &[ContentChange],
+    ) -> Result<(), AllocError>
+        requires { change_fault ((documents_of self.old).held uri.now) (has_whole_text changes.now) ≡ None }
+        ensures own { OnOk result ((documents_of self.new).held uri.now ≡ option_map (λ o. changed_in self.old.encoding o version changes.now) ((documents_of self.old).held uri.now)) }
+        ensures err { OnErr result ((documents_of self.new).held uri.now ≡ missed ((documents_of self.old).held uri.now)) }
         ensures others { (q : List ℕ) → bytes_eq q uri.now ≡ false → (documents_of self.new).held q ≡ (documents_of self.old).held q }
-        ensures err { OnErr result ((documents_of self.new).held uri.now ≡ (documents_of self.old).held uri.now) }
         ensures encoding { self.new.encoding ≡ self.old.encoding }
     {
-        if let Some(document) = self.documents.get_mut(uri) {
-            document.change(self.alloc, version, self.encoding, changes)?;
+        if let Some(open) = self.documents.get_mut(uri) {
+            change_open(self.alloc, open, version, self.encoding, changes)?;
         }
         Ok(())
     }
 
-    /// Opens the document that the params of `textDocument/didOpen` tell of (LSP 3.17, `DidOpenTextDocumentParams`), as `open` does.
-    /// Returns its URI. Where they are of another shape the fault is `Params`, and nothing is changed.
-    pub fn did_open<'v>(&mut self, params: &'v Value) -> Result<&'v str, DocumentFault>
-        ensures ok { IfOk result (λ uri. IsSomeAnd (did_open_in (view params.now)) (λ n. (uri.now ≡ n.uri) × Took (documents_of self.old) n (documents_of self.new))) }
-        ensures err { IfErr result (λ fault. Refuses (documents_of self.old) (did_open_in (view params.now)) fault) }
-        ensures kept { OnErr result (Keeps (documents_of self.old) (documents_of self.new)) }
+    /// Makes the text of the document of a URI unknown, if there is one: something that the client told of it was missed.
+    pub fn lose(&mut self, uri: &str)
+        ensures own { (documents_of self.new).held uri.now ≡ missed ((documents_of self.old).held uri.now) }
+        ensures others { (q : List ℕ) → bytes_eq q uri.now ≡ false → (documents_of self.new).held q ≡ (documents_of self.old).held q }
+        ensures encoding { self.new.encoding ≡ self.old.encoding }
     {
-        let Some(item) = params::item_in(params) else {
-            return Err(DocumentFault::Params);
-        };
-        self.open(item.uri, item.language_id, item.version, item.text)?;
-        Ok(item.uri)
-    }
-
-    /// Makes the changes that the params of `textDocument/didChange` tell of (LSP 3.17, `DidChangeTextDocumentParams`), as `change`
-    /// does. Returns the document's URI. Where they are of another shape the fault is `Params`, and nothing is changed.
-    pub fn did_change<'v>(&mut self, params: &'v Value) -> Result<&'v str, DocumentFault>
-        ensures ok { IfOk result (λ uri. IsSomeAnd (did_change_in (view params.now)) (λ n. (uri.now ≡ n.uri) × Took (documents_of self.old) n (documents_of self.new))) }
-        ensures err { IfErr result (λ fault. Refuses (documents_of self.old) (did_change_in (view params.now)) fault) }
-        ensures kept { OnErr result (Keeps (documents_of self.old) (documents_of self.new)) }
-    {
-        let (Some(uri), Some(version)) = (params::uri_in(params), params::version_of(params)) else {
-            return Err(DocumentFault::Params);
-        };
-        let Some(changes) = params::content_changes(self.alloc, params)? else {
-            return Err(DocumentFault::Params);
-        };
-        self.change(uri, version, changes.as_slice())?;
-        Ok(uri)
-    }
-
-    /// Hears that the document was saved that the params of `textDocument/didSave` tell of (LSP 3.17,
-    /// `DidSaveTextDocumentParams`), as `save` does. A text in the params is not read. Returns the document's URI. Where they are
-    /// of another shape the fault is `Params`.
-    pub fn did_save<'v>(&self, params: &'v Value) -> Result<&'v str, DocumentFault>
-        ensures ok { IfOk result (λ uri. IsSomeAnd (did_save_in (view params.now)) (λ n. (uri.now ≡ n.uri) × (fault_of ((documents_of self.now).held n.uri) n.event ≡ None))) }
-        ensures err { IfErr result (λ fault. Refuses (documents_of self.now) (did_save_in (view params.now)) fault) }
-    {
-        let Some(uri) = params::uri_in(params) else {
-            return Err(DocumentFault::Params);
-        };
-        self.save(uri)?;
-        Ok(uri)
-    }
-
-    /// Closes the document that the params of `textDocument/didClose` tell of (LSP 3.17, `DidCloseTextDocumentParams`), as `close`
-    /// does. Returns its URI. Where they are of another shape the fault is `Params`.
-    pub fn did_close<'v>(&mut self, params: &'v Value) -> Result<&'v str, DocumentFault>
-        ensures ok { IfOk result (λ uri. IsSomeAnd (did_close_in (view params.now)) (λ n. (uri.now ≡ n.uri) × Took (documents_of self.old) n (documents_of self.new))) }
-        ensures err { IfErr result (λ fault. Refuses (documents_of self.old) (did_close_in (view params.now)) fault) }
-        ensures kept { OnErr result (Keeps (documents_of self.old) (documents_of self.new)) }
-    {
-        let Some(uri) = params::uri_in(params) else {
-            return Err(DocumentFault::Params);
-        };
-        self.close(uri)?;
-        Ok(uri)
-    }
-
-    /// Hears that a document was saved. No document is changed. Without one of the URI the fault is `NotOpen`.
-    pub fn save(&self, uri: &str) -> Result<(), DocumentFault>
-        ensures ok { OnOk result (fault_of ((documents_of self.now).held uri.now) saved ≡ None) }
-        ensures err { IfErr result (λ fault. fault_of ((documents_of self.now).held uri.now) saved ≡ Some fault) }
-    {
-        if self.documents.contains_key(uri) {
-            Ok(())
-        } else {
-            Err(DocumentFault::NotOpen)
+        if let Some(open) = self.documents.get_mut(uri) {
+            lose_text(self.alloc, open);
         }
+    }
+
+    /// Makes the text of each document unknown: something was missed that the client may have told of any of them.
+    pub fn lose_all(&mut self)
+        ensures held { (q : List ℕ) → (documents_of self.new).held q ≡ missed ((documents_of self.old).held q) }
+        ensures encoding { self.new.encoding ≡ self.old.encoding }
+    {
+        let alloc = self.alloc;
+        self.documents.retain(|_, open| {
+            lose_text(alloc, open);
+            true
+        });
+    }
+
+    /// Hears that a document was saved. A text that is given is taken only where the document's own is lost. Without a document of
+    /// the URI the fault is `NotOpen`, and nothing is changed. Where memory runs out, the text stays lost.
+    pub fn save(&mut self, uri: &str, text: Option<&str>) -> Result<(), DocumentFault>
+        ensures ok { OnOk result (Took (documents_of self.old) (saves uri.now (option_map (λ s. s.now) text.entry)) None (documents_of self.new)) }
+        ensures err { IfErr result (λ fault. Refused (documents_of self.old) (saves uri.now (option_map (λ s. s.now) text.entry)) fault (documents_of self.new)) }
+    {
+        if !self.documents.contains_key(uri) {
+            return Err(DocumentFault::NotOpen);
+        }
+        if let Some(text) = text {
+            self.renew(uri, text)?;
+        }
+        Ok(())
+    }
+
+    /// Puts a text into the document of a URI, if there is one whose text is lost.
+    fn renew(&mut self, uri: &str, text: &str) -> Result<(), AllocError>
+        ensures own { OnOk result ((documents_of self.new).held uri.now ≡ option_map (λ o. saved_in o text.now) ((documents_of self.old).held uri.now)) }
+        ensures err { OnErr result ((documents_of self.new).held uri.now ≡ (documents_of self.old).held uri.now) }
+        ensures lost { OnErr result (option_and_then shown ((documents_of self.old).held uri.now) ≡ None) }
+        ensures others { (q : List ℕ) → bytes_eq q uri.now ≡ false → (documents_of self.new).held q ≡ (documents_of self.old).held q }
+        ensures encoding { self.new.encoding ≡ self.old.encoding }
+    {
+        if let Some(open) = self.documents.get_mut(uri) {
+            renew_open(self.alloc, open, text)?;
+        }
+        Ok(())
     }
 
     /// Closes a document. Without one of the URI the fault is `NotOpen`.
     pub fn close(&mut self, uri: &str) -> Result<(), DocumentFault>
-        ensures ok { OnOk result (Took (documents_of self.old) (closes uri.now) (documents_of self.new)) }
-        ensures err { IfErr result (λ fault. Refuses (documents_of self.old) (Some (closes uri.now)) fault) }
-        ensures kept { OnErr result (Keeps (documents_of self.old) (documents_of self.new)) }
+        ensures ok { OnOk result (Took (documents_of self.old) (closes uri.now) None (documents_of self.new)) }
+        ensures err { IfErr result (λ fault. Refused (documents_of self.old) (closes uri.now) fault (documents_of self.new)) }
     {
         match self.remove(uri) {
             Some(_) => Ok(()),
@@ -211,7 +258,7 @@ impl TextDocuments {
     }
 
     /// Takes the document of a URI out.
-    fn remove(&mut self, uri: &str) -> Option<TextDocument>
+    fn remove(&mut self, uri: &str) -> Option<Open>
         ensures value { result ≡ (documents_of self.old).held uri.now }
         ensures own { (documents_of self.new).held uri.now ≡ None }
         ensures others { (q : List ℕ) → bytes_eq q uri.now ≡ false → (documents_of self.new).held q ≡ (documents_of self.old).held q }
@@ -219,4 +266,208 @@ impl TextDocuments {
     {
         self.documents.remove(uri)
     }
+
+    /// Opens the document that the params of `textDocument/didOpen` tell of (LSP 3.17, `DidOpenTextDocumentParams`), as `open` does.
+    /// Where they are of another shape the fault is `Params`, and the text of the URI that they name is lost. Where they name none
+    /// that is each text.
+    pub fn did_open<'v>(&mut self, params: &'v Value) -> Result<Made<'v>, NotMade<'v>>
+        ensures ok { IfOk result (λ m. IsSomeAnd (did_open_in (view params.now)) (λ n. (m.uri.now ≡ n.uri) × Took (documents_of self.old) n m.remark (documents_of self.new))) }
+        ensures err { IfErr result (λ m. Failed (documents_of self.old) (did_open_in (view params.now)) (uri_in (view params.now)) m.fault (documents_of self.new)) }
+        ensures named { IfErr result (λ m. option_map (λ s. s.now) m.uri ≡ uri_in (view params.now)) }
+        ensures lost { IfErr result (λ m. m.lost ≡ loses (documents_of self.old) (uri_in (view params.now)) (documents_of self.new)) }
+    {
+        let Some(uri) = params::uri_in(params) else {
+            return Err(self.missed_all());
+        };
+        let known = self.knows(uri);
+        let Some(item) = params::item_in(params) else {
+            return Err(self.missed(uri, known, DocumentFault::Params));
+        };
+        match self.open(uri, item.language_id, item.version, item.text) {
+            Ok(remark) => Ok(Made { uri, remark }),
+            Err(fault) => Err(self.unmade(uri, known, fault)),
+        }
+    }
+
+    /// Makes the changes that the params of `textDocument/didChange` tell of (LSP 3.17, `DidChangeTextDocumentParams`), as `change`
+    /// does. Where they are of another shape the fault is `Params`, and the text of the URI that they name is lost. Where they name
+    /// none that is each text.
+    pub fn did_change<'v>(&mut self, params: &'v Value) -> Result<Made<'v>, NotMade<'v>>
+        ensures ok { IfOk result (λ m. IsSomeAnd (did_change_in (view params.now)) (λ n. (m.uri.now ≡ n.uri) × Took (documents_of self.old) n m.remark (documents_of self.new))) }
+        ensures err { IfErr result (λ m. Failed (documents_of self.old) (did_change_in (view params.now)) (uri_in (view params.now)) m.fault (documents_of self.new)) }
+        ensures named { IfErr result (λ m. option_map (λ s. s.now) m.uri ≡ uri_in (view params.now)) }
+        ensures lost { IfErr result (λ m. m.lost ≡ loses (documents_of self.old) (uri_in (view params.now)) (documents_of self.new)) }
+    {
+        let Some(uri) = params::uri_in(params) else {
+            return Err(self.missed_all());
+        };
+        let known = self.knows(uri);
+        let Some(version) = params::version_of(params) else {
+            return Err(self.missed(uri, known, DocumentFault::Params));
+        };
+        let Some(whole) = params::whole_in(params) else {
+            return Err(self.missed(uri, known, DocumentFault::Params));
+        };
+        if let Some(fault) = self.refusal(uri, whole) {
+            return Err(self.unmade(uri, known, fault));
+        }
+        match params::content_changes(self.alloc, params) {
+            Ok(Some(changes)) => match self.change(uri, version, changes.as_slice()) {
+                Ok(remark) => Ok(Made { uri, remark }),
+                Err(fault) => Err(self.unmade(uri, known, fault)),
+            },
+            Ok(None) => Err(self.missed(uri, known, DocumentFault::Params)),
+            Err(_) => Err(self.missed(uri, known, DocumentFault::Memory)),
+        }
+    }
+
+    /// Hears that the document was saved that the params of `textDocument/didSave` tell of (LSP 3.17,
+    /// `DidSaveTextDocumentParams`), as `save` does. A text that is no string is none. Where the params name no URI the fault is
+    /// `Params`, and nothing is changed: a save changes no text.
+    pub fn did_save<'v>(&mut self, params: &'v Value) -> Result<Made<'v>, NotMade<'v>>
+        ensures ok { IfOk result (λ m. IsSomeAnd (did_save_in (view params.now)) (λ n. (m.uri.now ≡ n.uri) × Took (documents_of self.old) n m.remark (documents_of self.new))) }
+        ensures err { IfErr result (λ m. FailedSave (documents_of self.old) (did_save_in (view params.now)) m.fault (documents_of self.new)) }
+        ensures named { IfErr result (λ m. option_map (λ s. s.now) m.uri ≡ uri_in (view params.now)) }
+        ensures lost { IfErr result (λ m. m.lost ≡ false) }
+    {
+        let Some(uri) = params::uri_in(params) else {
+            return Err(not_made(None, DocumentFault::Params, false));
+        };
+        match self.save(uri, params::saved_text(params)) {
+            Ok(()) => Ok(Made { uri, remark: None }),
+            Err(fault) => Err(not_made(Some(uri), fault, false)),
+        }
+    }
+
+    /// Closes the document that the params of `textDocument/didClose` tell of (LSP 3.17, `DidCloseTextDocumentParams`), as `close`
+    /// does. Where they name no URI the fault is `Params`, and each text is lost: one of them is closed.
+    pub fn did_close<'v>(&mut self, params: &'v Value) -> Result<Made<'v>, NotMade<'v>>
+        ensures ok { IfOk result (λ m. IsSomeAnd (did_close_in (view params.now)) (λ n. (m.uri.now ≡ n.uri) × Took (documents_of self.old) n m.remark (documents_of self.new))) }
+        ensures err { IfErr result (λ m. Failed (documents_of self.old) (did_close_in (view params.now)) (uri_in (view params.now)) m.fault (documents_of self.new)) }
+        ensures named { IfErr result (λ m. option_map (λ s. s.now) m.uri ≡ uri_in (view params.now)) }
+        ensures lost { IfErr result (λ m. m.lost ≡ loses (documents_of self.old) (uri_in (view params.now)) (documents_of self.new)) }
+    {
+        let Some(uri) = params::uri_in(params) else {
+            return Err(self.missed_all());
+        };
+        let known = self.knows(uri);
+        match self.close(uri) {
+            Ok(()) => Ok(Made { uri, remark: None }),
+            Err(fault) => Err(self.unmade(uri, known, fault)),
+        }
+    }
+
+    /// Loses the text of a URI, and says why. It was known before, or not.
+    fn missed<'v>(&mut self, uri: &'v str, known: bool, fault: DocumentFault) -> NotMade<'v>
+        requires { known ≡ is_known (documents_of self.old) uri.now }
+        ensures named { option_map (λ s. s.now) result.uri ≡ Some uri.now }
+        ensures why { result.fault ≡ fault }
+        ensures lost { result.lost ≡ loses (documents_of self.old) (Some uri.now) (documents_of self.new) }
+        ensures own { (documents_of self.new).held uri.now ≡ missed ((documents_of self.old).held uri.now) }
+        ensures others { (q : List ℕ) → bytes_eq q uri.now ≡ false → (documents_of self.new).held q ≡ (documents_of self.old).held q }
+        ensures encoding { self.new.encoding ≡ self.old.encoding }
+    {
+        self.lose(uri);
+        not_made(Some(uri), fault, known)
+    }
+
+    /// Loses each text, since params name no document.
+    fn missed_all<'v>(&mut self) -> NotMade<'v>
+        ensures named { result.uri ≡ None }
+        ensures why { result.fault ≡ Params }
+        ensures lost { result.lost ≡ true }
+        ensures misses { MissesAll (documents_of self.old) (documents_of self.new) }
+    {
+        self.lose_all();
+        not_made(None, DocumentFault::Params, true)
+    }
+
+    /// A notification of a document that was not made. Its text was known before, or not.
+    fn unmade<'v>(&self, uri: &'v str, known: bool, fault: DocumentFault) -> NotMade<'v>
+        ensures named { option_map (λ s. s.now) result.uri ≡ Some uri.now }
+        ensures why { result.fault ≡ fault }
+        ensures lost { result.lost ≡ (known && not (is_known (documents_of self.now) uri.now)) }
+    {
+        not_made(Some(uri), fault, known && !self.knows(uri))
+    }
+}
+
+/// Makes the text of a document unknown.
+fn lose_text(alloc: Global, kept: &mut Open)
+    ensures { kept.new ≡ lost kept.old }
+{
+    let gone = LostDocument {
+        language_id: String::new(alloc),
+    };
+    let before = mem::replace(kept, Open::Lost(gone));
+    *kept = before.into_lost();
+}
+
+/// Makes changes in what is kept of a document. Where memory runs out, its text is lost.
+fn change_open(
+    alloc: Global,
+    kept: &mut Open,
+    version: Option<i32>,
+    encoding: PositionEncoding,
+    changes: &[ContentChange],
+) -> Result<(), AllocError>
+    requires { change_fault (Some kept.old) (has_whole_text changes.now) ≡ None }
+    ensures ok { OnOk result (kept.new ≡ changed_in encoding kept.old version changes.now) }
+    ensures err { OnErr result (kept.new ≡ lost kept.old) }
+{
+    match kept {
+        Open::Known(document) => {
+            let changed = document.change(alloc, version, encoding, changes);
+            if changed.is_err() {
+                lose_text(alloc, kept);
+            }
+            changed
+        }
+        Open::Lost(document) => {
+            let language_id = document.language_id();
+            let mut known = TextDocument::new(alloc, language_id, None, "")?;
+            known.change(alloc, version, encoding, changes)?;
+            *kept = Open::Known(known);
+            Ok(())
+        }
+    }
+}
+
+/// Puts a text into what is kept of a document, where its own is lost. Where memory runs out, nothing is changed.
+fn renew_open(alloc: Global, kept: &mut Open, text: &str) -> Result<(), AllocError>
+    ensures ok { OnOk result (kept.new ≡ saved_in kept.old text.now) }
+    ensures err { OnErr result (kept.new ≡ kept.old) }
+    ensures lost { OnErr result (shown kept.old ≡ None) }
+{
+    if let Open::Lost(document) = kept {
+        let known = TextDocument::new(alloc, document.language_id(), None, text)?;
+        *kept = Open::Known(known);
+    }
+    Ok(())
+}
+
+/// Whether a version is below the one before.
+fn goes_back(version: Option<i32>, before: Option<i32>) -> bool
+    ensures { result ≡ is_back version before }
+{
+    match (version, before) {
+        (Some(version), Some(before)) => version < before,
+        _ => false,
+    }
+}
+
+/// Whether one of the changes is of the whole text.
+fn has_whole(changes: &[ContentChange]) -> bool
+    ensures { result ≡ has_whole_text changes.now }
+{
+    changes.iter().any(|change| change.range.is_none())
+}
+
+/// A notification that was not made.
+fn not_made<'v>(uri: Option<&'v str>, fault: DocumentFault, lost: bool) -> NotMade<'v>
+    ensures named { option_map (λ s. s.now) result.uri ≡ option_map (λ s. s.now) uri.entry }
+    ensures why { result.fault ≡ fault }
+    ensures lost { result.lost ≡ lost }
+{
+    NotMade { uri, fault, lost }
 }

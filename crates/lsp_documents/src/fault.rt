@@ -1,22 +1,20 @@
-// Why a notification of a document changed nothing.
+// Why a notification of a document was not made, and what is to be said of one that was.
 use std::alloc::AllocError;
 use std::error::Error;
 use std::fmt;
 
-/// Why a notification of a document changed nothing.
+/// Why a notification of a document was not made.
 ///
-/// It prints `params of another shape`, `the document is not open`, `the document is open already`, `the version goes back` or
-/// `out of memory`.
+/// It prints `params of another shape`, `the document is not open`, `the document is out of step` or `out of memory`.
 #[derive(Clone, Copy, Debug, PartialEq, Eq)]
 pub enum DocumentFault {
     /// The params lack a member that LSP 3.17 asks for, or a member is of another type.
     Params,
     /// No document of the URI is open.
     NotOpen,
-    /// A document of the URI is open already.
-    AlreadyOpen,
-    /// The version is below the document's.
-    OldVersion,
+    /// The document's text is lost, since something that the client told of it was missed, and none of the changes is of the whole
+    /// text.
+    OutOfStep,
     /// An allocation failed.
     Memory,
 }
@@ -30,8 +28,7 @@ impl fmt::Display for DocumentFault {
         match self {
             DocumentFault::Params => write!(f, "params of another shape"),
             DocumentFault::NotOpen => write!(f, "the document is not open"),
-            DocumentFault::AlreadyOpen => write!(f, "the document is open already"),
-            DocumentFault::OldVersion => write!(f, "the version goes back"),
+            DocumentFault::OutOfStep => write!(f, "the document is out of step"),
             DocumentFault::Memory => write!(f, "out of memory"),
         }
     }
@@ -48,4 +45,48 @@ impl From<AllocError> for DocumentFault {
     fn from(_: AllocError) -> DocumentFault {
         DocumentFault::Memory
     }
+}
+
+/// What LSP 3.17 forbids the client, though it was made: the notification says all that is needed.
+///
+/// It prints `the document was open already` or `the version goes back`.
+#[derive(Clone, Copy, Debug, PartialEq, Eq)]
+pub enum Remark {
+    /// The document was open already. What was opened took its place.
+    OpenAlready,
+    /// The version is below the document's.
+    VersionBack,
+}
+
+impl fmt::Display for Remark {
+    ghost use Rattle.lsp_documents.specs.Fault.{remark_text};
+
+    ghost output = { remark_text };
+
+    fn fmt<W: fmt::Write>(&self, f: &mut fmt::Formatter<W>) -> fmt::Result {
+        match self {
+            Remark::OpenAlready => write!(f, "the document was open already"),
+            Remark::VersionBack => write!(f, "the version goes back"),
+        }
+    }
+}
+
+/// A notification that was made.
+#[derive(Clone, Copy, Debug, PartialEq, Eq, Drop)]
+pub struct Made<'v> {
+    /// The document's URI.
+    pub uri: &'v str,
+    /// What is to be said of it, if anything.
+    pub remark: Option<Remark>,
+}
+
+/// A notification that was not made.
+#[derive(Clone, Copy, Debug, PartialEq, Eq, Drop)]
+pub struct NotMade<'v> {
+    /// The document's URI, where the params name one.
+    pub uri: Option<&'v str>,
+    /// Why.
+    pub fault: DocumentFault,
+    /// Whether the text was known and is lost now. Where no URI is named, that may be each document's.
+    pub lost: bool,
 }

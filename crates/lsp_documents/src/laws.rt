@@ -1,13 +1,20 @@
 //! Laws of the documents that a client has opened. Each is the contract of a function, so the proofs of callers can use it.
-ghost use Rattle.std.specs.Prelude.{◌≡◌, ℕ, List, Option, Some};
+ghost use Rattle.std.specs.Prelude.{◌≡◌, ℕ, ℤ, List, ◌∷◌, Option, Some, None, true};
+ghost use Rattle.lsp_text.specs.Documents.{Document};
 ghost use Rattle.lsp_documents.specs.declared.fault.DocumentFault.{DocumentFault};
-ghost use Rattle.lsp_documents.specs.Session.{Documents, Notice, fault_of, Keeps, Takes, TakesAll, events_of, after_all};
+ghost use Rattle.lsp_documents.specs.declared.kept.Open.TheVariants.{Known};
+ghost use Rattle.lsp_documents.specs.Session.{Documents, Notice, Sent, made, opens, document, fault_of, Keeps, Makes, TakesAll, Agrees, SavesItsText, kept_after_all, events_of, told_all, is_current};
 
-/// After any list of notifications, each URI has the document that its own notifications make of the one that it had before:
-/// those of other URIs change nothing. A notification that is refused by name counts as taken, since it makes nothing of a
-/// document. One for which an allocation failed is no member of the list: what comes after it is taken as if it had not been told.
-pub fn documents_follow_notifications()
-    ensures each { (before : Documents) (ns : List Notice) (now : Documents) → TakesAll before ns now → (uri : List ℕ) → now.held uri ≡ after_all before.encoding (before.held uri) (events_of uri ns) }
-    ensures refused { (before : Documents) (n : Notice) (now : Documents) (fault : DocumentFault) → fault_of (before.held n.uri) n.event ≡ Some fault → Keeps before now → Takes before n now }
-    ensures passed_over { (before : Documents) (next : Documents) (n : Notice) (now : Documents) → Keeps before next → Takes next n now → Takes before n now }
+/// A document that may be looked at is the client's: after any list of notifications, of which some were made, of some the URI
+/// alone was known, and of some nothing at all, each URI whose text is known has the text of the client's own document, and its
+/// version or none. Saves are taken for honest: the text that comes with one is the client's.
+///
+/// What is kept is no more and no less than the notifications make of it, one after another (`kept`). A document that was opened,
+/// of which all was made since, is known, and is the client's in each part (`current`). A call that refuses by name has made the
+/// notification, as what is wrong changes nothing (`refused`).
+pub fn documents_are_the_clients()
+    ensures each { (before : Documents) (client : List ℕ → Option Document) (sent : List Sent) (now : Documents) → TakesAll before sent now → (uri : List ℕ) → Agrees (client uri) (before.held uri) → SavesItsText before.encoding (client uri) (events_of uri sent) → Agrees (told_all before.encoding (client uri) (events_of uri sent)) (now.held uri) }
+    ensures kept { (before : Documents) (sent : List Sent) (now : Documents) → TakesAll before sent now → (uri : List ℕ) → now.held uri ≡ kept_after_all before.encoding uri (before.held uri) sent }
+    ensures current { (before : Documents) (uri language_id : List ℕ) (version : Option ℤ) (text : List ℕ) (sent : List Sent) (now : Documents) → TakesAll before (made (opens uri language_id version text) ∷ sent) now → is_current uri sent ≡ true → (d : Document) × (told_all before.encoding (Some (document language_id version text)) (events_of uri sent) ≡ Some d) × (now.held uri ≡ Some (Known d)) }
+    ensures refused { (before : Documents) (n : Notice) (now : Documents) (fault : DocumentFault) → fault_of (before.held n.uri) n.event ≡ Some fault → Keeps before now → Makes before n now }
 {}

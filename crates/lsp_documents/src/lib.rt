@@ -3,9 +3,13 @@
 
 mod documents;
 mod fault;
+mod kept;
 pub mod laws;
+mod lost;
 mod params;
 
 pub use documents::TextDocuments;
-pub use fault::DocumentFault;
+pub use fault::{DocumentFault, Made, NotMade, Remark};
+pub use kept::Open;
+pub use lost::LostDocument;
 pub use params::{position_encoding, position_in, range_in};

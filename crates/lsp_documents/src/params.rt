@@ -1,10 +1,10 @@
 // What the params of notifications say.
-ghost use Rattle.std.specs.Prelude.{◌≡◌, ℕ, List, Option, option_map, option_and_then, codes, IfOk, string_bytes};
+ghost use Rattle.std.specs.Prelude.{◌≡◌, ℕ, List, Option, option_map, option_and_then, codes, IfOk, string_bytes, is_none};
 ghost use Rattle.serde_json.specs.Find.{get, as_array};
 ghost use Rattle.serde_json.specs.View.{view, items_view};
 ghost use Rattle.lsp_text.specs.Documents.{Change, Document};
-ghost use Rattle.lsp_documents.specs.Params.{text_in as text_of, count_in as count_of, version_in as version_from, position_in as position_of, range_in as range_of, given_range as range_given, change_in as change_of, changes_in as changes_of, document_in as document_of, uri_in as uri_of, did_open_in, encoding_named as named, first_named as first_of, offered_in as offers, agreed_in};
-ghost use Rattle.lsp_documents.specs.Session.{opens};
+ghost use Rattle.lsp_documents.specs.Session.{has_whole};
+ghost use Rattle.lsp_documents.specs.Params.{text_in as text_of, count_in as count_of, version_in as version_from, position_in as position_of, range_in as range_of, given_range as range_given, change_in as change_of, changes_in as changes_of, document_in as document_of, uri_in as uri_of, opened_in, changes_given, encoding_named as named, first_named as first_of, offered_in as offers, agreed_in};
 
 use lsp_text::{ContentChange, Position, PositionEncoding, Range};
 use serde_json::Value;
@@ -20,24 +20,28 @@ fn count_in(value: &Value, name: &str) -> Option<u32>
     ensures { result ≡ count_of name.now (view value.now) }
 {
     let number = value.get(name)?.as_u64()?;
-    if number < 0xFFFF_FFFF {
+    if number < 0x1_0000_0000 {
         Some(number as u32)
     } else {
-        Some(u32::MAX)
+        None
     }
 }
 
-fn version_in(document: &Value) -> Option<i32>
+/// The version of a document, where one is given.
+fn version_in(document: &Value) -> Option<Option<i32>>
     ensures { result ≡ version_from (view document.now) }
 {
-    match document.get("version")? {
-        Value::Number(number) => i32::try_from(number.as_i128()?).ok(),
-        _ => None,
+    match document.get("version") {
+        None | Some(Value::Null) => Some(None),
+        Some(Value::Number(number)) => {
+            let version = i32::try_from(number.as_i128()?).ok()?;
+            Some(Some(version))
+        }
+        Some(_) => None,
     }
 }
 
-/// A position (LSP 3.17, `Position`), if the value is one. A number that 32 bits don't hold counts as the greatest one that they
-/// do.
+/// A position (LSP 3.17, `Position`), if the value is one: its numbers are whole ones that 32 bits hold.
 pub fn position_in(position: &Value) -> Option<Position>
     ensures { result ≡ position_of (view position.now) }
 {
@@ -79,6 +83,34 @@ fn change_in(alloc: Global, change: &Value) -> Result<Option<ContentChange>, All
     Ok(Some(ContentChange { range, text }))
 }
 
+/// Whether a change is of the whole text, if the value is one.
+fn is_whole_text(change: &Value) -> Option<bool>
+    ensures { result ≡ option_map (λ c. is_none c.range) (change_of (view change.now)) }
+{
+    text_in(change, "text")?;
+    let range = given_range(change)?;
+    Some(range.is_none())
+}
+
+/// Whether one of the values is a change of the whole text, if each value is a change.
+fn whole_among(values: &[Value]) -> Option<bool>
+    ensures { result ≡ option_map has_whole (changes_of (items_view values.now)) }
+{
+    let mut whole = false;
+    for value in values {
+        let is_whole = is_whole_text(value)?;
+        whole = whole | is_whole;
+    }
+    Some(whole)
+}
+
+/// Whether one of the changes that a notification tells of is of the whole text, if they can be read.
+pub fn whole_in(params: &Value) -> Option<bool>
+    ensures { result ≡ option_map has_whole (changes_given (view params.now)) }
+{
+    whole_among(params.get("contentChanges")?.as_array()?.as_slice())
+}
+
 /// The changes of a list, if each value is one.
 fn changes_in(alloc: Global, values: &[Value]) -> Result<Option<Vec<ContentChange>>, AllocError>
     ensures { IfOk result (λ o. option_map (λ v. v.items) o ≡ changes_of (items_view values.now)) }
@@ -98,7 +130,7 @@ pub fn content_changes(
     alloc: Global,
     params: &Value,
 ) -> Result<Option<Vec<ContentChange>>, AllocError>
-    ensures { IfOk result (λ o. option_map (λ v. v.items) o ≡ option_and_then changes_of (option_and_then as_array (get (codes "contentChanges") (view params.now)))) }
+    ensures { IfOk result (λ o. option_map (λ v. v.items) o ≡ changes_given (view params.now)) }
 {
     match params.get("contentChanges").and_then(Value::as_array) {
         Some(values) => changes_in(alloc, values.as_slice()),
@@ -113,8 +145,8 @@ pub fn uri_in(params: &Value) -> Option<&str>
     text_in(params.get("textDocument")?, "uri")
 }
 
-/// The version of the document that params tell of.
-pub fn version_of(params: &Value) -> Option<i32>
+/// The version of the document that params tell of, where they give one.
+pub fn version_of(params: &Value) -> Option<Option<i32>>
     ensures { result ≡ option_and_then version_from (document_of (view params.now)) }
 {
     version_in(params.get("textDocument")?)
@@ -123,27 +155,31 @@ pub fn version_of(params: &Value) -> Option<i32>
 /// The document that a client opens.
 #[derive(Drop)]
 pub struct Item<'v> {
-    /// Its URI.
-    pub uri: &'v str,
     /// Its language.
     pub language_id: &'v str,
-    /// Its version.
-    pub version: i32,
+    /// Its version, where the client gives one.
+    pub version: Option<i32>,
     /// Its text.
     pub text: &'v str,
 }
 
 /// The document that a client opens, as the params of `textDocument/didOpen` tell of it.
 pub fn item_in(params: &Value) -> Option<Item<'_>>
-    ensures { option_map (λ i. opens i.uri.now i.language_id.now i.version i.text.now) result ≡ did_open_in (view params.now) }
+    ensures { option_map (λ i. record { language_id = i.language_id.now; version = i.version; text = i.text.now }) result ≡ opened_in (view params.now) }
 {
     let document = params.get("textDocument")?;
     Some(Item {
-        uri: text_in(document, "uri")?,
         language_id: text_in(document, "languageId")?,
         version: version_in(document)?,
         text: text_in(document, "text")?,
     })
+}
+
+/// The text of a document that was saved, where a string is given.
+pub fn saved_text(params: &Value) -> Option<&str>
+    ensures { option_map (λ s. s.now) result ≡ text_of (codes "text") (view params.now) }
+{
+    text_in(params, "text")
 }
 
 /// The encoding of a name (LSP 3.17, `PositionEncodingKind`).

@@ -15,7 +15,7 @@ use Rattle.lsp_queue.specs.Queue.{Asked, Pending, pending_of, count_of, all_ids,
 use Rattle.lsp_queue.specs.declared.req_queue.ReqQueue.{ReqQueue}
 use Rattle.lsp_peers.specs.declared.peer.Peer.{Peer}
 use Rattle.lsp_peers.specs.declared.step.Outcome.{Outcome}
-use Rattle.lsp_peers.specs.declared.step.Outcome.TheVariants.{Registered, Told, Returned, GaveUp, Absent}
+use Rattle.lsp_peers.specs.declared.step.Outcome.TheVariants.{Registered, Told, Returned, Waiting, GaveUp, Absent}
 use Rattle.lsp_peers.specs.Agreement.{PeerAgrees, Agrees}
 use Rattle.lsp_peers.specs.Ids.{nth_id, item_at, with_item}
 use Rattle.lsp_peers.specs.Steps.{Accounts, accounts, Registers, Tells, TakesMessage, Takes, Replies, GivesUp}
@@ -277,3 +277,9 @@ held_under (Some label) reply id is = (label, refl, cc)
 pub held_nowhere : (o : Option ℕ) (id : Id) → ◌≡◌ {A = Option Message} None (option_map (λ (label : ℕ). cancelled id) o) → o ≡ None
 held_nowhere None id is = refl
 held_nowhere (Some label) id is = cc
+
+-- to take a message is not to wait
+pub never_settles_waiting : (m : Message) (label : ℕ) (old new : ReqQueue ℕ ℕ) → Settles m label old Waiting new → ⊥
+never_settles_waiting (request id method params) label old new settles = let e = settles.0 in cc
+never_settles_waiting (response id answer) label old new settles = let e = settles.0 in cc
+never_settles_waiting (notification method params) label old new settles = let e = settles.0 in cc

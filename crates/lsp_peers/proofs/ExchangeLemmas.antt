@@ -14,9 +14,9 @@ use Rattle.lsp_peers.specs.declared.peer.Peer.{Peer}
 use Rattle.lsp_peers.specs.declared.step.Side.{Side}
 use Rattle.lsp_peers.specs.declared.step.Side.TheVariants.{A, B}
 use Rattle.lsp_peers.specs.declared.step.Outcome.{Outcome}
-use Rattle.lsp_peers.specs.declared.step.Outcome.TheVariants.{Registered, Spent, Answered, Cancelled}
+use Rattle.lsp_peers.specs.declared.step.Outcome.TheVariants.{Registered, Spent, Waiting, Answered, Cancelled}
 use Rattle.lsp_peers.specs.declared.step.Step.{Step}
-use Rattle.lsp_peers.specs.declared.step.Step.TheVariants.{Register, Tell, Pass, Take, Answer, Cancel, GiveUp}
+use Rattle.lsp_peers.specs.declared.step.Step.TheVariants.{Register, Tell, Pass, Take, Answer, Refuse, Cancel, GiveUp}
 use Rattle.lsp_peers.specs.declared.world.World.{World}
 use Rattle.lsp_peers.specs.Agreement.{PeerAgrees, Agrees, WorldAgrees}
 use Rattle.lsp_peers.specs.Exchange.{Seen, seen_at, SideAfter, WorldAfter}
@@ -26,7 +26,7 @@ use Rattle.lsp_peers.specs.Ids.{nth_id, item_at}
 use Rattle.lsp_peers.specs.InOnePlace.{InOnePlace}
 use Rattle.lsp_peers.specs.Post.{Letter, Post, frames, first_passed, next, IfNext, ReadsBack}
 use Rattle.lsp_peers.specs.HistoryLaw.{NeedsNoMemory}
-use Rattle.lsp_peers.specs.Settling.{ReadsNext, IsFree}
+use Rattle.lsp_peers.specs.Settling.{ReadsNext, IsFree, HasNothing}
 use Rattle.lsp_peers.specs.Shallow.{TakesReadable, AreReadable}
 use Rattle.lsp_peers.specs.Sides.{side_of, other}
 use Rattle.lsp_peers.specs.Steps.{Account, Accounts, nothing, StepDoes, WorldDoes, Run, seen_from}
@@ -295,6 +295,7 @@ free_from own others p tied (Take side label) free = at (next p.here.post) (subs
     at None free = refl
     at (Some letter) free = absurd (never letter.message free)
 free_from own others p tied (Answer side id value) free = sym (tied.there.there id) ∙ not_held (held own id) (λ label. Answered label) (λ label never. never) free
+free_from own others p tied (Refuse side id code text) free = sym (tied.there.there id) ∙ not_held (held own id) (λ label. Answered label) (λ label never. never) free
 free_from own others p tied (Cancel side id) free = sym (tied.there.there id) ∙ not_held (held own id) (λ label. Cancelled) (λ label never. never) free
 free_from own others p tied (GiveUp side id) free = tt
 
@@ -303,6 +304,24 @@ free_a step history p made is free = free_from _ _ p made.tied step (subst (λ (
 
 pub free_b : (step : Step) (history : List Event) (p : Accounts) → Made history p → side_of step ≡ B → NeedsNoMemory (outcome_of (events_of (side_of step) history) (events_of (other (side_of step)) history) step) → IsFree (record { here = p.there; there = p.here }) step
 free_b step history p made is free = free_from _ _ (turned p) (turned_tied _ _ p made.tied) step (subst (λ (s : Side). NeedsNoMemory (outcome_of (events_of s history) (events_of (other s) history) step)) is free)
+
+-- ---- which steps wait
+
+-- where a step comes to waiting, it does so by the events before it
+waits_from : (own others : List Event) (p : Accounts) (near far : Peer) (mine theirs : List Message) → Tied own others p → (step : Step) (result : Result Outcome WorldFault) →
+    (ReadsNext p step → IfOk result (λ outcome. (new : Accounts) × StepDoes p step outcome new × Agrees near far mine theirs new)) → HasNothing p step → result ≡ Ok Waiting → outcome_of own others step ≡ Waiting
+waits_from own others p near far mine theirs tied (Take side label) result does none is = ap (λ (o : Option Letter). taking own others o) (next_is own others tied.in_here ∙ none)
+waits_from own others p near far mine theirs tied step result does none is =
+    let went = subst (λ (r : Result Outcome WorldFault). IfOk r (λ outcome. (new : Accounts) × StepDoes p step outcome new × Agrees near far mine theirs new)) is (does tt) in
+    let tells = told own others p tied step Waiting went.0 went.1 in
+    sym tells.1.follows.outcome_is
+
+module _ (near far : Peer) (mine theirs : List Message) (step : Step) (history : List Event) (p : Accounts) (made : Made history p) (result : Result Outcome WorldFault) where
+  pub waits_a : side_of step ≡ A → (ReadsNext p step → IfOk result (λ outcome. (new : Accounts) × StepDoes p step outcome new × Agrees near far mine theirs new)) → HasNothing p step → result ≡ Ok Waiting → outcome_of (events_of (side_of step) history) (events_of (other (side_of step)) history) step ≡ Waiting
+  waits_a is does none waiting = subst (λ (s : Side). outcome_of (events_of s history) (events_of (other s) history) step ≡ Waiting) (sym is) (waits_from _ _ p near far mine theirs made.tied step result does none waiting)
+
+  pub waits_b : side_of step ≡ B → (ReadsNext (record { here = p.there; there = p.here }) step → IfOk result (λ outcome. (new : Accounts) × StepDoes (record { here = p.there; there = p.here }) step outcome new × Agrees near far mine theirs new)) → HasNothing (record { here = p.there; there = p.here }) step → result ≡ Ok Waiting → outcome_of (events_of (side_of step) history) (events_of (other (side_of step)) history) step ≡ Waiting
+  waits_b is does none waiting = subst (λ (s : Side). outcome_of (events_of s history) (events_of (other s) history) step ≡ Waiting) (sym is) (waits_from _ _ (turned p) near far mine theirs (turned_tied _ _ p made.tied) step result does none waiting)
 
 -- ---- one step of a world
 

@@ -13,7 +13,7 @@ use Rattle.lsp_peers.specs.declared.step.Outcome.TheVariants.{Registered, Spent,
 use Rattle.lsp_peers.specs.declared.step.Side.{Side}
 use Rattle.lsp_peers.specs.declared.step.Side.TheVariants.{A, B}
 use Rattle.lsp_peers.specs.declared.step.Step.{Step}
-use Rattle.lsp_peers.specs.declared.step.Step.TheVariants.{Register, Take, Answer, Cancel, GiveUp}
+use Rattle.lsp_peers.specs.declared.step.Step.TheVariants.{Register, Take, Answer, Refuse, Cancel, GiveUp}
 use Rattle.lsp_peers.specs.declared.world.World.{World}
 use Rattle.lsp_peers.specs.Exchange.{WorldAfter, seen_at}
 use Rattle.lsp_peers.specs.History.{Event, count_in, payloads, labels, settled, returned, held, where_held, taken_count, letters_written, letters_taken, letters_left, next_letter, outcome_of_taking, outcome_of, only_of, events_of, IsHistory}
@@ -74,6 +74,7 @@ fact_bared own others (Take side label) (Returned id payload) fact = (
   ap (has id) (returned_bared own) ∙ fact.2,
 )
 fact_bared own others (Answer side id value) outcome fact = fact ∙ ap (λ (o : Option ℕ). where_held o (λ label. Answered label)) (sym (held_bared own id))
+fact_bared own others (Refuse side id code text) outcome fact = fact ∙ ap (λ (o : Option ℕ). where_held o (λ label. Answered label)) (sym (held_bared own id))
 fact_bared own others (Cancel side id) outcome fact = fact ∙ ap (λ (o : Option ℕ). where_held o (λ label. Cancelled)) (sym (held_bared own id))
 fact_bared own others (GiveUp side id) outcome fact = fact ∙ ap (λ (o : Option ℕ). where_held o (λ label. GaveUp label)) (sym (held_bared own id))
 fact_bared own others step outcome fact = tt
@@ -94,6 +95,7 @@ fact_of before e (Register side method params payload) (Registered id) history i
 fact_of before e (Take side label) (Arrived id) history is comes = arrival_law before e history side label id is comes
 fact_of before e (Take side label) (Returned id payload) history is comes = back_law before e history side label id payload is comes
 fact_of before e (Answer side id value) outcome history is comes = came before e _ _ history is comes
+fact_of before e (Refuse side id code text) outcome history is comes = came before e _ _ history is comes
 fact_of before e (Cancel side id) outcome history is comes = came before e _ _ history is comes
 fact_of before e (GiveUp side id) outcome history is comes = came before e _ _ history is comes
 fact_of before e step outcome history is comes = tt

@@ -1,5 +1,5 @@
 -- A step moves tokens and letters as the events before it say: one way, from tokens to events, and the other.
-use Rattle.std.proofs.Common.{◌≡◌, ℕ, ◌<◌, List, [], ◌∷◌, ◌++◌, length, String, Global, refl, sym, ap, ◌∙◌, subst, arith, ⊎_elim, min}
+use Rattle.std.proofs.Common.{◌≡◌, ℕ, ℤ, ◌<◌, List, [], ◌∷◌, ◌++◌, length, String, Global, refl, sym, ap, ◌∙◌, subst, arith, ⊎_elim, min}
 use Rattle.std.proofs.lemmas.Bool.{cases_Bool, cond-true, cond-false, MatchBool-at_true, MatchBool-at_false}
 use Rattle.std.proofs.lemmas.List.{length-map}
 use Rattle.std.specs.Prelude.{◌==◌, Option, None, Some, Result, Ok, true, false, if◌then◌else◌, MatchOption, drop, option_map, map as each, string_bytes}
@@ -14,8 +14,9 @@ use Rattle.lsp_peers.specs.declared.step.Outcome.{Outcome}
 use Rattle.lsp_peers.specs.declared.step.Outcome.TheVariants.{Registered, Spent, Told, Passed, Arrived, Returned, Notified, Waiting, Answered, Cancelled, GaveUp, Absent}
 use Rattle.lsp_peers.specs.declared.step.Side.{Side}
 use Rattle.lsp_peers.specs.declared.step.Step.{Step}
-use Rattle.lsp_peers.specs.declared.step.Step.TheVariants.{Register, Tell, Pass, Take, Answer, Cancel, GiveUp}
+use Rattle.lsp_peers.specs.declared.step.Step.TheVariants.{Register, Tell, Pass, Take, Answer, Refuse, Cancel, GiveUp}
 use Rattle.lsp_peers.specs.Token.{OnTheWay, AtOther, ComingBack, Done, GivenUp, Token, token, label_of, Goes}
+use Rattle.lsp_peers.specs.Letter.{refused}
 use Rattle.lsp_peers.specs.Post.{Letter, posted, passed_on, next, one_taken, unpassed}
 use Rattle.lsp_peers.specs.Steps.{Accounts, accounts, Registers, TakesMessage, Takes, StepDoes}
 use Rattle.lsp_peers.specs.InOnePlace.{InOnePlace, requests, replies, going, returning}
@@ -214,6 +215,20 @@ module _ (own others : List Event) (p : Accounts) (tied : Tied own others p) whe
           };
         }
 
+    claim_refused : (code : ℤ) (text : String Global) (letter : Letter) → letter.message ≡ refused id code (string_bytes text) → Goes id (AtOther label) ComingBack payload p.there.tokens tokens → Claim own others p (Refuse side id code text) (Answered label) (letter ∷ []) (accounts p.here.tokens p.here.post tokens (posted p.there.post letter))
+    claim_refused code text letter is goes =
+        let e : Event = event (Refuse side id code text) (Answered label) (letter ∷ []) in
+        record {
+          does = match_some (label_of (item_at p.there.tokens id)) _ _ label found (payload, tokens, letter, goes, is, refl, refl);
+          follows = record { outcome_is = held_as (λ l. Answered l); wrote_is = ap (λ (m : Message). m ∷ []) is };
+          tied = record {
+            here = kept_unasked (kept_own tied.here e refl refl) letter (ap ids_in is);
+            there = kept_settled tied.there e id label payload ComingBack tokens refl refl goes refl refl refl;
+            in_here = mail_own own others tied.in_here e refl refl;
+            in_there = mail_wrote others own tied.in_there e letter refl (subst IsPlain (sym is) refl);
+          };
+        }
+
     claim_cancelled : (letter : Letter) → letter.message ≡ cancelled id → Goes id (AtOther label) ComingBack payload p.there.tokens tokens → Claim own others p (Cancel side id) Cancelled (letter ∷ []) (accounts p.here.tokens p.here.post tokens (posted p.there.post letter))
     claim_cancelled letter is goes =
         let e : Event = event (Cancel side id) Cancelled (letter ∷ []) in
@@ -248,6 +263,9 @@ module _ (own others : List Event) (p : Accounts) (tied : Tied own others p) whe
 
     claim_no_answer : (value : Value) → Claim own others p (Answer side id value) Absent [] p
     claim_no_answer value = quiet (Answer side id value) Absent (match_none (label_of (item_at p.there.tokens id)) _ _ missing (refl, refl)) (absent_as (λ l. Answered l)) refl refl refl refl refl refl refl
+
+    claim_no_refusal : (code : ℤ) (text : String Global) → Claim own others p (Refuse side id code text) Absent [] p
+    claim_no_refusal code text = quiet (Refuse side id code text) Absent (match_none (label_of (item_at p.there.tokens id)) _ _ missing (refl, refl)) (absent_as (λ l. Answered l)) refl refl refl refl refl refl refl
 
     claim_no_cancel : Claim own others p (Cancel side id) Absent [] p
     claim_no_cancel = quiet (Cancel side id) Absent (match_none (label_of (item_at p.there.tokens id)) _ _ missing (refl, refl)) (absent_as (λ l. Cancelled)) refl refl refl refl refl refl refl
@@ -288,6 +306,13 @@ module _ (own others : List Event) (p : Accounts) (tied : Tied own others p) whe
   told_answers side id value (Some label) outcome new is moves =
       (moves.2 ∷ [], claim_at (Answer side id value) outcome (Answered label) (moves.2 ∷ []) (moves.2 ∷ []) new _ moves.5 refl moves.6 (claim_answered side id label moves.0 moves.1 is value moves.2 moves.4 moves.3))
 
+  told_refuses : (side : Side) (id : Id) (code : ℤ) (text : String Global) (o : Option ℕ) (outcome : Outcome) (new : Accounts) → label_of (item_at p.there.tokens id) ≡ o →
+      MatchOption o ((outcome ≡ Absent) × (new ≡ p))
+      (λ label. (payload : ℕ) × (tokens : List Token) × (letter : Letter) × Goes id (AtOther label) ComingBack payload p.there.tokens tokens × (letter.message ≡ refused id code (string_bytes text)) × (outcome ≡ Answered label) × (new ≡ accounts p.here.tokens p.here.post tokens (posted p.there.post letter))) → Retold (Refuse side id code text) outcome new
+  told_refuses side id code text None outcome new is moves = ([], claim_at (Refuse side id code text) outcome Absent [] [] new p moves.0 refl moves.1 (claim_no_refusal side id is code text))
+  told_refuses side id code text (Some label) outcome new is moves =
+      (moves.2 ∷ [], claim_at (Refuse side id code text) outcome (Answered label) (moves.2 ∷ []) (moves.2 ∷ []) new _ moves.5 refl moves.6 (claim_refused side id label moves.0 moves.1 is code text moves.2 moves.4 moves.3))
+
   told_cancels : (side : Side) (id : Id) (o : Option ℕ) (outcome : Outcome) (new : Accounts) → label_of (item_at p.there.tokens id) ≡ o →
       MatchOption o ((outcome ≡ Absent) × (new ≡ p))
       (λ label. (payload : ℕ) × (tokens : List Token) × (letter : Letter) × Goes id (AtOther label) ComingBack payload p.there.tokens tokens × (letter.message ≡ cancelled id) × (outcome ≡ Cancelled) × (new ≡ accounts p.here.tokens p.here.post tokens (posted p.there.post letter))) → Retold (Cancel side id) outcome new
@@ -308,6 +333,7 @@ module _ (own others : List Event) (p : Accounts) (tied : Tied own others p) whe
   told (Pass side bytes) outcome new moves = ([], claim_at (Pass side bytes) outcome _ [] [] new _ moves.0 refl moves.1 (claim_passed side bytes))
   told (Take side label) outcome new moves = told_takes side label (next p.here.post) outcome new refl moves
   told (Answer side id value) outcome new moves = told_answers side id value (label_of (item_at p.there.tokens id)) outcome new refl moves
+  told (Refuse side id code text) outcome new moves = told_refuses side id code text (label_of (item_at p.there.tokens id)) outcome new refl moves
   told (Cancel side id) outcome new moves = told_cancels side id (label_of (item_at p.there.tokens id)) outcome new refl moves
   told (GiveUp side id) outcome new moves = told_gives_up side id (label_of (item_at p.there.tokens id)) outcome new refl moves
 
@@ -370,6 +396,16 @@ module _ (own others : List Event) (p : Accounts) (tied : Tied own others p) whe
         let one = moved_one step (Answered label) (response id (Ok (view value))) (held_as side id label there.0 tokens is (λ l. Answered l)) refl outcome wrote follows in
         (_, claim_at step outcome _ wrote (one.1.0 ∷ []) _ _ one.0 one.1.1 refl (claim_answered side id label there.0 tokens is value one.1.0 one.1.2 goes))
 
+    moved_refuses : (side : Side) (id : Id) (code : ℤ) (text : String Global) (o : Option ℕ) (outcome : Outcome) (wrote : List Letter) → label_of (item_at p.there.tokens id) ≡ o → Follows own others (event (Refuse side id code text) outcome wrote) → Moved (Refuse side id code text) outcome wrote
+    moved_refuses side id code text None outcome wrote is follows = moved_none (Refuse side id code text) Absent p (claim_no_refusal side id is code text) refl outcome wrote follows
+    moved_refuses side id code text (Some label) outcome wrote is follows =
+        let step : Step = Refuse side id code text in
+        let there = held_token (item_at p.there.tokens id) label is in
+        let tokens : List Token = with_item p.there.tokens id (token there.0 ComingBack) in
+        let goes : Goes id (AtOther label) ComingBack there.0 p.there.tokens tokens = record { was = there.1; now = refl } in
+        let one = moved_one step (Answered label) (refused id code (string_bytes text)) (held_as side id label there.0 tokens is (λ l. Answered l)) refl outcome wrote follows in
+        (_, claim_at step outcome _ wrote (one.1.0 ∷ []) _ _ one.0 one.1.1 refl (claim_refused side id label there.0 tokens is code text one.1.0 one.1.2 goes))
+
     moved_cancels : (side : Side) (id : Id) (o : Option ℕ) (outcome : Outcome) (wrote : List Letter) → label_of (item_at p.there.tokens id) ≡ o → Follows own others (event (Cancel side id) outcome wrote) → Moved (Cancel side id) outcome wrote
     moved_cancels side id None outcome wrote is follows = moved_none (Cancel side id) Absent p (claim_no_cancel side id is) refl outcome wrote follows
     moved_cancels side id (Some label) outcome wrote is follows =
@@ -399,5 +435,6 @@ module _ (own others : List Event) (p : Accounts) (tied : Tied own others p) whe
     moved (Pass side bytes) outcome wrote follows = moved_none (Pass side bytes) _ _ (claim_passed side bytes) refl outcome wrote follows
     moved (Take side label) outcome wrote follows = moved_takes side label (next p.here.post) outcome wrote refl follows
     moved (Answer side id value) outcome wrote follows = moved_answers side id value (label_of (item_at p.there.tokens id)) outcome wrote refl follows
+    moved (Refuse side id code text) outcome wrote follows = moved_refuses side id code text (label_of (item_at p.there.tokens id)) outcome wrote refl follows
     moved (Cancel side id) outcome wrote follows = moved_cancels side id (label_of (item_at p.there.tokens id)) outcome wrote refl follows
     moved (GiveUp side id) outcome wrote follows = moved_gives_up side id (label_of (item_at p.there.tokens id)) outcome wrote refl follows

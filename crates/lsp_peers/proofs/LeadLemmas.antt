@@ -11,7 +11,7 @@ use Rattle.lsp_peers.specs.declared.step.Side.{Side}
 use Rattle.lsp_peers.specs.declared.step.Step.{Step}
 use Rattle.lsp_peers.specs.declared.step.Step.TheVariants.{Take}
 use Rattle.lsp_peers.specs.declared.world.World.{World}
-use Rattle.lsp_peers.specs.Exchange.{WorldAfter, LeadTo, MeetsDeep}
+use Rattle.lsp_peers.specs.Exchange.{WorldAfter, IsWholeRun, LeadTo, MeetsDeep}
 use Rattle.lsp_peers.specs.History.{Event, IsHistory, next_letter, events_of}
 use Rattle.lsp_peers.specs.Letter.{Letter}
 use Rattle.lsp_peers.specs.Shallow.{TakesReadable, AllShallow}
@@ -132,12 +132,10 @@ never_cut history step rest all lawful whole shallow = takes_any history step la
 pub never_deep : (steps : List Step) → AllShallow steps → MeetsDeep steps → ⊥
 never_deep steps shallow meets = meets.deep (never_cut meets.history meets.step meets.rest steps meets.lawful meets.steps_are shallow)
 
-pub lead_shallow : (steps : List Step) (outcomes : List Outcome) (world : World) → LeadTo steps outcomes world → AllShallow steps →
-    (history : List Event) × (each (λ event. event.step) history ≡ steps) × (each (λ event. event.outcome) history ≡ outcomes) × WorldAfter world (λ side. []) history
+pub lead_shallow : (steps : List Step) (outcomes : List Outcome) (world : World) → LeadTo steps outcomes world → AllShallow steps → IsWholeRun steps outcomes world
 lead_shallow steps outcomes world lead shallow = at lead.rest lead.later refl refl
   where
-    at : (rest : List Step) (later : List Outcome) → lead.rest ≡ rest → lead.later ≡ later →
-        (history : List Event) × (each (λ event. event.step) history ≡ steps) × (each (λ event. event.outcome) history ≡ outcomes) × WorldAfter world (λ side. []) history
+    at : (rest : List Step) (later : List Outcome) → lead.rest ≡ rest → lead.later ≡ later → IsWholeRun steps outcomes world
     at [] [] er el = (
       lead.history,
       sym (append-nil _) ∙ ap (λ (l : List Step). each (λ (e : Event). e.step) lead.history ++ l) (sym er) ∙ lead.steps_are,

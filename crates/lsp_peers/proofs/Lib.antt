@@ -1,4 +1,5 @@
 mod AgreeLemmas
+mod AnswerLemmas
 mod ExchangeLemmas
 mod FactLemmas
 mod FrontLemmas

@@ -79,6 +79,13 @@ module _ (bytes : List ℕ) (start end : ℕ) (ordered : start ≤ end) (within 
         (λ some. let shows = some.1 in absurd (let e : Whole (length some.0.frame) ≡ More = sym shows.front_is ∙ more in cc))
         (take_cases _ post small carries)
 
+    pub more_none : front_of (line_of bytes start end).arrived ≡ More → next post ≡ None
+    more_none more =
+        ⊎_elim
+        (λ none. none.0)
+        (λ some. let shows = some.1 in absurd (let e : Whole (length some.0.frame) ≡ More = sym shows.front_is ∙ more in cc))
+        (take_cases _ post small carries)
+
     -- there is no fault
     pub never_fault : (number : ℕ) → front_of (line_of bytes start end).arrived ≡ Fault number → ⊥
     never_fault number is =

@@ -1,26 +1,30 @@
 -- Outcomes that no history and no run has: these lists of steps and outcomes are refused, whatever the messages' frames are.
-use Rattle.std.proofs.Common.{◌≡◌, ℕ, ◌+◌, ◌-◌, ◌≤◌, List, [], ◌∷◌, ◌++◌, String, Global, length, codes, min, refl, ap, ◌∙◌, subst, arith, length-append}
+use Rattle.std.proofs.Common.{◌≡◌, ◌≢◌, ℕ, ℤ, ◌+◌, ◌-◌, ◌≤◌, List, [], ◌∷◌, ◌++◌, String, Global, length, codes, min, refl, sym, ap, ◌∙◌, subst, arith, length-append}
 use Rattle.std.proofs.lemmas.Bool.{le-leb, cond-true}
-use Rattle.std.proofs.lemmas.List.{length-map}
+use Rattle.std.proofs.lemmas.List.{append_cancel_left, length-map}
 use Rattle.std.specs.Fmt.{decimal}
-use Rattle.std.specs.Prelude.{Option, None, Some, Bool, true, false, if◌then◌else◌, nat_le, string_bytes, map as each}
+use Rattle.std.specs.Prelude.{pos, Option, None, Some, Result, Ok, Err, Bool, true, false, if◌then◌else◌, nat_le, string_bytes, map as each}
+use Rattle.serde_json.specs.Data.{Data}
 use Rattle.serde_json.specs.View.{view}
 use Rattle.serde_json.specs.declared.value.Value.{Value}
 use Rattle.lsp_message.specs.Id.{Id}
-use Rattle.lsp_message.specs.Message.{Message, request}
+use Rattle.lsp_message.specs.Message.{Message, ErrorObject, request, response}
+use Rattle.lsp_message.specs.View.{message_view}
 use Rattle.lsp_message.specs.Written.{frame_text}
 use Rattle.lsp_peers.specs.declared.world.World.{World}
-use Rattle.lsp_peers.specs.Exchange.{LeadTo}
+use Rattle.lsp_peers.specs.Exchange.{WorldAfter, LeadTo, seen_at}
 use Rattle.lsp_peers.specs.Shallow.{TakesReadable}
 use Rattle.lsp_peers.specs.Sides.{side_of, other}
-use Rattle.lsp_peers.specs.History.{Event, IsHistory, outcome_of_taking, outcome_of, next_letter, events_of}
+use Rattle.lsp_peers.specs.History.{Event, written_in, IsHistory, outcome_of_taking, outcome_of, next_letter, events_of}
 use Rattle.lsp_peers.specs.Ids.{nth_id}
 use Rattle.lsp_peers.specs.Letter.{Letter, frames, messages}
 use Rattle.lsp_peers.specs.declared.step.Outcome.{Outcome}
 use Rattle.lsp_peers.specs.declared.step.Outcome.TheVariants.{Registered, Passed, Arrived, Returned, Waiting, Answered}
+use Rattle.lsp_peers.specs.declared.step.Side.{Side}
 use Rattle.lsp_peers.specs.declared.step.Side.TheVariants.{A, B}
 use Rattle.lsp_peers.specs.declared.step.Step.{Step}
-use Rattle.lsp_peers.specs.declared.step.Step.TheVariants.{Register, Pass, Take, Answer}
+use Rattle.lsp_peers.specs.declared.step.Step.TheVariants.{Register, Pass, Take, Answer, Refuse}
+use Rattle.lsp_peers.proofs.AnswerLemmas.{answered_law}
 use Rattle.lsp_peers.proofs.Kept.{taking}
 use Rattle.lsp_peers.proofs.LawLemmas.{event, one_letter}
 
@@ -84,6 +88,74 @@ module _ (method : String Global) (params : Value) (result : Value) (rest : List
 -- an answer to a request that nobody holds, however deep its result is
 pub answered_nothing : (value : Value) (wrote : List Letter) (rest : List Event) → IsHistory (event (Answer A (nth_id 0) value) (Answered 0) wrote ∷ rest) → ⊥
 answered_nothing value wrote rest history = let came = history.0.outcome_is in cc
+
+-- a refusal of a request that nobody holds
+pub refused_nothing : (code : ℤ) (text : String Global) (wrote : List Letter) (rest : List Event) → IsHistory (event (Refuse A (nth_id 0) code text) (Answered 0) wrote ∷ rest) → ⊥
+refused_nothing code text wrote rest history = let came = history.0.outcome_is in cc
+
+-- the code of an answer that is an error
+abbrev code_of : Result Data ErrorObject → ℤ
+code_of (Ok result) = pos 0
+code_of (Err error) = error.code
+
+-- A asks and B replies, by any step that writes this answer. Then A takes this answer, and no other.
+module _ (world new : World) (handed : Side → List Message) (method : String Global) (params : Value) (n m : ℕ) (w1 w2 w3 w4 w5 w6 : List Letter) where
+  abbrev asked : Step → List Event
+  asked reply = event (Register A method params 7) (Registered (nth_id 0)) w1 ∷ event (Pass B 1000) (Passed n) w2 ∷ event (Take B 5) (Arrived (nth_id 0)) w3 ∷ event reply (Answered 5) w4 ∷ event (Pass A 1000) (Passed m) w5 ∷ []
+
+  abbrev Took : Step → Result Data ErrorObject → Type 0
+  Took reply answer =
+      (payload : Option ℕ) × WorldAfter world handed (asked reply) × WorldAfter new handed (asked reply ++ event (Take A 6) (Returned (nth_id 0) payload) w6 ∷ [])
+      × (each message_view (seen_at A new).taken ≡ each message_view (seen_at A world).taken ++ response (nth_id 0) answer ∷ [])
+
+  only_this : (reply : Step) (said answer : Result Data ErrorObject) → written_in reply (Answered 5) ≡ response (nth_id 0) said ∷ [] → (earlier : List Event) (e : Event) (later : List Event) → earlier ++ e ∷ later ≡ asked reply → side_of e.step ≡ B → written_in e.step e.outcome ≡ response (nth_id 0) answer ∷ [] → answer ≡ said
+  only_this reply said answer says [] e later is by wrote =
+      let same : e ≡ event (Register A method params 7) (Registered (nth_id 0)) w1 = cc in
+      let never : A ≡ B = subst (λ (x : Event). side_of x.step ≡ B) same by in
+      cc
+  only_this reply said answer says (x ∷ []) e later is by wrote =
+      let same : e ≡ event (Pass B 1000) (Passed n) w2 = cc in
+      let never : [] ≡ response (nth_id 0) answer ∷ [] = subst (λ (x : Event). written_in x.step x.outcome ≡ response (nth_id 0) answer ∷ []) same wrote in
+      cc
+  only_this reply said answer says (x ∷ y ∷ []) e later is by wrote =
+      let same : e ≡ event (Take B 5) (Arrived (nth_id 0)) w3 = cc in
+      let never : [] ≡ response (nth_id 0) answer ∷ [] = subst (λ (x : Event). written_in x.step x.outcome ≡ response (nth_id 0) answer ∷ []) same wrote in
+      cc
+  only_this reply said answer says (x ∷ y ∷ z ∷ []) e later is by wrote =
+      let same : e ≡ event reply (Answered 5) w4 = cc in
+      let both : response (nth_id 0) said ∷ [] ≡ response (nth_id 0) answer ∷ [] = sym says ∙ subst (λ (x : Event). written_in x.step x.outcome ≡ response (nth_id 0) answer ∷ []) same wrote in
+      cc
+  only_this reply said answer says (x ∷ y ∷ z ∷ u ∷ []) e later is by wrote =
+      let same : e ≡ event (Pass A 1000) (Passed m) w5 = cc in
+      let never : A ≡ B = subst (λ (x : Event). side_of x.step ≡ B) same by in
+      cc
+  only_this reply said answer says (x ∷ y ∷ z ∷ u ∷ v ∷ []) e later is by wrote = cc
+  only_this reply said answer says (x ∷ y ∷ z ∷ u ∷ v ∷ w ∷ more) e later is by wrote = cc
+
+  took_this : (reply : Step) (said answer : Result Data ErrorObject) → written_in reply (Answered 5) ≡ response (nth_id 0) said ∷ [] → Took reply answer → answer ≡ said
+  took_this reply said answer says took =
+      let law = answered_law world new handed (asked reply) (event (Take A 6) (Returned (nth_id 0) took.0) w6) took.1 took.2 A 6 (nth_id 0) took.0 refl refl in
+      let both : response (nth_id 0) answer ∷ [] ≡ response (nth_id 0) law.0 ∷ [] = append_cancel_left (each message_view (seen_at A world).taken) _ _ (sym took.3 ∙ law.1) in
+      let same : answer ≡ law.0 = cc in
+      same ∙ only_this reply said law.0 says law.2.earlier law.2.event law.2.later law.2.history_is law.2.by law.2.wrote
+
+  -- an answer that comes with another result
+  pub another_result : (result : Value) (other : Data) → other ≢ view result → Took (Answer B (nth_id 0) result) (Ok other) → ⊥
+  another_result result other apart took =
+      let same : Ok other ≡ Ok (view result) = took_this (Answer B (nth_id 0) result) (Ok (view result)) (Ok other) refl took in
+      apart cc
+
+  -- a refusal that comes as a result
+  pub refused_with_a_result : (code : ℤ) (text : String Global) (other : Data) → Took (Refuse B (nth_id 0) code text) (Ok other) → ⊥
+  refused_with_a_result code text other took =
+      let same = took_this (Refuse B (nth_id 0) code text) _ (Ok other) refl took in
+      cc
+
+  -- a refusal that comes with another code
+  pub another_code : (code wrong : ℤ) (text : String Global) → wrong ≢ code → Took (Refuse B (nth_id 0) code text) (Err (record { code = wrong; message = string_bytes text; details = None })) → ⊥
+  another_code code wrong text apart took =
+      let same = took_this (Refuse B (nth_id 0) code text) _ (Err (record { code = wrong; message = string_bytes text; details = None })) refl took in
+      apart (ap code_of same)
 
 module _ (world : World) where
   -- no run has it either, whatever world it gives

@@ -11,8 +11,9 @@ use Rattle.lsp_peers.specs.Ids.{nth_id, item_at}
 use Rattle.lsp_peers.specs.declared.step.Outcome.{Outcome}
 use Rattle.lsp_peers.specs.declared.step.Outcome.TheVariants.{Answered, Cancelled, GaveUp, Absent}
 use Rattle.lsp_peers.specs.declared.step.Step.{Step}
-use Rattle.lsp_peers.specs.declared.step.Step.TheVariants.{Register, Tell, Pass, Take, Answer, Cancel, GiveUp}
+use Rattle.lsp_peers.specs.declared.step.Step.TheVariants.{Register, Tell, Pass, Take, Answer, Refuse, Cancel, GiveUp}
 use Rattle.lsp_peers.specs.Token.{OnTheWay, AtOther, ComingBack, Done, GivenUp, Token, token, label_of, Goes}
+use Rattle.lsp_peers.specs.Letter.{refused}
 use Rattle.lsp_peers.specs.Post.{Letter, posted, next}
 use Rattle.lsp_peers.specs.Steps.{Accounts, accounts, nothing, Registers, Tells, Passes, TakesMessage, Takes, StepDoes, WorldDoes, Run}
 use Rattle.lsp_peers.specs.InOnePlace.{request_of, reply_of, requests, replies, going, returning, MatchLetters, InOnePlace}
@@ -196,6 +197,7 @@ placed_moves (Tell side method params) old placed outcome new moves = placed_tel
 placed_moves (Pass side bytes) old placed outcome new moves = placed_passes old placed bytes outcome new moves
 placed_moves (Take side label) old placed outcome new moves = placed_takes old placed label (next old.here.post) outcome new (λ letter is. next_first old.here.post letter is) moves
 placed_moves (Answer side id value) old placed outcome new moves = placed_replies_at old placed (label_of (item_at old.there.tokens id)) id (Ok (view value)) (λ label. Answered label) outcome new moves
+placed_moves (Refuse side id code message) old placed outcome new moves = placed_replies_at old placed (label_of (item_at old.there.tokens id)) id (outcome_in (refused id code (string_bytes message))) (λ label. Answered label) outcome new moves
 placed_moves (Cancel side id) old placed outcome new moves = placed_replies_at old placed (label_of (item_at old.there.tokens id)) id (outcome_in (cancelled id)) (λ label. Cancelled) outcome new moves
 placed_moves (GiveUp side id) old placed outcome new moves = placed_gives_up_at old placed (label_of (item_at old.there.tokens id)) id outcome new moves
 

@@ -55,6 +55,10 @@ pub record WorldAfter (world : World) (handed : Side → List plain.Message) (hi
   pub lawful : IsHistory history
   pub sides : (side : Side) → SideAfter (seen_at side world) (handed side) (events_of side history) (events_of (other side) history)
 
+-- The steps and outcomes are a history, and the world is what it is after it, with nothing handed out.
+abbrev pub IsWholeRun : List Step → List Outcome → World → Type 0
+IsWholeRun steps outcomes world = (history : List Event) × (each (λ event. event.step) history ≡ steps) × (each (λ event. event.outcome) history ≡ outcomes) × WorldAfter world (λ side. []) history
+
 -- What a run comes to. Its steps and outcomes begin as a history. This is all of them, and the world is what it is after it, with
 -- nothing handed out; or else the next step takes a message that nests more than 127 levels.
 pub record LeadTo (steps : List Step) (outcomes : List Outcome) (world : World) : Type 0 where

@@ -9,11 +9,11 @@ use Rattle.lsp_queue.specs.Queue.{all_ids, cancelled}
 use Rattle.lsp_peers.specs.declared.step.Side.{Side}
 use Rattle.lsp_peers.specs.declared.step.Side.TheVariants.{A, B}
 use Rattle.lsp_peers.specs.declared.step.Step.{Step}
-use Rattle.lsp_peers.specs.declared.step.Step.TheVariants.{Register, Tell, Pass, Take, Answer, Cancel, GiveUp}
+use Rattle.lsp_peers.specs.declared.step.Step.TheVariants.{Register, Tell, Pass, Take, Answer, Refuse, Cancel, GiveUp}
 use Rattle.lsp_peers.specs.declared.step.Outcome.{Outcome}
 use Rattle.lsp_peers.specs.declared.step.Outcome.TheVariants.{Registered, Spent, Told, Passed, Arrived, Returned, Notified, Waiting, Answered, Cancelled, GaveUp, Absent}
 use Rattle.lsp_peers.specs.Ids.{nth_id, item_at, has}
-use Rattle.lsp_peers.specs.Letter.{Letter, messages, frames, first_passed}
+use Rattle.lsp_peers.specs.Letter.{Letter, refused, messages, frames, first_passed}
 use Rattle.lsp_peers.specs.Sides.{side_of, other}
 
 -- a step with its outcome, and the letter that it wrote to the other side, if it wrote one
@@ -29,6 +29,7 @@ abbrev pub written_in : Step → Outcome → List Message
 written_in (Register side method params payload) (Registered id) = request id (string_bytes method) (view params) ∷ []
 written_in (Tell side method params) Told = notification (string_bytes method) (view params) ∷ []
 written_in (Answer side id value) (Answered label) = response id (Ok (view value)) ∷ []
+written_in (Refuse side id code message) (Answered label) = refused id code (string_bytes message) ∷ []
 written_in (Cancel side id) Cancelled = cancelled id ∷ []
 written_in step outcome = []
 
@@ -42,9 +43,10 @@ abbrev pub arrival_in : Step → Outcome → List ℕ
 arrival_in (Take side label) (Arrived id) = label ∷ []
 arrival_in step outcome = []
 
--- the id of a request that was answered, cancelled or given up
+-- the id of a request that was answered, refused, cancelled or given up
 abbrev pub settled_in : Step → Outcome → List Id
 settled_in (Answer side id value) (Answered label) = id ∷ []
+settled_in (Refuse side id code message) (Answered label) = id ∷ []
 settled_in (Cancel side id) Cancelled = id ∷ []
 settled_in (GiveUp side id) (GaveUp label) = id ∷ []
 settled_in step outcome = []
@@ -76,7 +78,7 @@ payloads events = flat_map (λ event. payload_in event.step event.outcome) event
 abbrev pub labels : List Event → List ℕ
 labels events = flat_map (λ event. arrival_in event.step event.outcome) events
 
--- the ids of the requests that it answered, cancelled or gave up
+-- the ids of the requests that it answered, refused, cancelled or gave up
 abbrev pub settled : List Event → List Id
 settled events = flat_map (λ event. settled_in event.step event.outcome) events
 
@@ -140,6 +142,7 @@ module _ (own others : List Event) where
   outcome_of (Pass side bytes) = Passed (min bytes (length (frames (letters_written others)) - passed_count own))
   outcome_of (Take side label) = option_map_or (λ letter. outcome_of_taking letter.message) next_letter Waiting
   outcome_of (Answer side id value) = where_held (held own id) (λ label. Answered label)
+  outcome_of (Refuse side id code message) = where_held (held own id) (λ label. Answered label)
   outcome_of (Cancel side id) = where_held (held own id) (λ label. Cancelled)
   outcome_of (GiveUp side id) = where_held (held own id) (λ label. GaveUp label)
 

@@ -1,12 +1,14 @@
 -- What the users of two peers may rest on, over the steps, their outcomes and the messages taken.
 use Rattle.std.specs.Prelude.{◌≡◌, ◌<◌, ℕ, List, [], ◌∷◌, ◌++◌, length, false, IsSome, Result}
 use Rattle.serde_json.specs.Data.{Data}
+use Rattle.lsp_message.specs.Id.{Id}
 use Rattle.lsp_message.specs.Message.{Message, ErrorObject, request, notification, response}
+use Rattle.lsp_peers.specs.declared.step.Side.{Side}
 use Rattle.lsp_peers.specs.declared.step.Step.{Step}
-use Rattle.lsp_peers.specs.declared.step.Step.TheVariants.{Register, Take, Answer, Cancel, GiveUp}
+use Rattle.lsp_peers.specs.declared.step.Step.TheVariants.{Register, Take, Answer, Refuse, Cancel, GiveUp}
 use Rattle.lsp_peers.specs.declared.step.Outcome.{Outcome}
 use Rattle.lsp_peers.specs.declared.step.Outcome.TheVariants.{Registered, Spent, Passed, Arrived, Returned, Notified, Waiting, Answered, Cancelled, GaveUp, Absent}
-use Rattle.lsp_peers.specs.History.{Event, payloads, labels, returned, held, where_held, events_of}
+use Rattle.lsp_peers.specs.History.{Event, written_in, payloads, labels, returned, held, where_held, events_of}
 use Rattle.lsp_peers.specs.Ids.{nth_id, item_at, has}
 use Rattle.lsp_peers.specs.Sides.{side_of, other}
 
@@ -29,6 +31,7 @@ IsFact own others (Take side label) (Arrived id) = (id ≡ nth_id (length (label
 IsFact own others (Take side label) (Returned id payload) = IsSome payload × (payload ≡ item_at (payloads own) id) × (has id (returned own) ≡ false)
 -- a request is found exactly if it has arrived and is not settled
 IsFact own others (Answer side id value) outcome = outcome ≡ where_held (held own id) (λ label. Answered label)
+IsFact own others (Refuse side id code message) outcome = outcome ≡ where_held (held own id) (λ label. Answered label)
 IsFact own others (Cancel side id) outcome = outcome ≡ where_held (held own id) (λ label. Cancelled)
 IsFact own others (GiveUp side id) outcome = outcome ≡ where_held (held own id) (λ label. GaveUp label)
 IsFact own others step outcome = Unit {0}
@@ -54,3 +57,12 @@ TakenAs (Arrived id) old new = (method : List ℕ) × (params : Data) × (new �
 TakenAs (Returned id payload) old new = (answer : Result Data ErrorObject) × (new ≡ old ++ response id answer ∷ [])
 TakenAs Notified old new = (method : List ℕ) × (params : Data) × (new ≡ old ++ notification method params ∷ [])
 TakenAs outcome old new = new ≡ old
+
+-- The side wrote this answer to the request of this id in one of the events: it answered the request, refused it or cancelled it.
+pub record AnsweredBy (side : Side) (id : Id) (answer : Result Data ErrorObject) (history : List Event) : Type 0 where
+  pub earlier : List Event
+  pub event : Event
+  pub later : List Event
+  pub history_is : earlier ++ event ∷ later ≡ history
+  pub by : side_of event.step ≡ side
+  pub wrote : written_in event.step event.outcome ≡ response id answer ∷ []

@@ -1,10 +1,11 @@
 -- A letter: a message with a frame of it.
 use Rattle.std.specs.List.{flat_map}
-use Rattle.std.specs.Prelude.{◌≤◌, ℕ, ◌+◌, List, [], ◌∷◌, ◌++◌, length, Option, None, Some, nat_le, if◌then◌else◌, map as each}
+use Rattle.std.specs.Prelude.{◌≤◌, ℕ, ℤ, ◌+◌, List, [], ◌∷◌, ◌++◌, length, Option, None, Some, Err, nat_le, if◌then◌else◌, map as each}
 use Rattle.serde_json.specs.Read.{max_depth}
 use Rattle.lsp_message.specs.Frame.{no_limit}
 use Rattle.lsp_message.specs.Letters.{Begins}
-use Rattle.lsp_message.specs.Message.{Message}
+use Rattle.lsp_message.specs.Id.{Id}
+use Rattle.lsp_message.specs.Message.{Message, response}
 use Rattle.lsp_message.specs.Ranges.{nesting}
 use Rattle.lsp_message.specs.Tree.{without_null_details}
 use Rattle.lsp_message.specs.Written.{IsFrameOf}
@@ -16,6 +17,10 @@ pub record Letter : Type 0 where
   pub frame : List ℕ
   pub framed : IsFrameOf message frame
   pub readable : nesting message ≤ max_depth → (rest : List ℕ) → Begins no_limit (frame ++ rest) (without_null_details message) rest
+
+-- the reply to a request that failed, with this code and this text (JSON-RPC 2.0, section 5.1)
+abbrev pub refused : Id → ℤ → List ℕ → Message
+refused id code text = response id (Err (record { code = code; message = text; details = None }))
 
 -- the messages of the letters, in order
 abbrev pub messages : List Letter → List Message

@@ -2,7 +2,7 @@
 use Rattle.lsp_peers.specs.declared.step.Side.{Side}
 use Rattle.lsp_peers.specs.declared.step.Side.TheVariants.{A, B}
 use Rattle.lsp_peers.specs.declared.step.Step.{Step}
-use Rattle.lsp_peers.specs.declared.step.Step.TheVariants.{Register, Tell, Pass, Take, Answer, Cancel, GiveUp}
+use Rattle.lsp_peers.specs.declared.step.Step.TheVariants.{Register, Tell, Pass, Take, Answer, Refuse, Cancel, GiveUp}
 
 -- the side that takes the step, or that the bytes arrive at
 abbrev pub side_of : Step → Side
@@ -11,6 +11,7 @@ side_of (Tell side method params) = side
 side_of (Pass side bytes) = side
 side_of (Take side label) = side
 side_of (Answer side id value) = side
+side_of (Refuse side id code message) = side
 side_of (Cancel side id) = side
 side_of (GiveUp side id) = side
 

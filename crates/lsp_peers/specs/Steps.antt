@@ -8,12 +8,13 @@ use Rattle.lsp_queue.specs.Queue.{all_ids, cancelled}
 use Rattle.lsp_peers.specs.declared.step.Side.{Side}
 use Rattle.lsp_peers.specs.declared.step.Side.TheVariants.{A, B}
 use Rattle.lsp_peers.specs.declared.step.Step.{Step}
-use Rattle.lsp_peers.specs.declared.step.Step.TheVariants.{Register, Tell, Pass, Take, Answer, Cancel, GiveUp}
+use Rattle.lsp_peers.specs.declared.step.Step.TheVariants.{Register, Tell, Pass, Take, Answer, Refuse, Cancel, GiveUp}
 use Rattle.lsp_peers.specs.declared.step.Outcome.{Outcome}
 use Rattle.lsp_peers.specs.declared.step.Outcome.TheVariants.{Registered, Spent, Told, Passed, Arrived, Returned, Notified, Waiting, Answered, Cancelled, GaveUp, Absent}
 use Rattle.lsp_peers.specs.Ids.{nth_id, item_at}
 pub use Rattle.lsp_peers.specs.Sides.{side_of}
 use Rattle.lsp_peers.specs.Token.{OnTheWay, AtOther, ComingBack, Done, GivenUp, Token, token, label_of, Goes}
+use Rattle.lsp_peers.specs.Letter.{refused}
 use Rattle.lsp_peers.specs.Post.{Letter, Post, posted, passed_on, unpassed, next, one_taken, empty_post}
 
 -- the tokens of one side, and the post to it
@@ -102,6 +103,7 @@ StepDoes old (Tell side method params) outcome new = Tells (string_bytes method)
 StepDoes old (Pass side bytes) outcome new = Passes bytes old outcome new
 StepDoes old (Take side label) outcome new = Takes label (next old.here.post) old outcome new
 StepDoes old (Answer side id value) outcome new = Replies id (response id (Ok (view value))) (λ label. Answered label) old outcome new
+StepDoes old (Refuse side id code message) outcome new = Replies id (refused id code (string_bytes message)) (λ label. Answered label) old outcome new
 StepDoes old (Cancel side id) outcome new = Replies id (cancelled id) (λ label. Cancelled) old outcome new
 StepDoes old (GiveUp side id) outcome new = GivesUp id old outcome new
 

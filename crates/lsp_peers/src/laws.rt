@@ -1,12 +1,14 @@
 //! Laws of the histories of two peers. Each is the contract of a function, so the proofs of callers can use it.
-ghost use Rattle.std.specs.Prelude.{◌≡◌, ◌<◌, ◌++◌, ◌∷◌, [], ℕ, List, Option, IsSome, false, length, map as each};
+ghost use Rattle.std.specs.Prelude.{◌≡◌, ◌<◌, ◌++◌, ◌∷◌, [], ℕ, List, Option, Result, IsSome, false, length, map as each};
 ghost use Rattle.lsp_message.specs.Id.{Id};
+ghost use Rattle.serde_json.specs.Data.{Data};
 ghost use Rattle.lsp_message.specs.Message as plain;
+ghost use Rattle.lsp_message.specs.Message.{ErrorObject, response};
 ghost use Rattle.lsp_message.specs.View.{message_view};
 ghost use Rattle.lsp_peers.specs.Agreement.{WorldAgrees};
-ghost use Rattle.lsp_peers.specs.Exchange.{WorldAfter, LeadTo, MeetsDeep, seen_at};
+ghost use Rattle.lsp_peers.specs.Exchange.{WorldAfter, MeetsDeep, seen_at};
 ghost use Rattle.lsp_peers.specs.History.{Event, IsHistory, events_of, payloads, labels, returned};
-ghost use Rattle.lsp_peers.specs.HistoryLaw.{FactsOf, TakenAs};
+ghost use Rattle.lsp_peers.specs.HistoryLaw.{FactsOf, TakenAs, AnsweredBy};
 ghost use Rattle.lsp_peers.specs.Ids.{nth_id, item_at, has};
 ghost use Rattle.lsp_peers.specs.InOnePlace.{InOnePlace};
 ghost use Rattle.lsp_peers.specs.Shallow.{TakesReadable, AreReadable, IsShallow, AllShallow};
@@ -24,13 +26,7 @@ pub fn a_beginning_is_a_history()
     ensures { (before after : List Event) → IsHistory (before ++ after) → IsHistory before }
 {}
 
-/// A run of steps whose params and results nest at most 126 levels is a history as a whole.
-pub fn a_shallow_run_is_a_history()
-    ensures { (steps : List Step) (outcomes : List Outcome) (world : World) → LeadTo steps outcomes world → AllShallow steps →
-        (history : List Event) × (each (λ event. event.step) history ≡ steps) × (each (λ event. event.outcome) history ≡ outcomes) × WorldAfter world (λ side. []) history }
-{}
-
-/// Among such steps none takes a message that nests more than 127 levels. So the only fault is a failed allocation.
+/// Among steps whose params and results nest at most 126 levels none takes a message that nests more than 127 levels. So the only fault is a failed allocation.
 pub fn a_shallow_run_meets_nothing_deep()
     ensures { (steps : List Step) → AllShallow steps → MeetsDeep steps → ⊥ }
 {}
@@ -75,6 +71,14 @@ pub fn a_take_gives_the_last_message()
     ensures { (world new : World) (handed : Side → List plain.Message) (before : List Event) (event : Event) →
         WorldAfter world handed before → WorldAfter new handed (before ++ event ∷ []) → (side : Side) (label : ℕ) → event.step ≡ Take side label →
         TakenAs event.outcome (each message_view (seen_at side world).taken) (each message_view (seen_at side new).taken) }
+{}
+
+/// A reply that a side takes is what the other side wrote before, in answer to the request of this id.
+pub fn a_reply_is_the_answer_of_the_other_side()
+    ensures { (world new : World) (handed : Side → List plain.Message) (before : List Event) (event : Event) →
+        WorldAfter world handed before → WorldAfter new handed (before ++ event ∷ []) → (side : Side) (label : ℕ) (id : Id) (payload : Option ℕ) →
+        event.step ≡ Take side label → event.outcome ≡ Returned id payload → (answer : Result Data ErrorObject)
+        × (each message_view (seen_at side new).taken ≡ each message_view (seen_at side world).taken ++ response id answer ∷ []) × AnsweredBy (other side) id answer before }
 {}
 
 /// A history over tokens: its steps do this to one token for each request, and to the letters of two posts, each token in one place;

@@ -101,6 +101,7 @@ impl Link {
             OnErr result (result ≡ Err WorldFault.Memory) }
         ensures waits { front_of self.old.arrived ≡ Front.More → result ≡ Ok None }
         ensures idle { (post : Post) → Carries self.old post → next post ≡ None → result ≡ Ok None }
+        ensures comes { (post : Post) → Carries self.old post → result ≡ Ok None → next post ≡ None }
     {
         let arrived = &self.bytes[self.start..self.end];
         match front(arrived) {

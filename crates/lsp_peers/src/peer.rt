@@ -3,13 +3,12 @@ ghost use Rattle.std.specs.Prelude.{◌≡◌, [], List, Err, Ok, None, OnErr, I
 ghost use Rattle.std.specs.FinMap as map;
 ghost use Rattle.serde_json.specs.View.{view};
 ghost use Rattle.lsp_message.specs.Message as plain;
-ghost use Rattle.lsp_message.specs.Message.{response};
-ghost use Rattle.lsp_message.specs.View.{message_view};
+ghost use Rattle.lsp_message.specs.View.{message_view, response_view};
 ghost use Rattle.lsp_queue.specs.Queue.{cancelled, count_of, all_ids};
 ghost use Rattle.lsp_peers.specs.Agreement.{PeerAgrees, Agrees};
 ghost use Rattle.lsp_peers.specs.Steps.{Accounts, Registers, Tells, Passes, Takes, Replies, GivesUp, StepDoes};
 ghost use Rattle.lsp_peers.specs.Post.{ReadsBack, IfNext, next, empty_post};
-ghost use Rattle.lsp_peers.specs.Settling.{Settles, ReadsNext, IsFree};
+ghost use Rattle.lsp_peers.specs.Settling.{Settles, ReadsNext, IsFree, HasNothing};
 ghost use Rattle.lsp_peers.specs.InOnePlace.{InOnePlace};
 
 use crate::fault::WorldFault;
@@ -46,6 +45,8 @@ impl Peer {
             (new : Accounts) × StepDoes old step outcome new × Agrees self.new far.new mine theirs new) }
         ensures err { (mine theirs : List plain.Message) (old : Accounts) → Agrees self.old far.old mine theirs old → InOnePlace old → ReadsNext old step → OnErr result (result ≡ Err WorldFault.Memory) }
         ensures free { (mine theirs : List plain.Message) (old : Accounts) → Agrees self.old far.old mine theirs old → IsFree old step → IsOk result }
+        ensures same { result ≡ Err WorldFault.NotReadBack → (self.new ≡ self.old) × (far.new ≡ far.old) }
+        ensures comes { (mine theirs : List plain.Message) (old : Accounts) → Agrees self.old far.old mine theirs old → result ≡ Ok Outcome.Waiting → HasNothing old step }
     {
         match step {
             Step::Register {
@@ -65,7 +66,19 @@ impl Peer {
                 side: _,
                 id,
                 result: value,
-            } => self.answer(far, id, value),
+            } => self.answer(
+                far,
+                Response {
+                    id,
+                    response_result: Ok(value),
+                },
+            ),
+            Step::Refuse {
+                side: _,
+                id,
+                code,
+                message,
+            } => self.answer(far, Response::new_err(id, code, message)),
             Step::Cancel { side: _, id } => self.cancel(far, id),
             Step::GiveUp { side: _, id } => Ok(self.give_up(far, id)),
         }
@@ -112,18 +125,14 @@ impl Peer {
         Outcome::Passed(self.link.pass(bytes))
     }
 
-    fn answer(&mut self, far: &mut Peer, id: RequestId, value: Value) -> Result<Outcome, WorldFault>
+    fn answer(&mut self, far: &mut Peer, reply: Response) -> Result<Outcome, WorldFault>
         ensures ok { (mine theirs : List plain.Message) (old : Accounts) → Agrees self.old far.old mine theirs old → IfOk result (λ outcome.
-            (new : Accounts) × Replies id (response id (Ok (view value))) (λ label. Outcome.Answered label) old outcome new × Agrees self.new far.new mine theirs new) }
+            (new : Accounts) × Replies reply.id (response_view reply) (λ label. Outcome.Answered label) old outcome new × Agrees self.new far.new mine theirs new) }
         ensures err { OnErr result (result ≡ Err WorldFault.Memory) }
-        ensures absent { map.get self.old.queue.incoming id ≡ None → result ≡ Ok Outcome.Absent }
+        ensures absent { map.get self.old.queue.incoming reply.id ≡ None → result ≡ Ok Outcome.Absent }
     {
-        match self.queue.incoming.complete(&id) {
+        match self.queue.incoming.complete(&reply.id) {
             Some(label) => {
-                let reply = Response {
-                    id,
-                    response_result: Ok(value),
-                };
                 far.link.write(&Message::Response(reply))?;
                 Ok(Outcome::Answered(label))
             }
@@ -162,6 +171,8 @@ impl Peer {
             (new : Accounts) × Takes label (next old.here.post) old outcome new × Agrees self.new far.now mine theirs new) }
         ensures err { (mine theirs : List plain.Message) (old : Accounts) → Agrees self.old far.now mine theirs old → InOnePlace old → IfNext ReadsBack old.here.post → OnErr result (result ≡ Err WorldFault.Memory) }
         ensures waits { (mine theirs : List plain.Message) (old : Accounts) → Agrees self.old far.now mine theirs old → next old.here.post ≡ None → result ≡ Ok Outcome.Waiting }
+        ensures same { result ≡ Err WorldFault.NotReadBack → self.new ≡ self.old }
+        ensures comes { (mine theirs : List plain.Message) (old : Accounts) → Agrees self.old far.now mine theirs old → result ≡ Ok Outcome.Waiting → next old.here.post ≡ None }
     {
         let Some(message) = self.link.take()? else {
             return Ok(Outcome::Waiting);

@@ -47,7 +47,7 @@ pub enum Step {
     Take {
         /// Who takes it.
         side: Side,
-        /// What the side keeps with a request until it answers it, cancels it or gives it up.
+        /// What the side keeps with a request until it answers it, refuses it, cancels it or gives it up.
         label: u64,
     },
     /// The side answers a request that it holds (JSON-RPC 2.0, section 5).
@@ -58,6 +58,17 @@ pub enum Step {
         id: RequestId,
         /// The result.
         result: Value,
+    },
+    /// The side replies to a request that it holds, with an error that has no data (JSON-RPC 2.0, section 5.1).
+    Refuse {
+        /// Who replies.
+        side: Side,
+        /// The id of the request.
+        id: RequestId,
+        /// The error's code. Take the `number` of an `ErrorCode`.
+        code: i32,
+        /// Its text.
+        message: String,
     },
     /// The side replies to a request that it holds, with the error that it was cancelled (LSP 3.17, "Cancellation Support").
     Cancel {
@@ -89,6 +100,7 @@ impl Step {
             Step::Pass { to, .. } => *to,
             Step::Take { side, .. } => *side,
             Step::Answer { side, .. } => *side,
+            Step::Refuse { side, .. } => *side,
             Step::Cancel { side, .. } => *side,
             Step::GiveUp { side, .. } => *side,
         }
@@ -114,7 +126,7 @@ pub enum Outcome {
     Notified,
     /// No frame has arrived whole, and nothing was taken.
     Waiting,
-    /// The request was answered. It was held under this label.
+    /// The request was answered, by a result or by an error. It was held under this label.
     Answered(u64),
     /// The reply was written. It says that the request was cancelled.
     Cancelled,

@@ -1,11 +1,11 @@
 //! Two peers with their queues, joined by two links.
-ghost use Rattle.std.specs.Prelude.{◌≡◌, ◌∷◌, ◌++◌, [], List, Err, IfOk, IsOk, OnErr, map as each};
+ghost use Rattle.std.specs.Prelude.{◌≡◌, ◌∷◌, ◌++◌, [], List, Ok, Err, IfOk, IsOk, OnErr, map as each};
 ghost use Rattle.lsp_message.specs.Message as plain;
 ghost use Rattle.lsp_message.specs.View.{message_view};
-ghost use Rattle.lsp_peers.specs.Exchange.{WorldAfter, LeadTo, MeetsDeep, handed_on, peer_at, seen_at};
+ghost use Rattle.lsp_peers.specs.Exchange.{WorldAfter, IsWholeRun, LeadTo, MeetsDeep, handed_on, peer_at, seen_at};
 ghost use Rattle.lsp_peers.specs.History.{Event, events_of, outcome_of};
 ghost use Rattle.lsp_peers.specs.HistoryLaw.{NeedsNoMemory};
-ghost use Rattle.lsp_peers.specs.Shallow.{TakesReadable};
+ghost use Rattle.lsp_peers.specs.Shallow.{TakesReadable, AllShallow};
 ghost use Rattle.lsp_peers.specs.Sides.{side_of, other};
 
 use crate::fault::WorldFault;
@@ -47,8 +47,10 @@ impl World {
     /// After a fault there is no world. `WorldFault::Memory` means that an allocation failed, and `WorldFault::NotReadBack` that a
     /// side was to take a message that nests more than 127 levels.
     pub fn run(alloc: Global, steps: Vec<Step>) -> Result<(World, Vec<Outcome>), WorldFault>
-        // The steps and outcomes are a history of the two sides: each outcome follows from the events before it, and the world is
-        // what it is after them. This ends at a Take of a message that nests too deeply.
+        // If the params and results of the steps nest at most 126 levels, the steps and outcomes are a history of the two sides:
+        // each outcome follows from the events before it, and the world is what it is after them.
+        ensures shallow { AllShallow steps.items → IfOk result (λ r. IsWholeRun steps.items r.1.items r.0) }
+        // Whatever the steps are, this holds up to a Take of a message that nests too deeply.
         ensures exchanged { IfOk result (λ r. LeadTo steps.items r.1.items r.0) }
         // The other fault comes only at such a Take.
         ensures deep { result ≡ Err WorldFault.NotReadBack → MeetsDeep steps.items }
@@ -56,7 +58,7 @@ impl World {
         let mut world = World::new(alloc);
         let mut outcomes = Vec::new(alloc);
         for step in steps {
-            let outcome = world.go(step)?;
+            let outcome = world.step(step)?;
             if outcomes.push(outcome).is_err() {
                 return Err(WorldFault::Memory);
             }
@@ -64,34 +66,28 @@ impl World {
         Ok((world, outcomes))
     }
 
-    /// Takes one step. Gives the world that it leads to, and its outcome. After a fault there is no world.
+    /// Takes one step, and gives its outcome.
     ///
-    /// `WorldFault::Memory` means that an allocation failed. A step that comes to `Spent`, `Passed`, `Waiting`, `GaveUp` or `Absent`
-    /// needs none. `WorldFault::NotReadBack` means that the side was to take a message that nests more than 127 levels.
+    /// `WorldFault::NotReadBack` means that the side was to take a message that nests more than 127 levels. The world is then as it
+    /// was, so all but this side's takes go on.
+    ///
+    /// `WorldFault::Memory` means that an allocation failed. Let the world go then: a request may be registered and not written.
+    /// A step that comes to `Spent`, `Passed`, `Waiting`, `GaveUp` or `Absent` needs no memory.
     ///
     /// A world keeps each message that a side took. `hand_out` lets them go.
-    pub fn step(self, step: Step) -> Result<(World, Outcome), WorldFault>
+    pub fn step(&mut self, step: Step) -> Result<Outcome, WorldFault>
         // The outcome follows from the events that led to this world, and the new world is what it is after one more event.
-        ensures exchanged { (handed : Side → List plain.Message) (old : List Event) → WorldAfter self handed old → TakesReadable old step → IfOk result (λ r.
-            (event : Event) × (event.step ≡ step) × (event.outcome ≡ r.1) × WorldAfter r.0 handed (old ++ event ∷ [])) }
-        // The other fault comes only if the message that is taken nests too deeply.
-        ensures err { (handed : Side → List plain.Message) (old : List Event) → WorldAfter self handed old → TakesReadable old step →
-            OnErr result (result ≡ Err WorldFault.Memory) }
-        ensures free { (handed : Side → List plain.Message) (old : List Event) → WorldAfter self handed old →
-            NeedsNoMemory (outcome_of (events_of (side_of step) old) (events_of (other (side_of step)) old) step) → IsOk result }
-    {
-        let mut world = self;
-        let outcome = world.go(step)?;
-        Ok((world, outcome))
-    }
-
-    fn go(&mut self, step: Step) -> Result<Outcome, WorldFault>
         ensures exchanged { (handed : Side → List plain.Message) (old : List Event) → WorldAfter self.old handed old → TakesReadable old step → IfOk result (λ outcome.
             (event : Event) × (event.step ≡ step) × (event.outcome ≡ outcome) × WorldAfter self.new handed (old ++ event ∷ [])) }
+        // The other fault comes only if the message that is taken nests too deeply, and nothing has changed then.
         ensures err { (handed : Side → List plain.Message) (old : List Event) → WorldAfter self.old handed old → TakesReadable old step →
             OnErr result (result ≡ Err WorldFault.Memory) }
+        ensures same { result ≡ Err WorldFault.NotReadBack → self.new ≡ self.old }
         ensures free { (handed : Side → List plain.Message) (old : List Event) → WorldAfter self.old handed old →
             NeedsNoMemory (outcome_of (events_of (side_of step) old) (events_of (other (side_of step)) old) step) → IsOk result }
+        // A message that nests too deeply is not waited for either.
+        ensures waits { (handed : Side → List plain.Message) (old : List Event) → WorldAfter self.old handed old → result ≡ Ok Outcome.Waiting →
+            outcome_of (events_of (side_of step) old) (events_of (other (side_of step)) old) step ≡ Outcome.Waiting }
     {
         let side = step.side();
         match side {

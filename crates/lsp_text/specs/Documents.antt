@@ -7,8 +7,8 @@ pub record Change : Type 0 where
   pub range : Option Range
   pub text : List ℕ
 
--- the language and the text are the bytes of their UTF-8
+-- the language and the text are the bytes of their UTF-8. The version is none where the client gave none
 pub record Document : Type 0 where
   pub language_id : List ℕ
-  pub version : ℤ
+  pub version : Option ℤ
   pub text : List ℕ

@@ -1,5 +1,5 @@
 // A document that a client has opened.
-ghost use Rattle.std.specs.Prelude.{◌≡◌, OnOk, OnErr, IfOk};
+ghost use Rattle.std.specs.Prelude.{◌≡◌, OnOk, OnErr, IfOk, length, is_err, false};
 ghost use Rattle.std.specs.String.{string_bytes};
 ghost use Rattle.lsp_text.specs.Documents.{Change, Document};
 ghost use Rattle.lsp_text.specs.Edits.{edited_by};
@@ -29,7 +29,7 @@ impl Model for ContentChange {
 #[derive(Drop)]
 pub struct TextDocument {
     language_id: String,
-    version: i32,
+    version: Option<i32>,
     text: Text,
 }
 
@@ -44,7 +44,7 @@ impl TextDocument {
     pub fn new(
         alloc: Global,
         language_id: &str,
-        version: i32,
+        version: Option<i32>,
         text: &str,
     ) -> Result<TextDocument, AllocError>
         ensures { IfOk result (λ d. d ≡ record { language_id = language_id.now; version = version; text = text.now }) }
@@ -65,8 +65,16 @@ impl TextDocument {
         self.language_id.as_str()
     }
 
-    /// The version, as the client counts it.
-    pub fn version(&self) -> i32
+    /// The language, of a document that is not needed any more.
+    pub fn into_language_id(self) -> String
+        ensures { string_bytes result ≡ self.language_id }
+    {
+        let TextDocument { language_id, .. } = self;
+        language_id
+    }
+
+    /// The version, as the client counts it, where it gave one.
+    pub fn version(&self) -> Option<i32>
         ensures { result ≡ self.now.version }
     {
         self.version
@@ -80,22 +88,23 @@ impl TextDocument {
     }
 
     /// Makes the changes of one notification, each in the text that the one before it left. Where memory runs out, the document
-    /// stays as it was.
+    /// stays as it was. Without a change no memory is needed.
     pub fn change(
         &mut self,
         alloc: Global,
-        version: i32,
+        version: Option<i32>,
         encoding: PositionEncoding,
         changes: &[ContentChange],
     ) -> Result<(), AllocError>
         ensures ok { OnOk result (self.new ≡ record { language_id = self.old.language_id; version = version; text = edited_by encoding self.old.text changes.now }) }
         ensures err { OnErr result (self.new ≡ self.old) }
+        ensures none { length changes.now ≡ 0 → is_err result ≡ false }
     {
         if changes.len() == 1 {
             let change = &changes[0];
             self.text
                 .apply(alloc, change.range, encoding, change.text.as_str())?;
-        } else {
+        } else if changes.len() > 1 {
             let mut text = Text::new(alloc, self.text.as_str())?;
             for change in changes {
                 text.apply(alloc, change.range, encoding, change.text.as_str())?;

@@ -1,12 +1,13 @@
 // A text with the places where its lines begin.
-ghost use Rattle.std.specs.Prelude.{◌≡◌, ℕ, List, length, IfOk, OnOk, OnErr, ◌≤◌, ◌<◌, ◌^◌, min};
+ghost use Rattle.std.specs.Prelude.{◌≡◌, ℕ, List, length, drop, slice_index, IfOk, OnOk, OnErr, ◌≤◌, ◌<◌, ◌^◌, min};
 ghost use Rattle.std.specs.String.{string_bytes};
 ghost use Rattle.std.specs.String.Boundary.{IsSplitPoint};
 ghost use Rattle.std.specs.List.{replace_range};
 ghost use Rattle.lsp_text.specs.Lines.{line_starts};
-ghost use Rattle.lsp_text.specs.Columns.{offset_of, line_of, column_of, IsPlace};
+ghost use Rattle.lsp_text.specs.Columns.{offset_of, line_of, column_of, column_left, IsPlace};
 ghost use Rattle.lsp_text.specs.Edits.{edited};
 
+use crate::columns::Reached;
 use crate::position::{Position, PositionEncoding, Range};
 use crate::{columns, lines};
 use std::alloc::{AllocError, Global};
@@ -57,13 +58,46 @@ impl Text {
         ensures value { result ≡ offset_of encoding self.now position.line position.character }
         ensures boundary { IsSplitPoint self.now result }
     {
+        self.reach(position, encoding).place
+    }
+
+    /// Where a position is, and how many units are left of its character there.
+    fn reach(&self, position: Position, encoding: PositionEncoding) -> Reached
+        ensures value { result.place ≡ offset_of encoding self.now position.line position.character }
+        ensures left { position.line < length (line_starts self.now) → result.left ≡ column_left encoding position.character (drop (slice_index (line_starts self.now) position.line) self.now) }
+        ensures fewer { result.left ≤ position.character }
+        ensures boundary { IsSplitPoint self.now result.place }
+    {
         let line = position.line as usize;
         if line < self.starts.len() {
             let text = self.text.as_bytes();
             let start = lines::start_of(text, self.starts.as_slice(), line);
-            columns::offset_in(encoding, position.character, text, start)
+            columns::reach_in(encoding, position.character, text, start)
         } else {
-            self.text.len()
+            Reached {
+                place: self.text.len(),
+                left: 0,
+            }
+        }
+    }
+
+    /// Where the end of a range is. In the line of the range's start, which was reached, the way goes on from there.
+    fn end_of(&self, range: Range, encoding: PositionEncoding, start: Reached) -> usize
+        requires place { start.place ≡ offset_of encoding self.now range.start.line range.start.character }
+        requires left { range.start.line < length (line_starts self.now) → start.left ≡ column_left encoding range.start.character (drop (slice_index (line_starts self.now) range.start.line) self.now) }
+        requires fewer { start.left ≤ range.start.character }
+        requires boundary { IsSplitPoint self.now start.place }
+        ensures value { result ≡ offset_of encoding self.now range.end.line range.end.character }
+        ensures boundary { IsSplitPoint self.now result }
+    {
+        let line = range.end.line as usize;
+        let behind = range.start.character <= range.end.character;
+        if line < self.starts.len() && range.start.line == range.end.line && behind {
+            let more = range.end.character - range.start.character;
+            let text = self.text.as_bytes();
+            columns::reach_in(encoding, start.left + more, text, start.place).place
+        } else {
+            self.offset_at(range.end, encoding)
         }
     }
 
@@ -125,12 +159,12 @@ impl Text {
     {
         match range {
             Some(range) => {
-                let start = self.offset_at(range.start, encoding);
-                let end = self.offset_at(range.end, encoding);
-                if start <= end {
-                    self.replace(alloc, start, end, text)
+                let start = self.reach(range.start, encoding);
+                let end = self.end_of(range, encoding, start);
+                if start.place <= end {
+                    self.replace(alloc, start.place, end, text)
                 } else {
-                    self.replace(alloc, end, start, text)
+                    self.replace(alloc, end, start.place, text)
                 }
             }
             None => {

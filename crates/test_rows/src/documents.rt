@@ -1,21 +1,23 @@
 // Open documents, as rows of notifications tell of them: a message with a method and params.
 //
-// `initialize` begins anew, in the encoding that its params agree on. For any other message the line has `ok`, or what is wrong, and
-// then each document that was open once: its URI, its version, its language, its text, and how many lines it has and the position of
-// each place where a character begins. One that is closed shows `-`.
+// `initialize` begins anew, in the encoding that its params agree on. For any other message the line has `ok`, with what is to be said
+// of it, or what is wrong, and whether a text is lost by it, and then each document that was open once: its URI, its version, its
+// language, its text, and how many lines it has and the position of each place where a character begins. One that is closed shows
+// `-`, and one whose text is lost `?`.
 use crate::attempt::{Attempt, Stop};
 use crate::messages::value_in;
-use lsp_documents::{DocumentFault, TextDocuments, position_encoding};
+use lsp_documents::{DocumentFault, Made, NotMade, TextDocuments, position_encoding};
 use lsp_text::{PositionEncoding, Text, TextDocument};
 use serde_json::Value;
 use std::alloc::{AllocError, Global};
 
-/// The documents of a server, and the URIs that it was told of.
+/// The documents of a server, the URIs that it was told of, and what it was told since `initialize`.
 #[derive(Drop)]
 pub struct Documents {
     alloc: Global,
     documents: TextDocuments,
     seen: Vec<String>,
+    told: Vec<String>,
 }
 
 impl Documents {
@@ -25,35 +27,72 @@ impl Documents {
             alloc,
             documents: TextDocuments::new(alloc, PositionEncoding::Utf16),
             seen: Vec::new(alloc),
+            told: Vec::new(alloc),
         }
     }
 
-    /// What comes of a message.
+    /// What comes of a message. One for which there was no memory is missed, so all before it is told once more.
     pub fn attempt(&mut self, text: &str) -> Result<Attempt, Stop> {
         let message = value_in(self.alloc, text)?;
-        let params = message.get("params").unwrap_or(&Value::Null);
-        let method = message.get("method").and_then(Value::as_str).unwrap_or("");
+        let none = Value::Null;
+        let params = message.get("params").unwrap_or(&none);
+        let method = method_of(&message);
         if method == "initialize" {
             self.documents = TextDocuments::new(self.alloc, position_encoding(params));
             self.seen = Vec::new(self.alloc);
+            self.told = Vec::new(self.alloc);
             return Ok(Attempt::came(self.alloc, self.documents.encoding().name())?);
         }
-        match self.hear(method, params) {
-            Ok(uri) => {
-                self.see(uri)?;
-                self.shown("ok")
+        match hear(&mut self.documents, method, params) {
+            Ok(made) => {
+                self.keep(text)?;
+                self.see(made.uri)?;
+                self.shown(self.made_text(made)?.as_str())
             }
-            Err(DocumentFault::Memory) => Ok(Attempt::refused(self.alloc, "document")?),
-            Err(fault) => self.shown(format!(in self.alloc; "{fault}")?.as_str()),
+            Err(missed) => match missed.fault {
+                DocumentFault::Memory => {
+                    self.tell_again()?;
+                    Ok(Attempt::refused(self.alloc, "document")?)
+                }
+                fault => {
+                    self.keep(text)?;
+                    let lost = if missed.lost {
+                        ", its text is lost"
+                    } else {
+                        ""
+                    };
+                    self.shown(format!(in self.alloc; "{fault}{lost}")?.as_str())
+                }
+            },
         }
     }
 
-    fn hear<'v>(&mut self, method: &str, params: &'v Value) -> Result<&'v str, DocumentFault> {
-        match method {
-            "textDocument/didOpen" => self.documents.did_open(params),
-            "textDocument/didChange" => self.documents.did_change(params),
-            "textDocument/didSave" => self.documents.did_save(params),
-            _ => self.documents.did_close(params),
+    /// Keeps a message.
+    fn keep(&mut self, text: &str) -> Result<(), AllocError> {
+        self.told.push(String::from_str(self.alloc, text)?)?;
+        Ok(())
+    }
+
+    /// Tells all that was told to documents that begin anew.
+    fn tell_again(&mut self) -> Result<(), Stop> {
+        self.documents = TextDocuments::new(self.alloc, self.documents.encoding());
+        let none = Value::Null;
+        for text in self.told.iter() {
+            let message = value_in(self.alloc, text.as_str())?;
+            let params = message.get("params").unwrap_or(&none);
+            if let Err(missed) = hear(&mut self.documents, method_of(&message), params) {
+                if missed.fault == DocumentFault::Memory {
+                    return Err(Stop::Memory);
+                }
+            }
+        }
+        Ok(())
+    }
+
+    fn made_text(&self, made: Made<'_>) -> Result<String, AllocError> {
+        match made.remark {
+            Some(remark) => format!(in self.alloc; "ok: {remark}"),
+            None => String::from_str(self.alloc, "ok"),
         }
     }
 
@@ -75,6 +114,7 @@ impl Documents {
             let uri = uri.as_str();
             let shown = match self.documents.get(uri) {
                 Some(document) => self.open_text(uri, document)?,
+                None if self.documents.is_open(uri) => format!(in self.alloc; "\t{uri} ?")?,
                 None => format!(in self.alloc; "\t{uri} -")?,
             };
             row.push_str(shown.as_str())?;
@@ -83,13 +123,20 @@ impl Documents {
     }
 
     fn open_text(&self, uri: &str, document: &TextDocument) -> Result<String, AllocError> {
-        let version = document.version();
+        let version = self.version_text(document.version())?;
         let language = document.language_id();
         let text = String::from_str(self.alloc, document.text().as_str())?;
         let text = Value::from(text).to_string(self.alloc)?;
         let lines = document.text().line_count();
         let places = self.places_text(document.text())?;
         format!(in self.alloc; "\t{uri} {version} {language} {text} {lines}{places}")
+    }
+
+    fn version_text(&self, version: Option<i32>) -> Result<String, AllocError> {
+        match version {
+            Some(version) => format!(in self.alloc; "{version}"),
+            None => String::from_str(self.alloc, "none"),
+        }
     }
 
     fn places_text(&self, text: &Text) -> Result<String, AllocError> {
@@ -102,5 +149,22 @@ impl Documents {
             }
         }
         Ok(places)
+    }
+}
+
+fn method_of(message: &Value) -> &str {
+    message.get("method").and_then(Value::as_str).unwrap_or("")
+}
+
+fn hear<'v>(
+    documents: &mut TextDocuments,
+    method: &str,
+    params: &'v Value,
+) -> Result<Made<'v>, NotMade<'v>> {
+    match method {
+        "textDocument/didOpen" => documents.did_open(params),
+        "textDocument/didChange" => documents.did_change(params),
+        "textDocument/didSave" => documents.did_save(params),
+        _ => documents.did_close(params),
     }
 }

@@ -6,7 +6,7 @@ use Rattle.example_two_peers.proofs.exchange.run_through.Goals.{then-is_idle, el
 pub returns : goal.returns
 returns c = record {
   all = λ shallow idle.
-      let told = c.a_shallow_run_is_a_history.ensures _ _ _ c.in_ok-world.ensures.exchanged shallow in (
+      let told = c.in_ok-world.ensures.shallow shallow in (
         told.0,
         told.1,
         told.2,

@@ -8,7 +8,7 @@ use Rattle.lsp_message.specs.View.{message_view}
 use Rattle.lsp_message.specs.declared.frame.ReadFault.{ReadFault}
 use Rattle.lsp_peers.specs.Post.{Line, Carries, after_take}
 use Rattle.lsp_peers.proofs.LineLemmas.{line_taken}
-use Rattle.lsp_peers.proofs.LinkLemmas.{carries_at, more_keeps, never_fault, never_whole, whole_shows, read_is, no_other_fault}
+use Rattle.lsp_peers.proofs.LinkLemmas.{carries_at, more_keeps, more_none, never_fault, never_whole, whole_shows, read_is, no_other_fault}
 use Rattle.lsp_peers.proofs.link.Link.take.Goals as goal
 
 pub returns-in-More-clause-ok : goal.returns-in-More-clause-ok
@@ -20,6 +20,15 @@ returns-in-More-clause-ok c = λ post carries readable.
     let room : length l.bytes.items < 2 ^ 64 = omega (arith, c.deref.type_inv.0, ap (λ (b : List ℕ). length b) c.deref.ensures.value) in
     let kept = more_keeps l.bytes.items l.start l.end c.self.invariant.0 within post before room (sym seen ∙ sym c.in-More.ensures.value) in
     (kept.0, subst (λ (line : Line). Carries line (after_take post)) c.self.view_is kept.1)
+
+pub returns-in-More-clause-comes : goal.returns-in-More-clause-comes
+returns-in-More-clause-comes c = λ post carries none.
+    let l = c.self.inside in
+    let seen = ap (λ (b : List ℕ). front_of (take (l.end - l.start) (drop l.start b))) c.deref.ensures.value in
+    let before = subst (λ (line : Line). Carries line post) (sym c.self.view_is) carries in
+    let within : l.end ≤ length l.bytes.items = omega (arith, l.bytes.ok.0, c.self.invariant) in
+    let room : length l.bytes.items < 2 ^ 64 = omega (arith, c.deref.type_inv.0, ap (λ (b : List ℕ). length b) c.deref.ensures.value) in
+    more_none l.bytes.items l.start l.end c.self.invariant.0 within post before room (sym seen ∙ sym c.in-More.ensures.value)
 
 pub returns-in-Fault-clause-memory : goal.returns-in-Fault-clause-memory
 returns-in-Fault-clause-memory c = λ post carries readable.

@@ -7,7 +7,7 @@ use Rattle.lsp_peers.specs.Exchange.{LeadTo}
 use Rattle.lsp_peers.specs.declared.fault.WorldFault.TheVariants.{NotReadBack}
 use Rattle.lsp_peers.specs.declared.step.Outcome.{Outcome}
 use Rattle.lsp_peers.specs.declared.step.Step.{Step}
-use Rattle.lsp_peers.proofs.LeadLemmas.{lead_nothing, lead_more, lead_fault}
+use Rattle.lsp_peers.proofs.LeadLemmas.{lead_nothing, lead_more, lead_fault, lead_shallow}
 use Rattle.lsp_peers.proofs.RunLemmas.{all_taken}
 use Rattle.lsp_peers.proofs.world.World.run.Goals as goal
 
@@ -48,3 +48,9 @@ returns-clause-exchanged c =
     let none = c.in-None.ensures.steps.0 in
     let all : c.loop-step.yielded ≡ c.args.steps.items = all_taken c.loop-step.yielded (into_iter_items c.loop-step.step-iterator) c.args.steps.items c.loop-step.invariant.2 (sym c.loop-step.step-iterator.rest.ok.0 ∙ none) in
     subst (λ (l : List Step). LeadTo l c.loop-step.outcomes.items c.loop-step.world) all c.loop-step.invariant.3
+
+pub returns-clause-shallow : goal.returns-clause-shallow
+returns-clause-shallow c = λ shallow.
+    let none = c.in-None.ensures.steps.0 in
+    let all : c.loop-step.yielded ≡ c.args.steps.items = all_taken c.loop-step.yielded (into_iter_items c.loop-step.step-iterator) c.args.steps.items c.loop-step.invariant.2 (sym c.loop-step.step-iterator.rest.ok.0 ∙ none) in
+    lead_shallow _ _ _ (subst (λ (l : List Step). LeadTo l c.loop-step.outcomes.items c.loop-step.world) all c.loop-step.invariant.3) shallow

@@ -1,15 +1,60 @@
-use Rattle.std.proofs.Common.{◌≡◌, ap}
-use Rattle.std.proofs.lemmas.Result.{err_from_is_err_and}
-use Rattle.std.specs.Prelude.{Err}
-use Rattle.lsp_peers.specs.declared.fault.WorldFault.TheVariants.{Memory}
+use Rattle.std.proofs.Common.{sym, ◌∙◌}
+use Rattle.lsp_peers.specs.declared.step.Side.TheVariants.{A, B}
+use Rattle.lsp_peers.proofs.ExchangeLemmas.{made_of, world_agrees, reads_a, reads_b, free_a, free_b, waits_a, waits_b, go_a, go_b, turned_agrees, placed_b}
 use Rattle.lsp_peers.proofs.world.World.step.Goals as goal
 
-pub returns-in_err-outcome-clause-err : goal.returns-in_err-outcome-clause-err
-returns-in_err-outcome-clause-err c = λ handed old after readable.
-    let fault = c.in_err-outcome.ensures.err handed old after readable in
-    let told = err_from_is_err_and c.from_residual.result c.from_residual.ensures.1 in
-    let same : c.in_err-outcome.field-0.0 ≡ Memory = cc in
-    rw (told.1, told.2) (ap Err same)
+pub returns-in-A-clause-exchanged : goal.returns-in-A-clause-exchanged
+returns-in-A-clause-exchanged c = λ handed history after readable.
+    let made = made_of history after.lawful in
+    let agrees = world_agrees _ handed history made.0 made.1 after in
+    let side = sym c.side-side.ensures ∙ c.in-A.is in
+    go_a _ _ _ handed c.args.step history made.0 after.lawful made.1 side (c.step.ensures.ok (handed A) (handed B) made.0 agrees made.1.placed (reads_a c.args.step history made.0 made.1 side readable))
 
-pub returns-in_err-outcome-clause-free : goal.returns-in_err-outcome-clause-free
-returns-in_err-outcome-clause-free c = λ handed old after free. let never = c.in_err-outcome.ensures.free handed old after free in cc
+pub returns-in-A-clause-err : goal.returns-in-A-clause-err
+returns-in-A-clause-err c = λ handed history after readable.
+    let made = made_of history after.lawful in
+    let agrees = world_agrees _ handed history made.0 made.1 after in
+    let side = sym c.side-side.ensures ∙ c.in-A.is in
+    c.step.ensures.err (handed A) (handed B) made.0 agrees made.1.placed (reads_a c.args.step history made.0 made.1 side readable)
+
+pub returns-in-A-clause-free : goal.returns-in-A-clause-free
+returns-in-A-clause-free c = λ handed history after free.
+    let made = made_of history after.lawful in
+    let agrees = world_agrees _ handed history made.0 made.1 after in
+    let side = sym c.side-side.ensures ∙ c.in-A.is in
+    c.step.ensures.free (handed A) (handed B) made.0 agrees (free_a c.args.step history made.0 made.1 side free)
+
+pub returns-in-B-clause-exchanged : goal.returns-in-B-clause-exchanged
+returns-in-B-clause-exchanged c = λ handed history after readable.
+    let made = made_of history after.lawful in
+    let agrees = world_agrees _ handed history made.0 made.1 after in
+    let side = sym c.side-side.ensures ∙ c.in-B.is in
+    go_b _ _ _ handed c.args.step history made.0 after.lawful made.1 side (c.step-in-B.ensures.ok (handed B) (handed A) (record { here = made.0.there; there = made.0.here }) (turned_agrees _ handed made.0 agrees) (placed_b made.0 made.1.placed) (reads_b c.args.step history made.0 made.1 side readable))
+
+pub returns-in-B-clause-err : goal.returns-in-B-clause-err
+returns-in-B-clause-err c = λ handed history after readable.
+    let made = made_of history after.lawful in
+    let agrees = world_agrees _ handed history made.0 made.1 after in
+    let side = sym c.side-side.ensures ∙ c.in-B.is in
+    c.step-in-B.ensures.err (handed B) (handed A) (record { here = made.0.there; there = made.0.here }) (turned_agrees _ handed made.0 agrees) (placed_b made.0 made.1.placed) (reads_b c.args.step history made.0 made.1 side readable)
+
+pub returns-in-B-clause-free : goal.returns-in-B-clause-free
+returns-in-B-clause-free c = λ handed history after free.
+    let made = made_of history after.lawful in
+    let agrees = world_agrees _ handed history made.0 made.1 after in
+    let side = sym c.side-side.ensures ∙ c.in-B.is in
+    c.step-in-B.ensures.free (handed B) (handed A) (record { here = made.0.there; there = made.0.here }) (turned_agrees _ handed made.0 agrees) (free_b c.args.step history made.0 made.1 side free)
+
+pub returns-in-A-clause-waits : goal.returns-in-A-clause-waits
+returns-in-A-clause-waits c = λ handed history after waiting.
+    let made = made_of history after.lawful in
+    let agrees = world_agrees _ handed history made.0 made.1 after in
+    let side = sym c.side-side.ensures ∙ c.in-A.is in
+    waits_a _ _ (handed A) (handed B) c.args.step history made.0 made.1 _ side (c.step.ensures.ok (handed A) (handed B) made.0 agrees made.1.placed) (c.step.ensures.comes (handed A) (handed B) made.0 agrees waiting) waiting
+
+pub returns-in-B-clause-waits : goal.returns-in-B-clause-waits
+returns-in-B-clause-waits c = λ handed history after waiting.
+    let made = made_of history after.lawful in
+    let agrees = world_agrees _ handed history made.0 made.1 after in
+    let side = sym c.side-side.ensures ∙ c.in-B.is in
+    waits_b _ _ (handed B) (handed A) c.args.step history made.0 made.1 _ side (c.step-in-B.ensures.ok (handed B) (handed A) (record { here = made.0.there; there = made.0.here }) (turned_agrees _ handed made.0 agrees) (placed_b made.0 made.1.placed)) (c.step-in-B.ensures.comes (handed B) (handed A) (record { here = made.0.there; there = made.0.here }) (turned_agrees _ handed made.0 agrees) waiting) waiting

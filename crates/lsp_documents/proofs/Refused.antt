@@ -1,0 +1,63 @@
+-- Wrong runs that the definitions of the law refuse: each supposes one, and leads to a contradiction.
+use Rattle.std.proofs.Common.{◌≡◌, ℕ, ℤ, Bool, true, false, List, [], Option, Some, None, refl, sym, ap, ◌∙◌, arith, option_and_then, option_map}
+use Rattle.std.specs.Prelude.{is_some, if◌then◌else◌}
+use Rattle.std.specs.Str.{bytes_eq}
+use Rattle.lsp_text.specs.Documents.{Document, Change}
+use Rattle.lsp_text.specs.Edits.{edited_by}
+use Rattle.lsp_text.specs.declared.position.PositionEncoding.{PositionEncoding}
+use Rattle.lsp_documents.specs.declared.kept.Open.{Open}
+use Rattle.lsp_documents.specs.declared.kept.Open.TheVariants.{Known, Lost}
+use Rattle.lsp_documents.specs.Session.{Notice, Sent.made, Sent.unmade, Sent.unread, Documents, Takes, missed, changed_in, has_whole, shown, opens, edits, closes, document}
+
+never : {P : Type 0} → false ≡ true → P
+never h = grind (arith, h)
+
+abbrev shows : Option Open → Bool
+shows kept = is_some (option_and_then shown kept)
+
+missed_shows : (kept : Option Open) → shows (missed kept) ≡ false
+missed_shows None = refl
+missed_shows (Some o) = refl
+
+-- a stale text that is shown: a notification of the document was missed, and its text is still to be had
+stale_shown : (before now : Documents) (n : Notice) (d : Document) → Takes before (unmade n) now → now.held n.uri ≡ Some (Known d) → ⊥
+stale_shown before now n d h k = never (sym (missed_shows (before.held n.uri)) ∙ ap shows (sym h.own ∙ k))
+
+-- the same after a message of which nothing was read
+unread_shown : (before now : Documents) (notices : List Notice) (uri : List ℕ) (d : Document) → Takes before (unread notices) now → now.held uri ≡ Some (Known d) → ⊥
+unread_shown before now notices uri d h k = never (sym (missed_shows (before.held uri)) ∙ ap shows (sym (h.held uri) ∙ k))
+
+in_lost : (e : PositionEncoding) (l : List ℕ) (version : Option ℤ) (list : List Change) (w : Bool) → w ≡ false → shows (Some (if w then Known (document l version (edited_by e [] list)) else Lost l)) ≡ false
+in_lost e l version list true h = never (sym h)
+in_lost e l version list false h = refl
+
+-- an edit made in an older text: the text is lost, no change is of the whole text, and yet a text is shown
+edited_older : (before now : Documents) (uri l : List ℕ) (version : Option ℤ) (list : List Change) (d : Document) → before.held uri ≡ Some (Lost l) → has_whole list ≡ false → Takes before (made (edits uri version list)) now → now.held uri ≡ Some (Known d) → ⊥
+edited_older before now uri l version list d b w h k =
+    never (sym (in_lost before.encoding l version list (has_whole list) w) ∙ ap shows (ap (λ o. option_map (λ o. changed_in before.encoding o version list) o) (sym b) ∙ sym h.own ∙ k))
+
+-- a text of another URI: a document is opened, and the text of another one is another
+opened_other : (before now : Documents) (uri q l text : List ℕ) (version : Option ℤ) (d : Document) → before.held q ≡ None → bytes_eq q uri ≡ false → Takes before (made (opens uri l version text)) now → now.held q ≡ Some (Known d) → ⊥
+opened_other before now uri q l text version d b apart h k = never (ap shows (sym b ∙ sym (h.others q apart) ∙ k))
+
+in_whole : (e : PositionEncoding) (o : Open) (version : Option ℤ) (list : List Change) → has_whole list ≡ true → shows (Some (changed_in e o version list)) ≡ true
+in_whole e (Known d) version list w = refl
+in_whole e (Lost l) version list w = rw w refl
+
+-- a document that stays out of step after a whole text
+whole_lost : (before now : Documents) (uri l : List ℕ) (o : Open) (version : Option ℤ) (list : List Change) → before.held uri ≡ Some o → has_whole list ≡ true → Takes before (made (edits uri version list)) now → now.held uri ≡ Some (Lost l) → ⊥
+whole_lost before now uri l o version list b w h k =
+    never (ap shows (sym k ∙ h.own ∙ ap (λ o. option_map (λ o. changed_in before.encoding o version list) o) b) ∙ in_whole before.encoding o version list w)
+
+abbrev text_of : Option Open → List ℕ
+text_of None = []
+text_of (Some (Known d)) = d.text
+text_of (Some (Lost l)) = []
+
+-- a second open that keeps the old text
+opened_kept : (before now : Documents) (uri l text : List ℕ) (version : Option ℤ) (d : Document) → Takes before (made (opens uri l version text)) now → now.held uri ≡ Some (Known d) → (d.text ≡ text → ⊥) → ⊥
+opened_kept before now uri l text version d h k other = other (ap text_of (sym k ∙ h.own))
+
+-- a closed document that is shown
+closed_shown : (before now : Documents) (uri : List ℕ) (d : Document) → Takes before (made (closes uri)) now → now.held uri ≡ Some (Known d) → ⊥
+closed_shown before now uri d h k = never (ap shows (sym h.own ∙ k))

@@ -1,0 +1,14 @@
+use Rattle.lsp_documents.proofs.SessionLemmas.{all_agree, all_kept, opened_current, refused_makes}
+use Rattle.lsp_documents.proofs.laws.documents_are_the_clients.Goals as goal
+
+pub returns-clause-each : goal.returns-clause-each
+returns-clause-each c = all_agree
+
+pub returns-clause-kept : goal.returns-clause-kept
+returns-clause-kept c = all_kept
+
+pub returns-clause-current : goal.returns-clause-current
+returns-clause-current c = opened_current
+
+pub returns-clause-refused : goal.returns-clause-refused
+returns-clause-refused c = refused_makes
