@@ -137,12 +137,7 @@ impl Server for Sums {
             .pointer("/0/largest")
             .and_then(|value| value.as_i64());
         self.largest = largest.unwrap_or(i64::MAX);
-        for (uri, kept) in self.documents.iter() {
-            if let Some(document) = kept.document() {
-                let (told, _) = self.marks(uri.as_str(), document.text())?;
-                acts.push(told)?;
-            }
-        }
+        self.mark_all(&mut acts)?;
         Ok(acts)
     }
 
@@ -281,12 +276,26 @@ impl Sums {
         Ok(acts)
     }
 
-    /// What the client is told after a notification that was not made: why, and no marks of a text that was lost by it.
+    /// Shows what is wrong with each text that is open: nothing, where the text is lost.
+    fn mark_all(&self, acts: &mut Acts) -> Result<(), AllocError> {
+        for (uri, kept) in self.documents.iter() {
+            let told = match kept.document() {
+                Some(document) => self.marks(uri.as_str(), document.text())?.0,
+                None => diagnostics(self.alloc, uri.as_str(), Vec::new(self.alloc))?,
+            };
+            acts.push(told)?;
+        }
+        Ok(())
+    }
+
+    /// What the client is told after a notification that was not made: why, and no marks of a text that was lost by it. Each may
+    /// be, where no URI is named.
     fn complain(&self, missed: NotMade<'_>) -> Result<Acts, AllocError> {
         let mut acts = Vec::new(self.alloc);
         let fault = missed.fault;
         let Some(uri) = missed.uri else {
             acts.push(self.log(1, format!(in self.alloc; "{fault}")?)?)?;
+            self.mark_all(&mut acts)?;
             return Ok(acts);
         };
         acts.push(self.log(1, format!(in self.alloc; "{uri}: {fault}")?)?)?;
