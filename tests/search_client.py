@@ -2,8 +2,10 @@
 """A client of `example_search jobs` over a socket, which searches texts while it asks for something else.
 
 A hover is answered while a search runs, the search tells how far it is and is answered once, and a cancelled one has the error
--32800 or its outcome, and nothing else (LSP 3.17, "Cancellation Support", "Work Done Progress"). It ends in status 1 at the first
-difference.
+-32800 or its outcome, and nothing else (LSP 3.17, "Cancellation Support", "Work Done Progress").
+
+Then it opens a document twice, as an editor does whose mode is called again, and has changes refused: the server's text is the client's
+or none, it tells why, and each way back brings the text back. It ends in status 1 at the first difference.
 """
 import json
 import sys
@@ -86,6 +88,118 @@ def is_cancelled(client):
     return False
 
 
+NOTE = "file:///note.sums"
+ERROR, WARNING = 1, 2
+
+
+def log(kind, what):
+    """A message that the server has the client log (LSP 3.17, "LogMessage Notification")."""
+    return kind, f"{NOTE}: {what}"
+
+
+def marks(*messages):
+    """What the server shows to be wrong with the document."""
+    return NOTE, list(messages)
+
+
+def shown(notice):
+    params = notice["params"]
+    if notice["method"] == "window/logMessage":
+        return params["type"], params["message"]
+    expect("a notification", notice["method"], "textDocument/publishDiagnostics")
+    return params["uri"], [mark["message"] for mark in params["diagnostics"]]
+
+
+def look(client, what, told, text):
+    """What the server has told since the last look, and the text that it holds."""
+    request = client.asks("sums/text", {"textDocument": {"uri": NOTE}})
+    *notices, reply = client.read_to_all([request])
+    expect(f"what {what} has told", [shown(notice) for notice in notices], told)
+    expect(f"the text after {what}", reply["result"], text)
+
+
+def opens(client, version, text):
+    document = {"uri": NOTE, "languageId": "sums", "version": version, "text": text}
+    client.sends(method="textDocument/didOpen", params={"textDocument": document})
+
+
+def changes(client, version, *list_of_changes):
+    document = {"uri": NOTE, "version": version}
+    client.sends(method="textDocument/didChange", params={"textDocument": document, "contentChanges": list(list_of_changes)})
+
+
+def saves(client, **members):
+    client.sends(method="textDocument/didSave", params={"textDocument": {"uri": NOTE}, **members})
+
+
+def edit(line, start, end, text):
+    """A change of some characters of a line."""
+    return {"range": {"start": {"line": line, "character": start}, "end": {"line": line, "character": end}}, "text": text}
+
+
+def is_opened_twice(client):
+    """A mode that is called again: the new text is in the place of the old one, and versions begin anew."""
+    opens(client, 0, "old = 1\n")
+    look(client, "an open", [marks()], "old = 1\n")
+    for version, digit in enumerate("234", start=1):
+        changes(client, version, edit(0, 6, 7, digit))
+        look(client, "an edit", [marks()], f"old = {digit}\n")
+    opens(client, 0, "# 𝒙\nnew = one\n")
+    told = [log(WARNING, "the document was open already"), marks("`one`: has no value")]
+    look(client, "a second open", told, "# 𝒙\nnew = one\n")
+    changes(client, 1, edit(1, 6, 9, "1"), edit(0, 2, 4, "😀"))
+    look(client, "an edit behind it", [marks()], "# 😀\nnew = 1\n")
+
+
+# For each way back: its name, what the client sends, what is told, and the client's text then.
+WAYS_BACK = [
+    (
+        "an open",
+        lambda client: opens(client, 1, "b = 2\n"),
+        [log(WARNING, "the document was open already"), marks()],
+        "b = 2\n",
+    ),
+    ("a whole text", lambda client: changes(client, 7, {"text": "c = d\n"}), [marks("`d`: has no value")], "c = d\n"),
+    (
+        "a whole text between edits",
+        lambda client: changes(client, 7, edit(0, 0, 1, "?"), {"text": "d = 1\n"}, edit(0, 4, 5, "2")),
+        [marks()],
+        "d = 2\n",
+    ),
+    ("a save with its text", lambda client: saves(client, text="e = f\n"), [marks("`f`: has no value")], "e = f\n"),
+]
+
+# For each change that can't be read: its name, and the params.
+UNREADABLE = [
+    ("a text that is a number", {"textDocument": {"uri": NOTE, "version": 5}, "contentChanges": [{"text": 1}]}),
+    ("changes that are no list", {"textDocument": {"uri": NOTE, "version": 5}, "contentChanges": {"text": "x = 1\n"}}),
+    ("no changes", {"textDocument": {"uri": NOTE, "version": 5}}),
+    ("a version that is a string", {"textDocument": {"uri": NOTE, "version": "5"}, "contentChanges": [{"text": "x = 1\n"}]}),
+    (
+        "a range without an end",
+        {"textDocument": {"uri": NOTE, "version": 5}, "contentChanges": [{"range": {"start": {"line": 0, "character": 0}}, "text": ""}]},
+    ),
+]
+
+
+def is_refused(client, name, params, back):
+    """A change that can't be read, edits behind it, and a way back: no text is shown that is not the client's."""
+    client.sends(method="textDocument/didClose", params={"textDocument": {"uri": NOTE}})
+    opens(client, 1, "a = z\n")
+    look(client, "an open", [marks(), marks("`z`: has no value")], "a = z\n")
+    client.sends(method="textDocument/didChange", params=params)
+    look(client, name, [log(ERROR, "params of another shape"), marks()], None)
+    changes(client, 6, edit(0, 4, 5, "1"))
+    look(client, "an edit behind it", [log(ERROR, "the document is out of step")], None)
+    saves(client)
+    look(client, "a save without a text", [marks()], None)
+    way, brings, told, text = back
+    brings(client)
+    look(client, way, told, text)
+    changes(client, 8, edit(0, 0, 0, "𝒙"), edit(0, 2, 2, "ß"))
+    look(client, f"an edit behind {way}", [told[-1]], "𝒙ß" + text)
+
+
 def comes_true(what, tries):
     for number in range(1, ROUNDS + 1):
         if tries():
@@ -100,6 +214,12 @@ def check_all(program):
         begin(client)
         comes_true("a hover is answered while a search runs", lambda: is_hovered_meanwhile(client))
         comes_true("a search is cancelled", lambda: is_cancelled(client))
+        is_opened_twice(client)
+        print("a document is opened twice, and its text is the client's")
+        for name, params in UNREADABLE:
+            for back in WAYS_BACK:
+                is_refused(client, name, params, back)
+                print(f"{name} is refused, and {back[0]} brings the text back")
         server.send_bytes(frame(SHUTDOWN))
         expect("a reply", server.receive(), SHUTDOWN_REPLY)
         server.send_bytes(frame(EXIT))

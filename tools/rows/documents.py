@@ -103,6 +103,15 @@ def version_member(item):
     return version
 
 
+def is_unread(text):
+    """Whether a body is no message: it is no JSON, or a string in it has half of a surrogate pair, which no Unicode text has."""
+    try:
+        json.dumps(json.loads(text), ensure_ascii=False).encode("utf-8")
+    except ValueError:
+        return True
+    return False
+
+
 class Documents:
     """What a server holds, and what it answers. A document whose text is lost has None for its text and its version."""
 
@@ -113,12 +122,20 @@ class Documents:
 
     def answers(self, text):
         """What comes of a row."""
+        if is_unread(text):
+            return [self.unread()]
         message = json.loads(text)
         method, params = message["method"], message.get("params")
         if method == "initialize":
             self.__init__(agreed(params))
             return [self.encoding]
         return [self.row(method, params)]
+
+    def unread(self):
+        """A body that is no message may have told of any document."""
+        for it in self.open:
+            self.lose(it)
+        return "\t".join(["unread"] + [self.shown(it) for it in self.seen])
 
     def row(self, method, params):
         known = {uri for uri in self.open if self.is_known(uri)}
@@ -135,7 +152,7 @@ class Documents:
             elif method != "textDocument/didSave":
                 for it in self.open:
                     self.lose(it)
-        if any(it in self.open and not self.is_known(it) for it in known) or (uri is None and method != "textDocument/didSave"):
+        if any(it in self.open and not self.is_known(it) for it in known):
             answer += ", its text is lost"
         return "\t".join([answer] + [self.shown(it) for it in self.seen])
 
@@ -185,7 +202,7 @@ class Documents:
         for new, span in changes:
             text = new if span is None else text if text is None else edited(text, span, new, self.encoding)
         self.open[uri] = (version, language, text)
-        return "ok: the version goes back" if None not in (version, before) and version < before else "ok"
+        return "ok: the version is not higher" if None not in (version, before) and version <= before else "ok"
 
     def shown(self, uri):
         if uri not in self.open:
@@ -221,6 +238,13 @@ class Table:
 
     def changes(self, uri, version, changes):
         self.tell("textDocument/didChange", {"textDocument": {"uri": uri, "version": version}, "contentChanges": [change(*it) for it in changes]})
+
+    def loses(self, text):
+        """A body that is no message."""
+        if not is_unread(text):
+            raise SystemExit(f"a message: {text}")
+        self.asked.append(text)
+        self.documents.answers(text)
 
     def saves(self, uri, **more):
         self.tell("textDocument/didSave", {"textDocument": {"uri": uri}, **more})
@@ -341,6 +365,26 @@ def wrong(table):
     table.opens(a, "anew", 1)
 
 
+HALF = '{"method":"textDocument/didChange","params":{"textDocument":{"uri":"file:///a","version":7},"contentChanges":[{"text":"\\ud83d"}]}}'
+BODIES = [HALF, HALF.replace("\\ud83d", "\\ude00"), HALF[:-2], "nothing"]
+
+
+def unread(table):
+    """Bodies that are no message, and after each one each way back."""
+    table.begin("utf-16")
+    a, b = "file:///a", "file:///b"
+    table.loses(HALF)
+    for body in BODIES:
+        for way in back(table, a):
+            table.opens(a, "abc", 5)
+            table.opens(b, "x\r\ny", 1, "other")
+            table.loses(body)
+            table.changes(a, 8, [(((0, 1), (0, 1)), "-")])
+            table.loses(body)
+            way()
+            table.changes(b, 10, [(((0, 1), (0, 1)), "+")])
+
+
 LETTERS = ["a", "b", " ", "\n", "\r", "\r\n", "\n", "\u00e9", "\u00df", "e\u0301", "\u6f22", "\uffff", "\U0001F600",
            "\U0001F468\u200D\U0001F469", "\U0010FFFF", "\t", "\\", "\"", "\u2028", "\x85", "\x0b", "\x00"]
 URIS = ["file:///a", "file:///b", "file:///a%20b", "untitled:1"]
@@ -409,6 +453,7 @@ def rows(seed, sessions):
     for params, encoding in OFFERS:
         table.begin(encoding, {} if params is None else params)
     wrong(table)
+    unread(table)
     for _ in range(sessions):
         session(table, source, 24)
     return [f"document {it}" for it in table.asked]

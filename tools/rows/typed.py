@@ -79,7 +79,8 @@ def is_object(value):
 
 
 def is_unsigned(value):
-    return isinstance(value, int) and not isinstance(value, bool) and 0 <= value < 2**31
+    """A number of a position, by the rule that docs/DECISIONS.md has for documents too."""
+    return isinstance(value, int) and not isinstance(value, bool) and 0 <= value < 2**32
 
 
 def or_null(is_right):

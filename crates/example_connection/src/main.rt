@@ -1,21 +1,7 @@
 //! A whole language server over standard input and output, as a loop of its own. It says how long the path of a document
 //! is: a request `textDocument/hover` is answered with it. What to call a path it asks its client once, at the start, if the
 //! client can tell (`workspace/configuration`, section `paths`, a text).
-//!
-//! Its tests play its client, in memory and over TCP. Beside them stand calls that it does not make: the handshake by hand, a loop over
-//! messages with no session, and a handler that states nothing.
 #![tactic(auto)]
-
-#[cfg(test)]
-mod client;
-#[cfg(test)]
-mod handshake;
-#[cfg(test)]
-mod in_thread;
-#[cfg(test)]
-mod message_loop;
-#[cfg(test)]
-mod quiet;
 
 use anyhow::{Result, bail};
 use lsp_server::{Connection, Message, ReqQueue, Request, Response};
@@ -51,8 +37,12 @@ fn main(rt: HostRuntime) -> Result<()> {
 
 /// From `initialize` to `exit`. The connection is dropped at the end, so that its threads end too.
 fn serve<R: Wait + Clock + AllocGlobal>(rt: &R, connection: Connection) -> Result<()> {
-    let capabilities = json!(in rt.alloc(); { "hoverProvider": true })?;
-    let params = connection.initialize(rt, capabilities)?;
+    let (id, params) = connection.initialize_start(rt)?;
+    let result = json!(in rt.alloc(); {
+        "capabilities": { "hoverProvider": true },
+        "serverInfo": { "name": "my_server", "version": "0.1" }
+    })?;
+    connection.initialize_finish(rt, id, result)?;
     let mut paths = Paths::new(rt.alloc())?;
     if can_be_asked(&params) {
         send(rt, &connection, Message::from(paths.ask()?))?;

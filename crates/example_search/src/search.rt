@@ -1,5 +1,5 @@
 // A search of all texts for their headings, as a job: it runs while the texts change.
-use crate::sums::line_of;
+use crate::sums::{line_count, line_of};
 use lsp_jobs::{CancellationToken, Job, Progress};
 use lsp_server::{Notification, ResponseError};
 use lsp_text::Text;
@@ -50,12 +50,13 @@ impl Job for Search {
     ) -> Result<Result<Value, ResponseError>, AllocError> {
         let mut found = Vec::new(self.alloc);
         self.tell(progress, "begin", "title", "Searching")?;
-        let mut told = None;
+        let mut told = usize::MAX;
         for (number, source) in self.sources.iter().enumerate() {
             if token.is_cancelled() {
                 break;
             }
-            let tenth = number.saturating_mul(10).checked_div(self.sources.len());
+            let tenths = number.saturating_mul(10).checked_div(self.sources.len());
+            let tenth = tenths.unwrap_or(0);
             if told != tenth {
                 self.tell(progress, "report", "message", source.uri.as_str())?;
                 told = tenth;
@@ -96,8 +97,7 @@ impl Search {
         found: &mut Vec<Value>,
     ) -> Result<(), AllocError> {
         let text = Text::new(self.alloc, source.text.as_str())?;
-        let count = u32::try_from(text.line_count()).unwrap_or(u32::MAX);
-        for number in 0..count {
+        for number in 0..line_count(&text) {
             if token.is_cancelled() {
                 break;
             }

@@ -4,7 +4,7 @@ use crate::sums::{Named, Span, sheet_of, value_of, words_of};
 use lsp_documents::{DocumentFault, Made, NotMade, TextDocuments, position_encoding, position_in};
 use lsp_jobs::{CancellationToken, Job, JobServer, Start};
 use lsp_server::{Act, ErrorCode, Notification, Request, RequestId, ResponseError, Server};
-use lsp_text::{Position, PositionEncoding, Text};
+use lsp_text::{Position, PositionEncoding, Text, TextDocument};
 use serde_json::{Value, json};
 use std::alloc::{AllocError, Global};
 use std::mem;
@@ -60,7 +60,7 @@ impl Server for Sums {
 
     fn initialize(&mut self, params: Value) -> Result<Result<Value, ResponseError>, AllocError> {
         let path = "/capabilities/workspace/configuration";
-        self.configures = params.pointer(path).and_then(|can| can.as_bool()) == Some(true);
+        self.configures = matches!(params.pointer(path), Some(Value::Bool(true)));
         self.documents = TextDocuments::new(self.alloc, position_encoding(&params));
         let capabilities = capabilities(self.alloc, self.documents.encoding())?;
         Ok(Ok(
@@ -133,16 +133,8 @@ impl Server for Sums {
         let Ok(values) = outcome else {
             return Ok(acts);
         };
-        let largest = values
-            .pointer("/0/largest")
-            .and_then(|value| value.as_i64());
-        self.largest = largest.unwrap_or(i64::MAX);
-        for (uri, kept) in self.documents.iter() {
-            if let Some(document) = kept.document() {
-                let (told, _) = self.marks(uri.as_str(), document.text())?;
-                acts.push(told)?;
-            }
-        }
+        self.largest = largest_in(&values).unwrap_or(i64::MAX);
+        self.mark_all(&mut acts)?;
         Ok(acts)
     }
 
@@ -208,7 +200,7 @@ impl Sums {
 
     /// The search that a client asks for, over the texts as they are now.
     fn search_in(&self, params: &Value) -> Result<Option<Search>, AllocError> {
-        let Some(query) = params.get("query").and_then(|query| query.as_str()) else {
+        let Some(query) = query_in(params) else {
             return Ok(None);
         };
         let mut sources = Vec::new(self.alloc);
@@ -281,12 +273,26 @@ impl Sums {
         Ok(acts)
     }
 
-    /// What the client is told after a notification that was not made: why, and no marks of a text that was lost by it.
+    /// Shows what is wrong with each text that is open: nothing, where the text is lost.
+    fn mark_all(&self, acts: &mut Acts) -> Result<(), AllocError> {
+        for (uri, kept) in self.documents.iter() {
+            let told = match kept.document() {
+                Some(document) => self.marks(uri.as_str(), document.text())?.0,
+                None => diagnostics(self.alloc, uri.as_str(), Vec::new(self.alloc))?,
+            };
+            acts.push(told)?;
+        }
+        Ok(())
+    }
+
+    /// What the client is told after a notification that was not made: why, and no marks of a text that was lost by it. Each may
+    /// be, where no URI is named.
     fn complain(&self, missed: NotMade<'_>) -> Result<Acts, AllocError> {
         let mut acts = Vec::new(self.alloc);
         let fault = missed.fault;
         let Some(uri) = missed.uri else {
             acts.push(self.log(1, format!(in self.alloc; "{fault}")?)?)?;
+            self.mark_all(&mut acts)?;
             return Ok(acts);
         };
         acts.push(self.log(1, format!(in self.alloc; "{uri}: {fault}")?)?)?;
@@ -322,23 +328,25 @@ impl Sums {
 
     /// A text as the server holds it, or null.
     fn text(&self, params: &Value) -> Result<Value, AllocError> {
-        let Some(document) = uri_in(params).and_then(|uri| self.documents.get(uri)) else {
+        let Some(document) = self.document_in(params) else {
             return Ok(Value::Null);
         };
         let text = String::from_str(self.alloc, document.text().as_str())?;
         Ok(Value::String(text))
     }
 
+    /// The document that params name, where its text is known.
+    fn document_in(&self, params: &Value) -> Option<&TextDocument> {
+        self.documents.get(uri_in(params)?)
+    }
+
     /// The name at a place of a text and its value, or null (LSP 3.17, "Hover Request").
     fn hover(&self, params: &Value) -> Result<Value, AllocError> {
-        let position = params
-            .get("position")
-            .and_then(|position| position_in(position));
-        let (Some(uri), Some(position)) = (uri_in(params), position) else {
+        let Some(document) = self.document_in(params) else {
             return Ok(Value::Null);
         };
-        match self.documents.get(uri) {
-            Some(document) => self.hover_in(document.text(), position),
+        match place_in(params) {
+            Some(position) => self.hover_in(document.text(), position),
             None => Ok(Value::Null),
         }
     }
@@ -415,4 +423,16 @@ fn shown(alloc: Global, names: &[Named], name: &str, range: Value) -> Result<Val
 
 fn uri_in(params: &Value) -> Option<&str> {
     params.pointer("/textDocument/uri")?.as_str()
+}
+
+fn place_in(params: &Value) -> Option<Position> {
+    position_in(params.get("position")?)
+}
+
+fn query_in(params: &Value) -> Option<&str> {
+    params.get("query")?.as_str()
+}
+
+fn largest_in(values: &Value) -> Option<i64> {
+    values.pointer("/0/largest")?.as_i64()
 }

@@ -18,6 +18,8 @@ pub struct Word {
     pub text: String,
     /// Where it stands.
     pub span: Span,
+    /// Whether it has the characters of names and numbers. Else it is one other character.
+    is_name: bool,
 }
 
 /// A name and its value.
@@ -48,14 +50,18 @@ pub struct Sheet {
 /// The words of a text, line by line. Lines without words are left out.
 pub fn words_of(alloc: Global, text: &Text) -> Result<Vec<Vec<Word>>, AllocError> {
     let mut lines = Vec::new(alloc);
-    let count = u32::try_from(text.line_count()).unwrap_or(u32::MAX);
-    for line in 0..count {
+    for line in 0..line_count(text) {
         let words = words_in(alloc, line_of(text, line), span_of(text, line).start)?;
         if !words.is_empty() {
             lines.push(words)?;
         }
     }
     Ok(lines)
+}
+
+/// How many lines a text has, as positions count them.
+pub fn line_count(text: &Text) -> u32 {
+    u32::try_from(text.line_count()).unwrap_or(u32::MAX)
 }
 
 /// A line without its end, which is `\n`, `\r\n` or `\r` (LSP 3.17, "Text Documents"). The last one may be empty.
@@ -66,11 +72,14 @@ pub fn line_of(text: &Text, line: u32) -> &str {
 
 /// The place of a line without its end.
 fn span_of(text: &Text, line: u32) -> Span {
-    let offset = |character| text.offset_at(Position { line, character }, PositionEncoding::Utf8);
     Span {
-        start: offset(0),
-        end: offset(u32::MAX),
+        start: offset_of(text, line, 0),
+        end: offset_of(text, line, u32::MAX),
     }
+}
+
+fn offset_of(text: &Text, line: u32, character: u32) -> usize {
+    text.offset_at(Position { line, character }, PositionEncoding::Utf8)
 }
 
 /// The words of a line that begins at a place.
@@ -113,7 +122,12 @@ fn add_letter(
     }
     let mut text = String::new(alloc);
     text.push(letter)?;
-    line.push(Word { text, span })?;
+    let is_name = of_name(letter);
+    line.push(Word {
+        text,
+        span,
+        is_name,
+    })?;
     Ok(())
 }
 
@@ -157,7 +171,7 @@ fn read_line(
     name: &Word,
     rest: &[Word],
 ) -> Result<Result<Named, Problem>, AllocError> {
-    if !name.text.as_str().chars().all(of_name) {
+    if !name.is_name {
         return Ok(Err(blame(alloc, name, "is no name")?));
     }
     if value_of(names, name.text.as_str()).is_some() {

@@ -1,5 +1,5 @@
 -- Wrong runs that the definitions of the law refuse: each supposes one, and leads to a contradiction.
-use Rattle.std.proofs.Common.{◌≡◌, ℕ, ℤ, Bool, true, false, List, [], Option, Some, None, refl, sym, ap, ◌∙◌, arith, option_and_then, option_map}
+use Rattle.std.proofs.Common.{◌≡◌, ℕ, ℤ, Bool, true, false, List, [], ◌∷◌, Option, Some, None, refl, sym, ap, ◌∙◌, arith, inl, inr, option_and_then, option_map}
 use Rattle.std.specs.Prelude.{is_some, if◌then◌else◌}
 use Rattle.std.specs.Str.{bytes_eq}
 use Rattle.lsp_text.specs.Documents.{Document, Change}
@@ -7,7 +7,10 @@ use Rattle.lsp_text.specs.Edits.{edited_by}
 use Rattle.lsp_text.specs.declared.position.PositionEncoding.{PositionEncoding}
 use Rattle.lsp_documents.specs.declared.kept.Open.{Open}
 use Rattle.lsp_documents.specs.declared.kept.Open.TheVariants.{Known, Lost}
-use Rattle.lsp_documents.specs.Session.{Notice, Sent.made, Sent.unmade, Sent.unread, Documents, Takes, missed, changed_in, has_whole, shown, opens, edits, closes, document}
+use Rattle.lsp_documents.specs.declared.fault.DocumentFault.{DocumentFault}
+use Rattle.lsp_documents.specs.declared.fault.DocumentFault.TheVariants.{OutOfStep, Memory}
+use Rattle.lsp_documents.specs.declared.fault.Remark.TheVariants.{OpenAlready}
+use Rattle.lsp_documents.specs.Session.{Event, Event.opened, Event.changed, Event.saved, Event.closed, Notice, Sent.made, Sent.unmade, Sent.unread, Documents, Takes, Took, Refused, after, missed, changed_in, change_fault, fault_of, needs_memory, remark_of, has_whole, has_changes, shown, opens, edits, saves, closes, document}
 
 never : {P : Type 0} → false ≡ true → P
 never h = grind (arith, h)
@@ -61,3 +64,57 @@ opened_kept before now uri l text version d h k other = other (ap text_of (sym k
 -- a closed document that is shown
 closed_shown : (before now : Documents) (uri : List ℕ) (d : Document) → Takes before (made (closes uri)) now → now.held uri ≡ Some (Known d) → ⊥
 closed_shown before now uri d h k = never (ap shows (sym h.own ∙ k))
+
+-- a text in step that a save changes
+saved_other : (before now : Documents) (uri text : List ℕ) (d o : Document) → before.held uri ≡ Some (Known d) → Takes before (made (saves uri (Some text))) now → now.held uri ≡ Some (Known o) → (o.text ≡ d.text → ⊥) → ⊥
+saved_other before now uri text d o b h k other =
+    other (ap text_of (sym k ∙ h.own ∙ ap (λ x. after before.encoding x (saved (Some text))) b))
+
+-- ---- what calls say
+
+-- a second open of which nothing is said
+opened_unsaid : (before now : Documents) (uri l text : List ℕ) (version : Option ℤ) (o : Open) → before.held uri ≡ Some o → Took before (opens uri l version text) None now → ⊥
+opened_unsaid before now uri l text version o b h = never (ap is_some (h.remarks ∙ ap (λ k. remark_of k (opened (document l version text))) b))
+
+no_memory_lost : (w : Bool) → (if w then None else Some OutOfStep) ≡ Some Memory → ⊥
+no_memory_lost true h = grind (arith, h)
+no_memory_lost false h = grind (arith, h)
+
+no_memory : (before : Option Open) (event : Event) → fault_of before event ≡ Some Memory → ⊥
+no_memory before (opened d) h = grind (arith, h)
+no_memory None (changed version list) h = grind (arith, h)
+no_memory (Some (Known d)) (changed version list) h = grind (arith, h)
+no_memory (Some (Lost l)) (changed version list) h = no_memory_lost (has_whole list) h
+no_memory None (saved text) h = grind (arith, h)
+no_memory (Some o) (saved text) h = grind (arith, h)
+no_memory None closed h = grind (arith, h)
+no_memory (Some o) closed h = grind (arith, h)
+
+-- `Memory` from a call that takes no memory
+needless : (before now : Documents) (n : Notice) → needs_memory (before.held n.uri) n.event ≡ false → Refused before n Memory now → ⊥
+needless before now n h (inl f) = no_memory (before.held n.uri) n.event f.0
+needless before now n h (inr s) = never (sym h ∙ s.needed)
+
+-- so at a close, at a save without a text, and at no changes
+closed_memory : (before now : Documents) (uri : List ℕ) → Refused before (closes uri) Memory now → ⊥
+closed_memory before now uri h = needless before now (closes uri) refl h
+
+saved_memory : (before now : Documents) (uri : List ℕ) → Refused before (saves uri None) Memory now → ⊥
+saved_memory before now uri h = needless before now (saves uri None) refl h
+
+without_changes : (before : Option Open) (version : Option ℤ) → needs_memory before (changed version []) ≡ false
+without_changes None version = refl
+without_changes (Some o) version = refl
+
+unchanged_memory : (before now : Documents) (uri : List ℕ) (version : Option ℤ) → Refused before (edits uri version []) Memory now → ⊥
+unchanged_memory before now uri version h = needless before now (edits uri version []) (without_changes (before.held uri) version) h
+
+-- `Memory` in the place of another fault
+right_memory : (before now : Documents) (n : Notice) (fault : DocumentFault) → fault_of (before.held n.uri) n.event ≡ Some fault → Refused before n Memory now → ⊥
+right_memory before now n fault w (inl f) = no_memory (before.held n.uri) n.event f.0
+right_memory before now n fault w (inr s) = never (ap is_some (sym s.right ∙ w))
+
+-- `Memory`, and a text that is shown
+memory_shown : (before now : Documents) (n : Notice) (d : Document) → Refused before n Memory now → now.held n.uri ≡ Some (Known d) → ⊥
+memory_shown before now n d (inl f) k = no_memory (before.held n.uri) n.event f.0
+memory_shown before now n d (inr s) k = never (sym (missed_shows (before.held n.uri)) ∙ ap shows (sym s.misses.own ∙ k))

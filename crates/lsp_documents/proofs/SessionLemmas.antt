@@ -1,6 +1,6 @@
 -- What notifications make of what is kept of one URI, beside the client's own document.
 use Rattle.std.proofs.Common.{◌≡◌, ℕ, ℤ, Bool, true, false, ◌||◌, List, [], ◌∷◌, ◌++◌, Option, Some, None, refl, sym, ap, subst, ◌∙◌, arith, inl, inr, is_none, option_and_then, option_map}
-use Rattle.std.specs.Prelude.{if◌then◌else◌, not, ◌&&◌, is_some, unwrap_or}
+use Rattle.std.specs.Prelude.{if◌then◌else◌, not, ◌&&◌, is_some, unwrap_or, IfSome, ◌<◌, length}
 use Rattle.std.specs.Str.{bytes_eq}
 use Rattle.std.proofs.lemmas.Slice.Eq.{bytes_eq-Decides}
 use Rattle.lsp_text.specs.Documents.{Document, Change}
@@ -11,7 +11,10 @@ use Rattle.lsp_documents.specs.declared.fault.DocumentFault.{DocumentFault}
 use Rattle.lsp_documents.specs.declared.fault.DocumentFault.TheVariants.{OutOfStep, Memory}
 use Rattle.lsp_documents.specs.declared.kept.Open.{Open}
 use Rattle.lsp_documents.specs.declared.kept.Open.TheVariants.{Known, Lost}
-use Rattle.lsp_documents.specs.Session.{Event, Event.opened, Event.changed, Event.saved, Event.closed, Notice, Sent, Sent.made, Sent.unmade, Sent.unread, Documents, Keeps, Puts, Makes, Takes, TakesAll, Agrees, IsVersion, SavesOwn, SavesItsText, after, missed, kept_after, kept_after_all, told, told_all, events_in, events_of, notices_of, is_current, closes_it, has_whole, fault_of, change_fault, changed_to, document, opens, edits, Failed}
+use Rattle.serde_json.specs.View.{view, items_view}
+use Rattle.serde_json.specs.declared.value.Value.{Value}
+use Rattle.lsp_documents.specs.Params.{change_in, changes_in}
+use Rattle.lsp_documents.specs.Session.{Event, Event.opened, Event.changed, Event.saved, Event.closed, Notice, Sent, Sent.made, Sent.unmade, Sent.unread, Documents, Keeps, Puts, Makes, Takes, TakesAll, Agrees, IsVersion, SavesOwn, SavesItsText, after, missed, kept_after, kept_after_all, told, told_all, events_in, events_of, notices_of, is_current, closes_it, has_whole, has_changes, fault_of, change_fault, changed_to, document, opens, edits, Failed}
 
 never : {P : Type 0} → false ≡ true → P
 never h = grind (arith, h)
@@ -227,24 +230,34 @@ change_refused before (Some a) (Some b) (Some cs) u v w fault said hu hv hw hf h
     let f : change_fault (before.held a) (has_whole cs) ≡ Some said = ap (λ x. change_fault (before.held x) (has_whole cs)) ea ∙ ap (change_fault (before.held u)) ew ∙ hf ∙ ap Some (sym hs) in
     inl (f, record { encoding = refl; held = λ q. refl })
 
-needed : (k : Option Open) (w : Bool) → change_fault k w ≡ None → is_some k ≡ true
-needed None w h = none_value (sym h)
-needed (Some o) w h = refl
+needed : (k : Option Open) (w b : Bool) → change_fault k w ≡ None → b ≡ true → is_some k && b ≡ true
+needed None w b h some = none_value (sym h)
+needed (Some o) w b h some = some
+
+more_changes : (c : Option Change) (cs : Option (List Change)) → IfSome (option_and_then (λ c. option_map (λ cs. c ∷ cs) cs) c) (λ cs. has_changes cs ≡ true)
+more_changes None cs = tt
+more_changes (Some c) None = tt
+more_changes (Some c) (Some cs) = refl
+
+-- a list with something in it has changes, if they can be read
+pub some_changes : (vs : List Value) → 0 < length vs → IfSome (changes_in (items_view vs)) (λ cs. has_changes cs ≡ true)
+some_changes [] h = grind (arith, h)
+some_changes (v ∷ vs) h = more_changes (change_in (view v)) (changes_in (items_view vs))
 
 -- no memory was left for them
 pub change_starved : (before now : Documents) (uris : Option (List ℕ)) (versions : Option (Option ℤ)) (changes : Option (List Change)) (u : List ℕ) (v : Option ℤ) (w : Bool) (said : DocumentFault) → uris ≡ Some u → versions ≡ Some v → option_map has_whole changes ≡ Some w →
-    change_fault (before.held u) w ≡ None → said ≡ Memory → Puts before u (missed (before.held u)) now → Failed before (option_and_then (λ uri. option_and_then (λ version. option_map (edits uri version) changes) versions) uris) uris said now
-change_starved before now None versions changes u v w said hu hv hw hf hs m = none_value hu
-change_starved before now (Some a) None changes u v w said hu hv hw hf hs m = none_value hv
-change_starved before now (Some a) (Some b) None u v w said hu hv hw hf hs m = none_value hw
-change_starved before now (Some a) (Some b) (Some cs) u v w said hu hv hw hf hs m =
+    change_fault (before.held u) w ≡ None → said ≡ Memory → IfSome changes (λ cs. has_changes cs ≡ true) → Puts before u (missed (before.held u)) now → Failed before (option_and_then (λ uri. option_and_then (λ version. option_map (edits uri version) changes) versions) uris) uris said now
+change_starved before now None versions changes u v w said hu hv hw hf hs hn m = none_value hu
+change_starved before now (Some a) None changes u v w said hu hv hw hf hs hn m = none_value hv
+change_starved before now (Some a) (Some b) None u v w said hu hv hw hf hs hn m = none_value hw
+change_starved before now (Some a) (Some b) (Some cs) u v w said hu hv hw hf hs hn m =
     let ea : a ≡ u = some_value hu in
     let ew : has_whole cs ≡ w = some_value hw in
     let f : change_fault (before.held a) (has_whole cs) ≡ None = ap (λ x. change_fault (before.held x) (has_whole cs)) ea ∙ ap (change_fault (before.held u)) ew ∙ hf in
     inr (record {
       why = hs;
       right = f;
-      needed = needed (before.held a) (has_whole cs) f;
+      needed = needed (before.held a) (has_whole cs) (has_changes cs) f hn;
       misses = subst (λ x. Puts before x (missed (before.held x)) now) (sym ea) m;
     })
 

@@ -1,6 +1,6 @@
 -- The documents that a client has opened, after any list of its notifications (LSP 3.17, "Text Document Synchronization"): the
 -- client's own, and those that a server keeps, which may have missed some of what the client did.
-use Rattle.std.specs.Prelude.{◌≡◌, ◌⊎◌, ℕ, ℤ, int_lt, Bool, true, false, not, ◌&&◌, if◌then◌else◌, is_none, is_some, option_map, option_and_then, List, [], ◌∷◌, ◌++◌, Option, Some, None, IsSomeAnd}
+use Rattle.std.specs.Prelude.{◌≡◌, ◌⊎◌, ℕ, ℤ, int_le, Bool, true, false, not, ◌&&◌, if◌then◌else◌, is_none, is_some, option_map, option_and_then, List, [], ◌∷◌, ◌++◌, Option, Some, None, IsSomeAnd}
 use Rattle.std.specs.List.{list_any}
 use Rattle.std.specs.Str.{bytes_eq}
 use Rattle.lsp_text.specs.Documents.{Document, Change}
@@ -9,7 +9,7 @@ use Rattle.lsp_text.specs.declared.position.PositionEncoding.{PositionEncoding}
 use Rattle.lsp_documents.specs.declared.fault.DocumentFault.{DocumentFault}
 use Rattle.lsp_documents.specs.declared.fault.DocumentFault.TheVariants.{Params, NotOpen, OutOfStep, Memory}
 use Rattle.lsp_documents.specs.declared.fault.Remark.{Remark}
-use Rattle.lsp_documents.specs.declared.fault.Remark.TheVariants.{OpenAlready, VersionBack}
+use Rattle.lsp_documents.specs.declared.fault.Remark.TheVariants.{OpenAlready, VersionNotHigher}
 use Rattle.lsp_documents.specs.declared.kept.Open.{Open}
 use Rattle.lsp_documents.specs.declared.kept.Open.TheVariants.{Known, Lost}
 
@@ -113,17 +113,17 @@ fault_of (Some o) (saved text) = None
 fault_of None closed = Some NotOpen
 fault_of (Some o) closed = None
 
--- whether a version is below the one before
-abbrev pub goes_back : Option ℤ → Option ℤ → Bool
-goes_back None before = false
-goes_back (Some version) None = false
-goes_back (Some version) (Some before) = int_lt version before
+-- whether a version is the one before, or below it
+abbrev pub is_not_higher : Option ℤ → Option ℤ → Bool
+is_not_higher None before = false
+is_not_higher (Some version) None = false
+is_not_higher (Some version) (Some before) = int_le version before
 
 -- what LSP 3.17 forbids the client, though it can be made
 abbrev pub remark_of : Option Open → Event → Option Remark
 remark_of None event = None
 remark_of (Some o) (opened d) = Some OpenAlready
-remark_of (Some (Known d)) (changed version list) = if goes_back version d.version then Some VersionBack else None
+remark_of (Some (Known d)) (changed version list) = if is_not_higher version d.version then Some VersionNotHigher else None
 remark_of (Some (Lost language_id)) (changed version list) = None
 remark_of (Some o) (saved text) = None
 remark_of (Some o) closed = None
@@ -140,10 +140,14 @@ after e before closed = None
 abbrev pub missed : Option Open → Option Open
 missed before = option_map lost before
 
+abbrev pub has_changes : List Change → Bool
+has_changes [] = false
+has_changes (c ∷ cs) = true
+
 -- whether memory is needed to make an event in which nothing is wrong
 abbrev pub needs_memory : Option Open → Event → Bool
 needs_memory before (opened d) = true
-needs_memory before (changed version list) = is_some before
+needs_memory before (changed version list) = is_some before && has_changes list
 needs_memory before (saved None) = false
 needs_memory None (saved (Some text)) = false
 needs_memory (Some (Known d)) (saved (Some text)) = false
@@ -282,8 +286,3 @@ FailedSave before None fault now = (fault ≡ Params) × Keeps before now
 -- whether the text of a URI is known
 abbrev pub is_known : Documents → List ℕ → Bool
 is_known documents uri = is_some (option_and_then shown (documents.held uri))
-
--- whether a text was known that is lost now; where no URI is named, that may be each one
-abbrev pub loses : Documents → Option (List ℕ) → Documents → Bool
-loses before None now = true
-loses before (Some uri) now = is_known before uri && not (is_known now uri)

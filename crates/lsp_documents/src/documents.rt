@@ -3,8 +3,8 @@ ghost use Rattle.std.specs.Prelude.{◌≡◌, ℕ, List, Option, Some, None, tr
 ghost use Rattle.std.specs.Option.{option_copied};
 ghost use Rattle.std.specs.Str.{bytes_eq};
 ghost use Rattle.serde_json.specs.View.{view};
-ghost use Rattle.lsp_documents.specs.Held.{documents_of};
-ghost use Rattle.lsp_documents.specs.Session.{document, opens, edits, closes, saves, shown, lost, missed, goes_back as is_back, changed_in, saved_in, change_fault, has_whole as has_whole_text, is_known, loses, MissesAll, Took, Refused, Failed, FailedSave};
+ghost use Rattle.lsp_documents.specs.Held.{documents_of, has_known, loses};
+ghost use Rattle.lsp_documents.specs.Session.{document, opens, edits, closes, saves, shown, lost, missed, is_not_higher as not_higher, changed_in, saved_in, change_fault, has_whole as has_whole_text, has_changes, is_known, MissesAll, Took, Refused, Failed, FailedSave};
 ghost use Rattle.lsp_documents.specs.declared.kept.Open.TheVariants.{Known};
 ghost use Rattle.lsp_documents.specs.declared.fault.DocumentFault.TheVariants.{Params};
 ghost use Rattle.lsp_documents.specs.Params.{uri_in, did_open_in, did_change_in, did_save_in, did_close_in};
@@ -80,6 +80,15 @@ impl TextDocuments {
         self.get(uri).is_some()
     }
 
+    /// Whether the text of a document is known.
+    fn knows_any(&self) -> bool
+        ensures { result ≡ has_known self.now }
+    {
+        self.documents
+            .values()
+            .any(|open| open.document().is_some())
+    }
+
     /// Opens a document. Where the URI has one already, this one takes its place, and the remark is `OpenAlready`. Where memory
     /// runs out, the text of the one that it had is lost.
     pub fn open(
@@ -143,9 +152,9 @@ impl TextDocuments {
     }
 
     /// Makes the changes of one notification in a document, each in the text that the one before it left. Where the version is
-    /// below the document's the remark is `VersionBack`. Without a document of the URI the fault is `NotOpen`, and `OutOfStep`
-    /// where its text is lost and no change is of the whole text: nothing is changed then. Where memory runs out, the text is
-    /// lost.
+    /// the document's or a lower one the remark is `VersionNotHigher`. Without a document of the URI the fault is `NotOpen`, and
+    /// `OutOfStep` where its text is lost and no change is of the whole text: nothing is changed then. Where memory runs out, the
+    /// text is lost. Without a change no memory is needed.
     pub fn change(
         &mut self,
         uri: &str,
@@ -158,8 +167,8 @@ impl TextDocuments {
         if let Some(fault) = self.refusal(uri, has_whole(changes)) {
             return Err(fault);
         }
-        let remark = if goes_back(version, self.version_of(uri)) {
-            Some(Remark::VersionBack)
+        let remark = if is_not_higher(version, self.version_of(uri)) {
+            Some(Remark::VersionNotHigher)
         } else {
             None
         };
@@ -185,6 +194,7 @@ impl TextDocuments {
         requires { change_fault ((documents_of self.old).held uri.now) (has_whole_text changes.now) ≡ None }
         ensures own { OnOk result ((documents_of self.new).held uri.now ≡ option_map (λ o. changed_in self.old.encoding o version changes.now) ((documents_of self.old).held uri.now)) }
         ensures err { OnErr result ((documents_of self.new).held uri.now ≡ missed ((documents_of self.old).held uri.now)) }
+        ensures needed { OnErr result (is_some ((documents_of self.old).held uri.now) && has_changes changes.now ≡ true) }
         ensures others { (q : List ℕ) → bytes_eq q uri.now ≡ false → (documents_of self.new).held q ≡ (documents_of self.old).held q }
         ensures encoding { self.new.encoding ≡ self.old.encoding }
     {
@@ -194,7 +204,8 @@ impl TextDocuments {
         Ok(())
     }
 
-    /// Makes the text of the document of a URI unknown, if there is one: something that the client told of it was missed.
+    /// Makes the text of the document of a URI unknown, if there is one: something that the client told of it was missed. It comes
+    /// back by a `didOpen`, by a change of the whole text, or by the text of a `didSave`.
     pub fn lose(&mut self, uri: &str)
         ensures own { (documents_of self.new).held uri.now ≡ missed ((documents_of self.old).held uri.now) }
         ensures others { (q : List ℕ) → bytes_eq q uri.now ≡ false → (documents_of self.new).held q ≡ (documents_of self.old).held q }
@@ -205,7 +216,9 @@ impl TextDocuments {
         }
     }
 
-    /// Makes the text of each document unknown: something was missed that the client may have told of any of them.
+    /// Makes the text of each document unknown: something was missed that the client may have told of any of them. In a session that
+    /// reads on after a body which is no message, the server is woken for each such body, and its `woken` calls this: nobody knows
+    /// which document the body named.
     pub fn lose_all(&mut self)
         ensures held { (q : List ℕ) → (documents_of self.new).held q ≡ missed ((documents_of self.old).held q) }
         ensures encoding { self.new.encoding ≡ self.old.encoding }
@@ -274,7 +287,7 @@ impl TextDocuments {
         ensures ok { IfOk result (λ m. IsSomeAnd (did_open_in (view params.now)) (λ n. (m.uri.now ≡ n.uri) × Took (documents_of self.old) n m.remark (documents_of self.new))) }
         ensures err { IfErr result (λ m. Failed (documents_of self.old) (did_open_in (view params.now)) (uri_in (view params.now)) m.fault (documents_of self.new)) }
         ensures named { IfErr result (λ m. option_map (λ s. s.now) m.uri ≡ uri_in (view params.now)) }
-        ensures lost { IfErr result (λ m. m.lost ≡ loses (documents_of self.old) (uri_in (view params.now)) (documents_of self.new)) }
+        ensures lost { IfErr result (λ m. m.lost ≡ loses self.old (uri_in (view params.now)) self.new) }
     {
         let Some(uri) = params::uri_in(params) else {
             return Err(self.missed_all());
@@ -296,7 +309,7 @@ impl TextDocuments {
         ensures ok { IfOk result (λ m. IsSomeAnd (did_change_in (view params.now)) (λ n. (m.uri.now ≡ n.uri) × Took (documents_of self.old) n m.remark (documents_of self.new))) }
         ensures err { IfErr result (λ m. Failed (documents_of self.old) (did_change_in (view params.now)) (uri_in (view params.now)) m.fault (documents_of self.new)) }
         ensures named { IfErr result (λ m. option_map (λ s. s.now) m.uri ≡ uri_in (view params.now)) }
-        ensures lost { IfErr result (λ m. m.lost ≡ loses (documents_of self.old) (uri_in (view params.now)) (documents_of self.new)) }
+        ensures lost { IfErr result (λ m. m.lost ≡ loses self.old (uri_in (view params.now)) self.new) }
     {
         let Some(uri) = params::uri_in(params) else {
             return Err(self.missed_all());
@@ -345,7 +358,7 @@ impl TextDocuments {
         ensures ok { IfOk result (λ m. IsSomeAnd (did_close_in (view params.now)) (λ n. (m.uri.now ≡ n.uri) × Took (documents_of self.old) n m.remark (documents_of self.new))) }
         ensures err { IfErr result (λ m. Failed (documents_of self.old) (did_close_in (view params.now)) (uri_in (view params.now)) m.fault (documents_of self.new)) }
         ensures named { IfErr result (λ m. option_map (λ s. s.now) m.uri ≡ uri_in (view params.now)) }
-        ensures lost { IfErr result (λ m. m.lost ≡ loses (documents_of self.old) (uri_in (view params.now)) (documents_of self.new)) }
+        ensures lost { IfErr result (λ m. m.lost ≡ loses self.old (uri_in (view params.now)) self.new) }
     {
         let Some(uri) = params::uri_in(params) else {
             return Err(self.missed_all());
@@ -362,7 +375,7 @@ impl TextDocuments {
         requires { known ≡ is_known (documents_of self.old) uri.now }
         ensures named { option_map (λ s. s.now) result.uri ≡ Some uri.now }
         ensures why { result.fault ≡ fault }
-        ensures lost { result.lost ≡ loses (documents_of self.old) (Some uri.now) (documents_of self.new) }
+        ensures lost { result.lost ≡ loses self.old (Some uri.now) self.new }
         ensures own { (documents_of self.new).held uri.now ≡ missed ((documents_of self.old).held uri.now) }
         ensures others { (q : List ℕ) → bytes_eq q uri.now ≡ false → (documents_of self.new).held q ≡ (documents_of self.old).held q }
         ensures encoding { self.new.encoding ≡ self.old.encoding }
@@ -375,11 +388,12 @@ impl TextDocuments {
     fn missed_all<'v>(&mut self) -> NotMade<'v>
         ensures named { result.uri ≡ None }
         ensures why { result.fault ≡ Params }
-        ensures lost { result.lost ≡ true }
+        ensures lost { result.lost ≡ has_known self.old }
         ensures misses { MissesAll (documents_of self.old) (documents_of self.new) }
     {
+        let known = self.knows_any();
         self.lose_all();
-        not_made(None, DocumentFault::Params, true)
+        not_made(None, DocumentFault::Params, known)
     }
 
     /// A notification of a document that was not made. Its text was known before, or not.
@@ -414,6 +428,7 @@ fn change_open(
     requires { change_fault (Some kept.old) (has_whole_text changes.now) ≡ None }
     ensures ok { OnOk result (kept.new ≡ changed_in encoding kept.old version changes.now) }
     ensures err { OnErr result (kept.new ≡ lost kept.old) }
+    ensures needed { OnErr result (has_changes changes.now ≡ true) }
 {
     match kept {
         Open::Known(document) => {
@@ -446,12 +461,12 @@ fn renew_open(alloc: Global, kept: &mut Open, text: &str) -> Result<(), AllocErr
     Ok(())
 }
 
-/// Whether a version is below the one before.
-fn goes_back(version: Option<i32>, before: Option<i32>) -> bool
-    ensures { result ≡ is_back version before }
+/// Whether a version is the one before, or below it.
+fn is_not_higher(version: Option<i32>, before: Option<i32>) -> bool
+    ensures { result ≡ not_higher version before }
 {
     match (version, before) {
-        (Some(version), Some(before)) => version < before,
+        (Some(version), Some(before)) => version <= before,
         _ => false,
     }
 }

@@ -49,13 +49,13 @@ impl From<AllocError> for DocumentFault {
 
 /// What LSP 3.17 forbids the client, though it was made: the notification says all that is needed.
 ///
-/// It prints `the document was open already` or `the version goes back`.
+/// It prints `the document was open already` or `the version is not higher`.
 #[derive(Clone, Copy, Debug, PartialEq, Eq)]
 pub enum Remark {
     /// The document was open already. What was opened took its place.
     OpenAlready,
-    /// The version is below the document's.
-    VersionBack,
+    /// The version is the document's, or a lower one.
+    VersionNotHigher,
 }
 
 impl fmt::Display for Remark {
@@ -66,7 +66,7 @@ impl fmt::Display for Remark {
     fn fmt<W: fmt::Write>(&self, f: &mut fmt::Formatter<W>) -> fmt::Result {
         match self {
             Remark::OpenAlready => write!(f, "the document was open already"),
-            Remark::VersionBack => write!(f, "the version goes back"),
+            Remark::VersionNotHigher => write!(f, "the version is not higher"),
         }
     }
 }

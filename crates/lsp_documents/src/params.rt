@@ -1,9 +1,9 @@
 // What the params of notifications say.
-ghost use Rattle.std.specs.Prelude.{◌≡◌, ℕ, List, Option, option_map, option_and_then, codes, IfOk, string_bytes, is_none};
+ghost use Rattle.std.specs.Prelude.{◌≡◌, ℕ, List, Option, option_map, option_and_then, codes, IfOk, OnErr, IfSome, ◌<◌, length, true, string_bytes, is_none};
 ghost use Rattle.serde_json.specs.Find.{get, as_array};
 ghost use Rattle.serde_json.specs.View.{view, items_view};
 ghost use Rattle.lsp_text.specs.Documents.{Change, Document};
-ghost use Rattle.lsp_documents.specs.Session.{has_whole};
+ghost use Rattle.lsp_documents.specs.Session.{has_whole, has_changes};
 ghost use Rattle.lsp_documents.specs.Params.{text_in as text_of, count_in as count_of, version_in as version_from, position_in as position_of, range_in as range_of, given_range as range_given, change_in as change_of, changes_in as changes_of, document_in as document_of, uri_in as uri_of, opened_in, changes_given, encoding_named as named, first_named as first_of, offered_in as offers, agreed_in};
 
 use lsp_text::{ContentChange, Position, PositionEncoding, Range};
@@ -104,16 +104,25 @@ fn whole_among(values: &[Value]) -> Option<bool>
     Some(whole)
 }
 
+/// The list of changes that a notification has.
+fn listed_in(params: &Value) -> Option<&Vec<Value>>
+    ensures { option_map (λ v. items_view v.now.items) result ≡ option_and_then as_array (get (codes "contentChanges") (view params.now)) }
+{
+    params.get("contentChanges")?.as_array()
+}
+
 /// Whether one of the changes that a notification tells of is of the whole text, if they can be read.
 pub fn whole_in(params: &Value) -> Option<bool>
     ensures { result ≡ option_map has_whole (changes_given (view params.now)) }
 {
-    whole_among(params.get("contentChanges")?.as_array()?.as_slice())
+    whole_among(listed_in(params)?.as_slice())
 }
 
-/// The changes of a list, if each value is one.
+/// The changes of a list, if each value is one. For none no memory is needed.
+#[tactic(auto, using(crate::proofs::SessionLemmas::some_changes))]
 fn changes_in(alloc: Global, values: &[Value]) -> Result<Option<Vec<ContentChange>>, AllocError>
-    ensures { IfOk result (λ o. option_map (λ v. v.items) o ≡ changes_of (items_view values.now)) }
+    ensures value { IfOk result (λ o. option_map (λ v. v.items) o ≡ changes_of (items_view values.now)) }
+    ensures needed { OnErr result (IfSome (changes_of (items_view values.now)) (λ cs. has_changes cs ≡ true)) }
 {
     let mut changes = Vec::new(alloc);
     for value in values {
@@ -125,14 +134,15 @@ fn changes_in(alloc: Global, values: &[Value]) -> Result<Option<Vec<ContentChang
     Ok(Some(changes))
 }
 
-/// The changes that a notification tells of.
+/// The changes that a notification tells of. For none no memory is needed.
 pub fn content_changes(
     alloc: Global,
     params: &Value,
 ) -> Result<Option<Vec<ContentChange>>, AllocError>
-    ensures { IfOk result (λ o. option_map (λ v. v.items) o ≡ changes_given (view params.now)) }
+    ensures value { IfOk result (λ o. option_map (λ v. v.items) o ≡ changes_given (view params.now)) }
+    ensures needed { OnErr result (IfSome (changes_given (view params.now)) (λ cs. has_changes cs ≡ true)) }
 {
-    match params.get("contentChanges").and_then(Value::as_array) {
+    match listed_in(params) {
         Some(values) => changes_in(alloc, values.as_slice()),
         None => Ok(None),
     }

@@ -86,7 +86,7 @@ impl Connection {
     /// Waits for the request `initialize`, and gives its id and its params. Use it in place of `initialize` if your answer depends
     /// on the params, or has more than capabilities in it:
     ///
-    /// <!-- from crates/example_connection/src/handshake.rt -->
+    /// <!-- from crates/example_connection/src/main.rt -->
     /// ```rust
     /// let (id, params) = connection.initialize_start(rt)?;
     /// let result = json!(in rt.alloc(); {
@@ -167,10 +167,13 @@ impl Connection {
 
     /// Does the whole handshake: sends `{"capabilities":<server_capabilities>}`, and gives the params of `initialize`.
     ///
-    /// <!-- from crates/example_connection/src/main.rt -->
+    /// <!-- from crates/lsp_demo/src/serve.rt -->
     /// ```rust
-    /// let capabilities = json!(in rt.alloc(); { "hoverProvider": true })?;
-    /// let params = connection.initialize(rt, capabilities)?;
+    /// let capabilities = Value::Object(Map::new(rt.alloc()));
+    /// match connection.initialize(rt, capabilities) {
+    ///     Ok(_params) => serve_messages(rt, connection),
+    ///     Err(error) => ServeEnd::Refused(error),
+    /// }
     /// ```
     ///
     /// The errors are those of `initialize_start` and `initialize_finish`.
@@ -187,12 +190,15 @@ impl Connection {
         Ok(params)
     }
 
-    /// As `initialize`, until `running` answers false, which is an error then. Here another thread may set a flag:
+    /// As `initialize`, until `running` answers false, which is an error then. It may read a flag that another thread sets, as
+    /// `|| !stopped.load(Ordering::SeqCst)`. This one counts:
     ///
-    /// <!-- from crates/example_connection/src/handshake.rt -->
+    /// <!-- from crates/test_live/src/connections.rt -->
     /// ```rust
-    /// let running = || !stopped.load(Ordering::SeqCst);
-    /// let params = connection.initialize_while(rt, capabilities, running)?;
+    /// let running = || {
+    ///     signals.tell(Signal::Turns);
+    ///     signals.count(Signal::Turns) < last
+    /// };
     /// ```
     pub fn initialize_while<R: Wait + Clock + AllocGlobal, C: Fn() -> bool>(
         &self,

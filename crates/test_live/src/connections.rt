@@ -61,14 +61,36 @@ fn call<R: Wait + Clock + AllocGlobal>(
     let (id, none) = (RequestId::from(234), Value::Object(Map::new(alloc)));
     match name {
         "initialize_start" => started(alloc, server.initialize_start(rt)),
-        "initialize_start_while" => started(alloc, server.initialize_start_while(rt, || false)),
+        "initialize_start_while" | "initialize_finish_while" | "initialize_while" => {
+            call_while(rt, alloc, server, name, &Signals::new(), 1)
+        }
         "initialize" => asked(alloc, server.initialize(rt, none)),
         "initialize_finish" => done(alloc, server.initialize_finish(rt, id, Value::Null)),
+        method => is_shut(alloc, server.handle_shutdown(rt, &request(alloc, method)?)),
+    }
+}
+
+/// A call that asks before each wait whether to go on. The server tells that it was asked, and goes on until this turn.
+fn call_while<R: Wait + Clock + AllocGlobal>(
+    rt: &R,
+    alloc: Global,
+    server: &Connection,
+    name: &str,
+    signals: &Signals,
+    last: u64,
+) -> Result<String, AllocError> {
+    let running = || {
+        signals.tell(Signal::Turns);
+        signals.count(Signal::Turns) < last
+    };
+    let (id, none) = (RequestId::from(234), Value::Object(Map::new(alloc)));
+    match name {
+        "initialize_start_while" => started(alloc, server.initialize_start_while(rt, running)),
         "initialize_finish_while" => done(
             alloc,
-            server.initialize_finish_while(rt, id, Value::Null, || false),
+            server.initialize_finish_while(rt, id, Value::Null, running),
         ),
-        method => is_shut(alloc, server.handle_shutdown(rt, &request(alloc, method)?)),
+        _ => asked(alloc, server.initialize_while(rt, none, running)),
     }
 }
 
@@ -124,11 +146,7 @@ fn failed(alloc: Global, error: &ProtocolError) -> Result<String, AllocError> {
 pub fn called_off<R: Wait + Clock + AllocGlobal>(rt: &R, alloc: Global) -> Result<Attempt, Stop> {
     let (server, _client) = Connection::memory(alloc)?;
     let (signals, start) = (Signals::new(), Instant::now(rt)?);
-    let running = || {
-        signals.tell(Signal::Turns);
-        signals.count(Signal::Turns) < 2
-    };
-    let came = started(alloc, server.initialize_start_while(rt, running))?;
+    let came = call_while(rt, alloc, &server, "initialize_start_while", &signals, 2)?;
     let is_late = start.elapsed(rt)? >= Duration::from_secs(1);
     let turns = signals.count(Signal::Turns);
     Ok(Attempt::Came(format!(in alloc; "{came}, asked {turns} times, after a second {is_late}")?))
@@ -170,12 +188,7 @@ where
     let Ok(thread) = spawn(rt, client, move |rt, client| patient(rt, client, theirs)) else {
         return Ok(Attempt::refused(alloc, "spawn")?);
     };
-    let running = || {
-        signals.tell(Signal::Turns);
-        true
-    };
-    let none = Value::Object(Map::new(alloc));
-    let said = asked(alloc, server.initialize_while(rt, none, running))?;
+    let said = call_while(rt, alloc, &server, "initialize_while", &signals, u64::MAX)?;
     let shut = shut_down(rt, alloc, &server)?;
     drop(server);
     let got = thread.join(rt)?;

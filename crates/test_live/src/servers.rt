@@ -21,11 +21,9 @@ pub struct Echo {
 }
 
 impl Handler for Echo {
-    ghost use Rattle.std.specs.Prelude.{⊤};
+    ghost answers = { λ _ _ _ _ _ _. Unit };
 
-    ghost answers = { λ _ _ _ _ _ _. ⊤ };
-
-    ghost notes = { λ _ _ _ _. ⊤ };
+    ghost notes = { λ _ _ _ _. Unit };
 
     fn answer(&mut self, request: &Request) -> Result<Result<Value, ResponseError>, AllocError> {
         self.signals.tell(Signal::Requests);

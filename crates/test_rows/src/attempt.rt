@@ -1,4 +1,5 @@
 // What came of a row, and what ends the program.
+use lsp_message::Message;
 use std::alloc::{AllocError, AllocFailed, Global};
 use std::io::ErrorKind;
 use std::num::ParseIntError;
@@ -15,13 +16,24 @@ pub enum Attempt {
 
 impl Attempt {
     /// The call of this name answered that an allocation failed.
-    pub fn refused(alloc: Global, name: &str) -> Result<Attempt, AllocError> {
+    pub fn refused(alloc: Global, name: &str) -> Result<Attempt, Stop> {
         Ok(Attempt::Refused(String::from_str(alloc, name)?))
     }
 
     /// It answered with these words.
-    pub fn came(alloc: Global, words: &str) -> Result<Attempt, AllocError> {
+    pub fn came(alloc: Global, words: &str) -> Result<Attempt, Stop> {
         Ok(Attempt::Came(String::from_str(alloc, words)?))
+    }
+
+    /// The call of this name answered so.
+    pub fn told(alloc: Global, name: &str, answer: &str) -> Result<Attempt, Stop> {
+        Ok(Attempt::Came(format!(in alloc; "{name} {answer}")?))
+    }
+
+    /// The call of this name gave this message.
+    pub fn gave(alloc: Global, name: &str, message: Message) -> Result<Attempt, Stop> {
+        let text = message.member_text(alloc)?;
+        Attempt::told(alloc, name, text.as_str())
     }
 
     /// What came of a call that was made once more.
@@ -105,11 +117,31 @@ impl From<io::Error> for Stop {
 }
 
 /// Adds the line of a call that was refused. It is made once more then.
-pub fn add_refused(alloc: Global, said: &mut String, what: &str) -> Result<(), AllocError> {
-    said.push_str(format!(in alloc; "  refused: {what}\n")?.as_str())
+pub fn add_refused(said: &mut String, what: &str) -> Result<(), AllocError> {
+    said.push_str("  refused: ")?;
+    said.push_str(what)?;
+    said.push_str("\n")
 }
 
 /// Adds the line of what came of a call.
-pub fn add_came(alloc: Global, said: &mut String, came: &str) -> Result<(), AllocError> {
-    said.push_str(format!(in alloc; "  {came}\n")?.as_str())
+pub fn add_came(said: &mut String, came: &str) -> Result<(), AllocError> {
+    said.push_str("  ")?;
+    said.push_str(came)?;
+    said.push_str("\n")
+}
+
+/// The two parts of a text around the first of these separators.
+pub fn cut<'a>(text: &'a str, separator: &str) -> Result<(&'a str, &'a str), Stop> {
+    match text.split_once(separator) {
+        Some(parts) => Ok(parts),
+        None => Err(Stop::Table),
+    }
+}
+
+/// The number in a word.
+pub fn count_in(word: &str) -> Result<usize, Stop> {
+    match word.parse::<usize>() {
+        Ok(count) => Ok(count),
+        Err(_) => Err(Stop::Table),
+    }
 }

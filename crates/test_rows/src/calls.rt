@@ -79,21 +79,21 @@ pub fn attempt_of(alloc: Global, run: Run<'_>, given: &Given) -> Result<Attempt,
         flushes: 0,
     };
     match run.case.call {
-        Call::Front => Ok(front_answer(alloc, reader.left())?),
-        Call::Read => Ok(read_answer(alloc, run, &mut reader)?),
-        Call::Stream => Ok(stream_answer(alloc, &mut reader)?),
-        Call::Inbox => Ok(inbox_answer(alloc, &mut reader)?),
-        Call::Loop => Ok(loop_answer(alloc, run, &mut reader)?),
+        Call::Front => front_answer(alloc, reader.left()),
+        Call::Read => read_answer(alloc, run, &mut reader),
+        Call::Stream => stream_answer(alloc, &mut reader),
+        Call::Inbox => inbox_answer(alloc, &mut reader),
+        Call::Loop => loop_answer(alloc, run, &mut reader),
         Call::Write => write_answer(alloc, run, &mut reader, &mut writer),
         Call::Frames => frames_answer(alloc, run, &reader, &mut writer),
         Call::Outbox => outbox_answer(alloc, &mut reader, &mut writer),
-        Call::Session => Ok(session_answer(alloc, run, &mut reader, &mut writer)?),
-        Call::Speaks => Ok(speaks_answer(alloc, run, &mut reader, &mut writer)?),
-        Call::Tolerant => Ok(tolerant_answer(alloc, run, &mut reader, &mut writer)?),
+        Call::Session => session_answer(alloc, run, &mut reader, &mut writer),
+        Call::Speaks => speaks_answer(alloc, run, &mut reader, &mut writer),
+        Call::Tolerant => tolerant_answer(alloc, run, &mut reader, &mut writer),
     }
 }
 
-fn front_answer(alloc: Global, bytes: &[u8]) -> Result<Attempt, AllocError> {
+fn front_answer(alloc: Global, bytes: &[u8]) -> Result<Attempt, Stop> {
     match front(bytes) {
         Front::Whole(length) => Ok(Attempt::Came(format!(in alloc; "whole, {length} bytes")?)),
         Front::More => Attempt::came(alloc, "more"),
@@ -102,11 +102,7 @@ fn front_answer(alloc: Global, bytes: &[u8]) -> Result<Attempt, AllocError> {
 }
 
 /// What one read gives, and what it leaves.
-fn read_answer(
-    alloc: Global,
-    run: Run<'_>,
-    reader: &mut Source<'_>,
-) -> Result<Attempt, AllocError> {
+fn read_answer(alloc: Global, run: Run<'_>, reader: &mut Source<'_>) -> Result<Attempt, Stop> {
     let read = match run.limit() {
         Some(limit) => Message::read_within(alloc, reader, limit),
         None => Message::read(alloc, reader),
@@ -123,9 +119,15 @@ fn read_text(
     read: Result<Option<Message>, ReadFault>,
 ) -> Result<String, AllocError> {
     match read {
-        Ok(Some(message)) => message.member_text(alloc),
-        Ok(None) => String::from_str(alloc, "the end"),
+        Ok(message) => end_or_text(alloc, message),
         Err(fault) => fault_text(alloc, fault),
+    }
+}
+
+fn end_or_text(alloc: Global, message: Option<Message>) -> Result<String, AllocError> {
+    match message {
+        Some(message) => message.member_text(alloc),
+        None => String::from_str(alloc, "the end"),
     }
 }
 
@@ -141,7 +143,7 @@ fn fault_text(alloc: Global, fault: ReadFault) -> Result<String, AllocError> {
 const MOST: usize = 20;
 
 /// What reads give, up to the end or a fault.
-fn stream_answer(alloc: Global, reader: &mut Source<'_>) -> Result<Attempt, AllocError> {
+fn stream_answer(alloc: Global, reader: &mut Source<'_>) -> Result<Attempt, Stop> {
     let mut texts = String::new(alloc);
     for _ in 0..MOST {
         let read = Message::read(alloc, reader);
@@ -156,23 +158,38 @@ fn stream_answer(alloc: Global, reader: &mut Source<'_>) -> Result<Attempt, Allo
 }
 
 /// What an inbox over the reader gives, how it ended, and what it gives then.
-fn inbox_answer(alloc: Global, reader: &mut Source<'_>) -> Result<Attempt, AllocError> {
+fn inbox_answer(alloc: Global, reader: &mut Source<'_>) -> Result<Attempt, Stop> {
     let mut inbox = StreamInbox::new(alloc, reader);
     let mut texts = String::new(alloc);
     for _ in 0..MOST {
-        match inbox.receive_for(1) {
-            Event::Message(message) => texts.push_str(message.member_text(alloc)?.as_str())?,
-            Event::Timeout => texts.push_str("timeout")?,
-            Event::Closed => break,
+        let event = inbox.receive_for(1);
+        if matches!(&event, Event::Closed) {
+            break;
         }
-        texts.push_str(" ")?;
+        texts.push_str(event_text(alloc, event)?.as_str())?;
     }
-    let end = match inbox.end() {
-        Some(end) => end_text(alloc, end)?,
-        None => String::from_str(alloc, "open")?,
-    };
+    let end = inbox_end(alloc, inbox.end())?;
     let is_closed = matches!(inbox.receive(), Event::Closed);
     Ok(Attempt::Came(format!(in alloc; "{texts}{end}, closed {is_closed}")?))
+}
+
+fn event_text(alloc: Global, event: Event) -> Result<String, AllocError> {
+    match event {
+        Event::Message(message) => {
+            let mut text = message.member_text(alloc)?;
+            text.push_str(" ")?;
+            Ok(text)
+        }
+        Event::Timeout => String::from_str(alloc, "timeout "),
+        Event::Closed => String::from_str(alloc, "closed "),
+    }
+}
+
+fn inbox_end(alloc: Global, end: Option<ReadEnd>) -> Result<String, AllocError> {
+    match end {
+        Some(end) => end_text(alloc, end),
+        None => String::from_str(alloc, "open"),
+    }
 }
 
 fn end_text(alloc: Global, end: ReadEnd) -> Result<String, AllocError> {
@@ -186,11 +203,7 @@ fn end_text(alloc: Global, end: ReadEnd) -> Result<String, AllocError> {
 }
 
 /// What a loop hands on, how it ends, and how many bytes it leaves.
-fn loop_answer(
-    alloc: Global,
-    run: Run<'_>,
-    reader: &mut Source<'_>,
-) -> Result<Attempt, AllocError> {
+fn loop_answer(alloc: Global, run: Run<'_>, reader: &mut Source<'_>) -> Result<Attempt, Stop> {
     let mut outbox = ListOutbox::new(alloc, run.at(Device::Fills).unwrap_or(usize::MAX));
     let end = match run.limit() {
         Some(limit) => read_loop_within(alloc, reader, &mut outbox, limit),
@@ -222,11 +235,17 @@ fn write_answer(
     reader: &mut Source<'_>,
     writer: &mut Sink<'_>,
 ) -> Result<Attempt, Stop> {
-    let Ok(Some(message)) = Message::read(alloc, reader) else {
-        return Err(Stop::Table);
-    };
+    let message = next_message(alloc, reader)?.ok_or(Stop::Table)?;
     let written = message.write(alloc, writer);
-    Ok(written_answer(alloc, run, written, writer)?)
+    written_answer(alloc, run, written, writer)
+}
+
+/// The next message. There is none at the end, and after a fault.
+fn next_message(alloc: Global, reader: &mut Source<'_>) -> Result<Option<Message>, Stop> {
+    match Message::read(alloc, reader) {
+        Ok(message) => Ok(message),
+        Err(_) => Ok(None),
+    }
 }
 
 /// What comes of writing all frames at once, and what the writer got.
@@ -240,7 +259,7 @@ fn frames_answer(
         return Err(Stop::Table);
     };
     let written = write_frames(writer, frames);
-    Ok(written_answer(alloc, run, written, writer)?)
+    written_answer(alloc, run, written, writer)
 }
 
 fn written_answer(
@@ -248,18 +267,27 @@ fn written_answer(
     run: Run<'_>,
     written: Result<(), WriteFault>,
     writer: &Sink<'_>,
-) -> Result<Attempt, AllocError> {
-    let said = match written {
-        Ok(()) => String::from_str(alloc, "written")?,
-        Err(WriteFault::Output(kind)) => {
-            format!(in alloc; "{} by {kind:?}", WriteFault::Output(kind))?
-        }
-        Err(WriteFault::Memory) => format!(in alloc; "{}", WriteFault::Memory)?,
-    };
-    let is_refused = matches!(written, Err(WriteFault::Memory));
+) -> Result<Attempt, Stop> {
+    let is_refused = matches!(&written, Err(WriteFault::Memory));
+    let said = written_text(alloc, written)?;
     let got = escape(alloc, writer.taken.as_slice())?;
     let text = format!(in alloc; "{said}; wrote {got}, {} flushes", writer.flushes)?;
     Ok(run.answer(text, is_refused))
+}
+
+fn written_text(alloc: Global, written: Result<(), WriteFault>) -> Result<String, AllocError> {
+    match written {
+        Ok(()) => String::from_str(alloc, "written"),
+        Err(fault) => write_fault_text(alloc, fault),
+    }
+}
+
+/// A fault, with the kind of the writer's error.
+fn write_fault_text(alloc: Global, fault: WriteFault) -> Result<String, AllocError> {
+    match fault {
+        WriteFault::Output(kind) => format!(in alloc; "{fault} by {kind:?}"),
+        WriteFault::Memory => format!(in alloc; "{fault}"),
+    }
 }
 
 /// What becomes of each message that is sent to an outbox over the writer, and what the writer got.
@@ -271,25 +299,38 @@ fn outbox_answer(
     let mut outbox = FrameOutbox::new(alloc, writer);
     let mut texts = String::new(alloc);
     for _ in 0..MOST {
-        let Ok(Some(message)) = Message::read(alloc, reader) else {
+        let Some(message) = next_message(alloc, reader)? else {
             break;
         };
-        match outbox.send(message) {
-            Ok(()) => texts.push_str("taken, ")?,
-            Err(SendFault::Closed(message)) => {
-                texts.push_str(message.member_text(alloc)?.as_str())?;
-                texts.push_str(" back, ")?;
-            }
-            Err(SendFault::Memory(_)) => return Ok(Attempt::refused(alloc, "send")?),
+        match sent_text(alloc, outbox.send(message))? {
+            Some(text) => texts.push_str(text.as_str())?,
+            None => return Attempt::refused(alloc, "send"),
         }
     }
-    let fault = match outbox.fault() {
-        Some(fault) => format!(in alloc; "{fault}")?,
-        None => String::from_str(alloc, "no fault")?,
-    };
+    let fault = outbox_fault(alloc, outbox.fault())?;
     let got = escape(alloc, writer.taken.as_slice())?;
     let flushes = writer.flushes;
     Ok(Attempt::Came(format!(in alloc; "{texts}{fault}; wrote {got}, {flushes} flushes")?))
+}
+
+/// What became of a message. There is nothing to say where an allocation failed.
+fn sent_text(alloc: Global, sent: Result<(), SendFault>) -> Result<Option<String>, AllocError> {
+    match sent {
+        Ok(()) => Ok(Some(String::from_str(alloc, "taken, ")?)),
+        Err(SendFault::Closed(message)) => {
+            let mut text = message.member_text(alloc)?;
+            text.push_str(" back, ")?;
+            Ok(Some(text))
+        }
+        Err(SendFault::Memory(_)) => Ok(None),
+    }
+}
+
+fn outbox_fault(alloc: Global, fault: Option<WriteFault>) -> Result<String, AllocError> {
+    match fault {
+        Some(fault) => format!(in alloc; "{fault}"),
+        None => String::from_str(alloc, "no fault"),
+    }
 }
 
 /// How a session of the echo ends, and what it wrote.
@@ -298,14 +339,15 @@ fn session_answer(
     run: Run<'_>,
     reader: &mut Source<'_>,
     writer: &mut Sink<'_>,
-) -> Result<Attempt, AllocError> {
+) -> Result<Attempt, Stop> {
     let none = Value::Object(Map::new(alloc));
     let mut echo = Echo::new(alloc);
-    let end = match run.limit() {
-        Some(limit) => session_within(alloc, reader, writer, none, &mut echo, limit),
-        None => session(alloc, reader, writer, none, &mut echo),
-    };
-    ended_answer(alloc, run, end, writer.taken.as_slice(), "")
+    if let Some(limit) = run.limit() {
+        let end = session_within(alloc, reader, writer, none, &mut echo, limit);
+        return ended_answer(alloc, run, end, writer, "");
+    }
+    let end = session(alloc, reader, writer, none, &mut echo);
+    ended_answer(alloc, run, end, writer, "")
 }
 
 /// How a session of the server that speaks ends, and what it wrote.
@@ -314,13 +356,14 @@ fn speaks_answer(
     run: Run<'_>,
     reader: &mut Source<'_>,
     writer: &mut Sink<'_>,
-) -> Result<Attempt, AllocError> {
+) -> Result<Attempt, Stop> {
     let talker = Talker::new(alloc);
-    let end = match run.limit() {
-        Some(limit) => session_with_within(alloc, reader, writer, talker, limit).1,
-        None => session_of_service(alloc, reader, writer, &mut QueuedServer::new(alloc, talker)),
-    };
-    ended_answer(alloc, run, end, writer.taken.as_slice(), "")
+    if let Some(limit) = run.limit() {
+        let (_, end) = session_with_within(alloc, reader, writer, talker, limit);
+        return ended_answer(alloc, run, end, writer, "");
+    }
+    let end = session_of_service(alloc, reader, writer, &mut QueuedServer::new(alloc, talker));
+    ended_answer(alloc, run, end, writer, "")
 }
 
 /// The same where content parts are passed over, and how many of each kind: not UTF-8, no JSON, no message, lists.
@@ -329,7 +372,7 @@ fn tolerant_answer(
     run: Run<'_>,
     reader: &mut Source<'_>,
     writer: &mut Sink<'_>,
-) -> Result<Attempt, AllocError> {
+) -> Result<Attempt, Stop> {
     let server = Talker::new(alloc);
     if let Some(limit) = run.limit() {
         let (_, end) = tolerant_session_with_within(
@@ -340,36 +383,45 @@ fn tolerant_answer(
             &mut Ignore,
             limit,
         );
-        return ended_answer(alloc, run, end, writer.taken.as_slice(), "");
+        return ended_answer(alloc, run, end, writer, "");
     }
     let mut counts = FaultCounts::new();
     let (_, end) = tolerant_session_with(alloc, reader, writer, server, &mut counts);
+    let counted = counted(alloc, counts)?;
+    ended_answer(alloc, run, end, writer, counted.as_str())
+}
+
+fn counted(alloc: Global, counts: FaultCounts) -> Result<String, AllocError> {
     let FaultCounts {
         not_text,
         no_json,
         no_message,
         batches,
     } = counts;
-    let counted = format!(in alloc; "; passed {not_text} {no_json} {no_message} {batches}")?;
-    ended_answer(alloc, run, end, writer.taken.as_slice(), counted.as_str())
+    format!(in alloc; "; passed {not_text} {no_json} {no_message} {batches}")
 }
 
 fn ended_answer(
     alloc: Global,
     run: Run<'_>,
     ended: Result<SessionEnd, SessionFault>,
-    taken: &[u8],
+    writer: &Sink<'_>,
     counted: &str,
-) -> Result<Attempt, AllocError> {
+) -> Result<Attempt, Stop> {
     let is_refused = matches!(&ended, Err(SessionFault::Memory));
-    let end = match ended {
-        Ok(SessionEnd::ShutDown) => String::from_str(alloc, "shut down")?,
-        Ok(SessionEnd::Closed) => String::from_str(alloc, "closed")?,
-        Err(fault) => format!(in alloc; "{fault}")?,
-    };
-    let written = escape(alloc, taken)?;
-    Ok(run.answer(
-        format!(in alloc; "{end}; wrote {written}{counted}")?,
-        is_refused,
-    ))
+    let end = ended_text(alloc, ended)?;
+    let written = escape(alloc, writer.taken.as_slice())?;
+    let text = format!(in alloc; "{end}; wrote {written}{counted}")?;
+    Ok(run.answer(text, is_refused))
+}
+
+fn ended_text(
+    alloc: Global,
+    ended: Result<SessionEnd, SessionFault>,
+) -> Result<String, AllocError> {
+    match ended {
+        Ok(SessionEnd::ShutDown) => String::from_str(alloc, "shut down"),
+        Ok(SessionEnd::Closed) => String::from_str(alloc, "closed"),
+        Err(fault) => format!(in alloc; "{fault}"),
+    }
 }

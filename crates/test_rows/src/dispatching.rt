@@ -1,9 +1,9 @@
 // The calls of a dispatcher, as steps: the member text of a message that is delivered, or `finish ID TICKET RESULT`. `dispatch` makes
 // each call alone: if one is refused, its message has to come back. `replay` makes them all by the call of that name.
-use crate::attempt::{Attempt, Stop};
-use crate::messages::{message_in, value_in};
+use crate::attempt::{Attempt, Stop, count_in, cut};
+use crate::messages::{id_in, message_in, value_in};
 use lsp_dispatch::{Answer, Call, DispatchFault, Dispatcher, replay};
-use lsp_message::{Message, RequestId};
+use lsp_message::Message;
 use std::alloc::{AllocError, Global};
 
 /// What comes of one step.
@@ -21,19 +21,26 @@ fn deliver(alloc: Global, dispatcher: &mut Dispatcher, message: Message) -> Resu
     let before = message.member_text(alloc)?;
     let replaced = replaced_by(alloc, dispatcher, &message)?;
     match dispatcher.deliver(message) {
-        Ok(answer) => {
-            let text = text_of(alloc, answer)?;
-            Ok(Attempt::Came(format!(in alloc; "{replaced}{text}")?))
-        }
-        Err(DispatchFault::Memory(back)) => {
-            if back.member_text(alloc)? != before {
+        Ok(answer) => delivered(alloc, replaced.as_str(), answer),
+        Err(fault) => undelivered(alloc, before.as_str(), fault),
+    }
+}
+
+fn delivered(alloc: Global, replaced: &str, answer: Answer) -> Result<Attempt, Stop> {
+    let text = text_of(alloc, answer)?;
+    Ok(Attempt::Came(format!(in alloc; "{replaced}{text}")?))
+}
+
+fn undelivered(alloc: Global, before: &str, fault: DispatchFault) -> Result<Attempt, Stop> {
+    match &fault {
+        DispatchFault::Memory(back) => {
+            if back.member_text(alloc)?.as_str() != before {
                 return Err(Stop::Broken("another message came back"));
             }
-            let fault = DispatchFault::Memory(back);
-            Ok(Attempt::Refused(format!(in alloc; "deliver: {fault}")?))
         }
-        Err(DispatchFault::Spent(_)) => Err(Stop::Broken("no ticket is left")),
+        DispatchFault::Spent(_) => return Err(Stop::Broken("no ticket is left")),
     }
+    Ok(Attempt::Refused(format!(in alloc; "deliver: {fault}")?))
 }
 
 /// The ticket that is pending under the id of a request.
@@ -60,7 +67,7 @@ pub fn replayed(alloc: Global, steps: &str) -> Result<Attempt, Stop> {
     }
     match replay(alloc, calls) {
         Ok(answers) => Ok(Attempt::Came(texts_of(alloc, answers)?)),
-        Err(1) => Ok(Attempt::refused(alloc, "replay")?),
+        Err(1) => Attempt::refused(alloc, "replay"),
         Err(_) => Err(Stop::Broken("another refusal than memory")),
     }
 }
@@ -84,12 +91,12 @@ fn call_in(alloc: Global, step: &str) -> Result<Call, Stop> {
 }
 
 fn finish_in(alloc: Global, words: &str) -> Result<Call, Stop> {
-    let (id, rest) = words.split_once(" ").ok_or(Stop::Table)?;
-    let (ticket, result) = rest.split_once(" ").ok_or(Stop::Table)?;
-    let number: i32 = id.parse()?;
-    let ticket: u64 = ticket.parse()?;
+    let (id, rest) = cut(words, " ")?;
+    let (ticket, result) = cut(rest, " ")?;
+    let ticket = count_in(ticket)? as u64;
+    let id = id_in(alloc, id)?;
     Ok(Call::Finish {
-        id: RequestId::from(number),
+        id,
         ticket,
         result: Ok(value_in(alloc, result)?),
     })
@@ -97,21 +104,33 @@ fn finish_in(alloc: Global, words: &str) -> Result<Call, Stop> {
 
 /// An answer with its ticket and its message.
 fn text_of(alloc: Global, answer: Answer) -> Result<String, AllocError> {
-    let (name, ticket) = match &answer {
-        Answer::Nothing => return String::from_str(alloc, "nothing"),
-        Answer::Note(_) => ("note", None),
-        Answer::Unknown(_) => ("unknown", None),
-        Answer::Work { request: _, ticket } => ("work", Some(*ticket)),
-        Answer::Cancelled { reply: _, ticket } => ("cancelled", Some(*ticket)),
-        Answer::Finished { reply: _, ticket } => ("finished", Some(*ticket)),
-    };
-    let text = match message_of(answer) {
-        Some(message) => message.member_text(alloc)?,
-        None => String::from_str(alloc, "no reply")?,
-    };
-    match ticket {
-        Some(ticket) => format!(in alloc; "{name} {ticket}: {text}"),
-        None => format!(in alloc; "{name}: {text}"),
+    match answer {
+        Answer::Nothing => String::from_str(alloc, "nothing"),
+        answer => {
+            let mut text = name_of(alloc, &answer)?;
+            text.push_str(": ")?;
+            text.push_str(message_text(alloc, message_of(answer))?.as_str())?;
+            Ok(text)
+        }
+    }
+}
+
+/// The name of an answer, and its ticket.
+fn name_of(alloc: Global, answer: &Answer) -> Result<String, AllocError> {
+    match answer {
+        Answer::Nothing => String::from_str(alloc, "nothing"),
+        Answer::Note(_) => String::from_str(alloc, "note"),
+        Answer::Unknown(_) => String::from_str(alloc, "unknown"),
+        Answer::Work { request: _, ticket } => format!(in alloc; "work {ticket}"),
+        Answer::Cancelled { reply: _, ticket } => format!(in alloc; "cancelled {ticket}"),
+        Answer::Finished { reply: _, ticket } => format!(in alloc; "finished {ticket}"),
+    }
+}
+
+fn message_text(alloc: Global, message: Option<Message>) -> Result<String, AllocError> {
+    match message {
+        Some(message) => message.member_text(alloc),
+        None => String::from_str(alloc, "no reply"),
     }
 }
 

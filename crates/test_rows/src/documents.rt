@@ -3,9 +3,8 @@
 // `initialize` begins anew, in the encoding that its params agree on. For any other message the line has `ok`, with what is to be said
 // of it, or what is wrong, and whether a text is lost by it, and then each document that was open once: its URI, its version, its
 // language, its text, and how many lines it has and the position of each place where a character begins. One that is closed shows
-// `-`, and one whose text is lost `?`.
+// `-`, and one whose text is lost `?`. A body that is no message has `unread`: it may have told of any document, so each text is lost.
 use crate::attempt::{Attempt, Stop};
-use crate::messages::value_in;
 use lsp_documents::{DocumentFault, Made, NotMade, TextDocuments, position_encoding};
 use lsp_text::{PositionEncoding, Text, TextDocument};
 use serde_json::Value;
@@ -33,7 +32,11 @@ impl Documents {
 
     /// What comes of a message. One for which there was no memory is missed, so all before it is told once more.
     pub fn attempt(&mut self, text: &str) -> Result<Attempt, Stop> {
-        let message = value_in(self.alloc, text)?;
+        let Some(message) = read(self.alloc, text)? else {
+            self.keep(text)?;
+            self.documents.lose_all();
+            return self.shown("unread");
+        };
         let none = Value::Null;
         let params = message.get("params").unwrap_or(&none);
         let method = method_of(&message);
@@ -49,22 +52,24 @@ impl Documents {
                 self.see(made.uri)?;
                 self.shown(self.made_text(made)?.as_str())
             }
-            Err(missed) => match missed.fault {
-                DocumentFault::Memory => {
-                    self.tell_again()?;
-                    Ok(Attempt::refused(self.alloc, "document")?)
-                }
-                fault => {
-                    self.keep(text)?;
-                    let lost = if missed.lost {
-                        ", its text is lost"
-                    } else {
-                        ""
-                    };
-                    self.shown(format!(in self.alloc; "{fault}{lost}")?.as_str())
-                }
-            },
+            Err(missed) => self.refused(text, missed),
         }
+    }
+
+    /// What comes of a message that was not made.
+    fn refused(&mut self, text: &str, missed: NotMade<'_>) -> Result<Attempt, Stop> {
+        if missed.fault == DocumentFault::Memory {
+            self.tell_again()?;
+            return Ok(Attempt::refused(self.alloc, "document")?);
+        }
+        self.keep(text)?;
+        let fault = missed.fault;
+        let lost = if missed.lost {
+            ", its text is lost"
+        } else {
+            ""
+        };
+        self.shown(format!(in self.alloc; "{fault}{lost}")?.as_str())
     }
 
     /// Keeps a message.
@@ -76,15 +81,8 @@ impl Documents {
     /// Tells all that was told to documents that begin anew.
     fn tell_again(&mut self) -> Result<(), Stop> {
         self.documents = TextDocuments::new(self.alloc, self.documents.encoding());
-        let none = Value::Null;
         for text in self.told.iter() {
-            let message = value_in(self.alloc, text.as_str())?;
-            let params = message.get("params").unwrap_or(&none);
-            if let Err(missed) = hear(&mut self.documents, method_of(&message), params) {
-                if missed.fault == DocumentFault::Memory {
-                    return Err(Stop::Memory);
-                }
-            }
+            tell(self.alloc, &mut self.documents, text.as_str())?;
         }
         Ok(())
     }
@@ -149,6 +147,29 @@ impl Documents {
             }
         }
         Ok(places)
+    }
+}
+
+/// Tells documents a message once more.
+fn tell(alloc: Global, documents: &mut TextDocuments, text: &str) -> Result<(), Stop> {
+    let Some(message) = read(alloc, text)? else {
+        documents.lose_all();
+        return Ok(());
+    };
+    let none = Value::Null;
+    let params = message.get("params").unwrap_or(&none);
+    match hear(documents, method_of(&message), params) {
+        Err(missed) if missed.fault == DocumentFault::Memory => Err(Stop::Memory),
+        _ => Ok(()),
+    }
+}
+
+/// The message of a body, if it is one.
+fn read(alloc: Global, text: &str) -> Result<Option<Value>, Stop> {
+    match Value::from_str(alloc, text) {
+        Ok(message) => Ok(Some(message)),
+        Err(fault) if fault.is_memory() => Err(Stop::Memory),
+        Err(_) => Ok(None),
     }
 }
 

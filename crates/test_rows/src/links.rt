@@ -6,18 +6,18 @@
 // | `deep LEVELS` | the same of a notification whose params are so many lists, each in the next |
 // | `pass COUNT` | `pass` |
 // | `take`, `skip` | the same |
-use crate::attempt::{Attempt, Stop};
+use crate::attempt::{Attempt, Stop, count_in};
 use crate::messages::{message_in, nested};
 use lsp_message::{Message, Notification};
 use lsp_peers::{Link, WorldFault};
-use std::alloc::Global;
+use std::alloc::{AllocError, Global};
 
 /// What comes of one step.
 pub fn attempt(alloc: Global, link: &mut Link, step: &str) -> Result<Attempt, Stop> {
     let (verb, word) = step.split_once(" ").unwrap_or((step, ""));
     match verb {
         "pass" => {
-            let count = link.pass(word.parse()?);
+            let count = link.pass(count_in(word)?);
             let there = link.arrived().len();
             Ok(Attempt::Came(format!(in alloc; "passed {count}, {there} there")?))
         }
@@ -26,15 +26,16 @@ pub fn attempt(alloc: Global, link: &mut Link, step: &str) -> Result<Attempt, St
             let is_skipped = link.skip();
             Ok(Attempt::Came(format!(in alloc; "skipped {is_skipped}")?))
         }
-        "deep" => {
-            let note = Notification {
-                method: String::from_str(alloc, "deep")?,
-                params: nested(alloc, word.parse()?)?,
-            };
-            write(alloc, link, &Message::from(note))
-        }
+        "deep" => write(alloc, link, &deep(alloc, count_in(word)?)?),
         _ => write(alloc, link, &message_in(alloc, step)?),
     }
+}
+
+/// A notification whose params are so many lists.
+fn deep(alloc: Global, levels: usize) -> Result<Message, AllocError> {
+    let params = nested(alloc, levels)?;
+    let method = String::from_str(alloc, "deep")?;
+    Ok(Message::from(Notification { method, params }))
 }
 
 fn write(alloc: Global, link: &mut Link, message: &Message) -> Result<Attempt, Stop> {
@@ -49,15 +50,21 @@ fn write(alloc: Global, link: &mut Link, message: &Message) -> Result<Attempt, S
 
 fn take(alloc: Global, link: &mut Link) -> Result<Attempt, Stop> {
     match link.take() {
-        Ok(Some(message)) => Ok(Attempt::Came(message.member_text(alloc)?)),
-        Ok(None) => Ok(Attempt::came(alloc, "nothing")?),
+        Ok(message) => Ok(Attempt::Came(taken(alloc, message)?)),
         Err(fault) => refused(alloc, "take", fault),
+    }
+}
+
+fn taken(alloc: Global, message: Option<Message>) -> Result<String, AllocError> {
+    match message {
+        Some(message) => message.member_text(alloc),
+        None => String::from_str(alloc, "nothing"),
     }
 }
 
 fn refused(alloc: Global, verb: &str, fault: WorldFault) -> Result<Attempt, Stop> {
     match fault {
-        WorldFault::Memory => Ok(Attempt::refused(alloc, verb)?),
+        WorldFault::Memory => Attempt::refused(alloc, verb),
         WorldFault::NotReadBack => Ok(Attempt::Came(format!(in alloc; "{fault}")?)),
     }
 }

@@ -11,7 +11,7 @@
 // A name of `calls` is `start`, `wait`, `finish` or the method of a request that may be `shutdown`. The first three may have a count
 // of turns, as `start:10`; `finish` without one waits without limit. If a name begins with `>`, the inbox is closed until the call
 // has sent something.
-use crate::attempt::{Attempt, Stop};
+use crate::attempt::{Attempt, Stop, count_in, cut};
 use crate::boxes::{Events, Habit, Sent};
 use crate::calls::member_texts;
 use crate::devices::Sink;
@@ -39,6 +39,13 @@ pub fn attempt(alloc: Global, word: &str, rest: &str) -> Result<Attempt, Stop> {
     }
 }
 
+fn event_in(alloc: Global, event: &str) -> Result<Event, Stop> {
+    if event == "timeout" {
+        return Ok(Event::Timeout);
+    }
+    Ok(Event::Message(message_in(alloc, event)?))
+}
+
 fn inbox<'a>(
     alloc: Global,
     events: &str,
@@ -47,11 +54,8 @@ fn inbox<'a>(
 ) -> Result<Events<'a>, Stop> {
     let mut list = ListInbox::new(alloc);
     for event in events.split("; ") {
-        if event == "timeout" {
-            list.events.push_back(Event::Timeout)?;
-        } else if !event.is_empty() {
-            list.events
-                .push_back(Event::Message(message_in(alloc, event)?))?;
+        if !event.is_empty() {
+            list.events.push_back(event_in(alloc, event)?)?;
         }
     }
     Ok(Events {
@@ -70,10 +74,10 @@ const MESSAGES: usize = 32;
 const BYTES: usize = 4096;
 
 /// An empty outbox that takes its messages without a new allocation.
-fn roomy(alloc: Global, room: usize) -> Result<ListOutbox, AllocError> {
-    let mut outbox = ListOutbox::new(alloc, room);
-    outbox.sent = Vec::with_capacity(alloc, MESSAGES)?;
-    Ok(outbox)
+fn roomy<'a>(alloc: Global, room: usize, is_some: &'a Cell<bool>) -> Result<Sent<'a>, AllocError> {
+    let mut list = ListOutbox::new(alloc, room);
+    list.sent = Vec::with_capacity(alloc, MESSAGES)?;
+    Ok(Sent { list, is_some })
 }
 
 /// The boxes of a row of calls, and the id that the last start gave.
@@ -96,9 +100,9 @@ enum Said {
 }
 
 fn called(alloc: Global, row: &str) -> Result<Attempt, Stop> {
-    let (names, row) = row.split_once(" | ").ok_or(Stop::Table)?;
-    let (answers, row) = row.split_once(" | ").ok_or(Stop::Table)?;
-    let (room, events) = row.split_once(" | ").ok_or(Stop::Table)?;
+    let (names, row) = cut(row, " | ")?;
+    let (answers, row) = cut(row, " | ")?;
+    let (room, events) = cut(row, " | ")?;
     let sent = Cell::new(false);
     let mut gate = ListGate::new(alloc);
     for answer in answers.chars() {
@@ -107,7 +111,7 @@ fn called(alloc: Global, row: &str) -> Result<Attempt, Stop> {
     let mut boxes = Boxes {
         inbox: inbox(alloc, events, Habit::Gives, &sent)?,
         outbox: Sent {
-            list: ListOutbox::new(alloc, room.parse()?),
+            list: ListOutbox::new(alloc, count_in(room)?),
             is_some: &sent,
         },
         gate,
@@ -119,7 +123,7 @@ fn called(alloc: Global, row: &str) -> Result<Attempt, Stop> {
         if let Some(refused) = refused_text(alloc, &said, name, &boxes)? {
             return Ok(Attempt::Refused(refused));
         }
-        texts.push_str(said_text(alloc, name, said)?.as_str())?;
+        texts.push_str(said_text(alloc, name, &said)?.as_str())?;
     }
     texts.push_str(left_text(alloc, &boxes)?.as_str())?;
     Ok(Attempt::Came(texts))
@@ -141,15 +145,19 @@ fn refused_text(
     }
 }
 
-fn said_text(alloc: Global, name: &str, said: Said) -> Result<String, AllocError> {
+fn said_text(alloc: Global, name: &str, said: &Said) -> Result<String, AllocError> {
     match said {
         Said::Words(words) => format!(in alloc; "{name} {words}; "),
         Said::Undecided => format!(in alloc; "{name} undecided; "),
-        Said::Failed(error) if error.channel_is_disconnected() => {
-            format!(in alloc; "{name} {error}, disconnected; ")
-        }
-        Said::Failed(error) => format!(in alloc; "{name} {error}; "),
+        Said::Failed(error) => failed_text(alloc, name, error),
     }
+}
+
+fn failed_text(alloc: Global, name: &str, error: &ProtocolError) -> Result<String, AllocError> {
+    if error.channel_is_disconnected() {
+        return format!(in alloc; "{name} {error}, disconnected; ");
+    }
+    format!(in alloc; "{name} {error}; ")
 }
 
 /// What was sent, what is left of the events and the answers, and for how long the last wait was.
@@ -162,7 +170,7 @@ fn left_text(alloc: Global, boxes: &Boxes<'_>) -> Result<String, AllocError> {
 
 fn call(alloc: Global, boxes: &mut Boxes<'_>, name: &str) -> Result<Said, Stop> {
     let (name, turns) = name.split_once(":").unwrap_or((name, "0"));
-    let turns = turns.parse()?;
+    let turns = count_in(turns)? as u64;
     boxes.outbox.is_some.set(false);
     let (habit, name) = match name.strip_prefix(">") {
         Some(name) => (Habit::Follows, name),
@@ -182,13 +190,18 @@ fn call(alloc: Global, boxes: &mut Boxes<'_>, name: &str) -> Result<Said, Stop> 
 
 fn done(alloc: Global, answer: Option<Result<(), ProtocolError>>) -> Result<Said, Stop> {
     match answer {
-        Some(Ok(())) => Ok(Said::Words(String::from_str(alloc, "done")?)),
-        Some(Err(error)) => Ok(Said::Failed(error)),
+        Some(answer) => done_at_last(alloc, answer),
         None => Ok(Said::Undecided),
     }
 }
 
-/// The id and the params of a start.
+fn done_at_last(alloc: Global, answer: Result<(), ProtocolError>) -> Result<Said, Stop> {
+    match answer {
+        Ok(()) => Ok(Said::Words(String::from_str(alloc, "done")?)),
+        Err(error) => Ok(Said::Failed(error)),
+    }
+}
+
 fn started(alloc: Global, boxes: &mut Boxes<'_>, turns: u64) -> Result<Said, Stop> {
     let Boxes {
         inbox,
@@ -197,13 +210,24 @@ fn started(alloc: Global, boxes: &mut Boxes<'_>, turns: u64) -> Result<Said, Sto
         id,
     } = boxes;
     match start_within(alloc, inbox, outbox, gate, turns) {
-        Some(Ok((came, params))) => {
+        Some(answer) => begun(alloc, id, answer),
+        None => Ok(Said::Undecided),
+    }
+}
+
+/// The id and the params of a start.
+fn begun(
+    alloc: Global,
+    id: &mut RequestId,
+    answer: Result<(RequestId, Value), ProtocolError>,
+) -> Result<Said, Stop> {
+    match answer {
+        Ok((came, params)) => {
             let words = format!(in alloc; "{came} {params}")?;
             *id = came;
             Ok(Said::Words(words))
         }
-        Some(Err(error)) => Ok(Said::Failed(error)),
-        None => Ok(Said::Undecided),
+        Err(error) => Ok(Said::Failed(error)),
     }
 }
 
@@ -215,14 +239,11 @@ fn finished(alloc: Global, boxes: &mut Boxes<'_>, turns: u64) -> Result<Said, St
         gate,
         ..
     } = boxes;
-    let result = Value::Null;
     if turns == 0 {
-        return done(alloc, Some(finish(alloc, inbox, outbox, id, result)));
+        return done_at_last(alloc, finish(alloc, inbox, outbox, id, Value::Null));
     }
-    done(
-        alloc,
-        finish_within(alloc, inbox, outbox, gate, id, result, turns),
-    )
+    let answer = finish_within(alloc, inbox, outbox, gate, id, Value::Null, turns);
+    done(alloc, answer)
 }
 
 /// What `shutdown` answers to a request of this method.
@@ -240,68 +261,108 @@ fn shut(alloc: Global, boxes: &mut Boxes<'_>, method: &str) -> Result<Said, Stop
 
 /// How a session over lists ends, and what it sent.
 fn session(alloc: Global, word: &str, row: &str) -> Result<Attempt, Stop> {
-    let (room, events) = row.split_once(" | ").ok_or(Stop::Table)?;
+    let (room, events) = cut(row, " | ")?;
     let sent = Cell::new(false);
-    let habit = if word == "woken" {
-        Habit::Wakes
-    } else {
-        Habit::Gives
-    };
-    let mut inbox = inbox(alloc, events, habit, &sent)?;
-    let mut outbox = Sent {
-        list: roomy(alloc, room.parse()?)?,
-        is_some: &sent,
-    };
+    let mut inbox = inbox(alloc, events, habit_of(word), &sent)?;
+    let mut outbox = roomy(alloc, count_in(room)?, &sent)?;
     let mut echo = Echo::new(alloc);
-    let talker = Talker::new(alloc);
     let ended = match word {
         "serve" => {
             let none = Value::Object(Map::new(alloc));
             serve(alloc, &mut inbox, &mut outbox, none, &mut echo)
         }
-        "woken" => serve_with(alloc, &mut inbox, &mut outbox, talker).1,
+        "woken" => serve_with(alloc, &mut inbox, &mut outbox, Talker::new(alloc)).1,
         _ => {
-            let mut service = QueuedServer::new(alloc, talker);
+            let mut service = QueuedServer::new(alloc, Talker::new(alloc));
             serve_service(alloc, &mut inbox, &mut outbox, &mut service)
         }
     };
+    ended_answer(alloc, word, ended, &outbox, &echo)
+}
+
+fn habit_of(word: &str) -> Habit {
+    if word == "woken" {
+        Habit::Wakes
+    } else {
+        Habit::Gives
+    }
+}
+
+fn ended_answer(
+    alloc: Global,
+    word: &str,
+    ended: Result<SessionEnd, ProtocolError>,
+    outbox: &Sent<'_>,
+    echo: &Echo,
+) -> Result<Attempt, Stop> {
+    match ended {
+        Ok(SessionEnd::ShutDown) => ended_as(alloc, "shut down", outbox, echo),
+        Ok(SessionEnd::Closed) => ended_as(alloc, "closed", outbox, echo),
+        Err(error) => failed(alloc, word, &error, outbox, echo),
+    }
+}
+
+fn failed(
+    alloc: Global,
+    word: &str,
+    error: &ProtocolError,
+    outbox: &Sent<'_>,
+    echo: &Echo,
+) -> Result<Attempt, Stop> {
+    if error.is_out_of_memory() {
+        return Attempt::refused(alloc, word);
+    }
+    let end = format!(in alloc; "{error}")?;
+    ended_as(alloc, end.as_str(), outbox, echo)
+}
+
+fn ended_as(alloc: Global, end: &str, outbox: &Sent<'_>, echo: &Echo) -> Result<Attempt, Stop> {
     let texts = member_texts(alloc, outbox.list.sent.as_slice())?;
     let (asked, told) = (echo.asked, echo.told);
-    let end = match ended {
-        Ok(SessionEnd::ShutDown) => String::from_str(alloc, "shut down")?,
-        Ok(SessionEnd::Closed) => String::from_str(alloc, "closed")?,
-        Err(error) if error.is_out_of_memory() => return Ok(Attempt::refused(alloc, word)?),
-        Err(error) => format!(in alloc; "{error}")?,
-    };
     Ok(Attempt::Came(format!(in alloc; "{end}; sent {texts}; {asked} asked, {told} told")?))
 }
 
 /// What is written of the events, and what is handed on afterwards.
 fn written(alloc: Global, row: &str) -> Result<Attempt, Stop> {
-    let (counts, events) = row.split_once(" | ").ok_or(Stop::Table)?;
-    let (fills, room) = counts.split_once(" ").ok_or(Stop::Table)?;
+    let (counts, events) = cut(row, " | ")?;
+    let (fills, room) = cut(counts, " ")?;
     let (sent, flushed) = (Cell::new(false), Cell::new(0));
     let mut inbox = inbox(alloc, events, Habit::Gives, &sent)?;
-    let mut spent = Sent {
-        list: roomy(alloc, room.parse()?)?,
-        is_some: &sent,
-    };
+    let mut spent = roomy(alloc, count_in(room)?, &sent)?;
     let mut writer = Sink {
         taken: Vec::with_capacity(alloc, BYTES)?,
         written: &flushed,
         step: usize::MAX,
-        room: fills.parse()?,
+        room: count_in(fills)?,
         kind: ErrorKind::BrokenPipe,
         bad_flush: 0,
         flushes: 0,
     };
-    let end = match write_loop(alloc, &mut inbox, &mut writer, &mut spent) {
-        WriteEnd::Closed => String::from_str(alloc, "closed")?,
-        WriteEnd::Fault(WriteFault::Memory) => return Ok(Attempt::refused(alloc, "write_loop")?),
-        WriteEnd::Fault(fault) => format!(in alloc; "{fault}")?,
-    };
+    match write_loop(alloc, &mut inbox, &mut writer, &mut spent) {
+        WriteEnd::Fault(WriteFault::Memory) => Attempt::refused(alloc, "write_loop"),
+        end => {
+            let left = inbox.list.events.len();
+            written_answer(alloc, end, &writer, &spent, left)
+        }
+    }
+}
+
+fn written_answer(
+    alloc: Global,
+    end: WriteEnd,
+    writer: &Sink<'_>,
+    spent: &Sent<'_>,
+    left: usize,
+) -> Result<Attempt, Stop> {
+    let end = end_text(alloc, end)?;
     let taken = escape(alloc, writer.taken.as_slice())?;
     let on = member_texts(alloc, spent.list.sent.as_slice())?;
-    let left = inbox.list.events.len();
     Ok(Attempt::Came(format!(in alloc; "{end}; wrote {taken}; on {on}; left {left}")?))
+}
+
+fn end_text(alloc: Global, end: WriteEnd) -> Result<String, AllocError> {
+    match end {
+        WriteEnd::Closed => String::from_str(alloc, "closed"),
+        WriteEnd::Fault(fault) => format!(in alloc; "{fault}"),
+    }
 }

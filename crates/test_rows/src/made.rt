@@ -1,9 +1,9 @@
 // Messages that the constructors make, and params that are taken out again, of the members in a row.
-use crate::attempt::{Attempt, Stop};
+use crate::attempt::{Attempt, Stop, cut};
 use crate::escapes::escape;
 use crate::messages::message_in;
 use lsp_message::{ExtractError, Message, Notification, Request, Response};
-use std::alloc::Global;
+use std::alloc::{AllocError, Global};
 
 /// A reply with a result, as the constructor makes it.
 pub fn result(alloc: Global, text: &str) -> Result<Attempt, Stop> {
@@ -42,7 +42,7 @@ fn shown(alloc: Global, response: Response) -> Result<Attempt, Stop> {
 
 /// `METHOD MESSAGE`: the params of a message as a number, if it has this method.
 pub fn extracted(alloc: Global, row: &str) -> Result<Attempt, Stop> {
-    let (method, text) = row.split_once(" ").ok_or(Stop::Table)?;
+    let (method, text) = cut(row, " ")?;
     let said = match message_in(alloc, text)? {
         Message::Request(request) => of_request(alloc, request, method)?,
         Message::Notification(notification) => of_notification(alloc, notification, method)?,
@@ -52,18 +52,26 @@ pub fn extracted(alloc: Global, row: &str) -> Result<Attempt, Stop> {
 }
 
 fn of_request(alloc: Global, request: Request, method: &str) -> Result<String, Stop> {
-    let request = Request::new(alloc, request.id, request.method, request.params)?;
-    match request.extract::<i32>(alloc, method) {
+    let made = Request::new(alloc, request.id, request.method, request.params)?;
+    match made.extract::<i32>(alloc, method) {
         Ok((id, number)) => Ok(format!(in alloc; "{id}: {number}")?),
         Err(error) => {
             let said = format!(in alloc; "{error}")?;
-            let back = match error {
-                ExtractError::MethodMismatch(request) => Message::from(request).member_text(alloc)?,
-                ExtractError::JsonError { method, error: _ } => method,
-            };
-            Ok(format!(in alloc; "{said}; {back} back")?)
+            back(alloc, said.as_str(), request_back(alloc, error)?)
         }
     }
+}
+
+/// What comes back where nothing was extracted: the message, or its method.
+fn request_back(alloc: Global, error: ExtractError<Request>) -> Result<String, AllocError> {
+    match error {
+        ExtractError::MethodMismatch(request) => Message::from(request).member_text(alloc),
+        ExtractError::JsonError { method, error: _ } => Ok(method),
+    }
+}
+
+fn back(alloc: Global, said: &str, back: String) -> Result<String, Stop> {
+    Ok(format!(in alloc; "{said}; {back} back")?)
 }
 
 fn of_notification(
@@ -76,11 +84,17 @@ fn of_notification(
         Ok(number) => Ok(format!(in alloc; "{number}")?),
         Err(error) => {
             let said = format!(in alloc; "{error}")?;
-            let back = match error {
-                ExtractError::MethodMismatch(made) => Message::from(made).member_text(alloc)?,
-                ExtractError::JsonError { method, error: _ } => method,
-            };
-            Ok(format!(in alloc; "{said}; {back} back")?)
+            back(alloc, said.as_str(), notification_back(alloc, error)?)
         }
+    }
+}
+
+fn notification_back(
+    alloc: Global,
+    error: ExtractError<Notification>,
+) -> Result<String, AllocError> {
+    match error {
+        ExtractError::MethodMismatch(made) => Message::from(made).member_text(alloc),
+        ExtractError::JsonError { method, error: _ } => Ok(method),
     }
 }

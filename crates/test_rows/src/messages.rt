@@ -1,7 +1,7 @@
 // What bytes and trees mean as messages, and what messages become.
 use crate::attempt::{Attempt, Stop};
 use crate::escapes::{escape, unescape};
-use lsp_message::{Message, ReadFault, RequestId, WriteFault};
+use lsp_message::{Message, RequestId, WriteFault};
 use serde_json::Value;
 use std::alloc::{AllocError, Global};
 
@@ -16,8 +16,13 @@ pub fn message_in(alloc: Global, text: &str) -> Result<Message, Stop> {
     Message::from_value(alloc, &tree)?.ok_or(Stop::Table)
 }
 
+/// The id in a JSON text.
+pub fn id_in(alloc: Global, word: &str) -> Result<RequestId, Stop> {
+    RequestId::from_value(&value_in(alloc, word)?)?.ok_or(Stop::Table)
+}
+
 /// So many lists, each in the next.
-pub fn nested(alloc: Global, levels: u32) -> Result<Value, AllocError> {
+pub fn nested(alloc: Global, levels: usize) -> Result<Value, AllocError> {
     let mut value = Value::Array(Vec::new(alloc));
     for _ in 1..levels {
         let mut values = Vec::new(alloc);
@@ -27,54 +32,36 @@ pub fn nested(alloc: Global, levels: u32) -> Result<Value, AllocError> {
     Ok(value)
 }
 
-/// How the id in a JSON text prints.
+/// The id in a tree, as it prints.
 pub fn id_text(alloc: Global, text: &str) -> Result<Attempt, Stop> {
     let tree = value_in(alloc, text)?;
     match RequestId::from_value(&tree) {
-        Ok(Some(id)) => Ok(Attempt::Came(format!(in alloc; "{id}")?)),
-        Ok(None) => Ok(Attempt::Came(String::from_str(alloc, "no id")?)),
-        Err(_) => Ok(Attempt::refused(alloc, "id")?),
+        Ok(id) => Ok(Attempt::Came(printed(alloc, id)?)),
+        Err(_) => Attempt::refused(alloc, "id"),
+    }
+}
+
+fn printed(alloc: Global, id: Option<RequestId>) -> Result<String, AllocError> {
+    match id {
+        Some(id) => format!(in alloc; "{id}"),
+        None => String::from_str(alloc, "no id"),
     }
 }
 
 /// What a content part means in a frame. As a tree, and after it was written again, it means the same.
 pub fn meaning(alloc: Global, escaped: &str) -> Result<Attempt, Stop> {
     let body = unescape(alloc, escaped)?;
-    let came = match framed(alloc, body.as_slice())? {
-        Ok(message) => message,
-        Err(fault) => {
-            let tree = parsed(alloc, body.as_slice())?;
-            let by_tree = text_of(alloc, tree.as_ref())?;
-            return Ok(Attempt::Came(format!(in alloc; "{fault}, {by_tree}")?));
-        }
-    };
-    let said = text_of(alloc, came.as_ref())?;
-    let again = match came {
-        Some(message) => gone_round(alloc, &message)?,
-        None => None,
-    };
-    let by_tree = text_of(alloc, parsed(alloc, body.as_slice())?.as_ref())?;
-    if by_tree != said || text_of(alloc, again.as_ref())? != said {
-        return Err(Stop::Broken("a content part means something else as a tree, or once more"));
-    }
-    Ok(Attempt::Came(said))
+    let by_tree = by_tree(alloc, body.as_slice())?;
+    let frame = frame_of(alloc, body.as_slice())?;
+    read_frame(alloc, frame.as_slice(), by_tree.as_str())
 }
 
-/// What is read of a frame of these bytes. A byte behind it is to be left.
-fn framed(alloc: Global, body: &[u8]) -> Result<Result<Option<Message>, ReadFault>, Stop> {
-    let header = format!(in alloc; "Content-Length: {}\r\n\r\n", body.len())?;
-    let mut frame = Vec::from_slice(alloc, header.as_bytes())?;
-    frame.extend_from_slice(body)?;
-    frame.push(b'Q')?;
-    let mut left = frame.as_slice();
-    let answer = Message::read(alloc, &mut left);
-    if left != b"Q".as_slice() {
-        return Err(Stop::Broken("a read leaves another rest"));
-    }
-    Ok(answer)
+/// The text of the message that the bytes mean as a tree.
+fn by_tree(alloc: Global, body: &[u8]) -> Result<String, AllocError> {
+    let message = parsed(alloc, body)?;
+    text_of(alloc, message.as_ref())
 }
 
-/// The message that the bytes mean as a tree.
 fn parsed(alloc: Global, body: &[u8]) -> Result<Option<Message>, AllocError> {
     match Value::from_slice(alloc, body) {
         Ok(tree) => Message::from_value(alloc, &tree),
@@ -82,12 +69,55 @@ fn parsed(alloc: Global, body: &[u8]) -> Result<Option<Message>, AllocError> {
     }
 }
 
-/// The same message, after it went through its tree and then through its frame.
+/// A frame of these bytes, and a byte behind it.
+fn frame_of(alloc: Global, body: &[u8]) -> Result<Vec<u8>, AllocError> {
+    let header = format!(in alloc; "Content-Length: {}\r\n\r\n", body.len())?;
+    let mut frame = Vec::from_slice(alloc, header.as_bytes())?;
+    frame.extend_from_slice(body)?;
+    frame.push(b'Q')?;
+    Ok(frame)
+}
+
+/// What is read of a frame. The byte behind it is to be left.
+fn read_frame(alloc: Global, frame: &[u8], by_tree: &str) -> Result<Attempt, Stop> {
+    let mut left = frame;
+    let read = Message::read(alloc, &mut left);
+    if left != b"Q".as_slice() {
+        return Err(Stop::Broken("a read leaves another rest"));
+    }
+    match read {
+        Ok(message) => meant(alloc, message.as_ref(), by_tree),
+        Err(fault) => Ok(Attempt::Came(format!(in alloc; "{fault}, {by_tree}")?)),
+    }
+}
+
+fn meant(alloc: Global, message: Option<&Message>, by_tree: &str) -> Result<Attempt, Stop> {
+    let said = text_of(alloc, message)?;
+    let again = again_text(alloc, message)?;
+    if by_tree != said.as_str() || again != said {
+        return Err(Stop::Broken("a content part means something else as a tree, or once more"));
+    }
+    Ok(Attempt::Came(said))
+}
+
+/// The text of the same message, after it went through its tree and then through its frame.
+fn again_text(alloc: Global, message: Option<&Message>) -> Result<String, Stop> {
+    let again = match message {
+        Some(message) => gone_round(alloc, message)?,
+        None => None,
+    };
+    Ok(text_of(alloc, again.as_ref())?)
+}
+
 fn gone_round(alloc: Global, message: &Message) -> Result<Option<Message>, Stop> {
     let tree = message.to_value(alloc)?;
-    let Some(message) = Message::from_value(alloc, &tree)? else {
-        return Ok(None);
-    };
+    match Message::from_value(alloc, &tree)? {
+        Some(message) => through_frame(alloc, &message),
+        None => Ok(None),
+    }
+}
+
+fn through_frame(alloc: Global, message: &Message) -> Result<Option<Message>, Stop> {
     let mut frame = Vec::new(alloc);
     if message.write(alloc, &mut frame).is_err() {
         return Err(Stop::Memory);
@@ -123,41 +153,61 @@ fn text_of(alloc: Global, message: Option<&Message>) -> Result<String, AllocErro
 /// Reads the message in a member text, clones it, and gives its texts, its tree and its frame.
 pub fn values(alloc: Global, text: &str) -> Result<Attempt, Stop> {
     let tree = value_in(alloc, text)?;
-    let Ok(message) = Message::from_value(alloc, &tree) else {
-        return Ok(Attempt::refused(alloc, "from_value")?);
-    };
-    let message = message.ok_or(Stop::Table)?;
+    match Message::from_value(alloc, &tree) {
+        Ok(found) => copied(alloc, found),
+        Err(_) => Attempt::refused(alloc, "from_value"),
+    }
+}
+
+fn copied(alloc: Global, found: Option<Message>) -> Result<Attempt, Stop> {
+    let message = found.ok_or(Stop::Table)?;
     match message.clone() {
         Ok(copy) => shown(alloc, &copy),
-        Err(_) => Ok(Attempt::refused(alloc, "clone")?),
+        Err(_) => Attempt::refused(alloc, "clone"),
     }
 }
 
 fn shown(alloc: Global, message: &Message) -> Result<Attempt, Stop> {
-    let Ok(members) = message.member_text(alloc) else {
-        return Ok(Attempt::refused(alloc, "member_text")?);
-    };
-    let Ok(tree) = message.to_value(alloc) else {
-        return Ok(Attempt::refused(alloc, "to_value")?);
-    };
-    let tree = tree.to_string(alloc)?;
-    let Ok(body) = message.body_text(alloc) else {
-        return Ok(Attempt::refused(alloc, "body_text")?);
-    };
-    let said = format!(in alloc; "{members}\n  {tree}\n  {body}")?;
-    written(alloc, message, said)
+    match message.member_text(alloc) {
+        Ok(members) => shown_tree(alloc, message, members),
+        Err(_) => Attempt::refused(alloc, "member_text"),
+    }
+}
+
+fn shown_tree(alloc: Global, message: &Message, mut said: String) -> Result<Attempt, Stop> {
+    match message.to_value(alloc) {
+        Ok(tree) => said.push_str(format!(in alloc; "\n  {tree}")?.as_str())?,
+        Err(_) => return Attempt::refused(alloc, "to_value"),
+    }
+    shown_body(alloc, message, said)
+}
+
+fn shown_body(alloc: Global, message: &Message, mut said: String) -> Result<Attempt, Stop> {
+    match message.body_text(alloc) {
+        Ok(body) => said.push_str(format!(in alloc; "\n  {body}")?.as_str())?,
+        Err(_) => return Attempt::refused(alloc, "body_text"),
+    }
+    written(alloc, message, said.as_str())
 }
 
 /// Writes the message. A write that finds no memory has to leave the writer as it was.
-fn written(alloc: Global, message: &Message, said: String) -> Result<Attempt, Stop> {
+fn written(alloc: Global, message: &Message, said: &str) -> Result<Attempt, Stop> {
     let mut frame = Vec::with_capacity(alloc, 4096)?;
     match message.write(alloc, &mut frame) {
-        Ok(()) => {
-            let frame = escape(alloc, frame.as_slice())?;
-            Ok(Attempt::Came(format!(in alloc; "{said}\n  {frame}")?))
-        }
-        Err(WriteFault::Memory) if frame.is_empty() => Ok(Attempt::refused(alloc, "write")?),
-        Err(WriteFault::Memory) => Err(Stop::Broken("a refused write wrote something")),
-        Err(WriteFault::Output(_)) => Err(Stop::Broken("a writer in memory failed")),
+        Ok(()) => wrote(alloc, said, frame.as_slice()),
+        Err(fault) => unwritten(alloc, fault, frame.is_empty()),
+    }
+}
+
+fn wrote(alloc: Global, said: &str, frame: &[u8]) -> Result<Attempt, Stop> {
+    let frame = escape(alloc, frame)?;
+    Ok(Attempt::Came(format!(in alloc; "{said}\n  {frame}")?))
+}
+
+fn unwritten(alloc: Global, fault: WriteFault, is_empty: bool) -> Result<Attempt, Stop> {
+    match fault {
+        WriteFault::Memory if is_empty => Attempt::refused(alloc, "write"),
+        WriteFault::Memory => Err(Stop::Broken("a refused write wrote something")),
+        WriteFault::Output(_) => Err(Stop::Broken("a writer in memory failed")),
     }
 }

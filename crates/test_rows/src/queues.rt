@@ -9,9 +9,9 @@
 // | `shown` | how the queues print for a programmer |
 //
 // If a call is refused, its data has to come back and both queues have to be as before.
-use crate::attempt::{Attempt, Stop};
-use crate::messages::{nested, value_in};
-use lsp_message::{Message, Request, RequestId};
+use crate::attempt::{Attempt, Stop, count_in, cut};
+use crate::messages::{id_in, nested, value_in};
+use lsp_message::{Message, Request, RequestId, Response};
 use lsp_queue::{RegisterFault, ReqQueue};
 use std::alloc::{AllocError, Global};
 
@@ -58,39 +58,18 @@ fn data_in(word: &str) -> Result<char, Stop> {
     word.chars().next().ok_or(Stop::Table)
 }
 
-/// The id in a JSON text.
-fn id_in(alloc: Global, word: &str) -> Result<RequestId, Stop> {
-    RequestId::from_value(&value_in(alloc, word)?)?.ok_or(Stop::Table)
-}
-
 fn register(alloc: Global, queue: &mut Queue, verb: &str, words: &str) -> Result<Attempt, Stop> {
-    let (method, rest) = words.split_once(" ").ok_or(Stop::Table)?;
+    let (method, rest) = cut(words, " ")?;
     let (params, data) = rest.rsplit_once(" ").ok_or(Stop::Table)?;
     let data = data_in(data)?;
     let params = value_in(alloc, params)?;
     let method = String::from_str(alloc, method)?;
-    let registered = if verb == "register" {
-        queue.outgoing.register(method, params, data)
-    } else {
-        queue.outgoing.register_value(method, params, data)
-    };
-    registered_text(alloc, verb, registered, data)
-}
-
-/// Params that nest too deep are refused, however often they come.
-fn register_deep(alloc: Global, queue: &mut Queue, words: &str) -> Result<Attempt, Stop> {
-    let (method, rest) = words.split_once(" ").ok_or(Stop::Table)?;
-    let (levels, data) = rest.split_once(" ").ok_or(Stop::Table)?;
-    let data = data_in(data)?;
-    let params = nested(alloc, levels.parse()?)?;
-    let method = String::from_str(alloc, method)?;
-    match queue.outgoing.register(method, params, data) {
-        Err(RegisterFault::Unwritable(back)) => {
-            let fault = RegisterFault::Unwritable(back);
-            Ok(Attempt::Came(format!(in alloc; "{fault}, {back} back")?))
-        }
-        registered => registered_text(alloc, "register", registered, data),
+    if verb == "register" {
+        let registered = queue.outgoing.register(method, params, data);
+        return registered_text(alloc, verb, registered, data);
     }
+    let registered = queue.outgoing.register_value(method, params, data);
+    registered_text(alloc, verb, registered, data)
 }
 
 fn registered_text(
@@ -100,13 +79,43 @@ fn registered_text(
     data: char,
 ) -> Result<Attempt, Stop> {
     match registered {
-        Ok(request) => {
-            let text = Message::from(request).member_text(alloc)?;
-            Ok(Attempt::Came(format!(in alloc; "sent {text}")?))
+        Ok(request) => Attempt::gave(alloc, "sent", Message::from(request)),
+        Err(fault) => unregistered(alloc, verb, fault, data),
+    }
+}
+
+fn unregistered(
+    alloc: Global,
+    verb: &str,
+    fault: RegisterFault<char>,
+    data: char,
+) -> Result<Attempt, Stop> {
+    match fault {
+        RegisterFault::Memory(back) => handed_back(alloc, verb, 1, data, back),
+        RegisterFault::Unwritable(back) => handed_back(alloc, verb, 2, data, back),
+        RegisterFault::Spent(_) => Err(Stop::Broken("no id is left")),
+    }
+}
+
+/// Params that nest too deep are refused, however often they come.
+fn register_deep(alloc: Global, queue: &mut Queue, words: &str) -> Result<Attempt, Stop> {
+    let (method, rest) = cut(words, " ")?;
+    let (levels, data) = cut(rest, " ")?;
+    let data = data_in(data)?;
+    let params = nested(alloc, count_in(levels)?)?;
+    let method = String::from_str(alloc, method)?;
+    match queue.outgoing.register(method, params, data) {
+        Ok(request) => Attempt::gave(alloc, "sent", Message::from(request)),
+        Err(fault) => too_deep(alloc, fault, data),
+    }
+}
+
+fn too_deep(alloc: Global, fault: RegisterFault<char>, data: char) -> Result<Attempt, Stop> {
+    match fault {
+        RegisterFault::Unwritable(back) => {
+            Ok(Attempt::Came(format!(in alloc; "{fault}, {back} back")?))
         }
-        Err(RegisterFault::Memory(back)) => handed_back(alloc, verb, 1, data, back),
-        Err(RegisterFault::Unwritable(back)) => handed_back(alloc, verb, 2, data, back),
-        Err(RegisterFault::Spent(_)) => Err(Stop::Broken("no id is left")),
+        _ => unregistered(alloc, "register", fault, data),
     }
 }
 
@@ -124,23 +133,32 @@ fn handed_back(
 }
 
 fn receive(alloc: Global, queue: &mut Queue, words: &str) -> Result<Attempt, Stop> {
-    let (id, data) = words.split_once(" ").ok_or(Stop::Table)?;
+    let (id, data) = cut(words, " ")?;
     let data = data_in(data)?;
     match queue.incoming.register(id_in(alloc, id)?, data) {
-        Ok(()) => Ok(Attempt::Came(format!(in alloc; "received {id}")?)),
-        Err(RegisterFault::Memory(back)) => handed_back(alloc, "receive", 1, data, back),
-        Err(_) => Err(Stop::Broken("another refusal than memory")),
+        Ok(()) => Attempt::told(alloc, "received", id),
+        Err(fault) => unreceived(alloc, fault, data),
+    }
+}
+
+fn unreceived(alloc: Global, fault: RegisterFault<char>, data: char) -> Result<Attempt, Stop> {
+    match fault {
+        RegisterFault::Memory(back) => handed_back(alloc, "receive", 1, data, back),
+        _ => Err(Stop::Broken("another refusal than memory")),
     }
 }
 
 fn cancel(alloc: Global, queue: &mut Queue, word: &str) -> Result<Attempt, Stop> {
     match queue.incoming.cancel(id_in(alloc, word)?) {
-        Ok(Some(reply)) => {
-            let text = Message::from(reply).member_text(alloc)?;
-            Ok(Attempt::Came(format!(in alloc; "cancelled {text}")?))
-        }
-        Ok(None) => Ok(Attempt::Came(String::from_str(alloc, "cancelled none")?)),
-        Err(_) => Ok(Attempt::refused(alloc, "cancel")?),
+        Ok(reply) => cancelled(alloc, reply),
+        Err(_) => Attempt::refused(alloc, "cancel"),
+    }
+}
+
+fn cancelled(alloc: Global, reply: Option<Response>) -> Result<Attempt, Stop> {
+    match reply {
+        Some(reply) => Attempt::gave(alloc, "cancelled", Message::from(reply)),
+        None => Attempt::came(alloc, "cancelled none"),
     }
 }
 

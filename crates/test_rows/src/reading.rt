@@ -16,7 +16,7 @@ pub fn attempt(alloc: Global, text: &str) -> Result<Attempt, Stop> {
     let params = message.get("params").ok_or(Stop::Table)?.clone()?;
     match fields(alloc, method, params) {
         Ok(row) => Ok(Attempt::Came(row)),
-        Err(_) => Ok(Attempt::came(alloc, "refused")?),
+        Err(_) => Attempt::came(alloc, "refused"),
     }
 }
 

@@ -1,5 +1,5 @@
 // One row after another.
-use crate::attempt::{Attempt, Stop, add_came, add_refused};
+use crate::attempt::{Attempt, Stop, add_came, add_refused, count_in};
 use crate::calls::{Run, attempt_of};
 use crate::documents::Documents;
 use crate::steps::Machine;
@@ -37,7 +37,7 @@ impl Rows {
             "queues" => Machine::queues(self.alloc).run(self.alloc, &mut said, rest)?,
             "dispatch" => Machine::dispatcher(self.alloc).run(self.alloc, &mut said, rest)?,
             "link" => Machine::link(self.alloc).run(self.alloc, &mut said, rest)?,
-            _ => match case_of(word, rest) {
+            _ => match case_of(word, rest)? {
                 Some(case) => self.run_case(&mut said, case)?,
                 None => self.run_whole(&mut said, word, rest)?,
             },
@@ -48,11 +48,11 @@ impl Rows {
     /// Runs a row that is run again as a whole if it was refused.
     fn run_whole(&mut self, said: &mut String, word: &str, rest: &str) -> Result<(), Stop> {
         match self.whole_of(word, rest)? {
-            Attempt::Came(came) => return Ok(add_came(self.alloc, said, came.as_str())?),
-            Attempt::Refused(what) => add_refused(self.alloc, said, what.as_str())?,
+            Attempt::Came(came) => return Ok(add_came(said, came.as_str())?),
+            Attempt::Refused(what) => add_refused(said, what.as_str())?,
         }
         let came = self.whole_of(word, rest)?.again()?;
-        Ok(add_came(self.alloc, said, came.as_str())?)
+        Ok(add_came(said, came.as_str())?)
     }
 
     fn whole_of(&mut self, word: &str, rest: &str) -> Result<Attempt, Stop> {
@@ -77,11 +77,7 @@ impl Rows {
         for count in case.from..=case.to {
             let came = self.run_at(said, case, count)?;
             if came != last {
-                add_came(
-                    self.alloc,
-                    said,
-                    format!(in self.alloc; "{count}: {came}")?.as_str(),
-                )?;
+                add_came(said, format!(in self.alloc; "{count}: {came}")?.as_str())?;
             }
             last = came;
         }
@@ -92,11 +88,8 @@ impl Rows {
     fn run_at(&self, said: &mut String, case: Case<'_>, count: usize) -> Result<String, Stop> {
         let mut all = String::new(self.alloc);
         for word in case.steps.split(',') {
-            let run = Run {
-                case,
-                step: word.parse()?,
-                count,
-            };
+            let step = count_in(word)?;
+            let run = Run { case, step, count };
             let came = self.run_once(said, run)?;
             if all.is_empty() {
                 all = came;
@@ -110,7 +103,7 @@ impl Rows {
     fn run_once(&self, said: &mut String, run: Run<'_>) -> Result<String, Stop> {
         match attempt_of(self.alloc, run, &self.given)? {
             Attempt::Came(came) => return Ok(came),
-            Attempt::Refused(what) => add_refused(self.alloc, said, what.as_str())?,
+            Attempt::Refused(what) => add_refused(said, what.as_str())?,
         }
         attempt_of(self.alloc, run, &self.given)?.again()
     }

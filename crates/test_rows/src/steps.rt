@@ -34,7 +34,7 @@ impl Machine {
     pub fn run(mut self, alloc: Global, said: &mut String, steps: &str) -> Result<(), Stop> {
         for step in steps.split("; ") {
             let came = self.step(alloc, said, step)?;
-            add_came(alloc, said, came.as_str())?;
+            add_came(said, came.as_str())?;
         }
         Ok(())
     }
@@ -42,7 +42,7 @@ impl Machine {
     fn step(&mut self, alloc: Global, said: &mut String, step: &str) -> Result<String, Stop> {
         match self.attempt(alloc, step)? {
             Attempt::Came(came) => return Ok(came),
-            Attempt::Refused(what) => add_refused(alloc, said, what.as_str())?,
+            Attempt::Refused(what) => add_refused(said, what.as_str())?,
         }
         self.attempt(alloc, step)?.again()
     }

@@ -1,5 +1,5 @@
 // The words of a case, and the bytes that cases are about.
-use crate::attempt::Stop;
+use crate::attempt::{Stop, count_in, cut};
 use crate::devices::Pause;
 use crate::escapes::unescape;
 use std::alloc::Global;
@@ -23,8 +23,8 @@ impl Given {
 
     /// `COUNT TEXT`: this text follows so many times.
     pub fn repeat(&mut self, alloc: Global, words: &str) -> Result<(), Stop> {
-        let (count, text) = words.split_once(" ").ok_or(Stop::Table)?;
-        let count: usize = count.parse()?;
+        let (count, text) = cut(words, " ")?;
+        let count = count_in(count)?;
         let text = unescape(alloc, text)?;
         for _ in 0..count {
             self.bytes.extend_from_slice(text.as_slice())?;
@@ -35,14 +35,18 @@ impl Given {
     /// `AT:COUNT ..`: at these places, which rise, a reader has nothing until so many bytes were written and flushed.
     pub fn pause(&mut self, words: &str) -> Result<(), Stop> {
         for word in words.split(' ') {
-            let (at, written) = word.split_once(":").ok_or(Stop::Table)?;
-            self.pauses.push(Pause {
-                at: at.parse()?,
-                written: written.parse()?,
-            })?;
+            self.pauses.push(pause_in(word)?)?;
         }
         Ok(())
     }
+}
+
+fn pause_in(word: &str) -> Result<Pause, Stop> {
+    let (at, written) = cut(word, ":")?;
+    Ok(Pause {
+        at: count_in(at)?,
+        written: count_in(written)?,
+    })
 }
 
 /// A case: `CALL PIECES DEVICE FROM TO`, and perhaps the kind of the error with which the device fails. The call is made with each
@@ -105,21 +109,25 @@ pub enum Device {
 }
 
 /// The case of these words. There is none where they are no case.
-pub fn case_of<'a>(call: &str, rest: &'a str) -> Option<Case<'a>> {
-    let call = call_of(call)?;
-    let mut words = rest.split(' ');
-    let steps = words.next()?;
-    let device = device_of(words.next()?)?;
-    let from = words.next()?.parse::<usize>().ok()?;
-    let to = words.next()?.parse::<usize>().ok()?;
-    let kind = kind_of(words.next().unwrap_or("BrokenPipe"))?;
-    Some(Case {
+pub fn case_of<'a>(call: &str, rest: &'a str) -> Result<Option<Case<'a>>, Stop> {
+    match call_of(call) {
+        Some(call) => Ok(Some(case_in(call, rest)?)),
+        None => Ok(None),
+    }
+}
+
+fn case_in(call: Call, words: &str) -> Result<Case<'_>, Stop> {
+    let (steps, words) = cut(words, " ")?;
+    let (device, words) = cut(words, " ")?;
+    let (from, words) = cut(words, " ")?;
+    let (to, kind) = words.split_once(" ").unwrap_or((words, "BrokenPipe"));
+    Ok(Case {
         call,
         steps,
-        device,
-        from,
-        to,
-        kind,
+        device: device_of(device)?,
+        from: count_in(from)?,
+        to: count_in(to)?,
+        kind: kind_of(kind)?,
     })
 }
 
@@ -140,26 +148,26 @@ fn call_of(word: &str) -> Option<Call> {
     }
 }
 
-fn device_of(word: &str) -> Option<Device> {
+fn device_of(word: &str) -> Result<Device, Stop> {
     match word {
-        "whole" => Some(Device::Whole),
-        "ends" => Some(Device::Ends),
-        "breaks" => Some(Device::Breaks),
-        "fills" => Some(Device::Fills),
-        "flushes" => Some(Device::Flushes),
-        "limits" => Some(Device::Limits),
-        "huge" => Some(Device::Huge),
-        _ => None,
+        "whole" => Ok(Device::Whole),
+        "ends" => Ok(Device::Ends),
+        "breaks" => Ok(Device::Breaks),
+        "fills" => Ok(Device::Fills),
+        "flushes" => Ok(Device::Flushes),
+        "limits" => Ok(Device::Limits),
+        "huge" => Ok(Device::Huge),
+        _ => Err(Stop::Table),
     }
 }
 
-fn kind_of(word: &str) -> Option<ErrorKind> {
+fn kind_of(word: &str) -> Result<ErrorKind, Stop> {
     match word {
-        "BrokenPipe" => Some(ErrorKind::BrokenPipe),
-        "Interrupted" => Some(ErrorKind::Interrupted),
-        "OutOfMemory" => Some(ErrorKind::OutOfMemory),
-        "UnexpectedEof" => Some(ErrorKind::UnexpectedEof),
-        "WriteZero" => Some(ErrorKind::WriteZero),
-        _ => None,
+        "BrokenPipe" => Ok(ErrorKind::BrokenPipe),
+        "Interrupted" => Ok(ErrorKind::Interrupted),
+        "OutOfMemory" => Ok(ErrorKind::OutOfMemory),
+        "UnexpectedEof" => Ok(ErrorKind::UnexpectedEof),
+        "WriteZero" => Ok(ErrorKind::WriteZero),
+        _ => Err(Stop::Table),
     }
 }

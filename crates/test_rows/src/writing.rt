@@ -97,11 +97,6 @@ fn diagnostics(alloc: Global, params: &Value) -> Result<PublishDiagnosticsParams
 }
 
 fn diagnostic(alloc: Global, found: &Value) -> Result<Diagnostic, Stop> {
-    let code = match found.get("code") {
-        Some(Value::String(code)) => Some(NumberOrString::String(code.clone()?)),
-        Some(code) => Some(NumberOrString::Number(from_value(alloc, code.clone()?)?)),
-        None => None,
-    };
     let severity = number(found, "severity");
     let mut diagnostic = Diagnostic::new(
         range(alloc, found, "range")?,
@@ -111,12 +106,25 @@ fn diagnostic(alloc: Global, found: &Value) -> Result<Diagnostic, Stop> {
     if severity.is_none() {
         diagnostic.severity = None;
     }
-    diagnostic.code = code;
+    diagnostic.code = code_in(alloc, found)?;
     diagnostic.source = text_in(alloc, found, "source")?;
-    if let Some(data) = found.get("data") {
-        diagnostic.data = Some(data.clone()?);
-    }
+    diagnostic.data = value_of(found, "data")?;
     Ok(diagnostic)
+}
+
+fn code_in(alloc: Global, found: &Value) -> Result<Option<NumberOrString>, Stop> {
+    match found.get("code") {
+        Some(Value::String(code)) => Ok(Some(NumberOrString::String(code.clone()?))),
+        Some(code) => Ok(Some(NumberOrString::Number(from_value(alloc, code.clone()?)?))),
+        None => Ok(None),
+    }
+}
+
+fn value_of(found: &Value, key: &str) -> Result<Option<Value>, Stop> {
+    match found.get(key) {
+        Some(value) => Ok(Some(value.clone()?)),
+        None => Ok(None),
+    }
 }
 
 fn hover(alloc: Global, found: &Value) -> Result<Hover, Stop> {
@@ -182,36 +190,50 @@ fn workspace_edit(alloc: Global, found: &Value) -> Result<WorkspaceEdit, Stop> {
         return Err(Stop::Table);
     };
     for (uri, edits) in documents.iter() {
-        let mut kept = Vec::new(alloc);
-        for edit in items_of(edits)? {
-            kept.push(text_edit(alloc, edit)?)?;
-        }
-        changes.insert(uri.clone()?, kept)?;
+        let edits = text_edits(alloc, items_of(edits)?)?;
+        changes.insert(uri.clone()?, edits)?;
     }
     Ok(WorkspaceEdit { changes })
+}
+
+fn text_edits(alloc: Global, found: &[Value]) -> Result<Vec<TextEdit>, Stop> {
+    let mut edits = Vec::new(alloc);
+    for edit in found {
+        edits.push(text_edit(alloc, edit)?)?;
+    }
+    Ok(edits)
 }
 
 fn locations(alloc: Global, found: &Value) -> Result<Vec<Location>, Stop> {
     let mut locations = Vec::new(alloc);
     for found in items_of(found)? {
-        locations.push(Location {
-            uri: text(alloc, found, "uri")?,
-            range: range(alloc, found, "range")?,
-        })?;
+        locations.push(location(alloc, found)?)?;
     }
     Ok(locations)
+}
+
+fn location(alloc: Global, found: &Value) -> Result<Location, Stop> {
+    Ok(Location {
+        range: range(alloc, found, "range")?,
+        uri: text(alloc, found, "uri")?,
+    })
 }
 
 fn symbols(alloc: Global, found: &Value) -> Result<Vec<DocumentSymbol>, Stop> {
     let mut symbols = Vec::new(alloc);
     for found in items_of(found)? {
-        let mut children = Vec::new(alloc);
-        for child in list(found, "children")? {
-            children.push(symbol(alloc, child, Vec::new(alloc))?)?;
-        }
+        let children = children(alloc, list(found, "children")?)?;
         symbols.push(symbol(alloc, found, children)?)?;
     }
     Ok(symbols)
+}
+
+fn children(alloc: Global, found: &[Value]) -> Result<Vec<DocumentSymbol>, Stop> {
+    let mut children = Vec::new(alloc);
+    for child in found {
+        children.push(symbol(alloc, child, Vec::new(alloc))?)?;
+    }
+    Ok(children)
 }
 
 fn symbol(
@@ -239,12 +261,16 @@ fn message(alloc: Global, params: &Value) -> Result<ShowMessageParams, Stop> {
 fn configuration(alloc: Global, params: &Value) -> Result<ConfigurationParams, Stop> {
     let mut items = Vec::new(alloc);
     for item in list(params, "items")? {
-        items.push(ConfigurationItem {
-            scope_uri: text_in(alloc, item, "scopeUri")?,
-            section: text_in(alloc, item, "section")?,
-        })?;
+        items.push(configuration_item(alloc, item)?)?;
     }
     Ok(ConfigurationParams { items })
+}
+
+fn configuration_item(alloc: Global, item: &Value) -> Result<ConfigurationItem, Stop> {
+    Ok(ConfigurationItem {
+        scope_uri: text_in(alloc, item, "scopeUri")?,
+        section: text_in(alloc, item, "section")?,
+    })
 }
 
 fn member<'v>(found: &'v Value, key: &str) -> Result<&'v Value, Stop> {

@@ -1,8 +1,9 @@
-use Rattle.std.proofs.Common.{sym, ◌∙◌}
+use Rattle.std.proofs.Common.{rules, sym, ◌∙◌}
 use Rattle.lsp_documents.specs.Held.{documents_of}
 use Rattle.lsp_documents.specs.Params.{uri_in, document_in, version_in, changes_given}
 use Rattle.serde_json.specs.View.{view}
-use Rattle.std.specs.Prelude.{option_and_then}
+use Rattle.std.specs.Prelude.{option_and_then, IfSome, ◌≡◌, true}
+use Rattle.lsp_documents.specs.Session.{has_changes}
 use Rattle.lsp_documents.proofs.SessionLemmas.{change_refused, change_starved}
 use Rattle.lsp_documents.proofs.documents.TextDocuments.did_change.Goals as goal
 
@@ -15,6 +16,7 @@ returns-in-Some-refusal-clause-err c =
 pub returns-clause-err : goal.returns-clause-err
 returns-clause-err c =
     let d = view c.args.params.now in
+    let some : IfSome (changes_given (view c.args.params.now)) (λ cs. has_changes cs ≡ true) = search rules in
     change_starved (documents_of c.args.self.now) (documents_of c.missed-in-Err.new.self) (uri_in d) (option_and_then version_in (document_in d)) (changes_given d) c.in-Some.uri.now c.in-Some-version_of.version c.in-Some-whole_in.whole _
-    (sym c.in-Some.ensures) (sym c.in-Some-version_of.ensures) (sym c.in-Some-whole_in.ensures) (sym c.refusal.ensures ∙ c.in_default-refusal.is) c.missed-in-Err.ensures.why
+    (sym c.in-Some.ensures) (sym c.in-Some-version_of.ensures) (sym c.in-Some-whole_in.ensures) (sym c.refusal.ensures ∙ c.in_default-refusal.is) c.missed-in-Err.ensures.why some
     (record { encoding = c.missed-in-Err.ensures.encoding; own = c.missed-in-Err.ensures.own; others = c.missed-in-Err.ensures.others })
