@@ -13,7 +13,7 @@ pub returns-in_err-ran-in-Some-Outcome-clause-err : goal.returns-in_err-ran-in-S
 returns-in_err-ran-in-Some-Outcome-clause-err g c = on_err _ (table_remove job_of _ _ c.args.id.now c.complete.ensures.removed)
 
 pub returns-in_default-clone-clause-err : goal.returns-in_default-clone-clause-err
-returns-in_default-clone-clause-err g c = on_err _ (table_remove job_of _ _ c.args.id.now c.complete.ensures.removed)
+returns-in_default-clone-clause-err g c = table_remove job_of _ _ c.args.id.now c.complete.ensures.removed
 
 pub returns-in_err-keep-in_default-take-clause-err : goal.returns-in_err-keep-in_default-take-clause-err
 returns-in_err-keep-in_default-take-clause-err g c = on_err _ (c.in_err-keep-in_default-take.ensures.err ∙ table_remove job_of _ _ c.args.id.now c.complete.ensures.removed)
