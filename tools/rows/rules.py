@@ -389,6 +389,13 @@ class Talker:
         return [{**came, "id": why["id"]}]
 
 
+class Unwoken(Talker):
+    """The same, told of no wake."""
+
+    def woken(self):
+        return []
+
+
 class Session:
     """A session of a server with no capabilities, message by message. There is room for so many messages."""
 
@@ -506,7 +513,7 @@ def pumped(data, breaks, limit):
 STREAMS = {
     "session": lambda *words: served(Echo(), *words),
     "speaks": lambda *words: served(Talker(), *words),
-    "tolerant": lambda *words: served_tolerantly(Talker(), *words)[:2],
+    "tolerant": lambda data, breaks, limit: served_tolerantly(Talker() if limit == GREATEST else Unwoken(), data, breaks, limit)[:2],
     "pump": pumped,
     "burst": pumped,
 }

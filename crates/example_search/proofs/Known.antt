@@ -3,7 +3,7 @@ use Rattle.std.specs.Prelude.{List, Option}
 use Rattle.lsp_message.specs.Message.{Message}
 use Rattle.lsp_service.specs.Law.{KeepsLaws}
 use Rattle.lsp_service.specs.QueuedServer.{ServerSession, held_by}
-use Rattle.lsp_service.specs.declared.server.Server.{Ghosts as Stated}
+use Rattle.lsp_service.specs.Stated.{Stated}
 use Rattle.lsp_session.specs.Session.{Exchange, SessionAnswer, Stop}
 use Rattle.example_search.specs.Promise.{AnswersOnce}
 

@@ -4,7 +4,7 @@ use Rattle.lsp_message.specs.Id.{Id}
 use Rattle.lsp_message.specs.Message.{Message}
 use Rattle.lsp_service.specs.Law.{how_many, is_request_under, IsWhole, NeverMore, OnceOrEnded}
 use Rattle.lsp_service.specs.QueuedServer.{ServerSession, held_by}
-use Rattle.lsp_service.specs.declared.server.Server.{Ghosts as Stated}
+use Rattle.lsp_service.specs.Stated.{Stated}
 use Rattle.lsp_session.specs.Session.{Exchange, letters_of, SessionAnswer, Stop}
 
 -- A session of this server, from its first state to its last. At no beginning of the session had the client got more replies under

@@ -4,6 +4,7 @@ ghost use Rattle.lsp_message.specs.Frame.{no_limit};
 ghost use Rattle.lsp_session.specs.SessionBytes.{Gives};
 ghost use Rattle.lsp_threads.specs.Threads.{ThreadsGive};
 ghost use Rattle.lsp_jobs.specs.JobLaw.{LawfulJobSession};
+ghost use Rattle.lsp_service.specs.Stated.{unwoken};
 ghost use Rattle.example_search.specs.Promise.{AnswersOnce};
 
 use crate::search::Search;
@@ -32,7 +33,7 @@ pub fn serve<R: BufRead, W: Write>(
     sums: Sums,
 ) -> (Sums, Result<SessionEnd, SessionFault>)
     ensures { IfSome (R.remaining reader.old) (λ text.
-        Gives no_limit (AnswersOnce ⟦<Sums as Server>⟧ sums result.0)
+        Gives no_limit (AnswersOnce (unwoken ⟦<Sums as Server>⟧) sums result.0)
         text (R.remaining reader.new) (W.contents writer.old) (W.contents writer.new) result.1) }
 {
     server_keeps_laws::<Sums>();
@@ -52,7 +53,7 @@ where
     R: BufRead + Drop + Send + 'static,
     W: Write + Drop + Send + 'static,
     ensures { IfSome (R.remaining reader) (λ text. IfOk result.1 (λ done.
-        ThreadsGive no_limit (AnswersOnce ⟦<Sums as Server>⟧ sums result.0)
+        ThreadsGive no_limit (AnswersOnce (unwoken ⟦<Sums as Server>⟧) sums result.0)
         text (W.contents writer) (W.contents done.writer) done.answer)) }
 {
     server_keeps_laws::<Sums>();

@@ -43,5 +43,6 @@ pub record HasEnded (world : World) : Type 0 where
   pub saw : (side : Side) → each message_view (seen_at side world).taken ≡ messages (letters_written (events_of (other side) history))
   -- the last of them that the server took is `exit`
   pub exited : last_is_exit (seen_at B world).taken ≡ true
-  -- each request of the client has its reply
+  -- each request of the client has its reply, and the server holds none
   pub replied : map.len (pending_of (seen_at A world).queue.outgoing) ≡ 0
+  pub settled : map.len (seen_at B world).queue.incoming ≡ 0

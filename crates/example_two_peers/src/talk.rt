@@ -31,7 +31,7 @@ const SHUTDOWN: u64 = 4;
 const ROUNDS: u32 = 5;
 
 /// Lets the client and the server talk, and says whether they came to the end: the client has a reply to each of its requests, the
-/// server took `exit` last, and each saw the same messages.
+/// server holds none and took `exit` last, and each saw the same messages.
 pub fn talk(alloc: Global) -> Result<(World, bool), WorldFault>
     ensures begun { IfOk result (λ r. IsTalk r.0) }
     ensures ended { IfOk result (λ r. r.1 ≡ true → HasEnded r.0) }
@@ -49,12 +49,16 @@ pub fn talk(alloc: Global) -> Result<(World, bool), WorldFault>
     Ok((world, all))
 }
 
-/// Whether the client has its replies, and the server took `exit` last.
+/// Whether the client has its replies, and the server holds no request and took `exit` last.
 fn has_ended(world: &World) -> bool
     ensures replied { result ≡ true → map.len (pending_of (seen_at Side.A world.now).queue.outgoing) ≡ 0 }
+    ensures settled { result ≡ true → map.len (seen_at Side.B world.now).queue.incoming ≡ 0 }
     ensures exited { result ≡ true → last_is_exit (seen_at Side.B world.now).taken ≡ true }
 {
     if world.queue(Side::A).outgoing.has_pending() {
+        return false;
+    }
+    if world.queue(Side::B).incoming.has_pending() {
         return false;
     }
     is_last_exit(world.taken(Side::B))
@@ -151,21 +155,28 @@ fn server(alloc: Global, world: &mut World, outcome: Outcome) -> Result<(), Worl
     requires { IsTalk world.old }
     ensures { OnOk result (IsTalk world.new) }
 {
+    match step_for(alloc, outcome, world.taken(Side::B))? {
+        Some(step) => {
+            act(world, step)?;
+            Ok(())
+        }
+        None => Ok(()),
+    }
+}
+
+/// The server's step for the last message that it took, if it takes one at once: a reply, or the cancellation that was asked for.
+fn step_for(alloc: Global, outcome: Outcome, taken: &[Message]) -> Result<Option<Step>, AllocError>
+    ensures { IfOk result (λ step. IfSome step IsShallow) }
+{
     let side = Side::B;
     match outcome {
-        Outcome::Arrived(id) => {
-            if let Some(reply) = reply_to(alloc, id, world.taken(side))? {
-                act(world, reply)?;
-            }
-        }
-        Outcome::Notified => {
-            if let Some(id) = cancelled_by(world.taken(side))? {
-                act(world, Step::Cancel { side, id })?;
-            }
-        }
-        _ => {}
+        Outcome::Arrived(id) => reply_to(alloc, id, taken),
+        Outcome::Notified => match cancelled_by(taken)? {
+            Some(id) => Ok(Some(Step::Cancel { side, id })),
+            None => Ok(None),
+        },
+        _ => Ok(None),
     }
-    Ok(())
 }
 
 /// The server's reply to the last request, if it gives one at once.

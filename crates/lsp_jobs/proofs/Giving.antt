@@ -11,9 +11,10 @@ use Rattle.lsp_message.specs.IdLaws.{id_decides}
 use Rattle.lsp_message.specs.Message.{Message, request, notification, response}
 use Rattle.lsp_message.specs.Methods.{is_initialize}
 use Rattle.lsp_session.specs.Session.{Exchange, Stop}
-use Rattle.lsp_service.specs.Desk.{Act, tells, asks, replies, cancels, TakesBack, Woken, unsent, cancelled_by}
+use Rattle.lsp_service.specs.Desk.{Act, tells, asks, replies, cancels, TakesBack, unsent, cancelled_by}
 use Rattle.lsp_service.specs.Law.{AnswersInitialize, Initializes, Handed, TakesTurns, TakesPart, Turn, ids_after_all}
-use Rattle.lsp_service.specs.declared.server.Server.{Ghosts as Stated}
+use Rattle.lsp_service.specs.Stated.{Stated}
+use Rattle.lsp_service.specs.declared.server.Server.{Ghosts as Plain}
 use Rattle.lsp_jobs.specs.JobLaw.{Event, comes, does, starts, concerns, WaitsFor, after, ActsByJobs, PartActsByJobs, WakesActByJobs, refuses, jobs_of, started_at, started_at_wake, taken_first, taken_on, is_that}
 use Rattle.lsp_jobs.specs.JobSession.{seen_with_jobs}
 use Rattle.lsp_jobs.specs.Pooled.{StartsJobs, StartsOne, unanswered, without_cancelled}
@@ -157,7 +158,7 @@ module _ {P J : Type 0} where
   keeps_started (start ∷ jobs) old new run events all =
       keeps_first start jobs old run.0 new run.1 run.2 events all (λ es but. keeps_started jobs run.0 new run.2 es but)
 
-module _ (T : Type 0) {S J P : Type 0} (may : Stated S P) (may_start : S → List (Id × J) → S → Type 0) (may_finish : S → Id → Outcome → List (Act P) → S → Type 0)
+module _ (T : Type 0) {S J P : Type 0} (may : Plain S P) (may_start : S → List (Id × J) → S → Type 0) (may_finish : S → Id → Outcome → List (Act P) → S → Type 0)
     (answers : J → Outcome → Type 0) where
   abbrev W : Stated (PooledServer T S J) P
   W = seen_with_jobs T may may_start may_finish answers
@@ -183,17 +184,17 @@ module _ (T : Type 0) {S J P : Type 0} (may : Stated S P) (may_start : S → Lis
   wake_waits : (old : PooledServer T S J) (events : List (Event P J)) → AllWait events (table_of old.pool) → AllWait (comes None ∷ events) (table_of old.pool)
   wake_waits old events before = keeps_other (comes None) (λ i. refl) events (table_of old.pool) before
 
-  wake_jobs : (old did : PooledServer T S J) (acts : List (Act P)) (events : List (Event P J)) (before : AllWait events (table_of old.pool)) (woken : Woken W.wakes old acts did)
+  wake_jobs : (old did : PooledServer T S J) (acts : List (Act P)) (events : List (Event P J)) (before : AllWait events (table_of old.pool)) (woken : W.wakes old acts did)
       → ActsByJobs T may may_start may_finish answers events old.server acts
       × AllWait (after (comes None ∷ events) acts (started_at_wake T may may_start may_finish answers old did acts woken)) (table_of did.pool)
-  wake_jobs old did acts events before (inl (inl nothing)) = (inl nothing.0, keeps_idle old did acts (comes None ∷ events) nothing.0 nothing.1 (wake_waits old events before))
-  wake_jobs old did acts events before (inl (inr (inl r))) = (inr (inl (r.1, r.2, r.4)), told r.1 r.2 r.4 r.5)
+  wake_jobs old did acts events before (inl nothing) = (inl nothing.0, keeps_idle old did acts (comes None ∷ events) nothing.0 nothing.1 (wake_waits old events before))
+  wake_jobs old did acts events before (inr (inl r)) = (inr (inl (r.1, r.2, r.4)), told r.1 r.2 r.4 r.5)
     where
       told : (method : List ℕ) (params : Data) → acts ≡ tells method params ∷ [] → seen did ≡ seen old → AllWait (after (comes None ∷ events) acts []) (table_of did.pool)
       told method params is same =
           subst (λ (x : List (Act P) × (S × Table J)). AllWait (after (comes None ∷ events) x.0 []) x.1.1) (λ k. (sym is k, sym same k))
           (keeps_other (does (tells method params)) (λ i. refl) (comes None ∷ events) (table_of old.pool) (wake_waits old events before))
-  wake_jobs old did acts events before (inl (inr (inr f))) =
+  wake_jobs old did acts events before (inr (inr f)) =
       let left : AllWait (comes None ∷ events) f.2 = subst (AllWait (comes None ∷ events)) (sym f.3.leaves) (keeps_fewer f.0 (comes None ∷ events) (table_of old.pool) (wake_waits old events before)) in
       let s = starts_jobs (f.4.1, f.2) (seen did) (f.4.0 ++ replies f.0 f.1 ∷ []) acts f.4.3 (comes None ∷ events) left in (
         inr (inr (record {
@@ -210,7 +211,6 @@ module _ (T : Type 0) {S J P : Type 0} (may : Stated S P) (may_start : S → Lis
         })),
         s.0,
       )
-  wake_jobs old did acts events before (inr nothing) = (inl nothing.0, keeps_nothing old did acts (comes None ∷ events) nothing.0 nothing.1 (wake_waits old events before))
 
   handed_jobs : (old did : PooledServer T S J) (letter : Option Message) (payload : Option P) (acts : List (Act P)) (handed : Handed W old letter payload acts did)
       (events : List (Event P J)) → AllWait events (table_of old.pool)
@@ -257,7 +257,7 @@ module _ (T : Type 0) {S J P : Type 0} (may : Stated S P) (may_start : S → Lis
       let events : List (Event P J) = after [] part.begun (jobs_of part.began.3) in
       turns_jobs (ids_after_all 0 part.begun) part.turns part.first last part.took_turns events (back_jobs (unsent 0 part.begun) part.did part.first part.took_back events begun.0)
 
-module _ (T : Type 0) {S J P : Type 0} (may : Stated S P) (may_start : S → List (Id × J) → S → Type 0) (may_finish : S → Id → Outcome → List (Act P) → S → Type 0)
+module _ (T : Type 0) {S J P : Type 0} (may : Plain S P) (may_start : S → List (Id × J) → S → Type 0) (may_finish : S → Id → Outcome → List (Act P) → S → Type 0)
     (answers : J → Outcome → Type 0) where
   -- the handshake starts no job
   pub handshake_jobs : (old new : PooledServer T S J) (exchanges : List Exchange) → AnswersInitialize (seen_with_jobs T may may_start may_finish answers) old exchanges new

@@ -9,7 +9,7 @@ use Rattle.lsp_message.specs.Message.{Message, request, notification}
 use Rattle.lsp_session.specs.Session.{Exchange, SessionAnswer, Stop, letters_of, sends_of}
 use Rattle.lsp_service.specs.Desk.{Act, replies, cancelled_by}
 use Rattle.lsp_service.specs.Law.{TakesTurns, Turn, how_many, is_reply_under, is_request_under}
-use Rattle.lsp_service.specs.declared.server.Server.{Ghosts as Stated}
+use Rattle.lsp_service.specs.declared.server.Server.{Ghosts as Plain}
 use Rattle.lsp_jobs.specs.JobLaw.{Event, comes, does, starts, concerns, WaitsFor, after, ActsByJobs, LawfulJobSession, WakesActByJobs, refuses, started_at, is_that}
 use Rattle.lsp_jobs.specs.JobSession.{seen_with_jobs}
 use Rattle.lsp_jobs.specs.Table.{Outcome}
@@ -65,7 +65,7 @@ module _ {P J : Type 0} where
       let came : Event P J = starts i other in
       never_started events id job none.1 (subst (λ (b : Bool). MatchBool b (came ≡ starts id job) (WaitsFor events id job)) none.0 waits)
 
-module _ (T : Type 0) {S J P : Type 0} (may : Stated S P) (may_start : S → List (Id × J) → S → Type 0) (may_finish : S → Id → Outcome → List (Act P) → S → Type 0)
+module _ (T : Type 0) {S J P : Type 0} (may : Plain S P) (may_start : S → List (Id × J) → S → Type 0) (may_finish : S → Id → Outcome → List (Act P) → S → Type 0)
     (answers : J → Outcome → Type 0) where
   -- at a wake, after these events, one reply is given, and no more is done
   abbrev Gives : List (Event P J) → S → Id → Outcome → Type 0

@@ -9,10 +9,11 @@ use Rattle.std.specs.Prelude.{◌≡◌, ◌⊎◌, ℕ, Bool, false, List, [], 
 use Rattle.lsp_message.specs.Id.{Id, id_cmp}
 use Rattle.lsp_message.specs.Message.{Message, request, notification, response}
 use Rattle.lsp_session.specs.Session.{Exchange, SessionAnswer, Stop}
-use Rattle.lsp_service.specs.Desk.{Act, Woken, tells, replies, cancelled_by}
+use Rattle.lsp_service.specs.Desk.{Act, tells, replies, cancelled_by}
 use Rattle.lsp_service.specs.Law.{Handed, KeepsLaws, TakesPart, TakesTurns, Turn, ids_after_all}
 use Rattle.lsp_service.specs.QueuedServer.{held_by}
-use Rattle.lsp_service.specs.declared.server.Server.{Ghosts as Stated}
+use Rattle.lsp_service.specs.Stated.{Stated}
+use Rattle.lsp_service.specs.declared.server.Server.{Ghosts as Plain}
 use Rattle.lsp_jobs.specs.JobSession.{JobSession, seen_with_jobs}
 use Rattle.lsp_jobs.specs.Pooled.{too_many, unanswered, StartsJobs, StartsOne}
 use Rattle.lsp_jobs.specs.Table.{Outcome, Table}
@@ -71,7 +72,7 @@ abbrev pub jobs_of : {S J P : Type 0} {may_start : S → List (Id × J) → S �
     → StartsJobs may_start may_finish old acts all new → List (Id × J)
 jobs_of {S} {J} {P} {may_start} {may_finish} {old} {new} {acts} {all} s = taken_on s.started (unanswered acts old.1, acts) (new.1, all) s.taken
 
-module _ (T : Type 0) {S J P : Type 0} (may : Stated S P) (may_start : S → List (Id × J) → S → Type 0) (may_finish : S → Id → Outcome → List (Act P) → S → Type 0)
+module _ (T : Type 0) {S J P : Type 0} (may : Plain S P) (may_start : S → List (Id × J) → S → Type 0) (may_finish : S → Id → Outcome → List (Act P) → S → Type 0)
     (answers : J → Outcome → Type 0) where
   -- After these events the server, in this state, sees this outcome and does something first. Then the request gets the outcome, to which
   -- the job that it waits for may come. Then requests are refused whose jobs found no room.
@@ -95,8 +96,8 @@ module _ (T : Type 0) {S J P : Type 0} (may : Stated S P) (may_start : S → Lis
   Seen = seen_with_jobs T may may_start may_finish answers
 
   -- the jobs that the server started when it was woken, and that found room
-  abbrev pub started_at_wake : (old did : PooledServer T S J) (acts : List (Act P)) → Woken Seen.wakes old acts did → List (Id × J)
-  started_at_wake old did acts (inl (inr (inr finishes))) = jobs_of finishes.4.3
+  abbrev pub started_at_wake : (old did : PooledServer T S J) (acts : List (Act P)) → Seen.wakes old acts did → List (Id × J)
+  started_at_wake old did acts (inr (inr finishes)) = jobs_of finishes.4.3
   started_at_wake old did acts woken = []
 
   -- the jobs that it started when it was handed a letter, or woken

@@ -5,13 +5,14 @@ use Rattle.lsp_message.specs.Message.{Message}
 use Rattle.lsp_session.specs.Session.{Exchange, SessionAnswer, Stop}
 use Rattle.lsp_service.specs.Desk.{Act}
 use Rattle.lsp_service.specs.QueuedServer.{ServerSession}
-use Rattle.lsp_service.specs.declared.server.Server.{Ghosts as Stated}
+use Rattle.lsp_service.specs.Stated.{Stated}
+use Rattle.lsp_service.specs.declared.server.Server.{Ghosts as Plain}
 use Rattle.lsp_jobs.specs.Pooled.{with_jobs}
 use Rattle.lsp_jobs.specs.PoolView.{seen}
 use Rattle.lsp_jobs.specs.Table.{Outcome, no_jobs}
 use Rattle.lsp_jobs.specs.declared.pooled_server.PooledServer.{PooledServer}
 
-module _ (T : Type 0) {S J P : Type 0} (may : Stated S P) (may_start : S → List (Id × J) → S → Type 0) (may_finish : S → Id → Outcome → List (Act P) → S → Type 0)
+module _ (T : Type 0) {S J P : Type 0} (may : Plain S P) (may_start : S → List (Id × J) → S → Type 0) (may_finish : S → Id → Outcome → List (Act P) → S → Type 0)
     (answers : J → Outcome → Type 0) where
   -- `with_jobs`, of what is seen of a server with its pool
   abbrev pub seen_with_jobs : Stated (PooledServer T S J) P

@@ -7,7 +7,8 @@ use Rattle.lsp_message.specs.Id.{Id}
 use Rattle.lsp_message.specs.Message.{ErrorObject}
 use Rattle.lsp_message.specs.declared.msg.code.ErrorCode.TheVariants.{RequestFailed}
 use Rattle.lsp_service.specs.Desk.{Act, tells, replies, cancelled_by}
-use Rattle.lsp_service.specs.declared.server.Server.{Ghosts as Stated}
+use Rattle.lsp_service.specs.Stated.{Stated}
+use Rattle.lsp_service.specs.declared.server.Server.{Ghosts as Plain}
 use Rattle.lsp_jobs.specs.Table.{Table, Outcome, Answers, without, with_job}
 
 -- the answer of a request whose job found no room
@@ -56,7 +57,7 @@ module _ {S J P : Type 0} (may_start : S → List (Id × J) → S → Type 0) (m
       ⊎ ((id : Id) × (method : List ℕ) × (params : Data) × IsSome (old.1 id) × (all ≡ tells method params ∷ []) × (new ≡ old))
       ⊎ ((id : Id) × (outcome : Outcome) × (table : Table J) × Answers answers id old.1 outcome table × Finishes (old.0, table) id outcome all new)
 
-  module _ (may : Stated S P) (answers : J → Outcome → Type 0) where
+  module _ (may : Plain S P) (answers : J → Outcome → Type 0) where
     -- what a server with its jobs may do
     abbrev pub with_jobs : Stated (S × Table J) P
     with_jobs = record {

@@ -12,7 +12,7 @@ use crate::job_server::{JobServer, Start};
 use crate::pool::{JobNews, JobPool, TakeFault};
 use crossbeam_channel::Receiver;
 use lsp_message::{ErrorCode, Notification, Request, RequestId, ResponseError};
-use lsp_service::{Act, Server, cancelled_id};
+use lsp_service::{Act, Server, WokenServer, cancelled_id};
 use serde_json::Value;
 use std::alloc::{AllocError, Global};
 use std::sync::Wait;
@@ -179,8 +179,6 @@ where
 
     ghost replied = { (seen_with_jobs T S.Server S.starts S.finishes J.answers).replied };
 
-    ghost wakes = { (seen_with_jobs T S.Server S.starts S.finishes J.answers).wakes };
-
     ghost takes_back = { (seen_with_jobs T S.Server S.starts S.finishes J.answers).takes_back };
 
     fn initialize(&mut self, params: Value) -> Result<Result<Value, ResponseError>, AllocError> {
@@ -218,6 +216,21 @@ where
         self.start_jobs(acts)
     }
 
+    fn unsent(&mut self, payload: S::Payload) -> Result<(), AllocError> {
+        self.server.unsent(payload)
+    }
+}
+
+impl<T, S, J> WokenServer for PooledServer<T, S, J>
+where
+    T: Wait + Drop,
+    S: JobServer<J> + Drop,
+    J: Job,
+{
+    ghost use Rattle.lsp_jobs.specs.JobSession.{seen_with_jobs};
+
+    ghost wakes = { (seen_with_jobs T S.Server S.starts S.finishes J.answers).wakes };
+
     fn woken(&mut self, alloc: Global) -> Result<Vec<Act<S::Payload>>, AllocError> {
         let Ok(id) = self.news.try_recv(&self.rt) else {
             return Ok(Vec::new(alloc));
@@ -227,9 +240,5 @@ where
             Some(JobNews::Outcome(outcome)) => self.finish(id, outcome),
             None => Ok(Vec::new(alloc)),
         }
-    }
-
-    fn unsent(&mut self, payload: S::Payload) -> Result<(), AllocError> {
-        self.server.unsent(payload)
     }
 }

@@ -10,7 +10,7 @@ use crate::pool::{PoolSize, start_pool};
 use crate::pooled_server::PooledServer;
 use lsp_message::Message;
 use lsp_relay::relay;
-use lsp_service::QueuedServer;
+use lsp_service::WokenQueuedServer;
 use lsp_threads::{Builders, StartFault, Threaded, run_threads_of_service_over};
 use std::alloc::Global;
 use std::io::{BufRead, Write};
@@ -84,7 +84,7 @@ where
         Err(fault) => return (server, Err(fault)),
     };
     let pooled = PooledServer::new(*rt, alloc, server, pool, news);
-    let mut queued = QueuedServer::new(alloc, pooled);
+    let mut queued = WokenQueuedServer::new(alloc, pooled);
     let builders = Builders {
         writer: Builder::new(),
         reader: Builder::new(),

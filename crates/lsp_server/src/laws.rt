@@ -5,6 +5,7 @@ ghost use Rattle.lsp_session.specs.declared.loops.handler.SessionEnd.{SessionEnd
 ghost use Rattle.lsp_session.specs.declared.loops.stream_session.SessionFault.{SessionFault as FaultOfSession};
 ghost use Rattle.lsp_service.specs.Law.{LawfulSession};
 ghost use Rattle.lsp_service.specs.QueuedServer.{ServerSession};
+ghost use Rattle.lsp_service.specs.Stated.{unwoken};
 ghost use Rattle.lsp_threads.specs.Threads.{ThreadsGive};
 
 pub use lsp_dispatch::laws::replies_once;
@@ -17,7 +18,7 @@ pub use lsp_queue::laws::pending_is_last_registered;
 use lsp_service::Server;
 pub use lsp_service::laws::{
     lost_client_is_owed_what_is_held, server_keeps_laws, server_over_boxes_keeps_laws,
-    turn_sends_its_acts,
+    turn_sends_its_acts, woken_server_keeps_laws, woken_turn_sends_its_acts,
 };
 pub use lsp_session::laws::{sessions, streams, turns};
 pub use lsp_threads::laws::{threads_answer_requests, threads_keep_order};
@@ -26,6 +27,6 @@ pub use lsp_threads::laws::{threads_answer_requests, threads_keep_order};
 /// was run by `run_threads_with`, with a limit or without one.
 pub fn server_in_threads_keeps_laws<S: Server>()
     ensures { (limit : ℕ) (first last : S) (text : List ℕ) (before after : Option (List ℕ)) (answer : Result EndOfSession FaultOfSession)
-        → ThreadsGive limit (ServerSession S.Server first last) text before after answer
-        → ThreadsGive limit (LawfulSession S.Server first last) text before after answer }
+        → ThreadsGive limit (ServerSession (unwoken S.Server) first last) text before after answer
+        → ThreadsGive limit (LawfulSession (unwoken S.Server) first last) text before after answer }
 {}

@@ -29,8 +29,8 @@ pub use lsp_message::{
 pub use lsp_peers::{Link, Outcome, Side, Step, World, WorldFault};
 pub use lsp_queue::{Incoming, Outgoing, RegisterFault, ReqQueue};
 pub use lsp_service::{
-    Act, Output, Server, Service, serve_service, serve_with, session_of_service,
-    session_of_service_within, session_with, session_with_within,
+    Act, Output, Server, Service, WokenServer, serve_service, serve_with, serve_with_woken,
+    session_of_service, session_of_service_within, session_with, session_with_within,
 };
 pub use lsp_session::{
     Arrival, CallGate, Event, FrameOutbox, Gate, Handler, Inbox, ListGate, ListInbox, ListOutbox,

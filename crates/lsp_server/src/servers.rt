@@ -2,6 +2,7 @@
 ghost use Rattle.std.specs.Prelude.{IfOk, IfSome};
 ghost use Rattle.lsp_message.specs.Frame.{no_limit};
 ghost use Rattle.lsp_service.specs.QueuedServer.{ServerSession};
+ghost use Rattle.lsp_service.specs.Stated.{unwoken};
 ghost use Rattle.lsp_threads.specs.Threads.{ThreadsGive};
 
 use lsp_service::{QueuedServer, Server};
@@ -30,7 +31,7 @@ where
     W: Write + Drop + Send + 'static,
     S: Server,
     ensures { IfSome (R.remaining reader) (λ text. IfOk result.1 (λ done.
-        ThreadsGive no_limit (ServerSession S.Server server result.0) text (W.contents writer) (W.contents done.writer) done.answer)) }
+        ThreadsGive no_limit (ServerSession (unwoken S.Server) server result.0) text (W.contents writer) (W.contents done.writer) done.answer)) }
 {
     run_threads_with_within(rt, alloc, reader, writer, server, u64::MAX)
 }
@@ -51,7 +52,7 @@ where
     W: Write + Drop + Send + 'static,
     S: Server,
     ensures { IfSome (R.remaining reader) (λ text. IfOk result.1 (λ done.
-        ThreadsGive limit (ServerSession S.Server server result.0) text (W.contents writer) (W.contents done.writer) done.answer)) }
+        ThreadsGive limit (ServerSession (unwoken S.Server) server result.0) text (W.contents writer) (W.contents done.writer) done.answer)) }
 {
     let builders = Builders {
         writer: Builder::new(),
@@ -76,7 +77,7 @@ where
     W: Write + Drop + Send + 'static,
     S: Server,
     ensures { IfSome (R.remaining reader) (λ text. IfOk result.1 (λ done.
-        ThreadsGive limit (ServerSession S.Server server result.0) text (W.contents writer) (W.contents done.writer) done.answer)) }
+        ThreadsGive limit (ServerSession (unwoken S.Server) server result.0) text (W.contents writer) (W.contents done.writer) done.answer)) }
 {
     let mut queued = QueuedServer::new(alloc, server);
     let done = run_threads_of_service_by(rt, builders, alloc, reader, writer, &mut queued, limit);

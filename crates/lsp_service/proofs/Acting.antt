@@ -8,7 +8,7 @@ use Rattle.lsp_service.specs.Desk.{Act, tells, settles, cancelled_by, Desk, does
 use Rattle.lsp_service.specs.Law.{Handed}
 use Rattle.lsp_service.specs.QueuedServer.{WorksGiving, Works}
 use Rattle.lsp_service.specs.Turning.{brought_by, sends_by, all_sends, desk_at, settled_by, settled_at, ActsAt}
-use Rattle.lsp_service.specs.declared.server.Server.{Ghosts as Stated}
+use Rattle.lsp_service.specs.Stated.{Stated}
 use Rattle.serde_json.specs.Data.{Data}
 use Rattle.std.proofs.Common.{◌≡◌, refl, sym, ◌∙◌, ap, List, [], ◌∷◌, ◌++◌, append_assoc, append-nil, arith, Option, Some, None, Bool, true, false, cond}
 use Rattle.std.specs.FinMap as map

@@ -10,7 +10,7 @@ use Rattle.lsp_service.specs.QueuedServer.{at_desk, WorksGiving}
 use Rattle.lsp_service.specs.Turning.{desk_at, settled_at}
 use Rattle.lsp_service.specs.View.{desk_of, seen}
 use Rattle.lsp_service.specs.declared.desk.QueuedServer.{QueuedServer}
-use Rattle.lsp_service.specs.declared.server.Server.{Ghosts as Stated}
+use Rattle.lsp_service.specs.Stated.{Stated}
 use Rattle.lsp_session.proofs.Ran.{Ran, reaches_ran, stops_by, IsNoRequest, Idle, early_request, early_note, unasked, uninvited, shuts, leaves, exits, stays, Row, at_initialize, at_initialized, at_served, at_woken, idle, row, exit_no_request, initialized_no_request}
 use Rattle.lsp_session.specs.ProtocolError.{ProtocolFault, ShowsUnallowed, expected_initialize, expected_initialized, unexpected_in_shutdown}
 use Rattle.lsp_session.specs.Replies.{null_reply}

@@ -1,15 +1,22 @@
 -- Runs of a server that keep no laws: replies that nobody asked for, requests that nobody answers, and replies of the client that
--- come to the server with another payload than their own.
+-- come to the server with another payload than their own; and wakes at which it does otherwise than it states.
 use Rattle.lsp_message.specs.Id.{Id, id_cmp, number}
 use Rattle.lsp_message.specs.IdLaws.{id_decides}
 use Rattle.lsp_message.specs.Message.{Message, ErrorObject, request, notification, response}
 use Rattle.lsp_message.specs.Methods.{is_initialize}
 use Rattle.lsp_queue.specs.Queue.{Pending}
-use Rattle.lsp_service.specs.Desk.{Act, asks}
-use Rattle.lsp_service.specs.Law.{one_if, acts_of, all_sent, kept_under, was_given, is_reply_under, is_request_under, how_many, held_under, NeverMore, OnceOrEnded, Turn, GivesOwnPayloads, KeepsLaws}
-use Rattle.lsp_service.specs.declared.server.Server.{Ghosts as Stated}
+use Rattle.lsp_service.proofs.Acting.{acts_at}
+use Rattle.lsp_service.specs.Desk.{Act, asks, tells, Desk}
+use Rattle.lsp_service.specs.Law.{one_if, acts_of, all_sent, kept_under, was_given, is_reply_under, is_request_under, how_many, held_under, NeverMore, OnceOrEnded, Turn, TakesTurns, GivesOwnPayloads, KeepsLaws}
+use Rattle.lsp_service.specs.QueuedServer.{at_desk, ServerSession, WorksGiving}
+use Rattle.lsp_service.specs.Stated.{Stated, unwoken}
+use Rattle.lsp_service.specs.Turning.{all_sends}
+use Rattle.lsp_service.specs.View.{seen}
+use Rattle.lsp_service.specs.declared.desk.QueuedServer.{QueuedServer}
+use Rattle.lsp_service.specs.declared.server.Server.{Ghosts}
+use Rattle.lsp_session.proofs.Ran.{Ran, Row, row, at_initialize, at_initialized, at_served, at_woken, idle, reaches_ran, no_one}
 use Rattle.lsp_session.proofs.Refused.{served_first}
-use Rattle.lsp_session.specs.Session.{Exchange, sends_of, SessionAnswer, Stop, exhausted}
+use Rattle.lsp_session.specs.Session.{Exchange, sends_of, SessionAnswer, Stop, exhausted, Phase, starting}
 use Rattle.lsp_session.specs.declared.loops.handler.SessionEnd.{SessionEnd}
 use Rattle.serde_json.specs.Data.{Data}
 use Rattle.std.proofs.Common.{◌≡◌, refl, sym, ◌∙◌, ap, subst, inl, inr, ℕ, ◌+◌, ◌≤◌, Bool, true, false, List, [], ◌∷◌, ◌++◌, arith, Option, Some, None}
@@ -101,6 +108,49 @@ module _ {P : Type 0} where
       → (payload ≡ Some own → ⊥) → GivesOwnPayloads (asks method params own ∷ []) (given (number (pos 0)) outcome payload acts ∷ more) → ⊥
   given_another outcome method params own payload acts more other gives =
       other (gives [] more (given (number (pos 0)) outcome payload acts) (number (pos 0)) refl refl)
+
+-- ---- wakes
+
+module _ {S P : Type 0} (may : Stated S P) where
+  -- a wake came, and the server did nothing, though it states that it acts
+  pub does_nothing_woken : ((old new : S) → may.wakes old [] new → ⊥) → (count : ℕ) (old new : S) (payload : Option P) (more : List (Turn P))
+      → TakesTurns may count old (record { letter = None; payload = payload; acts = [] } ∷ more) new → ⊥
+  does_nothing_woken acts count old new payload more took = acts old took.0 took.2.0
+
+  -- at each wake the server states that it tells something first
+  module _ (tells_first : (old new : S) (acts : List (Act P)) → may.wakes old acts new → (method : List ℕ) × (params : Data) × (more : List (Act P)) × (acts ≡ tells method params ∷ more)) where
+    -- at a wake nothing is sent
+    silent_wake : (old new : S × Desk P) → WorksGiving may old None [] new → ⊥
+    silent_wake old new gives =
+        let a = acts_at may old None [] new gives in
+        let first = tells_first old.0 a.did a.acts a.handed.0 in
+        let e : [] ≡ old.1.said ++ all_sends old.1 (tells first.0 first.1 ∷ first.2) = a.sent ∙ ap (λ (acts : List (Act P)). old.1.said ++ all_sends old.1 acts) first.3 in
+        no_one old.1.said _ (notification first.0 first.1) (sym e)
+
+    silent_among : (stop : Stop) (before after : List Exchange) (p q : Phase) (w w' : QueuedServer S P)
+        → Ran (at_desk may) stop p w (before ++ record { letter = None; said = [] } ∷ after) q w' → ⊥
+    silent_among stop [] after p q w w' run = by (row (at_desk may) p run.4 w run.5 None run.0 run.6)
+      where
+        by : Row (at_desk may) p w None run.0 run.4 run.5 → ⊥
+        by (at_initialize i method params outcome here there is_asked gave said next) = cc (there)
+        by (at_initialized m here there is gave next) = cc (there)
+        by (at_served m here there is gave next) = cc (there)
+        by (at_woken here none gave next) =
+            silent_wake (seen w) (seen run.5) (subst (λ (said : List Message). WorksGiving may (seen w) None said (seen run.5)) (run.3 refl) gave)
+        by (idle m there stays_so step idles) = cc (there)
+    silent_among stop (x ∷ before) after p q w w' run = silent_among stop before after run.4 q run.5 w' run.8
+
+    -- a session in which a wake came, and nothing was sent for it
+    pub sleeps : (first last : S) (before after : List Exchange) (stop : Stop) (null : Option Message) (answer : SessionAnswer)
+        → ServerSession may first last (before ++ record { letter = None; said = [] } ∷ after) stop null answer → ⊥
+    sleeps first last before after stop null answer session =
+        let out = session.out in
+        silent_among stop before after starting out.last session.old out.after (reaches_ran (at_desk may) stop starting out.last session.old out.after _ out.reached)
+
+-- a server that waits for nothing did something at a wake
+pub acts_unwoken : {S P : Type 0} (may : Ghosts S P) (count : ℕ) (old new : S) (payload : Option P) (act : Act P) (acts : List (Act P)) (more : List (Turn P))
+    → TakesTurns (unwoken may) count old (record { letter = None; payload = payload; acts = act ∷ acts } ∷ more) new → ⊥
+acts_unwoken may count old new payload act acts more took = cc (took.2.0.0)
 
 -- ---- all of it
 

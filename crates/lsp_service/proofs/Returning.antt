@@ -18,7 +18,7 @@ use Rattle.lsp_service.specs.View.{seen, desk_of}
 use Rattle.lsp_service.specs.declared.desk.QueuedServer.{QueuedServer}
 use Rattle.lsp_service.specs.Turning.{brought_by, desk_at, settled_by, settled_at}
 use Rattle.lsp_service.proofs.Acting.{acts_at, at_count, at_said, said_so, ids_counted}
-use Rattle.lsp_service.specs.declared.server.Server.{Ghosts as Stated}
+use Rattle.lsp_service.specs.Stated.{Stated}
 
 pub requests-append : (xs ys : List Message) → requests_in (xs ++ ys) ≡ requests_in xs ++ requests_in ys
 requests-append [] ys = refl

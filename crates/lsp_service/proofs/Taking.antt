@@ -18,12 +18,14 @@ use Rattle.lsp_session.specs.SessionLaws.{is_refusal}
 use Rattle.lsp_session.specs.declared.loops.handler.SessionEnd.TheVariants.{Closed, ShutDown}
 use Rattle.lsp_service.specs.Desk.{Desk, TakesBack, does_all, empty_desk, unsent}
 use Rattle.lsp_service.specs.Law.{IsWhole, requests_in, request_of, ids_after_all, all_sent, acts_of, is_turn, IsUnserved, TakesTurns, TakesPart, GivesPayloads, GoesOn, Initializes, KeepsLaws, LawfulSession}
-use Rattle.lsp_service.specs.QueuedServer.{at_desk, held_by, OpensSaying, ServerSession, WorksGiving}
+use Rattle.lsp_service.specs.QueuedServer.{at_desk, at_woken_desk, held_by, OpensSaying, ServerSession, WorksGiving}
 use Rattle.lsp_service.specs.declared.desk.QueuedServer.{QueuedServer}
+use Rattle.lsp_service.specs.declared.desk.WokenQueuedServer.{WokenQueuedServer}
+use Rattle.lsp_service.proofs.Holding.{session_held}
 use Rattle.lsp_service.proofs.Counting.{Fresh, kept_to_last, never_more, answered_once}
 use Rattle.lsp_service.proofs.Returning.{requests-append, ids_all, sent-append, said_all, Agrees, agrees_start, agrees_acts, Fits, own_payloads, GivesAll, turn_all}
 use Rattle.lsp_service.specs.View.{desk_of, seen}
-use Rattle.lsp_service.specs.declared.server.Server.{Ghosts as Stated}
+use Rattle.lsp_service.specs.Stated.{Stated}
 use Rattle.lsp_session.proofs.Ordering.{keeps_order}
 
 whole_sent : (stop : Stop) → IsWhole stop → IsSent stop
@@ -328,6 +330,14 @@ module _ {S P : Type 0} (may : Stated S P) where
       → SessionOut (at_desk may) old new xs stop null answer → ServerSession may first last xs stop null answer
   session_of old new first last begun left xs stop null answer out =
       record { old = old; new = new; from_first = begun; to_last = left; out = out }
+
+  -- the same of one that is woken
+  pub woken_session_of : (old new : WokenQueuedServer S P) (first last : S) → seen old.queued ≡ (first, empty_desk) → last ≡ new.queued.server
+      → (xs : List Exchange) (stop : Stop) (null : Option Message) (answer : SessionAnswer)
+      → SessionOut (at_woken_desk may) old new xs stop null answer → ServerSession may first last xs stop null answer
+  woken_session_of old new first last begun left xs stop null answer out =
+      session_of old.queued new.queued first last begun left xs stop null answer
+      (session_held (λ (w : WokenQueuedServer S P). w.queued) (at_desk may) old new xs stop null answer out)
 
   module _ (first last : S) (xs : List Exchange) (stop : Stop) (null : Option Message) (answer : SessionAnswer) where
     pub keeps_laws : (session : ServerSession may first last xs stop null answer) → KeepsLaws may first last (held_by may session) xs stop null answer

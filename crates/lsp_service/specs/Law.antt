@@ -14,9 +14,9 @@ use Rattle.lsp_session.specs.Finish.{is_initialized}
 use Rattle.lsp_session.specs.ProtocolError.{ShowsUnallowed}
 use Rattle.lsp_session.specs.Session.{Exchange, came_of, letters_of, sends_of, SessionAnswer, SessionPart, Stop, decided, refused, exhausted, is_served}
 use Rattle.lsp_session.specs.SessionLaws.{EndsWithResult, KeepsOrder, AllRefused}
-use Rattle.lsp_service.specs.Desk.{Act, asks, is_spent, ids_after, unsent, TakesBack, Woken}
+use Rattle.lsp_service.specs.Desk.{Act, asks, is_spent, ids_after, unsent, TakesBack}
 use Rattle.lsp_service.specs.QueuedServer.{ServerSession, held_by}
-use Rattle.lsp_service.specs.declared.server.Server.{Ghosts as Stated}
+use Rattle.lsp_service.specs.Stated.{Stated}
 
 abbrev pub one_if : Bool → ℕ
 one_if true = 1
@@ -147,13 +147,13 @@ IsUnserved [] = Unit {0}
 IsUnserved (letter ∷ rest) = is_turn letter ≡ false
 
 module _ {S P : Type 0} (may : Stated S P) where
-  -- the server is handed a letter, a reply with a payload, or woken, and does this
+  -- The server is handed a letter, a reply with a payload, or woken, and does this: what it stated, at each of them.
   abbrev pub Handed : S → Option Message → Option P → List (Act P) → S → Type 0
   Handed old (Some (request id method params)) payload acts new = may.requested old id method params acts new × (payload ≡ None)
   Handed old (Some (notification method params)) payload acts new = may.notified old method params acts new × (payload ≡ None)
   Handed old (Some (response id outcome)) (Some payload) acts new = may.replied old payload outcome acts new
   Handed old (Some (response id outcome)) None acts new = (new ≡ old) × (acts ≡ [])
-  Handed old None payload acts new = Woken may.wakes old acts new × (payload ≡ None)
+  Handed old None payload acts new = may.wakes old acts new × (payload ≡ None)
 
   -- turns take the server from old to new, where so many ids were given out before
   abbrev pub TakesTurns : ℕ → S → List (Turn P) → S → Type 0

@@ -6,7 +6,7 @@ use Rattle.lsp_message.specs.Message.{Message, request, notification, response}
 use Rattle.lsp_queue.specs.Queue.{pending_of, count_of}
 use Rattle.lsp_service.specs.Desk.{Act, tells, asks, replies, cancels, Desk, is_spent, does, does_all, unsent, holds, given, canceled, cancelled_by, cancel_method, cancel_params, cleared, TakesBack}
 use Rattle.lsp_service.specs.Law.{Handed}
-use Rattle.lsp_service.specs.declared.server.Server.{Ghosts as Stated}
+use Rattle.lsp_service.specs.Stated.{Stated}
 
 module _ {P : Type 0} where
   -- What an act sends: a notification; a request, where an id is left, under the next id; the answer of a request that is held; the

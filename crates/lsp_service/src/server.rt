@@ -2,7 +2,7 @@
 ghost use Rattle.serde_json.specs.View.{view};
 ghost use Rattle.std.specs.Prelude.{map, List, IfOk, string_bytes};
 ghost use Rattle.lsp_message.specs.View.{outcome_view};
-ghost use Rattle.lsp_service.specs.Desk.{Act as PlainAct, Woken};
+ghost use Rattle.lsp_service.specs.Desk.{Act as PlainAct};
 ghost use Rattle.lsp_service.specs.View.{act_view};
 
 use lsp_message::{Notification, Request, RequestId, ResponseError};
@@ -25,7 +25,7 @@ pub enum Act<P> {
 }
 
 /// A server that speaks. What each method gives are acts, which are done in order when it returns. An `Err` is a failed
-/// allocation, and ends the session; nothing is sent for that message.
+/// allocation, and ends the session; nothing is sent for that message. One that waits for more than messages is a `WokenServer` too.
 pub trait Server {
     ghost use Rattle.serde_json.specs.Data.{Data};
     ghost use Rattle.std.specs.Prelude.{ℕ, Result};
@@ -49,10 +49,6 @@ pub trait Server {
 
     /// At a reply to a request of its own it may do this, and change so.
     ghost replied: { Self → Self.Payload → Result Data ErrorObject → List (PlainAct Self.Payload) → Self → Type 0 };
-
-    /// At a wake it may do this, and change so. Or it does nothing (`Woken`): that is always allowed, since the body of `woken` below
-    /// is proved for whatever a server states here.
-    ghost wakes: { Self → List (PlainAct Self.Payload) → Self → Type 0 } = { λ old acts new. ⊥ };
 
     /// It may take this back, and change so.
     ghost takes_back: { Self → Self.Payload → Self → Type 0 };
@@ -87,16 +83,22 @@ pub trait Server {
     ) -> Result<Vec<Act<Self::Payload>>, AllocError>
         ensures { IfOk result (λ acts. replied self.old «payload» (outcome_view outcome) (map act_view acts.items) self.new) };
 
-    /// Something that it waits for is ready, and the inbox told so (`Inbox::receive_or_woken`). It comes after `initialized` and before
-    /// `shutdown`, and nowhere else. A server that waits for nothing leaves this as it is: it does nothing.
-    fn woken(&mut self, alloc: Global) -> Result<Vec<Act<Self::Payload>>, AllocError>
-        ensures { IfOk result (λ acts. Woken wakes self.old (map act_view acts.items) self.new) }
-    {
-        Ok(Vec::new(alloc))
-    }
-
     /// Takes back what an `Act::Ask` was to keep, since no id was left for the request, and it was not sent. It comes only after
     /// 2147483648 requests of the session; all else goes on.
     fn unsent(&mut self, payload: Self::Payload) -> Result<(), AllocError>
         ensures { IfOk result (λ _. takes_back self.old «payload» self.new) };
+}
+
+/// A server that is woken: it waits for more than the messages of its client. `serve_with_woken` and `WokenQueuedServer` wake it.
+pub trait WokenServer: Server {
+    ghost use Rattle.std.specs.Prelude.{List};
+    ghost use Rattle.lsp_service.specs.Desk.{Act as PlainAct};
+
+    /// At a wake it may do this, and change so.
+    ghost wakes: { Self → List (PlainAct Self.Payload) → Self → Type 0 };
+
+    /// Something that it waits for is ready, and the inbox told so (`Inbox::receive_or_woken`). It comes after `initialized` and before
+    /// `shutdown`, and nowhere else. What it gives are acts, as at a message.
+    fn woken(&mut self, alloc: Global) -> Result<Vec<Act<Self::Payload>>, AllocError>
+        ensures { IfOk result (λ acts. wakes self.old (map act_view acts.items) self.new) };
 }

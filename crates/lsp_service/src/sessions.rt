@@ -3,10 +3,11 @@ ghost use Rattle.std.specs.Prelude.{IfSome};
 ghost use Rattle.lsp_message.specs.Frame.{no_limit};
 ghost use Rattle.lsp_session.specs.SessionBytes.{Gives};
 ghost use Rattle.lsp_session.specs.SessionRun.{Runs};
+ghost use Rattle.lsp_service.specs.Stated.{unwoken, with_wakes};
 ghost use Rattle.lsp_service.specs.QueuedServer.{ServerSession};
 
-use crate::desk::QueuedServer;
-use crate::server::Server;
+use crate::desk::{QueuedServer, WokenQueuedServer};
+use crate::server::{Server, WokenServer};
 use lsp_session::{
     Inbox, Outbox, ProtocolError, SessionEnd, SessionFault, serve_service,
     session_of_service_within,
@@ -30,7 +31,7 @@ pub fn session_with<R: BufRead, W: Write, S: Server>(
     server: S,
 ) -> (S, Result<SessionEnd, SessionFault>)
     ensures { IfSome (R.remaining reader.old) (λ text.
-        Gives no_limit (ServerSession S.Server server result.0)
+        Gives no_limit (ServerSession (unwoken S.Server) server result.0)
         text (R.remaining reader.new) (W.contents writer.old) (W.contents writer.new) result.1) }
 {
     session_with_within(alloc, reader, writer, server, u64::MAX)
@@ -46,7 +47,7 @@ pub fn session_with_within<R: BufRead, W: Write, S: Server>(
     limit: u64,
 ) -> (S, Result<SessionEnd, SessionFault>)
     ensures { IfSome (R.remaining reader.old) (λ text.
-        Gives limit (ServerSession S.Server server result.0)
+        Gives limit (ServerSession (unwoken S.Server) server result.0)
         text (R.remaining reader.new) (W.contents writer.old) (W.contents writer.new) result.1) }
 {
     let mut queued = QueuedServer::new(alloc, server);
@@ -61,9 +62,24 @@ pub fn serve_with<I: Inbox, O: Outbox, S: Server>(
     outbox: &mut O,
     server: S,
 ) -> (S, Result<SessionEnd, ProtocolError>)
-    ensures { Runs I.receives O.sends (ServerSession S.Server server result.0) (inbox.old, outbox.old) result.1 (inbox.new, outbox.new) }
+    ensures { Runs I.receives O.sends (ServerSession (unwoken S.Server) server result.0) (inbox.old, outbox.old) result.1 (inbox.new, outbox.new) }
 {
     let mut queued = QueuedServer::new(alloc, server);
     let answer = serve_service(alloc, inbox, outbox, &mut queued);
     (queued.into_server(), answer)
+}
+
+/// `serve_with` of a server that is woken. Each wake that the inbox gives from `initialized` up to `shutdown` is told to the server, and what
+/// it does then is what it states of a wake.
+pub fn serve_with_woken<I: Inbox, O: Outbox, S: WokenServer>(
+    alloc: Global,
+    inbox: &mut I,
+    outbox: &mut O,
+    server: S,
+) -> (S, Result<SessionEnd, ProtocolError>)
+    ensures { Runs I.receives O.sends (ServerSession (with_wakes S.Server S.wakes) server result.0) (inbox.old, outbox.old) result.1 (inbox.new, outbox.new) }
+{
+    let mut woken = WokenQueuedServer::new(alloc, server);
+    let answer = serve_service(alloc, inbox, outbox, &mut woken);
+    (woken.into_server(), answer)
 }

@@ -9,7 +9,7 @@ use Rattle.lsp_session.specs.HandlerSession.{Handles, of_handler}
 use Rattle.lsp_session.specs.ProtocolError.{ProtocolFault, ShowsUnallowed, expected_initialize, expected_initialized, unexpected_in_shutdown, is_disconnected}
 use Rattle.lsp_session.specs.Replies.{null_reply}
 use Rattle.lsp_session.specs.Session.{Behavior, Exchange, letters_of, sends_of, SessionAnswer, Stop, decided, no_more, timed_out, refused, exhausted, Phase, starting, replied as in_reply, serving, asked, ended, null_of, phase_after, is_served, Stops, SessionOut, request_id}
-use Rattle.lsp_session.specs.SessionLaws.{IsInvited, IsUnopened, AfterNull, EndsWithNull, HasNoShutdown, KeepsOrder, IsUnstarted, comes_early, StopsAt, StopsBefore, is_refusal, AllRefused, is_reply, OpenedBy}
+use Rattle.lsp_session.specs.SessionLaws.{IsInvited, IsUnopened, AfterNull, EndsWithNull, HasNoShutdown, KeepsOrder, IsUnstarted, comes_early, IsRefusedEarly, StopsAt, StopsBefore, is_refusal, AllRefused, is_reply, OpenedBy}
 use Rattle.lsp_session.specs.declared.lifecycle.SendFault.{SendFault}
 use Rattle.lsp_session.specs.declared.loops.handler.SessionEnd.TheVariants.{Closed, ShutDown}
 use Rattle.serde_json.specs.Data.{Data}
@@ -28,6 +28,11 @@ note_early : (m : Message) → IsNoRequest m → (b : Bool) → is_early m ≡ b
 note_early (request i method params) mute b is = absurd mute
 note_early (notification method params) mute b is = is
 note_early (response i outcome) mute b is = is
+
+note_coded : (m : Message) (said : List Message) → IsNoRequest m → IsRefusedEarly (Some m) said
+note_coded (request i method params) said mute = absurd mute
+note_coded (notification method params) said mute = tt
+note_coded (response i outcome) said mute = tt
 
 still_there : (fault : ProtocolFault) → is_disconnected fault ≡ true → ShowsUnallowed fault → ⊥
 still_there fault lost (inl shows) = let e = (rw shows.1 at lost) in cc (e)
@@ -76,8 +81,8 @@ module _ {S : Type 0} (may : Behavior S) (stop : Stop) (null : Option Message) (
 
   -- one more exchange comes first
   early_before : (x : Exchange) (xs : List Exchange) → IsReplied x → list_all is_refusal x.said ≡ true → IsSomeAnd x.letter (λ m. comes_early m ≡ true)
-      → KeepsOrder xs stop null answer → KeepsOrder (x ∷ xs) stop null answer
-  early_before x xs one errors early rest = record {
+      → IsRefusedEarly x.letter x.said → KeepsOrder xs stop null answer → KeepsOrder (x ∷ xs) stop null answer
+  early_before x xs one errors early coded rest = record {
     early = x ∷ rest.early;
     rest = rest.rest;
     cut = ap (λ (l : List Exchange). x ∷ l) rest.cut;
@@ -94,10 +99,10 @@ module _ {S : Type 0} (may : Behavior S) (stop : Stop) (null : Option Message) (
           cut = ap (λ (l : List Exchange). x ∷ l) opened.ends.cut;
         };
         refused = refused_more x opened.ends.before errors opened.refused;
-        came = (early, opened.came);
+        came = (early, coded, opened.came);
         later = opened.later;
       })
-      | inr unopened ↦ inr (refused_more x rest.early errors unopened.0, (early, unopened.1), unopened.2, unopened.3)
+      | inr unopened ↦ inr (refused_more x rest.early errors unopened.0, (early, coded, unopened.1), unopened.2, unopened.3)
     ];
   }
 
@@ -155,9 +160,11 @@ module _ {S : Type 0} (may : Behavior S) (stop : Stop) (null : Option Message) (
       (one : (r : Message) → full ≡ r ∷ [] → x.said ≡ r ∷ []) (none : full ≡ [] → x.said ≡ []) (rest : Order q xs) where
     order_idle : (m : Message) → x.letter ≡ Some m → Idle p m full q → Order p (x ∷ xs)
     order_idle m there (early_request i method params reply here is early said next) =
-        rw here (early_before x xs (one_reply x i method params reply (rw is at there) (one reply said) (_, early.is)).0 (rw (one reply said, early.is) refl) (rw (there, is) refl) (rw next at rest))
+        rw here (early_before x xs (one_reply x i method params reply (rw is at there) (one reply said) (_, early.is)).0 (rw (one reply said, early.is) refl) (rw (there, is) refl)
+        (rw (there, is, one reply said, early.is) (λ other. (refl, tt))) (rw next at rest))
     order_idle m there (early_note here mute early said next) =
-        rw here (early_before x xs (silent x m there mute (none said)).0 (rw (none said) refl) (rw there (note_early m mute true early)) (rw next at rest))
+        rw here (early_before x xs (silent x m there mute (none said)).0 (rw (none said) refl) (rw there (note_early m mute true early))
+        (rw there (note_coded m x.said mute)) (rw next at rest))
     order_idle m there (unasked shown here mute other said next) =
         let over : Order (ended None (Err (expected_initialize shown))) xs = rw next at rest in
         rw here (early_ended x xs (over.0, rw there (note_early m mute false other), none said, over.2, rw over.3 (shown, refl)) over.1)
@@ -207,7 +214,8 @@ module _ {S : Type 0} (may : Behavior S) (stop : Stop) (null : Option Message) (
       where
         first : (outcome : Result Data ErrorObject) → x.said ≡ response i outcome ∷ [] → Order (phase_after outcome) xs → KeepsOrder (x ∷ xs) stop null answer
         first (Ok result) said rest = result_before x xs i method params result is asks said rest
-        first (Err error) said rest = early_before x xs (one_reply x i method params _ is said (_, refl)).0 (rw said refl) (rw is refl) rest
+        first (Err error) said rest = early_before x xs (one_reply x i method params _ is said (_, refl)).0 (rw said refl) (rw is refl)
+            (rw is (λ other. let e : true ≡ false = sym asks ∙ other in absurd (cc (e)))) rest
     order_row (at_initialized m here there is given next) =
         rw here (inl (rw there is, later_before x xs (rw (there, initialized_served m is) refl) (rw next at rest)))
     order_row (at_served m here there is given next) = rw here (later_before x xs (rw (there, is) refl) (rw next at rest))

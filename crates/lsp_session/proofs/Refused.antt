@@ -1,7 +1,9 @@
 -- Runs that keep no order, whatever follows them and however the session ends; and wakes that no text brings.
+use Rattle.lsp_message.specs.ErrorCode.{number_of}
 use Rattle.lsp_message.specs.Id.{Id}
-use Rattle.lsp_message.specs.Message.{Message, request, notification, response}
+use Rattle.lsp_message.specs.Message.{Message, ErrorObject, request, notification, response}
 use Rattle.lsp_message.specs.Methods.{is_initialize, is_exit}
+use Rattle.lsp_message.specs.declared.msg.code.ErrorCode.TheVariants.{ServerNotInitialized}
 use Rattle.lsp_session.specs.ProtocolError.{expected_initialized}
 use Rattle.lsp_session.specs.Replies.{null_reply}
 use Rattle.lsp_session.specs.Session.{Exchange, letters_of, sends_of, SessionAnswer, Stop, decided, no_more, timed_out, refused as cut_off, exhausted, Phase, starting, replied as awaiting, serving, asked as shut, is_served}
@@ -9,7 +11,7 @@ use Rattle.lsp_session.specs.SessionBytes.{ReadsMessage, Ends, Wrote, GetsAllBut
 use Rattle.lsp_session.specs.declared.loops.stream_session.SessionFault.TheVariants.{Write, Memory as NoMemory}
 use Rattle.lsp_message.specs.declared.frame.WriteFault.{WriteFault}
 use Rattle.lsp_message.specs.Written.{GetsFrames}
-use Rattle.lsp_session.specs.SessionLaws.{IsInvited, IsUnopened, AfterNull, EndsWithNull, HasNoShutdown, KeepsOrder, IsOpened, IsUnstarted, StopsAt, comes_early, AllEarly, is_refusal, AllRefused}
+use Rattle.lsp_session.specs.SessionLaws.{IsInvited, IsUnopened, AfterNull, EndsWithNull, HasNoShutdown, KeepsOrder, IsOpened, IsUnstarted, StopsAt, comes_early, AllEarly, IsRefusedEarly, is_refusal, AllRefused}
 use Rattle.serde_json.specs.Data.{Data, null as null_data}
 use Rattle.std.proofs.Common.{◌≡◌, refl, sym, ◌∙◌, ap, subst, inl, inr, ◌⊎◌, ℕ, true, false, List, [], ◌∷◌, ◌++◌, Option, Some, None}
 use Rattle.std.proofs.lemmas.List.Folds.{list_all-append}
@@ -22,6 +24,10 @@ use Rattle.lsp_session.specs.declared.loops.handler.SessionEnd.TheVariants.{Shut
 -- a request that gets a result
 abbrev granted : Id → List ℕ → Data → Data → Exchange
 granted i method params result = record { letter = Some (request i method params); said = response i (Ok result) ∷ [] }
+
+-- a request that gets an error
+abbrev turned : Id → List ℕ → Data → ErrorObject → Exchange
+turned i method params error = record { letter = Some (request i method params); said = response i (Err error) ∷ [] }
 
 -- `initialize` gets its result
 abbrev begun : Id → Data → Data → Exchange
@@ -292,6 +298,40 @@ module _ (stop : Stop) (null : Option Message) (answer : SessionAnswer) where
       at : Begins (record { letter = Some m; said = said }) (x ∷ more) → ⊥
       at (inl early) = let e : true ≡ false = sym early ∙ late in cc (e)
       at (inr unstarted) = let e : x ∷ more ≡ [] = unstarted.0 in cc (e)
+
+  -- a request that comes before `initialize` gets an error with another code than -32002
+  pub refused_otherwise : (i : Id) (method : List ℕ) (params : Data) (error : ErrorObject) (more : List Exchange) → is_initialize (request i method params) ≡ false
+      → (error.code ≡ number_of ServerNotInitialized → ⊥)
+      → KeepsOrder (turned i method params error ∷ more) stop null answer → ⊥
+  refused_otherwise i method params error more other wrong order = at order.early order.rest order.cut order.opened
+    where
+      coded : (e : Exchange) → turned i method params error ≡ e → IsRefusedEarly e.letter e.said → ⊥
+      coded e same early = wrong ((subst (λ (y : Exchange). IsRefusedEarly y.letter y.said) (sym same) early) other).0
+
+      early_one : (e : Exchange) (early before : List Exchange) (j : Id) (asked : List ℕ) (given result : Data) → turned i method params error ≡ e
+          → e ∷ early ≡ before ++ granted j asked given result ∷ [] → AllEarly before → ⊥
+      early_one e early [] j asked given result same cut came =
+          let is : e ≡ granted j asked given result = cc (cut) in
+          let sent : response i (Err error) ∷ [] ≡ response j (Ok result) ∷ [] = ap (λ (y : Exchange). y.said) (same ∙ is) in
+          cc (sent)
+      early_one e early (b ∷ before) j asked given result same cut came =
+          let is : e ≡ b = cc (cut) in
+          coded b (same ∙ is) came.1
+
+      at : (early rest : List Exchange) → turned i method params error ∷ more ≡ early ++ rest
+          → IsOpened early rest stop null answer ⊎ (AllRefused early × AllEarly early × IsUnstarted rest stop answer × (null ≡ None)) → ⊥
+      at [] rest cut (inl opened) = never_last opened.ends.before _ opened.ends.cut
+      at [] rest cut (inr unopened) =
+          let unstarted : IsUnstarted (turned i method params error ∷ more) stop answer = subst (λ (xs : List Exchange). IsUnstarted xs stop answer) (sym cut) unopened.2 in
+          let e : response i (Err error) ∷ [] ≡ [] = unstarted.2 in
+          cc (e)
+      at (e ∷ early) rest cut (inl opened) =
+          let same : turned i method params error ≡ e = cc (cut) in
+          let ends = opened.ends in
+          early_one e early ends.before ends.id ends.method ends.params ends.result same ends.cut opened.came
+      at (e ∷ early) rest cut (inr unopened) =
+          let same : turned i method params error ≡ e = cc (cut) in
+          coded e same unopened.1.1
 
   -- a wake comes first
   pub woken_first : (said : List Message) (more : List Exchange) → KeepsOrder (record { letter = None; said = said } ∷ more) stop null answer → ⊥

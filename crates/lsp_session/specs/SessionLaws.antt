@@ -3,9 +3,11 @@ use Rattle.serde_json.specs.Data.{Data}
 use Rattle.std.specs.Bool.{MatchBool}
 use Rattle.std.specs.List.{list_all}
 use Rattle.std.specs.Prelude.{◌≡◌, ◌⊎◌, ℕ, Bool, true, false, not, List, [], ◌∷◌, ◌++◌, Option, Some, None, IsSomeAnd, Ok, Err, IsErrAnd}
+use Rattle.lsp_message.specs.ErrorCode.{number_of}
 use Rattle.lsp_message.specs.Id.{Id}
 use Rattle.lsp_message.specs.Message.{Message, request, notification, response}
 use Rattle.lsp_message.specs.Methods.{is_initialize, is_initialized, is_shutdown, is_exit}
+use Rattle.lsp_message.specs.declared.msg.code.ErrorCode.TheVariants.{ServerNotInitialized}
 use Rattle.lsp_session.specs.Answered.{AllReplied}
 use Rattle.lsp_session.specs.ProtocolError.{ProtocolFault, Shows, disconnected, expected_initialize, expected_initialized, unexpected_in_shutdown, shutdown_timeout, shutdown_disconnected, out_of_memory, fault_of_refusal}
 use Rattle.lsp_session.specs.Replies.{null_reply}
@@ -31,10 +33,24 @@ comes_early (request i method params) = true
 comes_early (notification method params) = not (is_exit (notification method params))
 comes_early (response i outcome) = false
 
--- Such a message came at each of these, and no wake.
+-- the error of a request that comes before `initialize` (LSP 3.17, "Initialize Request")
+abbrev pub SaysUninitialized : Message → Type 0
+SaysUninitialized (response i (Err error)) = error.code ≡ number_of ServerNotInitialized
+SaysUninitialized m = ⊥
+
+abbrev pub AllUninitialized : List Message → Type 0
+AllUninitialized [] = Unit {0}
+AllUninitialized (m ∷ ms) = SaysUninitialized m × AllUninitialized ms
+
+-- What is sent for another request than `initialize` is that error.
+abbrev pub IsRefusedEarly : Option Message → List Message → Type 0
+IsRefusedEarly (Some (request i method params)) said = is_initialize (request i method params) ≡ false → AllUninitialized said
+IsRefusedEarly letter said = Unit {0}
+
+-- Such a message came at each of these, and no wake; and requests got that error.
 abbrev pub AllEarly : List Exchange → Type 0
 AllEarly [] = Unit {0}
-AllEarly (x ∷ xs) = IsSomeAnd x.letter (λ m. comes_early m ≡ true) × AllEarly xs
+AllEarly (x ∷ xs) = IsSomeAnd x.letter (λ m. comes_early m ≡ true) × IsRefusedEarly x.letter x.said × AllEarly xs
 
 -- In this phase a session may stop so, and then gives this answer: what the table of `Stops` says of any service.
 abbrev pub StopsAt : Phase → Stop → SessionAnswer → Type 0
@@ -125,8 +141,9 @@ pub record IsOpened (early rest : List Exchange) (stop : Stop) (null : Option Me
   pub came : AllEarly ends.before
   pub later : (IsInvited rest × (HasNoShutdown rest stop null answer ⊎ EndsWithNull rest stop null answer)) ⊎ (IsUnopened rest stop answer × (null ≡ None))
 
--- Up to and with `initialize` each request gets one reply, and nothing else is sent: errors, and last its result. Neither `exit` nor a
--- response comes before that result, unless it is the last message and decides. Each end has the answer of its phase.
+-- Up to and with `initialize` each request gets one reply, and nothing else is sent: errors, and last its result. The errors of other
+-- requests have the code -32002. Neither `exit` nor a response comes before that result, unless it is the last message and decides. Each
+-- end has the answer of its phase.
 pub record KeepsOrder (exchanges : List Exchange) (stop : Stop) (null : Option Message) (answer : SessionAnswer) : Type 0 where
   pub early : List Exchange
   pub rest : List Exchange

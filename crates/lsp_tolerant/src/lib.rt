@@ -7,4 +7,7 @@ mod session;
 
 pub use inbox::{TolerantInbox, is_of_body};
 pub use listener::{FaultCounts, Ignore, Listener};
-pub use session::{tolerant_session_with, tolerant_session_with_within};
+pub use session::{
+    tolerant_session_with, tolerant_session_with_within, tolerant_session_with_woken,
+    tolerant_session_with_woken_within,
+};

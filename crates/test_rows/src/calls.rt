@@ -10,7 +10,9 @@ use lsp_session::{
     Event, FrameOutbox, Inbox, ListOutbox, Outbox, ReadEnd, SendFault, SessionEnd, SessionFault,
     StreamInbox, read_loop, read_loop_within, session, session_of_service, session_within,
 };
-use lsp_tolerant::{FaultCounts, Ignore, tolerant_session_with, tolerant_session_with_within};
+use lsp_tolerant::{
+    FaultCounts, Ignore, tolerant_session_with_within, tolerant_session_with_woken,
+};
 use serde_json::{Map, Value};
 use std::alloc::{AllocError, Global};
 use std::cell::Cell;
@@ -366,7 +368,8 @@ fn speaks_answer(
     ended_answer(alloc, run, end, writer, "")
 }
 
-/// The same where content parts are passed over, and how many of each kind: not UTF-8, no JSON, no message, lists.
+/// The same where content parts are passed over, and how many of each kind: not UTF-8, no JSON, no message, lists. With a limit the server is
+/// told of none.
 fn tolerant_answer(
     alloc: Global,
     run: Run<'_>,
@@ -386,7 +389,7 @@ fn tolerant_answer(
         return ended_answer(alloc, run, end, writer, "");
     }
     let mut counts = FaultCounts::new();
-    let (_, end) = tolerant_session_with(alloc, reader, writer, server, &mut counts);
+    let (_, end) = tolerant_session_with_woken(alloc, reader, writer, server, &mut counts);
     let counted = counted(alloc, counts)?;
     ended_answer(alloc, run, end, writer, counted.as_str())
 }

@@ -1,6 +1,6 @@
 // A handler, and a server that speaks.
 use lsp_message::{Notification, Request, RequestId, ResponseError};
-use lsp_service::{Act, Server};
+use lsp_service::{Act, Server, WokenServer};
 use lsp_session::Handler;
 use serde_json::{Map, Value, json};
 use std::alloc::{AllocError, Global};
@@ -125,8 +125,6 @@ impl Server for Talker {
 
     ghost replied = { λ _ _ _ _ _. ⊤ };
 
-    ghost wakes = { λ _ _ _. ⊤ };
-
     ghost takes_back = { λ _ _ _. ⊤ };
 
     fn initialize(&mut self, _params: Value) -> Result<Result<Value, ResponseError>, AllocError> {
@@ -174,12 +172,18 @@ impl Server for Talker {
         }
     }
 
+    fn unsent(&mut self, _asked: Asked) -> Result<(), AllocError> {
+        Ok(())
+    }
+}
+
+impl WokenServer for Talker {
+    ghost use Rattle.std.specs.Prelude.{⊤};
+
+    ghost wakes = { λ _ _ _. ⊤ };
+
     fn woken(&mut self, _alloc: Global) -> Result<Acts, AllocError> {
         let acts = self.one(self.tell("demo/woken", Value::Null)?)?;
         self.release(acts)
-    }
-
-    fn unsent(&mut self, _asked: Asked) -> Result<(), AllocError> {
-        Ok(())
     }
 }

@@ -85,7 +85,7 @@ pub enum Call {
     Session,
     /// `session_of_service` of the server that speaks; with a limit `session_with_within`.
     Speaks,
-    /// `tolerant_session_with` of the same; with a limit `tolerant_session_with_within`.
+    /// `tolerant_session_with_woken` of the same; with a limit `tolerant_session_with_within`, which wakes no server.
     Tolerant,
 }
 

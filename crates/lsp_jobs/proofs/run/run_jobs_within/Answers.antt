@@ -3,7 +3,7 @@ use denote.Param.Send.{param_send, arg_send}
 use Rattle.std.proofs.Common.{ap, ◌∙◌}
 use Rattle.lsp_message.proofs.Sendable.{message_send}
 use Rattle.lsp_session.specs.Session.{SessionOut}
-use Rattle.lsp_service.specs.QueuedServer.{at_desk}
+use Rattle.lsp_service.specs.QueuedServer.{at_woken_desk}
 use Rattle.lsp_threads.proofs.Sessions.{started_as}
 use Rattle.lsp_threads.specs.declared.run.Threaded.{Threaded}
 use Rattle.lsp_jobs.proofs.JobSessions.{job_session}
@@ -19,7 +19,7 @@ returns g c =
     let may = seen_with_jobs g.row.T.Denot g.S.Server g.S.JobServer.starts g.S.JobServer.finishes g.J.Job.answers in
     let old = c.new-queued.result in
     let new = c.run_threads_of_service_over-done.new.service in
-    started_as (SessionOut (at_desk may) old new) (JobSession g.row.T.Denot g.S.Server g.S.JobServer.starts g.S.JobServer.finishes g.J.Job.answers c.args.server _)
+    started_as (SessionOut (at_woken_desk may) old new) (JobSession g.row.T.Denot g.S.Server g.S.JobServer.starts g.S.JobServer.finishes g.J.Job.answers c.args.server _)
     (job_session g.row.T.Denot g.S.Server g.S.JobServer.starts g.S.JobServer.finishes g.J.Job.answers old new c.new-pooled.result c.args.server _ c.new-queued.ensures
     (c.new-pooled.ensures ∙ ap (λ t. (c.args.server, t)) c.in-Ok-start_pool.ensures)
     (c.into_parts-server.ensures ∙ ap (λ (p : PooledServer _ _ _). p.server) c.into_server.ensures)) c.args.limit

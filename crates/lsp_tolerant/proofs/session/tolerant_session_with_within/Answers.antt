@@ -1,5 +1,6 @@
 use Rattle.std.proofs.Common.{refl, sym, ◌∙◌}
 use Rattle.lsp_service.specs.QueuedServer.{at_desk, ServerSession}
+use Rattle.lsp_service.specs.Stated.{unwoken}
 use Rattle.lsp_session.proofs.Ran.{session_facts}
 use Rattle.lsp_session.specs.Session.{starting}
 use Rattle.lsp_tolerant.proofs.Tolerating.{session_gives}
@@ -8,8 +9,8 @@ use Rattle.lsp_tolerant.proofs.session.tolerant_session_with_within.Goals as goa
 pub returns : goal.returns
 returns g c =
     rw (c.session_answer.ensures, c.end.ensures, c.fault.ensures) (session_gives g.L.Listener.hears c.args.limit g.R.Read.remaining g.W.Write.contents
-    (ServerSession g.S.Server c.args.server _)
-    (λ xs stop null answer session. session_facts (at_desk g.S.Server) starting session.old session.new refl xs stop null answer session.out)
+    (ServerSession (unwoken g.S.Server) c.args.server _)
+    (λ xs stop null answer session. session_facts (at_desk (unwoken g.S.Server)) starting session.old session.new refl xs stop null answer session.out)
     c.within-inbox.result c.serve_with-server.new.inbox c.new-outbox.result c.serve_with-server.new.outbox c.within-inbox.ensures.unended c.within-inbox.ensures.limited
     c.new-outbox.ensures.unfailed _ c.serve_with-server.ensures c.args.reader.now _ c.args.writer.now _ c.args.listener.now _
     c.within-inbox.ensures.unread c.new-outbox.ensures.unwritten c.within-inbox.ensures.untold
