@@ -35,6 +35,7 @@ class Pool:
         job = self.table.pop(name, None)
         if job:
             job.is_cancelled = job.is_dropped = True
+            self.orders = [it for it in self.orders if it is not job]
 
     def take_on(self, name, script, value):
         self.forget(name)

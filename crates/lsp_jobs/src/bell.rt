@@ -1,41 +1,79 @@
 // How the thread that works tells the one that waits.
-use crossbeam_channel::Sender;
+use crate::cancellation::CancellationToken;
+use crossbeam_channel::{Receiver, SendError, Sender, unbounded};
 use lsp_message::RequestId;
 use lsp_relay::RelayWaker;
-use std::alloc::AllocError;
+use std::alloc::{AllocError, Global};
 use std::sync::Wait;
+use std::thread::yield_now;
 
 /// Tells whoever waits for jobs that one said something: by its id, and by a wake where a relay is waited at.
 #[derive(Drop)]
 pub(crate) struct Bell<M: Drop> {
     said: Sender<RequestId>,
+    pool: CancellationToken,
     waker: Option<RelayWaker<M>>,
 }
 
+/// A channel for the ids of a bell. It has room for the first of them: so if memory for one more is missing, others wait to be taken.
+pub(crate) fn channel_of_ids<T: Wait>(
+    rt: &T,
+    alloc: Global,
+) -> Result<(Sender<RequestId>, Receiver<RequestId>), AllocError> {
+    let (said, news) = unbounded(alloc)?;
+    if said.send(rt, RequestId::from(0)).is_err() {
+        return Err(AllocError);
+    }
+    let _ = news.try_recv(rt);
+    Ok((said, news))
+}
+
 impl<M: Drop> Bell<M> {
-    /// A bell over a channel alone, or over a relay too.
-    pub fn new(said: Sender<RequestId>, waker: Option<RelayWaker<M>>) -> Bell<M> {
-        Bell { said, waker }
+    /// A bell over a channel of ids alone, or over a relay too, that rings until the token of its pool is cancelled.
+    pub fn new(
+        said: Sender<RequestId>,
+        pool: CancellationToken,
+        waker: Option<RelayWaker<M>>,
+    ) -> Bell<M> {
+        Bell { said, pool, waker }
     }
 
     /// A bell for another thread. The error means that an allocation failed.
     pub fn another(&mut self) -> Result<Bell<M>, AllocError> {
         let said = self.said.clone()?;
+        let pool = self.pool.share()?;
         let waker = match &mut self.waker {
             Some(waker) => Some(waker.another()?),
             None => None,
         };
-        Ok(Bell { said, waker })
+        Ok(Bell { said, pool, waker })
     }
 
     /// Says that the job of this request said something. False where nobody hears it.
     pub fn ring<T: Wait>(&mut self, rt: &T, id: RequestId) -> bool {
-        if self.said.send(rt, id).is_err() {
+        if !self.say(rt, id) {
             return false;
         }
         match &mut self.waker {
             Some(waker) => waker.wake(rt),
             None => true,
         }
+    }
+
+    /// Puts the id into its channel. While the channel cannot grow, it waits until an earlier id is taken or the pool ends.
+    fn say<T: Wait>(&self, rt: &T, id: RequestId) -> bool {
+        let mut id = id;
+        for _ in rt.forever() {
+            match self.said.send(rt, id) {
+                Ok(()) => return true,
+                Err(SendError::OutOfMemory(back)) => id = back,
+                Err(SendError::Disconnected(_)) => return false,
+            }
+            if self.pool.is_cancelled() {
+                return false;
+            }
+            yield_now();
+        }
+        unreachable!()
     }
 }

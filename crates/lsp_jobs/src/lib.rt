@@ -7,6 +7,7 @@ mod cancellation;
 mod job;
 mod job_server;
 pub mod laws;
+mod line;
 mod pool;
 mod pooled_server;
 mod run;

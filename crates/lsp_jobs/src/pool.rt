@@ -5,13 +5,14 @@ ghost use Rattle.lsp_jobs.specs.Table.{no_jobs, without, with_job, IsReport, Tel
 ghost use Rattle.lsp_jobs.specs.PoolView.{job_of, news_view, table_of};
 
 use crate::assignment::{Awaited, Saying, assign};
-use crate::bell::Bell;
+use crate::bell::{Bell, channel_of_ids};
 use crate::cancellation::CancellationToken;
 use crate::job::{Job, Ran};
+use crate::line::{WaitingErrands, line_of_errands};
 use crate::workers::{Order, join_all, start_job_workers};
-use crossbeam_channel::{Receiver, Sender, bounded, unbounded};
+use crossbeam_channel::Receiver;
 use lsp_message::{Notification, RequestId, ResponseError};
-use lsp_queue::{Incoming, ReqQueue};
+use lsp_queue::{Incoming, RegisterFault, ReqQueue};
 use lsp_relay::RelayWaker;
 use lsp_threads::StartFault;
 use serde_json::Value;
@@ -24,7 +25,8 @@ use std::thread::{JoinHandle, Threads};
 pub struct PoolSize {
     /// How many threads run jobs: at least one.
     pub workers: usize,
-    /// How many jobs may wait for a thread: at least one. `None` sets no bound.
+    /// How many jobs may wait for a thread: at least one. A job that is forgotten or replaced waits no more, whether a thread is free
+    /// or not. `None` sets no bound.
     pub waiting: Option<usize>,
 }
 
@@ -69,6 +71,8 @@ pub enum JobNews {
 pub(crate) struct Entry<J: Job> {
     pub(crate) token: CancellationToken,
     pub(crate) awaited: Awaited<J, Ran>,
+    /// Where its job waits for a thread, if none took it yet.
+    pub(crate) place: u64,
 }
 
 /// Threads that run jobs, and the requests that wait for them. Contracts see a table: under the id of each such request, its job.
@@ -80,7 +84,7 @@ pub struct JobPool<T: Wait + Drop, J: Job> {
     alloc: Global,
     tokens: CancellationToken,
     jobs: Incoming<Entry<J>>,
-    orders: Sender<Order<J, Ran>>,
+    orders: WaitingErrands<Order<J, Ran>>,
     workers: Vec<JoinHandle<()>>,
 }
 
@@ -90,7 +94,8 @@ where
     J: Job + Send + 'static,
 {
     /// Starts threads that run jobs. It gives the pool, with no job, and the end of a channel on which comes the id of a job that has
-    /// news: then ask `take_news`, once for each id. The channel has room for all ids, so no job waits for your loop.
+    /// news: then ask `take_news`, once for each id. The channel has room for all ids, so no job waits for your loop. Only if memory for
+    /// one more id is missing, the job that has news waits until you take an earlier one, or memory is there again.
     ///
     /// After a fault no thread is left.
     pub fn start(
@@ -134,14 +139,18 @@ where
     M: Drop + Send + 'static,
     ensures { IfOk result (λ started. table_of started.0 ≡ no_jobs) }
 {
-    let Ok((said, news)) = unbounded(alloc) else {
-        return Err(StartFault::Memory);
-    };
-    let mut bell = Bell::new(said, waker);
-    let Ok((orders, taken)) = orders_with_room(alloc, size.waiting) else {
+    let Ok((said, news)) = channel_of_ids(rt, alloc) else {
         return Err(StartFault::Memory);
     };
     let Ok(tokens) = CancellationToken::new(alloc) else {
+        return Err(StartFault::Memory);
+    };
+    let Ok(ended) = tokens.share() else {
+        return Err(StartFault::Memory);
+    };
+    let mut bell = Bell::new(said, ended, waker);
+    let room = size.waiting.map(|waiting| waiting.max(1));
+    let Ok((orders, taken)) = line_of_errands(alloc, room) else {
         return Err(StartFault::Memory);
     };
     let queue: ReqQueue<Entry<J>, ()> = ReqQueue::default(alloc);
@@ -162,17 +171,6 @@ where
     }
 }
 
-/// A channel of orders that has room for so many.
-fn orders_with_room<O: Drop>(
-    alloc: Global,
-    room: Option<usize>,
-) -> Result<(Sender<O>, Receiver<O>), AllocError> {
-    match room {
-        Some(room) => bounded(alloc, room.max(1)),
-        None => unbounded(alloc),
-    }
-}
-
 impl<T: Wait + Drop, J: Job> JobPool<T, J> {
     /// Gives the job of a request to the threads; it never waits for one. An earlier job under the id is forgotten. After a fault no job
     /// is under the id. After `TakeFault::Memory` this one may run all the same, and nobody waits for it.
@@ -181,19 +179,28 @@ impl<T: Wait + Drop, J: Job> JobPool<T, J> {
         ensures err { OnErr result (table_of self.new ≡ without id (table_of self.old)) }
     {
         self.forget(&id);
-        let (order, entry) = self.prepare(&id, job)?;
-        self.hand_over(order)?;
+        let entry = self.hand_over(&id, job)?;
         self.keep(id, entry)?;
         Ok(())
     }
 
-    /// Hands an order to the workers.
-    fn hand_over(&self, order: Order<J, Ran>) -> Result<(), TakeFault> {
-        match self.orders.try_send(&self.rt, order) {
-            Ok(()) => Ok(()),
-            Err(refused) if refused.is_full() => Err(TakeFault::Full),
-            Err(_) => Err(TakeFault::Memory),
-        }
+    /// Gives a job to the workers, and makes what stays here.
+    fn hand_over(&self, id: &RequestId, job: J) -> Result<Entry<J>, TakeFault>
+        ensures { IfOk result (λ entry. job_of entry ≡ «job») }
+    {
+        let token = self.tokens.of_pool(self.alloc)?;
+        let (assignment, awaited) = assign(&self.rt, self.alloc, job)?;
+        let order = Order {
+            id: id.clone()?,
+            assignment,
+            token: token.share()?,
+        };
+        let place = self.orders.add(&self.rt, order)?;
+        Ok(Entry {
+            token,
+            awaited,
+            place,
+        })
     }
 
     /// Whether the request with this id waits for its job.
@@ -204,13 +211,19 @@ impl<T: Wait + Drop, J: Job> JobPool<T, J> {
     }
 
     /// The request with this id needs no outcome any more, since it was cancelled or answered otherwise: cancels the job's token, and
-    /// what it says is dropped.
+    /// what it says is dropped. A job that still waits for a thread is dropped at once, and another may wait in its place.
     pub fn forget(&mut self, id: &RequestId)
         ensures { table_of self.new ≡ without id.now (table_of self.old) }
     {
         if let Some(entry) = self.jobs.complete(id) {
-            entry.token.cancel();
+            self.let_go(entry);
         }
+    }
+
+    /// Nobody waits for this job any more.
+    fn let_go(&self, entry: Entry<J>) {
+        entry.token.cancel();
+        self.orders.take_back(&self.rt, entry.place);
     }
 
     /// What the job of this request said next: a report, and the request goes on waiting; or the outcome, and it waits no more. `None`
@@ -229,24 +242,14 @@ impl<T: Wait + Drop, J: Job> JobPool<T, J> {
         match entry.awaited.take(&self.rt) {
             Some(Saying::Outcome(ran)) => Ok(Some(JobNews::Outcome(ran?))),
             said => {
-                self.keep(id.clone()?, entry)?;
+                let Ok(same) = id.clone() else {
+                    self.let_go(entry);
+                    return Err(AllocError);
+                };
+                self.keep(same, entry)?;
                 Ok(report_in(said))
             }
         }
-    }
-
-    /// Makes what goes to a worker, and what stays here.
-    fn prepare(&self, id: &RequestId, job: J) -> Result<(Order<J, Ran>, Entry<J>), AllocError>
-        ensures { IfOk result (λ made. job_of made.1 ≡ «job») }
-    {
-        let token = self.tokens.of_pool(self.alloc)?;
-        let (assignment, awaited) = assign(&self.rt, self.alloc, job)?;
-        let order = Order {
-            id: id.clone()?,
-            assignment,
-            token: token.share()?,
-        };
-        Ok((order, Entry { token, awaited }))
     }
 
     /// A request waits for its job.
@@ -256,7 +259,14 @@ impl<T: Wait + Drop, J: Job> JobPool<T, J> {
     {
         match self.jobs.register(id, entry) {
             Ok(()) => Ok(()),
-            Err(_) => Err(AllocError),
+            Err(
+                RegisterFault::Memory(entry)
+                | RegisterFault::Unwritable(entry)
+                | RegisterFault::Spent(entry),
+            ) => {
+                self.let_go(entry);
+                Err(AllocError)
+            }
         }
     }
 }

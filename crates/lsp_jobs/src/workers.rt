@@ -4,7 +4,7 @@ use crate::assignment::{Assignment, Task};
 use crate::bell::Bell;
 use crate::cancellation::CancellationToken;
 use crate::job::{Job, Ran};
-use crossbeam_channel::Receiver;
+use crate::line::ErrandSource;
 use lsp_message::RequestId;
 use lsp_threads::StartFault;
 use std::sync::Wait;
@@ -43,10 +43,10 @@ impl<J: Task<R>, R: Drop> Errand for Order<J, R> {
 }
 
 /// Runs errands until no more come.
-fn work<T: Wait + Copy + Drop, E: Errand, M: Drop>(rt: T, errands: Receiver<E>, bell: Bell<M>) {
+fn work<T: Wait + Copy + Drop, E: Errand, M: Drop>(rt: T, errands: ErrandSource<E>, bell: Bell<M>) {
     let mut bell = bell;
     for _ in rt.forever() {
-        let Ok(errand) = errands.recv(&rt) else {
+        let Some(errand) = errands.next(&rt) else {
             return;
         };
         if errand.is_wanted() {
@@ -58,7 +58,7 @@ fn work<T: Wait + Copy + Drop, E: Errand, M: Drop>(rt: T, errands: Receiver<E>, 
 /// Starts a worker.
 fn start_worker<T, E, M>(
     rt: &T,
-    errands: &Receiver<E>,
+    errands: &ErrandSource<E>,
     bell: &mut Bell<M>,
 ) -> Result<JoinHandle<()>, StartFault>
 where
@@ -66,7 +66,7 @@ where
     E: Errand + Send + 'static,
     M: Drop + Send + 'static,
 {
-    let Ok(errands) = errands.clone() else {
+    let Ok(errands) = errands.another() else {
         return Err(StartFault::Memory);
     };
     let Ok(bell) = bell.another() else {
@@ -84,7 +84,7 @@ where
 pub(crate) fn start_workers<T, E, M>(
     rt: &T,
     count: usize,
-    errands: Receiver<E>,
+    errands: ErrandSource<E>,
     bell: &mut Bell<M>,
     workers: &mut Vec<JoinHandle<()>>,
 ) -> Result<(), StartFault>
@@ -109,7 +109,7 @@ where
 pub(crate) fn start_job_workers<T, J, M>(
     rt: &T,
     count: usize,
-    orders: Receiver<Order<J, Ran>>,
+    orders: ErrandSource<Order<J, Ran>>,
     bell: &mut Bell<M>,
     workers: &mut Vec<JoinHandle<()>>,
 ) -> Result<(), StartFault>

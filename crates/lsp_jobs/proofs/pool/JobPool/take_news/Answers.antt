@@ -12,8 +12,8 @@ returns-in_default-clause-none g c =
 pub returns-in_err-ran-in-Some-Outcome-clause-err : goal.returns-in_err-ran-in-Some-Outcome-clause-err
 returns-in_err-ran-in-Some-Outcome-clause-err g c = on_err _ (table_remove job_of _ _ c.args.id.now c.complete.ensures.removed)
 
-pub returns-in_err-clone-in_default-take-clause-err : goal.returns-in_err-clone-in_default-take-clause-err
-returns-in_err-clone-in_default-take-clause-err g c = on_err _ (table_remove job_of _ _ c.args.id.now c.complete.ensures.removed)
+pub returns-in_default-clone-clause-err : goal.returns-in_default-clone-clause-err
+returns-in_default-clone-clause-err g c = table_remove job_of _ _ c.args.id.now c.complete.ensures.removed
 
 pub returns-in_err-keep-in_default-take-clause-err : goal.returns-in_err-keep-in_default-take-clause-err
 returns-in_err-keep-in_default-take-clause-err g c = on_err _ (c.in_err-keep-in_default-take.ensures.err ∙ table_remove job_of _ _ c.args.id.now c.complete.ensures.removed)
@@ -31,7 +31,7 @@ returns-in_ok-keep-in_default-take-clause-none g c =
     let before = table_of c.args.self.now in
     let rest = jobs_in job_of c.complete.new.self in
     let waits = ap (option_map job_of) (sym c.in-Some.ensures.value) in
-    if_none _ (c.in_ok-keep-in_default-take.ensures.ok ∙ ap (λ id. with_job id c.take.new.self rest) c.in_ok-clone-in_default-take.ensures ∙ ap (λ job. with_job c.args.id.now job rest) c.take.ensures.task
+    if_none _ (c.in_ok-keep-in_default-take.ensures.ok ∙ ap (λ id. with_job id c.take.new.self rest) c.in-Ok.ensures ∙ ap (λ job. with_job c.args.id.now job rest) c.take.ensures.task
     ∙ ap (with_job c.args.id.now c.in-Some.entry.awaited) (table_remove job_of _ _ c.args.id.now c.complete.ensures.removed) ∙ with_same before c.args.id.now c.in-Some.entry.awaited waits)
 
 pub returns-in_ok-keep-in_default-take-clause-some : goal.returns-in_ok-keep-in_default-take-clause-some
@@ -40,6 +40,6 @@ returns-in_ok-keep-in_default-take-clause-some g c =
     let rest = jobs_in job_of c.complete.new.self in
     let waits = ap (option_map job_of) (sym c.in-Some.ensures.value) in
     reported g.J.Job.answers c.args.id.now before _ _ (is_some _ _ waits)
-    (c.in_ok-keep-in_default-take.ensures.ok ∙ ap (λ id. with_job id c.take.new.self rest) c.in_ok-clone-in_default-take.ensures ∙ ap (λ job. with_job c.args.id.now job rest) c.take.ensures.task
+    (c.in_ok-keep-in_default-take.ensures.ok ∙ ap (λ id. with_job id c.take.new.self rest) c.in-Ok.ensures ∙ ap (λ job. with_job c.args.id.now job rest) c.take.ensures.task
     ∙ ap (with_job c.args.id.now c.in-Some.entry.awaited) (table_remove job_of _ _ c.args.id.now c.complete.ensures.removed) ∙ with_same before c.args.id.now c.in-Some.entry.awaited waits)
     c.report_in.ensures

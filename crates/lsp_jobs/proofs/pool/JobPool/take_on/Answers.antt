@@ -4,8 +4,8 @@ use Rattle.lsp_jobs.specs.PoolView.{job_of, table_of}
 use Rattle.lsp_jobs.specs.Table.{with_job}
 use Rattle.lsp_jobs.proofs.pool.JobPool.take_on.Goals as goal
 
-pub returns-in_err-order-clause-err : goal.returns-in_err-order-clause-err
-returns-in_err-order-clause-err g c = on_err _ c.forget.ensures
+pub returns-in_err-entry-clause-err : goal.returns-in_err-entry-clause-err
+returns-in_err-entry-clause-err g c = on_err _ c.forget.ensures
 
 pub returns-in_err-keep-clause-err : goal.returns-in_err-keep-clause-err
 returns-in_err-keep-clause-err g c = on_err _ (c.in_err-keep.ensures.err ∙ c.forget.ensures)
@@ -13,6 +13,6 @@ returns-in_err-keep-clause-err g c = on_err _ (c.in_err-keep.ensures.err ∙ c.f
 pub returns-clause-ok : goal.returns-clause-ok
 returns-clause-ok g c =
     let before = table_of c.args.self.now in
-    let job = job_of c.in_ok-order.entry in
+    let job = job_of c.in_ok-entry.entry in
     c.in_ok-keep.ensures.ok ∙ ap (with_job c.args.id job) c.forget.ensures ∙ with_again before c.args.id job
-    ∙ ap (λ job. with_job c.args.id job before) c.in_ok-order.ensures
+    ∙ ap (λ job. with_job c.args.id job before) c.in_ok-entry.ensures

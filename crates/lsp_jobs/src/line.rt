@@ -1,0 +1,114 @@
+// The errands that wait for a worker. One that is taken back gives its place to another at once.
+use crate::pool::TakeFault;
+use crossbeam_channel::{Receiver, Sender, unbounded};
+use std::alloc::{AllocError, Global};
+use std::collections::BTreeMap;
+use std::sync::{Arc, Mutex, Wait};
+
+/// Errands under the numbers of their places. An older one has a smaller number.
+#[derive(Drop)]
+struct Line<E: Drop> {
+    errands: BTreeMap<u64, E>,
+    next: u64,
+}
+
+/// The end of the line at which errands are added, and taken back. With each goes a ticket. A worker takes a ticket first, and then the
+/// oldest errand: so it sleeps at a channel, and sees its end. Where an errand was taken back, a ticket is left over.
+#[derive(Drop)]
+pub(crate) struct WaitingErrands<E: Drop> {
+    line: Arc<Mutex<Line<E>>>,
+    tickets: Sender<()>,
+    room: Option<usize>,
+}
+
+/// The end of the line at which a worker takes errands.
+#[derive(Drop)]
+pub(crate) struct ErrandSource<E: Drop> {
+    line: Arc<Mutex<Line<E>>>,
+    tickets: Receiver<()>,
+}
+
+/// A line in which so many errands may wait.
+pub(crate) fn line_of_errands<E: Drop>(
+    alloc: Global,
+    room: Option<usize>,
+) -> Result<(WaitingErrands<E>, ErrandSource<E>), AllocError> {
+    let (sender, receiver) = unbounded(alloc)?;
+    let empty = Line {
+        errands: BTreeMap::new(alloc),
+        next: 0,
+    };
+    let Ok(line) = Arc::new(alloc, Mutex::new(empty)) else {
+        return Err(AllocError);
+    };
+    let source = ErrandSource {
+        line: Arc::try_clone(&line)?,
+        tickets: receiver,
+    };
+    let waiting = WaitingErrands {
+        line,
+        tickets: sender,
+        room,
+    };
+    Ok((waiting, source))
+}
+
+impl<E: Drop> Line<E> {
+    /// Adds an errand behind all others, and gives the number of its place.
+    fn add(&mut self, errand: E) -> Result<u64, AllocError> {
+        let place = self.next;
+        match self.errands.insert(place, errand) {
+            Ok(_) => {
+                self.next = place.wrapping_add(1);
+                Ok(place)
+            }
+            Err(_) => Err(AllocError),
+        }
+    }
+}
+
+impl<E: Drop> WaitingErrands<E> {
+    /// Adds an errand behind all others, and gives the number of its place.
+    pub fn add<T: Wait>(&self, rt: &T, errand: E) -> Result<u64, TakeFault> {
+        let mut line = self.line.lock(rt);
+        if let Some(room) = self.room {
+            if line.errands.len() >= room {
+                return Err(TakeFault::Full);
+            }
+        }
+        if self.tickets.send(rt, ()).is_err() {
+            return Err(TakeFault::Memory);
+        }
+        Ok(line.add(errand)?)
+    }
+
+    /// Takes the errand at this place back, and drops it. If a worker took it, nothing is done.
+    pub fn take_back<T: Wait>(&self, rt: &T, place: u64) {
+        let errand = self.line.lock(rt).errands.remove(&place);
+        drop(errand);
+    }
+}
+
+impl<E: Drop> ErrandSource<E> {
+    /// The same, for another worker. The error means that an allocation failed.
+    pub fn another(&self) -> Result<ErrandSource<E>, AllocError> {
+        Ok(ErrandSource {
+            line: Arc::try_clone(&self.line)?,
+            tickets: self.tickets.clone()?,
+        })
+    }
+
+    /// Waits for the oldest errand. `None` means that no more come.
+    pub fn next<T: Wait>(&self, rt: &T) -> Option<E> {
+        for _ in rt.forever() {
+            if self.tickets.recv(rt).is_err() {
+                return None;
+            }
+            let oldest = self.line.lock(rt).errands.pop_first();
+            if let Some((_, errand)) = oldest {
+                return Some(errand);
+            }
+        }
+        unreachable!()
+    }
+}
