@@ -77,9 +77,12 @@ def text_member(value, name):
 
 def position_member(value, name):
     shape(isinstance(value, dict) and isinstance(value.get(name), dict))
-    numbers = [value[name].get("line"), value[name].get("character")]
-    shape(all(whole(it, 0, GREATEST) for it in numbers))
-    return tuple(numbers)
+    line, character = value[name].get("line"), value[name].get("character")
+    if whole(line, -(2**63), -1):
+        # a negative line counts as 0 (LSP 3.17, "Position")
+        line = 0
+    shape(all(whole(it, 0, GREATEST) for it in (line, character)))
+    return line, character
 
 
 def span_of(change):

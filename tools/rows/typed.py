@@ -83,12 +83,17 @@ def is_unsigned(value):
     return isinstance(value, int) and not isinstance(value, bool) and 0 <= value < 2**32
 
 
+def is_line(value):
+    """A line, by the same rule: a negative one counts as 0 (LSP 3.17, "Position")."""
+    return is_unsigned(value) or isinstance(value, int) and -(2**63) <= value < 0
+
+
 def or_null(is_right):
     return lambda value: value is None or is_right(value)
 
 
 def place(value):
-    return f"{member(value, 'line', is_unsigned)}:{member(value, 'character', is_unsigned)}"
+    return f"{max(0, member(value, 'line', is_line))}:{member(value, 'character', is_unsigned)}"
 
 
 def changed(change):

@@ -1,9 +1,9 @@
 -- What the params of a notification say (LSP 3.17, "DidOpenTextDocumentParams" and the ones after it), and the encoding that a
 -- client offers ("GeneralClientCapabilities").
-use Rattle.std.specs.Prelude.{ℕ, ℤ, nat_lt, if◌then◌else◌, List, [], ◌∷◌, Option, Some, None, option_map, option_and_then, unwrap_or, codes, is_some}
+use Rattle.std.specs.Prelude.{ℕ, ℤ, pos, nat_lt, int_lt, Bool, false, if◌then◌else◌, List, [], ◌∷◌, Option, Some, None, option_map, option_and_then, unwrap_or, codes, is_some}
 use Rattle.std.specs.Str.{bytes_eq}
 use Rattle.serde_json.specs.Data.{Data, null, Items, no_items, item}
-use Rattle.serde_json.specs.Find.{get, as_str, as_number, as_u64, as_array}
+use Rattle.serde_json.specs.Find.{get, as_str, as_number, as_u64, as_i64, as_array}
 use Rattle.lsp_message.specs.Meaning.{as_i32}
 use Rattle.lsp_text.specs.Documents.{Document, Change}
 use Rattle.lsp_text.specs.declared.position.Position.{Position}
@@ -24,6 +24,14 @@ small n = if nat_lt n 0x1_0000_0000 then Some n else None
 abbrev pub count_in : List ℕ → Data → Option ℕ
 count_in name d = option_and_then small (option_and_then as_u64 (option_and_then as_number (get name d)))
 
+-- whether a number is an integer below 0, if the value is one
+abbrev pub is_negative : Option Data → Bool
+is_negative d = unwrap_or (option_map (λ z. int_lt z (pos 0)) (option_and_then as_i64 (option_and_then as_number d))) false
+
+-- the line of a position: a negative one counts as 0
+abbrev pub line_in : Data → Option ℕ
+line_in d = if is_negative (get (codes "line") d) then Some 0 else count_in (codes "line") d
+
 -- a version. None may be given, and `null` is none
 abbrev pub given_version : Option Data → Option (Option ℤ)
 given_version None = Some None
@@ -36,7 +44,7 @@ version_in d = given_version (get (codes "version") d)
 -- ---- changes
 
 abbrev pub position_in : Data → Option Position
-position_in d = option_and_then (λ line. option_map (λ character. record { line = line; character = character }) (count_in (codes "character") d)) (count_in (codes "line") d)
+position_in d = option_and_then (λ line. option_map (λ character. record { line = line; character = character }) (count_in (codes "character") d)) (line_in d)
 
 abbrev pub range_in : Data → Option Range
 range_in d = option_and_then (λ start. option_map (λ end. record { start = start; end = end }) (option_and_then position_in (get (codes "end") d))) (option_and_then position_in (get (codes "start") d))

@@ -4,7 +4,7 @@ ghost use Rattle.serde_json.specs.Find.{get, as_array};
 ghost use Rattle.serde_json.specs.View.{view, items_view};
 ghost use Rattle.lsp_text.specs.Documents.{Change, Document};
 ghost use Rattle.lsp_documents.specs.Session.{has_whole, has_changes};
-ghost use Rattle.lsp_documents.specs.Params.{text_in as text_of, count_in as count_of, version_in as version_from, position_in as position_of, range_in as range_of, given_range as range_given, change_in as change_of, changes_in as changes_of, document_in as document_of, uri_in as uri_of, opened_in, changes_given, encoding_named as named, first_named as first_of, offered_in as offers, agreed_in};
+ghost use Rattle.lsp_documents.specs.Params.{text_in as text_of, count_in as count_of, line_in as line_of, is_negative as is_below, version_in as version_from, position_in as position_of, range_in as range_of, given_range as range_given, change_in as change_of, changes_in as changes_of, document_in as document_of, uri_in as uri_of, opened_in, changes_given, encoding_named as named, first_named as first_of, offered_in as offers, agreed_in};
 
 use lsp_text::{ContentChange, Position, PositionEncoding, Range};
 use serde_json::Value;
@@ -27,6 +27,30 @@ fn count_in(value: &Value, name: &str) -> Option<u32>
     }
 }
 
+/// Whether a value is an integer below 0, if it is one that 64 bits hold.
+fn is_negative(value: Option<&Value>) -> bool
+    ensures { result ≡ is_below (option_map (λ v. view v.now) value.entry) }
+{
+    match value {
+        Some(value) => match value.as_i64() {
+            Some(number) => number < 0,
+            None => false,
+        },
+        None => false,
+    }
+}
+
+/// The line of a position. A negative one counts as 0 (LSP 3.17, `Position`).
+fn line_in(position: &Value) -> Option<u32>
+    ensures { result ≡ line_of (view position.now) }
+{
+    if is_negative(position.get("line")) {
+        Some(0)
+    } else {
+        count_in(position, "line")
+    }
+}
+
 /// The version of a document, where one is given.
 fn version_in(document: &Value) -> Option<Option<i32>>
     ensures { result ≡ version_from (view document.now) }
@@ -41,11 +65,11 @@ fn version_in(document: &Value) -> Option<Option<i32>>
     }
 }
 
-/// A position (LSP 3.17, `Position`), if the value is one: its numbers are whole ones that 32 bits hold.
+/// A position (LSP 3.17, `Position`), if the value is one: its numbers are whole ones that 32 bits hold, and a negative line is 0.
 pub fn position_in(position: &Value) -> Option<Position>
     ensures { result ≡ position_of (view position.now) }
 {
-    let line = count_in(position, "line")?;
+    let line = line_in(position)?;
     let character = count_in(position, "character")?;
     Some(Position { line, character })
 }

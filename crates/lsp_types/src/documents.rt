@@ -1,8 +1,9 @@
 //! Places in texts, and what a client tells of its documents.
-use serde::{Deserialize, Serialize};
+use serde::{Deserialize, Deserializer, Format, Serialize};
+use std::alloc::Global;
 
-/// A place between two characters (LSP 3.17, "Position").
-#[derive(Clone, Copy, Drop, PartialEq, Serialize, Deserialize)]
+/// A place between two characters (LSP 3.17, "Position"). On reading, a negative line counts as 0.
+#[derive(Clone, Copy, Drop, PartialEq, Serialize)]
 pub struct Position {
     /// The line, from 0.
     pub line: u32,
@@ -18,6 +19,26 @@ impl Position {
         ensures { result ≡ record { line = line; character = character } }
     {
         Position { line, character }
+    }
+}
+
+/// A position as it is sent.
+#[derive(Drop, Deserialize)]
+struct SentPosition {
+    line: i64,
+    character: u32,
+}
+
+impl<'de> Deserialize<'de> for Position {
+    fn deserialize<F: Format>(
+        alloc: Global,
+        from: &mut Deserializer<'de, '_, F>,
+    ) -> Result<Position, F::Error> {
+        let sent = SentPosition::deserialize(alloc, from)?;
+        match u32::try_from(sent.line.max(0)) {
+            Ok(line) => Ok(Position::new(line, sent.character)),
+            Err(_) => Err(from.invalid()),
+        }
     }
 }
 

@@ -1,5 +1,6 @@
 //! Types of LSP 3.17 that most servers use, under the standard's names. What a client sends is read (`Request::params_as`), and
-//! what a server sends is written (`Act::reply`, `Act::tell`, `Act::ask`). A type that goes both ways does both.
+//! what a server sends is written (`Act::reply`, `Act::tell`, `Act::ask`). `Position`, `Range` and what holds no more than they do go
+//! both ways.
 //!
 //! Each is safe and each call returns; that its keys are the standard's is tested and not proved. Take the crate beside
 //! `lsp_server`, or copy the types that you need.
