@@ -11,11 +11,11 @@ use std::alloc::AllocError;
 /// The work of one request, with all that it needs. It runs in a thread of a `JobPool`.
 pub trait Job: Drop {
     ghost use Rattle.serde_json.specs.Data.{Data};
-    ghost use Rattle.std.specs.Prelude.{Result};
+    ghost use Rattle.std.specs.Prelude.{Result, ⊤};
     ghost use Rattle.lsp_message.specs.Message.{ErrorObject};
 
-    /// The job may come to this outcome.
-    ghost answers: { Self → Result Data ErrorObject → Type 0 };
+    /// The job may come to this outcome. Where an `impl` leaves this out, it may come to any.
+    ghost answers: { Self → Result Data ErrorObject → Type 0 } = { λ _ _. ⊤ };
 
     /// Comes to the outcome of the request. It may look at the token, and stop early with any outcome. It may tell by `progress` how
     /// far it is. An outer `Err` is a failed allocation: see `JobPool::take_news`.

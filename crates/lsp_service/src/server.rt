@@ -26,9 +26,11 @@ pub enum Act<P> {
 
 /// A server that speaks. What each method gives are acts, which are done in order when it returns. An `Err` is a failed
 /// allocation, and ends the session; nothing is sent for that message. One that waits for more than messages is a `WokenServer` too.
+///
+/// The ghost members say what a server promises. Where an `impl` leaves one out, it promises nothing there: the method may do anything.
 pub trait Server {
     ghost use Rattle.serde_json.specs.Data.{Data};
-    ghost use Rattle.std.specs.Prelude.{ℕ, Result};
+    ghost use Rattle.std.specs.Prelude.{ℕ, Result, ⊤};
     ghost use Rattle.lsp_message.specs.Id.{Id};
     ghost use Rattle.lsp_message.specs.Message.{ErrorObject};
 
@@ -36,22 +38,22 @@ pub trait Server {
     type Payload: Drop;
 
     /// For these params of `initialize` it may give this outcome, and change so.
-    ghost initializes: { Self → Data → Result Data ErrorObject → Self → Type 0 };
+    ghost initializes: { Self → Data → Result Data ErrorObject → Self → Type 0 } = { λ _ _ _ _. ⊤ };
 
     /// At `initialized` it may do this, and change so.
-    ghost begins: { Self → List (PlainAct Self.Payload) → Self → Type 0 };
+    ghost begins: { Self → List (PlainAct Self.Payload) → Self → Type 0 } = { λ _ _ _. ⊤ };
 
     /// At a request with this id, method and params it may do this, and change so.
-    ghost requested: { Self → Id → List ℕ → Data → List (PlainAct Self.Payload) → Self → Type 0 };
+    ghost requested: { Self → Id → List ℕ → Data → List (PlainAct Self.Payload) → Self → Type 0 } = { λ _ _ _ _ _ _. ⊤ };
 
     /// At a notification with this method and these params it may do this, and change so.
-    ghost notified: { Self → List ℕ → Data → List (PlainAct Self.Payload) → Self → Type 0 };
+    ghost notified: { Self → List ℕ → Data → List (PlainAct Self.Payload) → Self → Type 0 } = { λ _ _ _ _ _. ⊤ };
 
     /// At a reply to a request of its own it may do this, and change so.
-    ghost replied: { Self → Self.Payload → Result Data ErrorObject → List (PlainAct Self.Payload) → Self → Type 0 };
+    ghost replied: { Self → Self.Payload → Result Data ErrorObject → List (PlainAct Self.Payload) → Self → Type 0 } = { λ _ _ _ _ _. ⊤ };
 
     /// It may take this back, and change so.
-    ghost takes_back: { Self → Self.Payload → Self → Type 0 };
+    ghost takes_back: { Self → Self.Payload → Self → Type 0 } = { λ _ _ _. ⊤ };
 
     /// What comes of `initialize` (LSP 3.17, "Initialize Request"): the result, with the capabilities, the server's name and
     /// version; or an error, which is sent as the reply, and the session goes on waiting for another `initialize`.
@@ -89,7 +91,8 @@ pub trait Server {
         ensures { IfOk result (λ _. takes_back self.old «payload» self.new) };
 }
 
-/// A server that is woken: it waits for more than the messages of its client. `serve_with_woken` and `WokenQueuedServer` wake it.
+/// A server that is woken: it waits for more than the messages of its client. `serve_with_woken` and `WokenQueuedServer` wake it. Each
+/// one says what it does at a wake: `wakes` has no default.
 pub trait WokenServer: Server {
     ghost use Rattle.std.specs.Prelude.{List};
     ghost use Rattle.lsp_service.specs.Desk.{Act as PlainAct};

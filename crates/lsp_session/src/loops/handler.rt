@@ -24,17 +24,19 @@ pub enum SessionEnd {
 }
 
 /// What a server does with the requests and the notifications of a session.
+///
+/// The ghost members say what a handler promises. Where an `impl` leaves one out, it promises nothing there: the method may do anything.
 pub trait Handler {
     ghost use Rattle.serde_json.specs.Data.{Data};
-    ghost use Rattle.std.specs.Prelude.{ℕ, Result};
+    ghost use Rattle.std.specs.Prelude.{ℕ, Result, ⊤};
     ghost use Rattle.lsp_message.specs.Id.{Id};
     ghost use Rattle.lsp_message.specs.Message.{ErrorObject};
 
     /// A request with this id, method and params may have this outcome, and change the handler so.
-    ghost answers: { Self → Id → List ℕ → Data → Result Data ErrorObject → Self → Type 0 };
+    ghost answers: { Self → Id → List ℕ → Data → Result Data ErrorObject → Self → Type 0 } = { λ _ _ _ _ _ _. ⊤ };
 
     /// A notification with this method and these params may change the handler so.
-    ghost notes: { Self → List ℕ → Data → Self → Type 0 };
+    ghost notes: { Self → List ℕ → Data → Self → Type 0 } = { λ _ _ _ _. ⊤ };
 
     /// What came of a request: its result, or an error (JSON-RPC 2.0, section 5). The session sends it under the
     /// request's id. An outer `Err` says that an allocation failed, and ends the session.
