@@ -1,5 +1,5 @@
 -- A message that nests more than 127 levels is not read from its frame.
-use Rattle.std.proofs.Common.{◌≡◌, ℕ, zero, suc, ◌<◌, ◌≤◌, ◌^◌, max, pos, negsuc, ℤ, List, [], ◌∷◌, ◌++◌, length, Bool, true, false, Option, Some, None, Result, Ok, Err, option_and_then, codes, refl, sym, ap, ap₂, ◌∙◌, arith, append_assoc, append-nil, length-append, take, ⊎_elim, nat_lt}
+use Rattle.std.proofs.Common.{◌≡◌, ℕ, zero, suc, ◌<◌, ◌^◌, max, pos, negsuc, ℤ, List, [], ◌∷◌, ◌++◌, length, Bool, true, false, Option, Some, None, Result, Ok, Err, option_and_then, codes, refl, sym, ap, ap₂, ◌∙◌, arith, append_assoc, append-nil, length-append, take, ⊎_elim, nat_lt}
 use Rattle.std.proofs.Math.Seq.{take-length}
 use Rattle.std.proofs.lemmas.Bool.{cases_Bool, leb-true, leb-false, le-ltb}
 use Rattle.std.specs.Fmt.{decimal}

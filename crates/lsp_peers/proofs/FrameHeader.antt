@@ -1,7 +1,7 @@
 -- The header part of a frame is its body's length, and the body is left.
-use Rattle.std.proofs.Common.{◌≡◌, ◌≢◌, ℕ, zero, suc, ◌+◌, ◌-◌, ◌<◌, ◌≤◌, ◌^◌, All, Bool, true, false, List, [], ◌∷◌, ◌++◌, length, get_or, codes, Option, Some, None, Result, Ok, Err, refl, sym, ap, ◌∙◌, subst, arith, append_assoc, append-nil, length-append, nat_lt, eqb}
+use Rattle.std.proofs.Common.{◌≡◌, ◌≢◌, ℕ, suc, ◌-◌, ◌<◌, ◌^◌, All, Bool, true, false, List, [], ◌∷◌, ◌++◌, length, codes, Option, Some, None, Result, Ok, Err, refl, sym, ap, ◌∙◌, arith, append-nil, length-append, nat_lt}
 use lib.Utf8.{encode}
-use Rattle.std.proofs.lemmas.Bool.{cases_Bool, ltb-false, ne_eqb}
+use Rattle.std.proofs.lemmas.Bool.{ltb-false, ne_eqb}
 use Rattle.std.proofs.lemmas.Fmt.{decimal_is_IsNumeral}
 use Rattle.std.proofs.lemmas.List.{get_or_default}
 use Rattle.std.proofs.lemmas.Str.{IsUtf8-from_is_utf8, is_utf8-from_IsUtf8}
@@ -12,14 +12,11 @@ use Rattle.std.specs.List.{concat}
 use Rattle.std.specs.Prelude.{if◌then◌else◌, ◌==◌}
 use Rattle.std.specs.Str.{IsUtf8, is_utf8, chars}
 use Rattle.lsp_message.proofs.FrontOfFrame.{front_of-whole}
-use Rattle.lsp_message.specs.Faults.{read_fault_number}
 use Rattle.lsp_message.specs.Front.{at_header_end, front_end, front_of}
 use Rattle.lsp_message.specs.HeaderPart.{onto_first, lines, header_line, is_field, fields, after_fields, length_in, content_length, at_last_line, header_end, header_of}
-use Rattle.lsp_message.specs.Reading.{Reading}
 use Rattle.lsp_message.specs.Written.{frame_text}
 use Rattle.lsp_message.specs.declared.frame.ReadFault.{ReadFault}
-use Rattle.lsp_message.specs.declared.frame.extent.Front.{Front}
-use Rattle.lsp_message.specs.declared.frame.extent.Front.TheVariants.{Whole, Fault, More}
+use Rattle.lsp_message.specs.declared.frame.extent.Front.TheVariants.{Whole, More}
 use Rattle.lsp_message.specs.declared.frame.header.HeaderLine.{HeaderLine}
 use Rattle.lsp_message.specs.declared.frame.header.HeaderLine.TheVariants.{Blank}
 

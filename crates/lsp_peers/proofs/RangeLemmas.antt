@@ -1,8 +1,8 @@
 -- The next letter of a history that nests too deeply has its numbers in range.
-use Rattle.std.proofs.Common.{◌≡◌, ℕ, zero, suc, ◌+◌, ◌<◌, ◌≤◌, ◌^◌, pos, negsuc, List, [], ◌∷◌, ◌++◌, length, refl, sym, ap, ◌∙◌, subst, arith, length-append, ⊎_elim}
+use Rattle.std.proofs.Common.{◌≡◌, ℕ, zero, suc, ◌<◌, ◌≤◌, ◌^◌, pos, negsuc, List, [], ◌∷◌, length, refl, sym, ap, ◌∙◌, subst, arith, length-append, ⊎_elim}
 use Rattle.std.proofs.lemmas.Bool.{cases_Bool, lt-ltb, leb-true, leb-false, eqb-false, MatchBool-at_true, MatchBool-at_false}
 use Rattle.std.specs.List.{AllByRecursion}
-use Rattle.std.specs.Prelude.{◌==◌, Bool, true, false, Option, None, Some, Ok, Err, IfSome, IsSomeAnd, MatchOption, slice_get, nat_le}
+use Rattle.std.specs.Prelude.{◌==◌, Option, None, Some, Ok, Err, IfSome, IsSomeAnd, MatchOption, slice_get, nat_le}
 use Rattle.serde_json.specs.Data.{depth}
 use Rattle.serde_json.specs.Read.{max_depth}
 use Rattle.lsp_message.specs.Id.{Id, number, text}

@@ -2,7 +2,7 @@
 use Rattle.std.proofs.Common.{◌≡◌, ◌≤◌, List, [], ◌∷◌, ◌++◌, refl, sym, ap, ◌∙◌, subst, arith, append-nil, append_assoc, ◌⊎◌, inl, inr, ⊎_elim}
 use Rattle.std.proofs.lemmas.Bool.{cases_Bool, leb-true, leb-false}
 use Rattle.std.proofs.lemmas.List.{map-append}
-use Rattle.std.specs.Prelude.{Option, None, Some, IfSome, nat_le, map as each}
+use Rattle.std.specs.Prelude.{Option, None, Some, IfSome, nat_le}
 use Rattle.serde_json.specs.Read.{max_depth}
 use Rattle.lsp_message.specs.Message.{Message}
 use Rattle.lsp_message.specs.Ranges.{nesting}
@@ -12,7 +12,7 @@ use Rattle.lsp_peers.specs.declared.step.Step.{Step}
 use Rattle.lsp_peers.specs.declared.step.Step.TheVariants.{Take}
 use Rattle.lsp_peers.specs.declared.world.World.{World}
 use Rattle.lsp_peers.specs.Exchange.{WorldAfter, IsWholeRun, MeetsDeep}
-use Rattle.lsp_peers.specs.History.{Event, IsHistory, next_letter, events_of}
+use Rattle.lsp_peers.specs.History.{Event, next_letter, events_of}
 use Rattle.lsp_peers.specs.Letter.{Letter}
 use Rattle.lsp_peers.specs.Shallow.{TakesReadable, AllTakeReadable, AllShallow}
 use Rattle.lsp_peers.specs.Sides.{other}
