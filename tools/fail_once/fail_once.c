@@ -3,6 +3,8 @@
 // FAIL_ONCE says what happens, in the words that `run` makes:
 //   memory N            the Nth allocation is refused
 //   memory-from N       the Nth allocation is refused, and each one after it
+//   elsewhere N         of the allocations that other threads than the first make, the Nth is refused
+//   elsewhere-from N    the same, and each one after it
 //   thread N            the Nth thread is not started
 //   socket N            the Nth call that makes a socket or sets it up fails
 //   read N HOW          of the Nth read: `error` fails it, `interrupt` interrupts it, `short` lets it move one byte
@@ -11,10 +13,10 @@
 //
 // Two more words, `in K`, say that no read or write moves more than K bytes.
 //
-// FAIL_ONCE_COUNTS names a file of 64 bytes. It holds, as 8 numbers of 64 bits, how many calls there were of memory, threads,
+// FAIL_ONCE_COUNTS names a file of 72 bytes. It holds, as 9 numbers of 64 bits, how many calls there were of memory, threads,
 // sockets, reads and writes, how many calls were made to fail, how many threads still ran a second after `main` had
-// returned, where one was not started, and the most bytes that one allocation asked for. It is kept up to date while the program
-// runs, since a program may end in any way.
+// returned, where one was not started, the most bytes that one allocation asked for, and how many allocations other threads
+// than the first made. It is kept up to date while the program runs, since a program may end in any way.
 #define _GNU_SOURCE
 #include <dlfcn.h>
 #include <errno.h>
@@ -33,7 +35,7 @@
 #include <sys/uio.h>
 #include <unistd.h>
 
-enum kind { MEMORY, THREAD, SOCKET, READ, WRITE, FAILED, LEFT, MOST, NUMBERS = 8 };
+enum kind { MEMORY, THREAD, SOCKET, READ, WRITE, FAILED, LEFT, MOST, ELSEWHERE, NUMBERS = 9 };
 enum how { IS_ERROR, IS_INTERRUPT, IS_SHORT };
 
 static _Atomic uint64_t not_shared[NUMBERS];
@@ -43,6 +45,8 @@ static uint64_t place;
 static int lasts;
 static enum how how;
 static size_t piece = SIZE_MAX;
+// Whether this thread was started by another one.
+static _Thread_local int is_started __attribute__((tls_model("initial-exec")));
 
 extern void *__libc_malloc(size_t);
 extern void *__libc_calloc(size_t, size_t);
@@ -75,10 +79,12 @@ __attribute__((constructor)) static void start(void) {
     const char *pieces = strstr(plan, " in ");
     if (pieces && sscanf(pieces, " in %llu", &most) == 1)
         piece = most;
-    lasts = is(word, "memory-from");
+    lasts = is(word, "memory-from") || is(word, "elsewhere-from");
     how = is(manner, "interrupt") ? IS_INTERRUPT : is(manner, "short") ? IS_SHORT : IS_ERROR;
-    if (is(word, "memory") || lasts)
+    if (is(word, "memory") || is(word, "memory-from"))
         kind_to_fail = MEMORY;
+    else if (is(word, "elsewhere") || is(word, "elsewhere-from"))
+        kind_to_fail = ELSEWHERE;
     else if (is(word, "thread"))
         kind_to_fail = THREAD;
     else if (is(word, "socket"))
@@ -112,7 +118,8 @@ static int fails_to_give(size_t size) {
     uint64_t most = counts[MOST];
     while (size > most && !atomic_compare_exchange_weak(&counts[MOST], &most, size))
         ;
-    return fails(MEMORY);
+    int is_refused = fails(MEMORY);
+    return (is_started && fails(ELSEWHERE)) || is_refused;
 }
 
 void *malloc(size_t size) { return fails_to_give(size) ? refused() : __libc_malloc(size); }
@@ -150,6 +157,7 @@ static _Atomic uint64_t running;
 static void *run_job(void *given) {
     struct job job = *(struct job *)given;
     __libc_free(given);
+    is_started = 1;
     void *result = job.run(job.argument);
     atomic_fetch_sub(&running, 1);
     return result;

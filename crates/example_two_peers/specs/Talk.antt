@@ -30,6 +30,10 @@ pub record Begins (history : List Event) : Type 0 where
 abbrev pub IsTalk : World → Type 0
 IsTalk world = (history : List Event) × WorldAfter world (λ side. []) history × AreReadable history × Begins history
 
+-- after these events each side took exactly the messages that the other one wrote, in order
+abbrev pub TookAll : World → List Event → Type 0
+TookAll world history = (side : Side) → each message_view (seen_at side world).taken ≡ messages (letters_written (events_of (other side) history))
+
 -- whether the last of these messages is the notification `exit`
 abbrev pub last_is_exit : List Message → Bool
 last_is_exit taken = option_map_or (λ m. is_exit (message_view m)) (slice_get taken (length taken - 1)) false
@@ -39,8 +43,7 @@ pub record HasEnded (world : World) : Type 0 where
   pub history : List Event
   pub after : WorldAfter world (λ side. []) history
   pub begun : Begins history
-  -- each side took exactly the messages that the other one wrote, in order
-  pub saw : (side : Side) → each message_view (seen_at side world).taken ≡ messages (letters_written (events_of (other side) history))
+  pub saw : TookAll world history
   -- the last of them that the server took is `exit`
   pub exited : last_is_exit (seen_at B world).taken ≡ true
   -- each request of the client has its reply, and the server holds none

@@ -1,23 +1,20 @@
 //! A caller of the world, who sees its public contract alone.
 ghost use Rattle.std.specs.Prelude.{◌≡◌, ◌++◌, List, [], true, IfOk, map as each};
-ghost use Rattle.lsp_message.specs.View.{message_view};
-ghost use Rattle.lsp_peers.specs.Exchange.{seen_at};
-ghost use Rattle.lsp_peers.specs.History.{Event, IsHistory, events_of, letters_written};
-ghost use Rattle.lsp_peers.specs.Letter.{messages};
-ghost use Rattle.lsp_peers.specs.Shallow.{AllShallow};
-ghost use Rattle.lsp_peers.specs.Sides.{other};
+ghost use Rattle.example_two_peers.specs.Talk.{TookAll};
+ghost use Rattle.lsp_peers.specs.Exchange.{WorldAfter, seen_at};
+ghost use Rattle.lsp_peers.specs.History.{Event};
 
 use lsp_peers::{Outcome, Side, Step, World, WorldFault};
 use std::alloc::Global;
 
-/// Runs the steps, and says whether nothing is left in the links. Then each side took all that the other one wrote.
+/// Runs the steps, and says whether each side took all that the other one wrote: then, and only then, nothing is left in the links.
 pub fn run_through(
     alloc: Global,
     steps: Vec<Step>,
 ) -> Result<(World, Vec<Outcome>, bool), WorldFault>
-    ensures all { IfOk result (λ r. AllShallow steps.items → r.2 ≡ true → (history : List Event)
-        × (each (λ event. event.step) history ≡ steps.items) × (each (λ event. event.outcome) history ≡ r.1.items) × IsHistory history
-        × ((side : Side) → each message_view (seen_at side r.0).taken ≡ messages (letters_written (events_of (other side) history)))) }
+    ensures { IfOk result (λ r. (history : List Event)
+        × (each (λ event. event.step) history ≡ steps.items) × (each (λ event. event.outcome) history ≡ r.1.items)
+        × WorldAfter r.0 (λ side. []) history × (r.2 ≡ true → TookAll r.0 history) × (TookAll r.0 history → r.2 ≡ true)) }
 {
     let (world, outcomes) = World::run(alloc, steps)?;
     let all = is_idle(&world, Side::A) && is_idle(&world, Side::B);
@@ -26,7 +23,8 @@ pub fn run_through(
 
 /// Whether no byte is in the link to a side.
 pub fn is_idle(world: &World, side: Side) -> bool
-    ensures { result ≡ true → (seen_at side world.now).arrived ++ (seen_at side world.now).on_way ≡ [] }
+    ensures idle { result ≡ true → (seen_at side world.now).arrived ++ (seen_at side world.now).on_way ≡ [] }
+    ensures busy { (seen_at side world.now).arrived ++ (seen_at side world.now).on_way ≡ [] → result ≡ true }
 {
     world.arrived(side).is_empty() && world.on_way(side).is_empty()
 }

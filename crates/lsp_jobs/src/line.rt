@@ -13,11 +13,14 @@ struct Line<E: Drop> {
 }
 
 /// The end of the line at which errands are added, and taken back. With each goes a ticket. A worker takes a ticket first, and then the
-/// oldest errand: so it sleeps at a channel, and sees its end. Where an errand was taken back, a ticket is left over.
+/// oldest errand: so it sleeps at a channel, and sees its end. With an errand that is taken back, a ticket is taken back too. Only if a
+/// worker has just taken that ticket, the worker finds no errand, and takes the next ticket. So there are never more tickets than
+/// errands that wait, however many are added and taken back while all workers are busy.
 #[derive(Drop)]
 pub(crate) struct WaitingErrands<E: Drop> {
     line: Arc<Mutex<Line<E>>>,
     tickets: Sender<()>,
+    given: Receiver<()>,
     room: Option<usize>,
 }
 
@@ -43,11 +46,12 @@ pub(crate) fn line_of_errands<E: Drop>(
     };
     let source = ErrandSource {
         line: Arc::try_clone(&line)?,
-        tickets: receiver,
+        tickets: receiver.clone()?,
     };
     let waiting = WaitingErrands {
         line,
         tickets: sender,
+        given: receiver,
         room,
     };
     Ok((waiting, source))
@@ -79,12 +83,23 @@ impl<E: Drop> WaitingErrands<E> {
         if self.tickets.send(rt, ()).is_err() {
             return Err(TakeFault::Memory);
         }
-        Ok(line.add(errand)?)
+        match line.add(errand) {
+            Ok(place) => Ok(place),
+            Err(_) => {
+                let _ = self.given.try_recv(rt);
+                Err(TakeFault::Memory)
+            }
+        }
     }
 
-    /// Takes the errand at this place back, and drops it. If a worker took it, nothing is done.
+    /// Takes the errand at this place back, with a ticket, and drops it. If a worker took it, nothing is done.
     pub fn take_back<T: Wait>(&self, rt: &T, place: u64) {
-        let errand = self.line.lock(rt).errands.remove(&place);
+        let mut line = self.line.lock(rt);
+        let errand = line.errands.remove(&place);
+        if errand.is_some() {
+            let _ = self.given.try_recv(rt);
+        }
+        drop(line);
         drop(errand);
     }
 }

@@ -59,7 +59,7 @@ of_other side history e is =
 
 -- ---- the tokens and posts of a history
 
-abbrev turned : Accounts → Accounts
+abbrev pub turned : Accounts → Accounts
 turned p = record { here = p.there; there = p.here }
 
 pub turned_tied : (own others : List Event) (p : Accounts) → Tied own others p → Tied others own (turned p)
@@ -202,51 +202,60 @@ world_after world handed history p made lawful agrees = record { lawful = lawful
 pub nothing_after : (world : World) → WorldAgrees world (λ side. []) nothing → WorldAfter world (λ side. []) []
 nothing_after world agrees = world_after world (λ side. []) [] nothing made_nothing tt agrees
 
+-- ---- what holds of each message that is written holds of the next letter
+
+module _ (P : Message → Type 0) where
+  abbrev AllOf : List Letter → Type 0
+  AllOf ls = AllByRecursion (λ (letter : Letter). P letter.message) ls
+
+  abbrev pub AllWritten : List Event → Type 0
+  AllWritten history = AllByRecursion (λ event. AllByRecursion P (written_in event.step event.outcome)) history
+
+  all_messages : (ls : List Letter) (ms : List Message) → each (λ (l : Letter). l.message) ls ≡ ms → AllByRecursion P ms → AllOf ls
+  all_messages ls ms is all = at ls (subst (AllByRecursion P) (sym is) all)
+    where
+      at : (ls : List Letter) → AllByRecursion P (each (λ (l : Letter). l.message) ls) → AllOf ls
+      at [] all = tt
+      at (l ∷ ls) all = (all.0, at ls all.1)
+
+  all_append : (xs ys : List Letter) → AllOf xs → AllOf ys → AllOf (xs ++ ys)
+  all_append [] ys a b = b
+  all_append (x ∷ xs) ys a b = (a.0, all_append xs ys a.1 b)
+
+  all_drop : (n : ℕ) (xs : List Letter) → AllOf xs → AllOf (drop n xs)
+  all_drop zero xs all = all
+  all_drop (suc n) [] all = tt
+  all_drop (suc n) (x ∷ xs) all = all_drop n xs all.1
+
+  all_of : (side at : Side) (e : Event) → AllOf e.wrote → AllOf (letters_written (only_of side at e))
+  all_of A A e all = all_append e.wrote [] all tt
+  all_of B B e all = all_append e.wrote [] all tt
+  all_of A B e all = tt
+  all_of B A e all = tt
+
+  all_from : (side : Side) (before events : List Event) → AllFollow before events → AllWritten events → AllOf (letters_written (events_of side events))
+  all_from side before [] happen all = tt
+  all_from side before (e ∷ events) happen all =
+      subst AllOf (sym (flat_map-append (λ (x : Event). x.wrote) (only_of side (side_of e.step) e) (events_of side events)))
+      (all_append (letters_written (only_of side (side_of e.step) e)) (letters_written (events_of side events)) (all_of side (side_of e.step) e (all_messages e.wrote (written_in e.step e.outcome) happen.0.wrote_is all.0)) (all_from side (before ++ e ∷ []) events happen.1 all.1))
+
+  all_first : (before passed : ℕ) (ls : List Letter) → AllOf ls → IfSome (first_passed before passed ls) (λ letter. P letter.message)
+  all_first before passed [] all = tt
+  all_first before passed (letter ∷ ls) all = at (nat_le (before + length letter.frame) passed)
+    where
+      at : (b : Bool) → IfSome (if b then Some letter else None) (λ (l : Letter). P l.message)
+      at true = all.0
+      at false = tt
+
+  pub next_of_all : (side : Side) (history : List Event) → IsHistory history → AllWritten history → IfSome (next_letter (events_of side history) (events_of (other side) history)) (λ letter. P letter.message)
+  next_of_all side history lawful all =
+      all_first _ _ _ (all_drop (taken_count (events_of side history)) (letters_written (events_of (other side) history)) (all_from (other side) [] history lawful all))
+
 -- ---- the next letter is read back
-
-abbrev Nest : List Letter → Type 0
-Nest ls = AllByRecursion (λ (letter : Letter). nesting letter.message ≤ max_depth) ls
-
-nest_map : (ls : List Letter) (ms : List Message) → each (λ (l : Letter). l.message) ls ≡ ms → AllByRecursion (λ (m : Message). nesting m ≤ max_depth) ms → Nest ls
-nest_map ls ms is all = at ls (subst (AllByRecursion (λ (m : Message). nesting m ≤ max_depth)) (sym is) all)
-  where
-    at : (ls : List Letter) → AllByRecursion (λ (m : Message). nesting m ≤ max_depth) (each (λ (l : Letter). l.message) ls) → Nest ls
-    at [] all = tt
-    at (l ∷ ls) all = (all.0, at ls all.1)
-
-nest_append : (xs ys : List Letter) → Nest xs → Nest ys → Nest (xs ++ ys)
-nest_append [] ys a b = b
-nest_append (x ∷ xs) ys a b = (a.0, nest_append xs ys a.1 b)
-
-nest_drop : (n : ℕ) (xs : List Letter) → Nest xs → Nest (drop n xs)
-nest_drop zero xs all = all
-nest_drop (suc n) [] all = tt
-nest_drop (suc n) (x ∷ xs) all = nest_drop n xs all.1
-
-nest_of : (side at : Side) (e : Event) → Nest e.wrote → Nest (letters_written (only_of side at e))
-nest_of A A e nest = nest_append e.wrote [] nest tt
-nest_of B B e nest = nest_append e.wrote [] nest tt
-nest_of A B e nest = tt
-nest_of B A e nest = tt
-
-nest_from : (side : Side) (before events : List Event) → AllFollow before events → AreReadable events → Nest (letters_written (events_of side events))
-nest_from side before [] happen readable = tt
-nest_from side before (e ∷ events) happen readable =
-    subst Nest (sym (flat_map-append (λ (x : Event). x.wrote) (only_of side (side_of e.step) e) (events_of side events)))
-    (nest_append (letters_written (only_of side (side_of e.step) e)) (letters_written (events_of side events)) (nest_of side (side_of e.step) e (nest_map e.wrote (written_in e.step e.outcome) happen.0.wrote_is readable.0)) (nest_from side (before ++ e ∷ []) events happen.1 readable.1))
-
-first_nests : (before passed : ℕ) (ls : List Letter) → Nest ls → IfSome (first_passed before passed ls) (λ letter. nesting letter.message ≤ max_depth)
-first_nests before passed [] nest = tt
-first_nests before passed (letter ∷ ls) nest = at (nat_le (before + length letter.frame) passed)
-  where
-    at : (b : Bool) → IfSome (if b then Some letter else None) (λ (l : Letter). nesting l.message ≤ max_depth)
-    at true = nest.0
-    at false = tt
 
 -- after a history whose messages nest at most 127 levels, each step may be taken
 pub takes_any : (history : List Event) (step : Step) → IsHistory history → AreReadable history → TakesReadable history step
-takes_any history (Take side label) lawful readable =
-    first_nests _ _ _ (nest_drop (taken_count (events_of side history)) (letters_written (events_of (other side) history)) (nest_from (other side) [] history lawful readable))
+takes_any history (Take side label) lawful readable = next_of_all (λ m. nesting m ≤ max_depth) side history lawful readable
 takes_any history step lawful readable = tt
 
 mail_reads : (own others : List Event) (post : Post) → Mail (taken_count own) (passed_count own) (letters_written others) post → IfSome (next_letter own others) (λ letter. nesting letter.message ≤ max_depth) → IfNext ReadsBack post

@@ -12,8 +12,8 @@ use Rattle.lsp_message.specs.Message.{Message, ErrorObject, request, response}
 use Rattle.lsp_message.specs.View.{message_view}
 use Rattle.lsp_message.specs.Written.{frame_text}
 use Rattle.lsp_peers.specs.declared.world.World.{World}
-use Rattle.lsp_peers.specs.Exchange.{WorldAfter, LeadTo, seen_at}
-use Rattle.lsp_peers.specs.Shallow.{TakesReadable}
+use Rattle.lsp_peers.specs.Exchange.{WorldAfter, IsWholeRun, seen_at}
+use Rattle.lsp_peers.specs.Shallow.{TakesReadable, AllTakeReadable}
 use Rattle.lsp_peers.specs.Sides.{side_of, other}
 use Rattle.lsp_peers.specs.History.{Event, written_in, IsHistory, outcome_of_taking, outcome_of, next_letter, events_of}
 use Rattle.lsp_peers.specs.Ids.{nth_id}
@@ -159,30 +159,32 @@ module _ (world new : World) (handed : Side → List Message) (method : String G
 
 module _ (world : World) where
   -- no run has it either, whatever world it gives
-  pub answered_nothing_run : (value : Value) → LeadTo (Answer A (nth_id 0) value ∷ []) (Answered 0 ∷ []) world → ⊥
-  answered_nothing_run value lead = at lead.history lead.rest lead.later lead.lawful lead.steps_are lead.outcomes_are lead.cut
+  pub answered_nothing_run : (value : Value) → IsWholeRun (Answer A (nth_id 0) value ∷ []) (Answered 0 ∷ []) world → ⊥
+  answered_nothing_run value run = at run.0 run.1 run.2 run.3.lawful
     where
-      at : (history : List Event) (rest : List Step) (later : List Outcome) → IsHistory history → each (λ e. e.step) history ++ rest ≡ Answer A (nth_id 0) value ∷ [] → each (λ e. e.outcome) history ++ later ≡ Answered 0 ∷ [] → ((step : Step) (more : List Step) → rest ≡ step ∷ more → ¬ TakesReadable history step) → ⊥
-      at [] [] later lawful steps outcomes cut = cc
-      at [] (s ∷ rest) later lawful steps outcomes cut =
-          let same : Answer A (nth_id 0) value ≡ s = cc in
-          cut s rest refl (subst (λ (x : Step). TakesReadable [] x) same tt)
-      at (e ∷ history) rest later lawful steps outcomes cut =
+      at : (history : List Event) → each (λ e. e.step) history ≡ Answer A (nth_id 0) value ∷ [] → each (λ e. e.outcome) history ≡ Answered 0 ∷ [] → IsHistory history → ⊥
+      at [] steps outcomes lawful = cc
+      at (e ∷ history) steps outcomes lawful =
           let step : e.step ≡ Answer A (nth_id 0) value = cc in
           let outcome : e.outcome ≡ Answered 0 = cc in
           let came : e.outcome ≡ outcome_of [] [] (Answer A (nth_id 0) value) = lawful.0.outcome_is ∙ ap (λ (x : Step). outcome_of (events_of (side_of x) []) (events_of (other (side_of x)) []) x) step in
           cc
 
   -- a run that stops before the last step, and gives any world: each step has its outcome
-  pub no_outcome_missing : (steps : List Step) (outcomes : List Outcome) → LeadTo steps outcomes world → length outcomes ≡ length steps
-  no_outcome_missing steps outcomes lead =
-      omega (
-        arith,
-        lead.paired,
-        ap (λ (l : List Step). length l) lead.steps_are,
-        ap (λ (l : List Outcome). length l) lead.outcomes_are,
-        length-append (each (λ (e : Event). e.step) lead.history) lead.rest,
-        length-append (each (λ (e : Event). e.outcome) lead.history) lead.later,
-        length-map lead.history (λ (e : Event). e.step),
-        length-map lead.history (λ (e : Event). e.outcome),
-      )
+  pub no_outcome_missing : (steps : List Step) (outcomes : List Outcome) → IsWholeRun steps outcomes world → length outcomes ≡ length steps
+  no_outcome_missing steps outcomes run = omega (arith, ap (λ (l : List Step). length l) run.1, ap (λ (l : List Outcome). length l) run.2, length-map run.0 (λ (e : Event). e.step), length-map run.0 (λ (e : Event). e.outcome))
+
+  -- a run in which B takes a request that nests too deeply, whatever its outcomes are
+  pub takes_too_deep : (method : String Global) (params : Value) (payload bytes label : ℕ) (outcomes : List Outcome) → IsWholeRun (Register A method params payload ∷ Pass B bytes ∷ Take B label ∷ []) outcomes world → ((before : List Event) → each (λ e. e.step) before ≡ Register A method params payload ∷ Pass B bytes ∷ [] → IsHistory before → TakesReadable before (Take B label) → ⊥) → ⊥
+  takes_too_deep method params payload bytes label outcomes run deep = at run.0 run.1 run.3.lawful run.4
+    where
+      at : (history : List Event) → each (λ e. e.step) history ≡ Register A method params payload ∷ Pass B bytes ∷ Take B label ∷ [] → IsHistory history → AllTakeReadable [] history → ⊥
+      at [] steps lawful reads = cc
+      at (x ∷ []) steps lawful reads = cc
+      at (x ∷ y ∷ []) steps lawful reads = cc
+      at (x ∷ y ∷ z ∷ []) steps lawful reads =
+          let first : x.step ≡ Register A method params payload = cc in
+          let second : y.step ≡ Pass B bytes = cc in
+          let third : z.step ≡ Take B label = cc in
+          deep (x ∷ y ∷ []) (λ i. first i ∷ second i ∷ []) (lawful.0, (lawful.1.0, tt)) (subst (TakesReadable (x ∷ y ∷ [])) third reads.1.1.0)
+      at (x ∷ y ∷ z ∷ u ∷ more) steps lawful reads = cc

@@ -15,7 +15,7 @@ use Rattle.lsp_peers.specs.declared.step.Step.{Step}
 use Rattle.lsp_peers.specs.declared.world.World.{World}
 use Rattle.lsp_peers.specs.History.{Event, held, pending, payloads, passed_count, letters_taken, letters_left, events_of, IsHistory}
 use Rattle.lsp_peers.specs.Letter.{messages, frames}
-use Rattle.lsp_peers.specs.Shallow.{TakesReadable}
+use Rattle.lsp_peers.specs.Shallow.{TakesReadable, AllTakeReadable}
 use Rattle.lsp_peers.specs.Sides.{other}
 
 -- one side: its queues, the bytes that have arrived there, those on the way to it, and the messages that it took and still has
@@ -55,22 +55,12 @@ pub record WorldAfter (world : World) (handed : Side → List plain.Message) (hi
   pub lawful : IsHistory history
   pub sides : (side : Side) → SideAfter (seen_at side world) (handed side) (events_of side history) (events_of (other side) history)
 
--- The steps and outcomes are a history, and the world is what it is after it, with nothing handed out.
+-- The steps and outcomes are a history in which each message that is taken nests at most 127 levels, and the world is what it is after
+-- it, with nothing handed out.
 abbrev pub IsWholeRun : List Step → List Outcome → World → Type 0
-IsWholeRun steps outcomes world = (history : List Event) × (each (λ event. event.step) history ≡ steps) × (each (λ event. event.outcome) history ≡ outcomes) × WorldAfter world (λ side. []) history
-
--- What a run comes to. Its steps and outcomes begin as a history. This is all of them, and the world is what it is after it, with
--- nothing handed out; or else the next step takes a message that nests more than 127 levels.
-pub record LeadTo (steps : List Step) (outcomes : List Outcome) (world : World) : Type 0 where
-  pub history : List Event
-  pub rest : List Step
-  pub later : List Outcome
-  pub steps_are : each (λ event. event.step) history ++ rest ≡ steps
-  pub outcomes_are : each (λ event. event.outcome) history ++ later ≡ outcomes
-  pub paired : length later ≡ length rest
-  pub lawful : IsHistory history
-  pub whole : rest ≡ [] → WorldAfter world (λ side. []) history
-  pub cut : (step : Step) (more : List Step) → rest ≡ step ∷ more → ¬ TakesReadable history step
+IsWholeRun steps outcomes world =
+    (history : List Event) × (each (λ event. event.step) history ≡ steps) × (each (λ event. event.outcome) history ≡ outcomes)
+    × WorldAfter world (λ side. []) history × AllTakeReadable [] history
 
 -- some history begins these steps, and the step behind it takes a message that nests more than 127 levels
 pub record MeetsDeep (steps : List Step) : Type 0 where
@@ -80,6 +70,10 @@ pub record MeetsDeep (steps : List Step) : Type 0 where
   pub steps_are : each (λ event. event.step) history ++ step ∷ rest ≡ steps
   pub lawful : IsHistory history
   pub deep : ¬ TakesReadable history step
+
+-- a side that has handed out all that it took
+abbrev pub handed_out : Seen → Seen
+handed_out side = record { queue = side.queue; arrived = side.arrived; on_way = side.on_way; taken = [] }
 
 -- what was handed out, with these messages of a side behind it
 abbrev pub handed_on : Side → List plain.Message → (Side → List plain.Message) → Side → List plain.Message

@@ -1,6 +1,6 @@
 -- Which messages are read back: those that nest at most 127 levels.
 use Rattle.std.specs.List.{AllByRecursion}
-use Rattle.std.specs.Prelude.{◌≤◌, List, IfSome}
+use Rattle.std.specs.Prelude.{◌≤◌, List, [], ◌∷◌, ◌++◌, IfSome}
 use Rattle.serde_json.specs.Data.{depth}
 use Rattle.serde_json.specs.Read.{max_depth}
 use Rattle.serde_json.specs.View.{view}
@@ -14,6 +14,11 @@ use Rattle.lsp_peers.specs.Sides.{other}
 abbrev pub TakesReadable : List Event → Step → Type 0
 TakesReadable before (Take side label) = IfSome (next_letter (events_of side before) (events_of (other side) before)) (λ letter. nesting letter.message ≤ max_depth)
 TakesReadable before step = Unit {0}
+
+-- each message that is taken in these events, which come after others, nests at most 127 levels
+abbrev pub AllTakeReadable : List Event → List Event → Type 0
+AllTakeReadable before [] = Unit {0}
+AllTakeReadable before (event ∷ events) = TakesReadable before event.step × AllTakeReadable (before ++ event ∷ []) events
 
 -- each message that was written in these events nests at most 127 levels
 abbrev pub AreReadable : List Event → Type 0

@@ -1,5 +1,5 @@
 //! One side: its queues, the link to it, and the messages that it took.
-ghost use Rattle.std.specs.Prelude.{◌≡◌, [], List, Err, Ok, None, OnErr, IfOk, IsOk, string_bytes};
+ghost use Rattle.std.specs.Prelude.{◌≡◌, [], List, Err, Ok, None, OnErr, IfOk, IsOk, IsErr, string_bytes};
 ghost use Rattle.std.specs.FinMap as map;
 ghost use Rattle.serde_json.specs.View.{view};
 ghost use Rattle.lsp_message.specs.Message as plain;
@@ -7,8 +7,8 @@ ghost use Rattle.lsp_message.specs.View.{message_view, response_view};
 ghost use Rattle.lsp_queue.specs.Queue.{cancelled, count_of, all_ids};
 ghost use Rattle.lsp_peers.specs.Agreement.{PeerAgrees, Agrees};
 ghost use Rattle.lsp_peers.specs.Steps.{Accounts, Registers, Tells, Passes, Takes, Replies, GivesUp, StepDoes};
-ghost use Rattle.lsp_peers.specs.Post.{ReadsBack, IfNext, next, empty_post};
-ghost use Rattle.lsp_peers.specs.Settling.{Settles, ReadsNext, IsFree, HasNothing};
+ghost use Rattle.lsp_peers.specs.Post.{ReadsBack, IsTooDeep, IfNext, HasNext, next, empty_post};
+ghost use Rattle.lsp_peers.specs.Settling.{Settles, ReadsNext, TakesTooDeep, IsFree, HasNothing};
 ghost use Rattle.lsp_peers.specs.InOnePlace.{InOnePlace};
 
 use crate::fault::WorldFault;
@@ -47,6 +47,7 @@ impl Peer {
         ensures free { (mine theirs : List plain.Message) (old : Accounts) → Agrees self.old far.old mine theirs old → IsFree old step → IsOk result }
         ensures same { result ≡ Err WorldFault.NotReadBack → (self.new ≡ self.old) × (far.new ≡ far.old) }
         ensures comes { (mine theirs : List plain.Message) (old : Accounts) → Agrees self.old far.old mine theirs old → result ≡ Ok Outcome.Waiting → HasNothing old step }
+        ensures deep { (mine theirs : List plain.Message) (old : Accounts) → Agrees self.old far.old mine theirs old → TakesTooDeep old step → IsErr result }
     {
         match step {
             Step::Register {
@@ -173,6 +174,7 @@ impl Peer {
         ensures waits { (mine theirs : List plain.Message) (old : Accounts) → Agrees self.old far.now mine theirs old → next old.here.post ≡ None → result ≡ Ok Outcome.Waiting }
         ensures same { result ≡ Err WorldFault.NotReadBack → self.new ≡ self.old }
         ensures comes { (mine theirs : List plain.Message) (old : Accounts) → Agrees self.old far.now mine theirs old → result ≡ Ok Outcome.Waiting → next old.here.post ≡ None }
+        ensures deep { (mine theirs : List plain.Message) (old : Accounts) → Agrees self.old far.now mine theirs old → HasNext IsTooDeep old.here.post → IsErr result }
     {
         let Some(message) = self.link.take()? else {
             return Ok(Outcome::Waiting);

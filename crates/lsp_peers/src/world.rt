@@ -1,11 +1,11 @@
 //! Two peers with their queues, joined by two links.
-ghost use Rattle.std.specs.Prelude.{◌≡◌, ◌∷◌, ◌++◌, [], List, Ok, Err, IfOk, IsOk, OnErr, map as each};
+ghost use Rattle.std.specs.Prelude.{◌≡◌, ◌∷◌, ◌++◌, [], List, Ok, Err, IfOk, IsOk, IsErr, OnErr, map as each};
 ghost use Rattle.lsp_message.specs.Message as plain;
 ghost use Rattle.lsp_message.specs.View.{message_view};
-ghost use Rattle.lsp_peers.specs.Exchange.{WorldAfter, IsWholeRun, LeadTo, MeetsDeep, handed_on, peer_at, seen_at};
+ghost use Rattle.lsp_peers.specs.Exchange.{WorldAfter, IsWholeRun, MeetsDeep, handed_on, handed_out, peer_at, seen_at};
 ghost use Rattle.lsp_peers.specs.History.{Event, events_of, outcome_of};
 ghost use Rattle.lsp_peers.specs.HistoryLaw.{NeedsNoMemory};
-ghost use Rattle.lsp_peers.specs.Shallow.{TakesReadable, AllShallow};
+ghost use Rattle.lsp_peers.specs.Shallow.{TakesReadable};
 ghost use Rattle.lsp_peers.specs.Sides.{side_of, other};
 
 use crate::fault::WorldFault;
@@ -36,23 +36,19 @@ impl World {
     /// Takes the steps one after another, from empty queues and empty links. Gives the world that they lead to, and the outcome
     /// of each step.
     ///
-    /// As long as no side takes a message that nests more than 127 levels:
-    ///
     /// - What each side took is a beginning of what the other side wrote, in order. The rest is still in the link.
     /// - Each reply gives back the payload of its own request, once.
     ///
-    /// This holds however the steps of the two sides interleave, and whatever pieces the bytes arrive in. Such messages come only
-    /// of steps whose params or results nest more than 126 levels.
+    /// This holds however the steps of the two sides interleave, and whatever pieces the bytes arrive in.
     ///
     /// After a fault there is no world. `WorldFault::Memory` means that an allocation failed, and `WorldFault::NotReadBack` that a
-    /// side was to take a message that nests more than 127 levels.
+    /// side was to take a message that nests more than 127 levels. No side takes such a message. It comes only of steps whose
+    /// params or results nest more than 126 levels.
     pub fn run(alloc: Global, steps: Vec<Step>) -> Result<(World, Vec<Outcome>), WorldFault>
-        // If the params and results of the steps nest at most 126 levels, the steps and outcomes are a history of the two sides:
-        // each outcome follows from the events before it, and the world is what it is after them.
-        ensures shallow { AllShallow steps.items → IfOk result (λ r. IsWholeRun steps.items r.1.items r.0) }
-        // Whatever the steps are, this holds up to a Take of a message that nests too deeply.
-        ensures exchanged { IfOk result (λ r. LeadTo steps.items r.1.items r.0) }
-        // The other fault comes only at such a Take.
+        // The steps and outcomes are a history of the two sides: each outcome follows from the events before it, and the world is
+        // what it is after them. In it no side takes a message that nests more than 127 levels.
+        ensures exchanged { IfOk result (λ r. IsWholeRun steps.items r.1.items r.0) }
+        // The other fault comes only at a step that takes such a message.
         ensures deep { result ≡ Err WorldFault.NotReadBack → MeetsDeep steps.items }
     {
         let mut world = World::new(alloc);
@@ -68,8 +64,8 @@ impl World {
 
     /// Takes one step, and gives its outcome.
     ///
-    /// `WorldFault::NotReadBack` means that the side was to take a message that nests more than 127 levels. The world is then as it
-    /// was, so all but this side's takes go on.
+    /// `WorldFault::NotReadBack` means that the side was to take a message that nests more than 127 levels, which is never taken.
+    /// The world is then as it was, so all but this side's takes go on.
     ///
     /// `WorldFault::Memory` means that an allocation failed. Let the world go then: a request may be registered and not written.
     /// A step that comes to `Spent`, `Passed`, `Waiting`, `GaveUp` or `Absent` needs no memory.
@@ -85,7 +81,9 @@ impl World {
         ensures same { result ≡ Err WorldFault.NotReadBack → self.new ≡ self.old }
         ensures free { (handed : Side → List plain.Message) (old : List Event) → WorldAfter self.old handed old →
             NeedsNoMemory (outcome_of (events_of (side_of step) old) (events_of (other (side_of step)) old) step) → IsOk result }
-        // A message that nests too deeply is not waited for either.
+        // A message that nests too deeply is never taken.
+        ensures unread { (handed : Side → List plain.Message) (old : List Event) → WorldAfter self.old handed old → ¬ TakesReadable old step → IsErr result }
+        // Nor is it waited for.
         ensures waits { (handed : Side → List plain.Message) (old : List Event) → WorldAfter self.old handed old → result ≡ Ok Outcome.Waiting →
             outcome_of (events_of (side_of step) old) (events_of (other (side_of step)) old) step ≡ Outcome.Waiting }
     {
@@ -96,11 +94,14 @@ impl World {
         }
     }
 
-    /// Hands out the messages that a side took and still has, in order. The world keeps them no longer, and is else as it was.
+    /// Hands out the messages that a side took and still has, in order. The world keeps them no longer, and is else as it was: the
+    /// queues and links of this side, and all that the other side has.
     pub fn hand_out(&mut self, alloc: Global, side: Side) -> Vec<Message>
         ensures given { result.items ≡ (seen_at side self.old).taken }
         ensures after { (handed : Side → List plain.Message) (old : List Event) → WorldAfter self.old handed old →
             WorldAfter self.new (handed_on side (each message_view result.items) handed) old }
+        ensures here { seen_at side self.new ≡ handed_out (seen_at side self.old) }
+        ensures there { seen_at (other side) self.new ≡ seen_at (other side) self.old }
     {
         match side {
             Side::A => self.a.hand_out(alloc),

@@ -3,11 +3,11 @@ use Rattle.std.proofs.ResultArms.{chosen}
 use Rattle.std.proofs.lemmas.Result.{err_from_is_err_and}
 use Rattle.std.specs.Prelude.{not}
 use Rattle.std.specs.Vec.Iter.{into_iter_items}
-use Rattle.lsp_peers.specs.Exchange.{LeadTo}
+use Rattle.lsp_peers.specs.Exchange.{IsWholeRun}
 use Rattle.lsp_peers.specs.declared.fault.WorldFault.TheVariants.{NotReadBack}
 use Rattle.lsp_peers.specs.declared.step.Outcome.{Outcome}
 use Rattle.lsp_peers.specs.declared.step.Step.{Step}
-use Rattle.lsp_peers.proofs.LeadLemmas.{lead_nothing, lead_more, lead_fault, lead_shallow}
+use Rattle.lsp_peers.proofs.WholeLemmas.{whole_nothing, whole_more, whole_fault}
 use Rattle.lsp_peers.proofs.RunLemmas.{all_taken}
 use Rattle.lsp_peers.proofs.world.World.run.Goals as goal
 
@@ -16,7 +16,7 @@ loop-step-init c = (
   tt,
   tt,
   c.into_iter-step-iterator.ensures.into_iter_gives.0,
-  subst (λ (l : List Outcome). LeadTo [] l c.new-world.result) (sym c.new-outcomes.ensures.items) (lead_nothing _ c.new-world.ensures),
+  subst (λ (l : List Outcome). IsWholeRun [] l c.new-world.result) (sym c.new-outcomes.ensures.items) (whole_nothing _ c.new-world.ensures),
 )
 
 pub loop-step-preserved : goal.loop-step-preserved
@@ -29,7 +29,7 @@ loop-step-preserved c =
       tt,
       tt,
       append_assoc c.loop-step.yielded (c.in-Some.step ∷ []) rest ∙ whole,
-      lead_more _ _ _ _ _ _ _ before.3 pushed (λ handed old after readable. c.in_ok-outcome.ensures.exchanged handed old after readable),
+      whole_more _ _ _ _ _ _ _ before.3 pushed (λ handed old after readable. c.in_ok-outcome.ensures.exchanged handed old after readable) (λ handed old after deep. let err = c.in_ok-outcome.ensures.unread handed old after deep in cc),
     )
 
 pub returns-in_err-outcome-clause-deep : goal.returns-in_err-outcome-clause-deep
@@ -41,16 +41,10 @@ returns-in_err-outcome-clause-deep c = λ deep.
     let told = err_from_is_err_and c.from_residual.result c.from_residual.ensures.1 in
     let same : told.0 ≡ NotReadBack = cc in
     let fault : c.in_err-outcome.field-0.0 ≡ NotReadBack = sym told.2 ∙ same in
-    lead_fault _ _ _ _ _ _ before.3 whole (λ history after readable. let memory = c.in_err-outcome.ensures.err (λ side. []) history after readable in cc)
+    whole_fault _ _ _ _ _ _ before.3 whole (λ history after readable. let memory = c.in_err-outcome.ensures.err (λ side. []) history after readable in cc)
 
 pub returns-clause-exchanged : goal.returns-clause-exchanged
 returns-clause-exchanged c =
     let none = c.in-None.ensures.steps.0 in
     let all : c.loop-step.yielded ≡ c.args.steps.items = all_taken c.loop-step.yielded (into_iter_items c.loop-step.step-iterator) c.args.steps.items c.loop-step.invariant.2 (sym c.loop-step.step-iterator.rest.ok.0 ∙ none) in
-    subst (λ (l : List Step). LeadTo l c.loop-step.outcomes.items c.loop-step.world) all c.loop-step.invariant.3
-
-pub returns-clause-shallow : goal.returns-clause-shallow
-returns-clause-shallow c = λ shallow.
-    let none = c.in-None.ensures.steps.0 in
-    let all : c.loop-step.yielded ≡ c.args.steps.items = all_taken c.loop-step.yielded (into_iter_items c.loop-step.step-iterator) c.args.steps.items c.loop-step.invariant.2 (sym c.loop-step.step-iterator.rest.ok.0 ∙ none) in
-    lead_shallow _ _ _ (subst (λ (l : List Step). LeadTo l c.loop-step.outcomes.items c.loop-step.world) all c.loop-step.invariant.3) shallow
+    subst (λ (l : List Step). IsWholeRun l c.loop-step.outcomes.items c.loop-step.world) all c.loop-step.invariant.3

@@ -1,6 +1,7 @@
 use Rattle.std.proofs.Common.{sym, ◌∙◌}
 use Rattle.lsp_peers.specs.declared.step.Side.TheVariants.{A, B}
 use Rattle.lsp_peers.proofs.ExchangeLemmas.{made_of, world_agrees, reads_a, reads_b, free_a, free_b, waits_a, waits_b, go_a, go_b, turned_agrees, placed_b}
+use Rattle.lsp_peers.proofs.RangeLemmas.{deep_a, deep_b}
 use Rattle.lsp_peers.proofs.world.World.step.Goals as goal
 
 pub returns-in-A-clause-exchanged : goal.returns-in-A-clause-exchanged
@@ -58,3 +59,17 @@ returns-in-B-clause-waits c = λ handed history after waiting.
     let agrees = world_agrees _ handed history made.0 made.1 after in
     let side = sym c.side-side.ensures ∙ c.in-B.is in
     waits_b _ _ (handed B) (handed A) c.args.step history made.0 made.1 _ side (c.step-in-B.ensures.ok (handed B) (handed A) (record { here = made.0.there; there = made.0.here }) (turned_agrees _ handed made.0 agrees) (placed_b made.0 made.1.placed)) (c.step-in-B.ensures.comes (handed B) (handed A) (record { here = made.0.there; there = made.0.here }) (turned_agrees _ handed made.0 agrees) waiting) waiting
+
+pub returns-in-A-clause-unread : goal.returns-in-A-clause-unread
+returns-in-A-clause-unread c = λ handed history after deep.
+    let made = made_of history after.lawful in
+    let agrees = world_agrees _ handed history made.0 made.1 after in
+    let side = sym c.side-side.ensures ∙ c.in-A.is in
+    c.step.ensures.deep (handed A) (handed B) made.0 agrees (deep_a c.args.step history made.0 after.lawful made.1 side deep)
+
+pub returns-in-B-clause-unread : goal.returns-in-B-clause-unread
+returns-in-B-clause-unread c = λ handed history after deep.
+    let made = made_of history after.lawful in
+    let agrees = world_agrees _ handed history made.0 made.1 after in
+    let side = sym c.side-side.ensures ∙ c.in-B.is in
+    c.step-in-B.ensures.deep (handed B) (handed A) (record { here = made.0.there; there = made.0.here }) (turned_agrees _ handed made.0 agrees) (deep_b c.args.step history made.0 after.lawful made.1 side deep)
