@@ -24,7 +24,7 @@ use Rattle.std.specs.List.{FoldsTo, AllZip, list_all, filter_map}
 use Rattle.std.specs.Prelude.{Result, Ok, Err}
 use Rattle.std.specs.Str.{bytes_eq}
 
-same_fault : {A : Type 0} (e f : ProtocolFault) → ◌≡◌ {A = Result A ProtocolFault} (Err e) (Err f) → e ≡ f
+pub same_fault : {A : Type 0} (e f : ProtocolFault) → ◌≡◌ {A = Result A ProtocolFault} (Err e) (Err f) → e ≡ f
 same_fault e f same = cc
 
 -- the event of a turn
@@ -101,7 +101,7 @@ module _ {S : Type 0} (may : Behavior S) where
   early_steps s (response i outcome ∷ before) replies early each = absurd (cc (early))
 
 -- the turn that brings `initialize`
-decided_turn : (last : Turn) (id : Id) (params : Data) → Decides last (Ok (id, params))
+pub decided_turn : (last : Turn) (id : Id) (params : Data) → Decides last (Ok (id, params))
     → (method : List ℕ) × (last ≡ got (message (request id method params))) × (is_initialize (request id method params) ≡ true)
 decided_turn stopped id params decides = let e : ◌≡◌ {A = StartAnswer} (Ok (id, params)) (Err Rattle.lsp_session.specs.ProtocolError.aborted) = decides in cc
 decided_turn (got closed) id params decides = let e : ◌≡◌ {A = StartAnswer} (Ok (id, params)) (Err disconnected) = decides in cc

@@ -2,6 +2,8 @@ pub mod Engine
 pub mod Handing
 pub mod Handshake
 pub mod Lending
+pub mod Line
+pub mod LineRuns
 pub mod Ordering
 pub mod Ran
 pub mod Refused

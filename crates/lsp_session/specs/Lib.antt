@@ -5,9 +5,11 @@ pub mod Finish
 pub mod FrameBoxes
 pub mod HandlerService
 pub mod HandlerSession
+pub mod LineParts
 pub mod Lists
 pub mod OutputView
 pub mod Outputs
+pub mod Prompt
 pub mod ProtocolError
 pub mod ProtocolErrorLaws
 pub mod ReadLoop

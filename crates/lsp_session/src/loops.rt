@@ -14,6 +14,7 @@ mod engine;
 mod frame_outbox;
 mod handler;
 mod handler_service;
+mod line;
 mod service;
 mod stream_inbox;
 mod stream_session;
@@ -23,6 +24,7 @@ pub use engine::serve_service;
 pub use frame_outbox::FrameOutbox;
 pub use handler::{Handler, SessionEnd, initialize_result, serve};
 pub use handler_service::HandlerService;
+pub use line::serve_line;
 pub use service::{Output, Service};
 pub use stream_inbox::StreamInbox;
 pub use stream_session::{

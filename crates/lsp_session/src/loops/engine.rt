@@ -106,7 +106,7 @@ fn shut_down<I: Inbox, O: Outbox>(
 }
 
 /// What the service gives for a message.
-fn turn<S: Service>(service: &mut S, message: Message) -> Result<Output, AllocError>
+pub(crate) fn turn<S: Service>(service: &mut S, message: Message) -> Result<Output, AllocError>
     ensures { IfOk result (λ output. S.behavior.gives service.old (message_view message) (output_view output) service.new) }
 {
     match message {
@@ -117,7 +117,7 @@ fn turn<S: Service>(service: &mut S, message: Message) -> Result<Output, AllocEr
 }
 
 /// The reply with this error.
-fn error_reply(id: RequestId, error: ResponseError) -> Message
+pub(crate) fn error_reply(id: RequestId, error: ResponseError) -> Message
     ensures { message_view result ≡ response id (Err (error_view error)) }
 {
     Message::Response(Response {
@@ -128,7 +128,7 @@ fn error_reply(id: RequestId, error: ResponseError) -> Message
 
 /// Sends messages in order, up to the first that is refused.
 #[inline(always)]
-fn send_output<O: Outbox>(outbox: &mut O, output: Output) -> Result<(), ProtocolError>
+pub(crate) fn send_output<O: Outbox>(outbox: &mut O, output: Output) -> Result<(), ProtocolError>
     ensures { SendsAll O.sends outbox.old (output_view output) result outbox.new }
 {
     match output {
