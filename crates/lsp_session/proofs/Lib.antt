@@ -1,3 +1,5 @@
+pub mod Accounts
+pub mod Dialogs
 pub mod Engine
 pub mod Handing
 pub mod Handshake

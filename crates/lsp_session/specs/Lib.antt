@@ -1,5 +1,7 @@
+pub mod Account
 pub mod Answered
 pub mod Boxes
+pub mod Dialog
 pub mod Event
 pub mod Finish
 pub mod FrameBoxes
