@@ -196,7 +196,7 @@ module _ {S : Type 0} (may : Behavior S) where
           (only_awaited t.whole event t.end awaited (due t.whole q s' all (stop_awaits q s' s'' stop answer other stops)))
 
       no_end : (last : List Exchange) (q : Phase) (s' : S) → last ≡ [] → Steps may starting start (t.whole ++ last) q s' → t.end ≡ [] → Never [] (t.turns ++ t.end)
-      no_end last q s' none steps ended = first_turns t.whole q s' t.turns t.end (steps_whole last q s' none steps) t.in_turn (rw ended tt)
+      no_end last q s' none steps idle = first_turns t.whole q s' t.turns t.end (steps_whole last q s' none steps) t.in_turn (rw idle tt)
 
       no_refusal : (event : Event) (fault : SendFault) (later : List Exchange) → StopsAfterNull event (refused fault) later → ⊥
       no_refusal (message m) fault later stops = stops

@@ -9,6 +9,7 @@ pub mod LineRuns
 pub mod Ordering
 pub mod Ran
 pub mod Refused
+pub mod RefusedDialogs
 pub mod RefusedReplies
 pub mod SameTexts
 pub mod SessionGives

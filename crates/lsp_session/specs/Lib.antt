@@ -1,4 +1,5 @@
 pub mod Account
+pub mod AccountItems
 pub mod Answered
 pub mod Boxes
 pub mod Dialog
@@ -24,6 +25,7 @@ pub mod SessionRun
 pub mod Shutdown
 pub mod Start
 pub mod StreamBoxes
+pub mod StreamLines
 pub mod Streams
 pub mod Turns
 pub mod WriteLoop

@@ -10,6 +10,7 @@ use lsp_message::{Message, ReadFault};
 use std::alloc::Global;
 use std::io::{BufRead, ErrorKind};
 
+mod account;
 mod engine;
 mod frame_outbox;
 mod handler;
@@ -17,6 +18,7 @@ mod handler_service;
 mod line;
 mod service;
 mod stream_inbox;
+mod stream_line;
 mod stream_session;
 mod write;
 
@@ -27,6 +29,7 @@ pub use handler_service::HandlerService;
 pub use line::serve_line;
 pub use service::{Output, Service};
 pub use stream_inbox::StreamInbox;
+pub use stream_line::StreamLine;
 pub use stream_session::{
     SessionFault, session, session_answer, session_of_service, session_of_service_within,
     session_within,
