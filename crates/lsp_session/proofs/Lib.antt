@@ -1,4 +1,4 @@
-pub mod Engine
+pub mod BothEnds
 pub mod Handing
 pub mod Handshake
 pub mod Lending

@@ -1,4 +1,5 @@
 pub mod Answered
+pub mod BothEnds
 pub mod Boxes
 pub mod Event
 pub mod Finish

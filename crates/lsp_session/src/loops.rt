@@ -10,7 +10,7 @@ use lsp_message::{Message, ReadFault};
 use std::alloc::Global;
 use std::io::{BufRead, ErrorKind};
 
-mod engine;
+mod both_ends;
 mod frame_outbox;
 mod handler;
 mod handler_service;
@@ -20,7 +20,7 @@ mod stream_inbox;
 mod stream_session;
 mod write;
 
-pub use engine::serve_service;
+pub use both_ends::serve_service;
 pub use frame_outbox::FrameOutbox;
 pub use handler::{Handler, SessionEnd, initialize_result, serve};
 pub use handler_service::HandlerService;
