@@ -16,7 +16,7 @@ module _ {I O : Type 0} (receives : Receives I) where
   received_by [] event old new run same boxes = let last : run.0 ≡ new.inbox.now = run.2 in (new, (rw last at run.1, same, boxes), refl)
   received_by (e ∷ es) event old new run same boxes =
       let mid : BothEnds I O = record old { inbox = record old.inbox { now = run.0 } } in
-      (mid, (run.1, refl, refl, refl), received_by es event mid new run.2 same boxes)
+      (mid, (run.1, refl, (refl, refl)), received_by es event mid new run.2 same boxes)
 
   -- the inbox waited
   pub waits_both : (event : Event) (old new : BothEnds I O) → WaitsFor receives old.inbox.now event new.inbox.now → new.outbox.now ≡ old.outbox.now → SameBoxes old new
@@ -33,7 +33,9 @@ module _ {I O : Type 0} (receives : Receives I) where
       → Talks (BothReceive receives) (BothSend sends) P old answer new → Runs receives sends P (old.inbox.now, old.outbox.now) answer (i', o')
   both_run sends P old new answer i' o' inbox outbox talks =
       let run = line_runs receives sends (BothReceive receives) (BothSend sends)
-          (λ (b : BothEnds I O). (b.inbox.now, b.outbox.now)) (λ (b : BothEnds I O). (b.inbox.ghost_name, b.outbox.ghost_name))
-          (λ a event b gives. (gives.0, gives.1, rw (gives.2.0, gives.2.1) refl))
-          (λ a m outcome b takes. (takes.0, takes.1, rw (takes.2.0, takes.2.1) refl)) P old answer new talks in
-      rw (inbox (ap (λ (names : ℕ × ℕ). names.0) run.1), outbox (ap (λ (names : ℕ × ℕ). names.1) run.1)) run.0
+      (λ (b : BothEnds I O). (b.inbox.now, b.outbox.now)) (λ (b : BothEnds I O). (b.inbox.ghost_name, b.outbox.ghost_name))
+      (λ a event b gives. (gives.0, gives.1, rw (gives.2.0, gives.2.1) refl))
+      (λ a m outcome b takes. (takes.0, takes.1, rw (takes.2.0, takes.2.1) refl)) P old answer new talks in
+      let inbox_is : i' ≡ new.inbox.now = inbox (ap (λ (names : ℕ × ℕ). names.0) run.1) in
+      let outbox_is : o' ≡ new.outbox.now = outbox (ap (λ (names : ℕ × ℕ). names.1) run.1) in
+      rw (inbox_is, outbox_is) run.0

@@ -30,10 +30,13 @@ module _ {L : Type 0} (receives : Receives L) (sends : Sends L) where
   later_end : (few many : ℕ) (stop : Stop) (null : Option Message) (last : List Exchange) (old new : L) → few ≤ many
       → EndsTalk receives sends few stop null last old new → EndsTalk receives sends many stop null last old new
   later_end few many stop (Some null) last old new more ends = ends
-  later_end few many no_more None last old new more ends = (ends.0, elim ends.1 [
-    | inl waits ↦ inl waits
-    | inr all ↦ inr (omega (arith, more, all.0), all.1)
-  ])
+  later_end few many no_more None last old new more ends = (
+    ends.0,
+    elim ends.1 [
+      | inl waits ↦ inl waits
+      | inr all ↦ inr (omega (arith, more, all.0), all.1)
+    ],
+  )
   later_end few many (refused fault) None last old new more ends = ends
   later_end few many decided None last old new more ends = ends
   later_end few many exhausted None last old new more ends = ends

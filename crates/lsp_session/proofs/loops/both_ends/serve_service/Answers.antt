@@ -1,9 +1,8 @@
-use Rattle.std.proofs.Common.{rules, ◌≢◌, ◌≡◌, ℕ, ◌+◌, ◌-◌, ◌*◌, ◌<◌, ◌≤◌, length, ◌/◌, ◌%◌, Bool, true, false, nat_eq, nat_lt, List, [], ◌∷◌, ◌++◌, slice_index_or, slice_set, bit_and, bit_or, Fits, w8, w32, w64, Bor, MutBor}
-use Rattle.lsp_session.specs.Event.{event_view, timeout}
-use Rattle.lsp_session.specs.Session.{SessionOut}
-use Rattle.lsp_session.specs.SessionRun.{Runs}
+use Rattle.std.proofs.Common.{sym}
+use Rattle.lsp_session.proofs.BothEnds.{both_run}
 use Rattle.lsp_session.proofs.loops.both_ends.serve_service.Goals as goal
 
--- src/loops/both_ends.rt:65:1
 pub returns : goal.returns
-returns g c = ?
+returns g c =
+    both_run g.I.Inbox.receives g.O.Outbox.sends _ _ c.serve_line.new.line _ _ _
+    (λ names. c.inbox-1.given.1 (sym names)) (λ names. c.outbox-1.given.1 (sym names)) c.serve_line.ensures
