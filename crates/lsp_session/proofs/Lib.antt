@@ -1,6 +1,6 @@
 pub mod Accounts
+pub mod BothEnds
 pub mod Dialogs
-pub mod Engine
 pub mod Handing
 pub mod Handshake
 pub mod Lending
@@ -13,4 +13,5 @@ pub mod RefusedDialogs
 pub mod RefusedReplies
 pub mod SameTexts
 pub mod SessionGives
+pub mod StreamLined
 pub mod Waiting

@@ -1,9 +1,7 @@
--- A session over one value: its parts one after another, and each of its steps.
+-- A session over one value with both ends: its parts one after another, and each of its steps.
 use Rattle.lsp_message.specs.Id.{Id}
 use Rattle.lsp_message.specs.Letters.{is_exit}
 use Rattle.lsp_message.specs.Message.{Message, ErrorObject, request, notification, response}
-use Rattle.lsp_session.proofs.Engine.{shut_answer}
-use Rattle.lsp_session.proofs.Handshake.{decided_turn, same_fault}
 use Rattle.lsp_session.proofs.Ran.{IsWhole, IsOpen, answer_at_end, of_open, steps_both, one_step, reaches_whole, from_after, open_after}
 use Rattle.lsp_session.proofs.Waiting.{FoldsTo-append, and-true}
 use Rattle.lsp_session.specs.Boxes.{Sends, Receives, Takes, WaitsFor, Offers}
@@ -11,18 +9,17 @@ use Rattle.lsp_session.specs.Event.{Event, message, timeout, closed, woken}
 use Rattle.lsp_session.specs.Finish.{FinishAnswer, IsUninvited, EventFinishes, is_initialized}
 use Rattle.lsp_session.specs.LineParts.{FinishesOn, OffersNullOn, ShutsDownOn}
 use Rattle.lsp_session.specs.Outputs.{RefusesOne}
-use Rattle.lsp_session.specs.Prompt.{event_of, Meets, EndsTalk, Talks}
+use Rattle.lsp_session.specs.Prompt.{event_of, StopsAfterNull, Meets, EndsTalk, Talks}
 use Rattle.lsp_session.specs.ProtocolError.{ProtocolFault, disconnected, out_of_memory}
 use Rattle.lsp_session.specs.Replies.{null_reply}
-use Rattle.lsp_session.specs.Session.{Behavior, SessionAnswer, SessionPart, Exchange, came_of, sends_of, Stop, decided, no_more, timed_out, refused, exhausted, Phase, starting, replied, serving, asked, ended, null_of, phase_after, is_served, request_id, is_initialize, Step, Steps, Stops, SessionFrom}
-use Rattle.lsp_session.specs.SessionRun.{Brings}
+use Rattle.lsp_session.specs.Session.{Behavior, SessionAnswer, SessionPart, Exchange, Stop, decided, no_more, timed_out, refused, exhausted, Phase, starting, replied, serving, asked, ended, null_of, phase_after, is_served, request_id, is_initialize, Step, Steps, Stops, SessionFrom}
 use Rattle.lsp_session.specs.Shutdown.{ShutdownAnswer, IsNoExit, EventShutsDown}
 use Rattle.lsp_session.specs.Start.{StartAnswer, is_early, IsEarlyReply, fault_of_refusal, PassesOver, RefusesReply, Decides, MessageDecides, Ends}
-use Rattle.lsp_session.specs.Turns.{got}
+use Rattle.lsp_session.specs.Turns.{Turn, stopped, got}
 use Rattle.lsp_session.specs.declared.lifecycle.SendFault.{SendFault}
 use Rattle.lsp_session.specs.declared.loops.handler.SessionEnd.TheVariants.{ShutDown, Closed}
 use Rattle.serde_json.specs.Data.{Data}
-use Rattle.std.proofs.Common.{◌≡◌, refl, sym, ◌∙◌, ap, inl, inr, ◌⊎◌, ◌≤◌, ◌+◌, ◌-◌, ◌^◌, ℕ, Bool, true, false, not, ◌&&◌, List, [], ◌∷◌, ◌++◌, length, length-append, append_assoc, append-nil, arith, Option, Some, None, codes}
+use Rattle.std.proofs.Common.{◌≡◌, refl, sym, ap, inl, inr, ◌⊎◌, ◌≤◌, ◌+◌, ◌-◌, ◌^◌, ℕ, Bool, true, false, not, ◌&&◌, List, [], ◌∷◌, ◌++◌, length, length-append, append_assoc, append-nil, arith, Option, Some, None, codes}
 use Rattle.std.specs.Bool.{MatchBool}
 use Rattle.std.specs.List.{FoldsTo, AllZip, filter_map}
 use Rattle.std.specs.Prelude.{Result, Ok, Err, IsErrAnd}
@@ -32,19 +29,23 @@ module _ {L : Type 0} (receives : Receives L) (sends : Sends L) where
   -- more whole exchanges came before the end
   later_end : (few many : ℕ) (stop : Stop) (null : Option Message) (last : List Exchange) (old new : L) → few ≤ many
       → EndsTalk receives sends few stop null last old new → EndsTalk receives sends many stop null last old new
+  later_end few many stop (Some null) last old new more ends = ends
+  later_end few many no_more None last old new more ends = (
+    ends.0,
+    elim ends.1 [
+      | inl waits ↦ inl waits
+      | inr all ↦ inr (omega (arith, more, all.0), all.1)
+    ],
+  )
   later_end few many (refused fault) None last old new more ends = ends
-  later_end few many (refused fault) (Some null) last old new more ends = ends
-  later_end few many decided (Some null) last old new more ends = ends
-  later_end few many no_more (Some null) last old new more ends = ends
-  later_end few many timed_out (Some null) last old new more ends = ends
-  later_end few many exhausted (Some null) last old new more ends = ends
   later_end few many decided None last old new more ends = ends
-  later_end few many no_more None last old new more ends = (ends.0, elim ends.1 [
-    | inl waits ↦ inl waits
-    | inr all ↦ inr (omega (arith, more, all.0), all.1)
-  ])
-  later_end few many timed_out None last old new more ends = ends
   later_end few many exhausted None last old new more ends = ends
+  later_end few many timed_out None last old new more ends = ends
+
+-- the answer of a session whose shutdown gave this
+abbrev pub shut_answer : ShutdownAnswer → SessionAnswer
+shut_answer (Ok b) = Ok ShutDown
+shut_answer (Err e) = Err e
 
 -- the answer of `shutdown` to another request
 abbrev passed_on : ShutdownAnswer
@@ -70,7 +71,7 @@ module _ {S L : Type 0} (may : Behavior S) (receives : Receives L) (sends : Send
   goes_step p p' s s' old mid new m sent waits step taken = record {
     exchanges = record { letter = m; said = sent } ∷ [];
     many = omega arith;
-    prompt = (new, (mid, waits, taken), refl);
+    prompt = (new, record { met = mid; waited = waits; taken = taken }, refl);
     steps = one_step may p p' s s' m sent step;
   }
 
@@ -147,7 +148,7 @@ module _ {S L : Type 0} (may : Behavior S) (receives : Receives L) (sends : Send
     stop = decided;
     null = None;
     mid = new;
-    prompt = (new, (new, waits, refl), refl);
+    prompt = (new, record { met = new; waited = waits; taken = refl }, refl);
     ends = (refl, refl);
     part = record { last = ended None answer; after = s; reached = one_step may p (ended None answer) s s (Some m) [] step; null_is = refl; stopped = (refl, refl) };
   }
@@ -163,7 +164,7 @@ module _ {S L : Type 0} (may : Behavior S) (receives : Receives L) (sends : Send
     null = None;
     mid = old;
     prompt = refl;
-    ends = record { letter = m; part = lost.part; unsaid = lost.unsent; is = refl; came = (mid, waits, lost.mid, lost.taken, lost.refuses) };
+    ends = record { letter = m; part = lost.part; unsaid = lost.unsent; is = refl; met = mid; waited = waits; mid = lost.mid; taken = lost.taken; refuses = lost.refuses };
     part = record {
       last = p';
       after = s';
@@ -194,16 +195,28 @@ module _ {S L : Type 0} (may : Behavior S) (receives : Receives L) (sends : Send
     module _ (asks : bytes_eq method (codes "shutdown") ≡ true) (mid : L) (offers : Offers sends (null_reply id) met mid) where
       -- what comes after the null
       exit_run : (event : Event) (answer : SessionAnswer) (later : List Exchange) (stop : Stop) (last : Phase) → receives mid event new
-          → Brings (event ∷ []) (came_of later) stop → IsWhole stop → sends_of later ≡ [] → Steps may (asked id) s later last s → null_of last ≡ Some (null_reply id)
+          → StopsAfterNull event stop later → IsWhole stop → Steps may (asked id) s later last s → null_of last ≡ Some (null_reply id)
           → Stops may last s stop answer s → Talks receives sends (From serving s s) old answer new
-      exit_run event answer later stop last received brings is_whole silent steps kept stops = record {
+      exit_run event answer later stop last received after is_whole steps kept stops = record {
         whole = [];
         last = record { letter = Some ask; said = null_reply id ∷ [] } ∷ later;
         stop = stop;
         null = Some (null_reply id);
         mid = old;
         prompt = refl;
-        ends = ends_so stop is_whole brings;
+        ends = record {
+          ask = ask;
+          asks = asks;
+          met = met;
+          waited = waits;
+          mid = mid;
+          offered = offers;
+          event = event;
+          received = received;
+          later = later;
+          stops = after;
+          is = refl;
+        };
         part = record {
           last = last;
           after = s;
@@ -212,35 +225,27 @@ module _ {S L : Type 0} (may : Behavior S) (receives : Receives L) (sends : Send
           stopped = stops;
         };
       }
-        where
-          ends_so : (stop : Stop) → IsWhole stop → Brings (event ∷ []) (came_of later) stop
-              → EndsTalk receives sends 0 stop (Some (null_reply id)) (record { letter = Some ask; said = null_reply id ∷ [] } ∷ later) old new
-          ends_so (refused fault) is_whole brings = absurd is_whole
-          ends_so decided is_whole brings = record { ask = ask; asks = asks; later = later; is = refl; event = event; brings = brings; silent = silent; came = (met, waits, mid, offers, received) }
-          ends_so no_more is_whole brings = record { ask = ask; asks = asks; later = later; is = refl; event = event; brings = brings; silent = silent; came = (met, waits, mid, offers, received) }
-          ends_so timed_out is_whole brings = record { ask = ask; asks = asks; later = later; is = refl; event = event; brings = brings; silent = silent; came = (met, waits, mid, offers, received) }
-          ends_so exhausted is_whole brings = record { ask = ask; asks = asks; later = later; is = refl; event = event; brings = brings; silent = silent; came = (met, waits, mid, offers, received) }
 
       exit_message : (m : Message) (answer : ShutdownAnswer) (b : Bool) → receives mid (message m) new
           → is_exit m ≡ b → MatchBool b (answer ≡ Ok true) (IsErrAnd answer IsNoExit) → Talks receives sends (From serving s s) old (shut_answer answer) new
       exit_message m answer true received e decides =
-          exit_run (message m) (shut_answer answer) (record { letter = Some m; said = [] } ∷ []) decided (ended (Some (null_reply id)) (Ok ShutDown)) received (refl, refl) tt refl
+          exit_run (message m) (shut_answer answer) (record { letter = Some m; said = [] } ∷ []) decided (ended (Some (null_reply id)) (Ok ShutDown)) received refl tt
           (one_step may (asked id) (ended (Some (null_reply id)) (Ok ShutDown)) s s (Some m) [] (rw e (refl, refl), refl)) refl (ap shut_answer decides, refl)
       exit_message m (Ok b) false received e decides = absurd decides
       exit_message m (Err fault) false received e decides = elim decides [
-        | inl shows ↦ exit_run (message m) (Err fault) (record { letter = Some m; said = [] } ∷ []) decided (ended (Some (null_reply id)) (Err fault)) received (refl, refl) tt refl
+        | inl shows ↦ exit_run (message m) (Err fault) (record { letter = Some m; said = [] } ∷ []) decided (ended (Some (null_reply id)) (Err fault)) received refl tt
             (one_step may (asked id) (ended (Some (null_reply id)) (Err fault)) s s (Some m) []
             (rw e (shows.0, refl, ap (λ (x : ProtocolFault). ended (Some (null_reply id)) (Err x)) shows.1), refl)) refl (refl, refl)
-        | inr memory ↦ exit_run (message m) (Err fault) [] exhausted (asked id) received (Some m, refl, refl) tt refl (refl, refl) refl (ap (λ (x : ProtocolFault). Err x) memory, refl)
+        | inr memory ↦ exit_run (message m) (Err fault) [] exhausted (asked id) received refl tt (refl, refl) refl (ap (λ (x : ProtocolFault). Err x) memory, refl)
       ]
 
       exit_event : (event : Event) (answer : ShutdownAnswer) → receives mid event new → EventShutsDown event answer
           → Talks receives sends (From serving s s) old (shut_answer answer) new
       exit_event (message m) answer received decides = exit_message m answer (is_exit m) received refl decides
       exit_event timeout answer received decides =
-          exit_run timeout (shut_answer answer) [] timed_out (asked id) received (refl, ([], refl, refl)) tt refl (refl, refl) refl (ap shut_answer decides, refl)
+          exit_run timeout (shut_answer answer) [] timed_out (asked id) received refl tt (refl, refl) refl (ap shut_answer decides, refl)
       exit_event closed answer received decides =
-          exit_run closed (shut_answer answer) [] no_more (asked id) received (refl, inl ([], refl, refl)) tt refl (refl, refl) refl (ap shut_answer decides, refl)
+          exit_run closed (shut_answer answer) [] no_more (asked id) received refl tt (refl, refl) refl (ap shut_answer decides, refl)
       exit_event woken answer received decides = absurd decides
 
     ends_shut : (answer : ShutdownAnswer) (b : Bool) → bytes_eq method (codes "shutdown") ≡ b
@@ -296,8 +301,25 @@ module _ {S L : Type 0} (may : Behavior S) (receives : Receives L) (sends : Send
   ends_at_exit s old new (notification method params) waits exits = ends_decided serving s old new (notification method params) (Ok Closed) waits (rw exits ((refl, refl), refl))
   ends_at_exit s old new m waits exits = absurd (cc (exits))
 
+same_fault : {A : Type 0} (e f : ProtocolFault) → ◌≡◌ {A = Result A ProtocolFault} (Err e) (Err f) → e ≡ f
+same_fault e f same = cc
+
 same_event : (a b : Event) → got a ≡ got b → a ≡ b
 same_event a b e = cc
+
+-- the turn that brings `initialize`
+decided_turn : (last : Turn) (id : Id) (params : Data) → Decides last (Ok (id, params))
+    → (method : List ℕ) × (last ≡ got (message (request id method params))) × (is_initialize (request id method params) ≡ true)
+decided_turn stopped id params decides = let e : ◌≡◌ {A = StartAnswer} (Ok (id, params)) (Err Rattle.lsp_session.specs.ProtocolError.aborted) = decides in cc
+decided_turn (got closed) id params decides = let e : ◌≡◌ {A = StartAnswer} (Ok (id, params)) (Err disconnected) = decides in cc
+decided_turn (got (message (notification method params1))) id params decides = absurd decides.1
+decided_turn (got (message (request id1 method params1))) id params decides =
+    let same : ◌≡◌ {A = Id × Data} (id, params) (id1, params1) = same_found (id, params) (id1, params1) decides.1 in
+    (method, rw (ap (λ (p : Id × Data). p.0) same, ap (λ (p : Id × Data). p.1) same) refl, decides.0)
+  where
+    same_found : (x y : Id × Data) → ◌≡◌ {A = StartAnswer} (Ok x) (Ok y) → x ≡ y
+    same_found x y same = cc
+decided_turn last id params decides = absurd decides
 
 module _ {S L : Type 0} (may : Behavior S) (receives : Receives L) (sends : Sends L) where
   -- ---- up to `initialize`

@@ -1,6 +1,7 @@
 pub mod Account
 pub mod AccountItems
 pub mod Answered
+pub mod BothEnds
 pub mod Boxes
 pub mod Dialog
 pub mod Event

@@ -1,7 +1,11 @@
-// A session of a server over one value with both ends (LSP 3.17, "Server lifecycle").
+// A session of a server (LSP 3.17, "Server lifecycle"), over one value that gives messages and takes them.
 ghost use Rattle.serde_json.specs.View.{view};
-ghost use Rattle.lsp_message.specs.View.{message_view};
+ghost use Rattle.std.specs.Prelude.{◌≡◌, map, Err, IfOk};
+ghost use Rattle.lsp_message.specs.Message.{response};
+ghost use Rattle.lsp_message.specs.View.{message_view, error_view};
 ghost use Rattle.lsp_session.specs.LineParts.{FinishesOn, ShutsDownOn};
+ghost use Rattle.lsp_session.specs.OutputView.{output_view};
+ghost use Rattle.lsp_session.specs.Outputs.{SendsAll};
 ghost use Rattle.lsp_session.specs.Prompt.{Talks};
 ghost use Rattle.lsp_session.specs.Replies.{ok_reply as ok_reply_spec};
 ghost use Rattle.lsp_session.specs.Session.{serving, SessionFrom, SessionOut};
@@ -11,15 +15,32 @@ use crate::lifecycle::{
     Arrival, EXIT_SECONDS, Event, Inbox, Outbox, finish_on, is_exit, offer, ok_reply, shutdown_on,
     start_on,
 };
-use crate::loops::engine::{error_reply, send_output, turn};
 use crate::loops::handler::SessionEnd;
-use crate::loops::service::Service;
-use lsp_message::{Message, RequestId};
+use crate::loops::service::{Output, Service};
+use lsp_message::{Message, RequestId, Response, ResponseError};
 use serde_json::Value;
-use std::alloc::Global;
+use std::alloc::{AllocError, Global};
 
-/// Runs a session of a server, as `serve_service` does, over one value that gives messages and takes them. All that the session sends
-/// for a message or a wake is sent before anything else is awaited: a client that waits for its replies gets them.
+/// Runs a session of a server: the handshake, what the service gives for each message, and the shutdown (LSP 3.17,
+/// "Server lifecycle").
+///
+/// Before `initialize` each request is answered with `ServerNotInitialized`, and each notification but `exit` is dropped.
+/// `initialize` is answered with the service's result. Where the service gives an error, that is the reply, and the session
+/// goes on as before `initialize`: a client may send it again (LSP 3.17, "Initialize Request", `retry`). When `initialized`
+/// came, what the service gives for it is sent. From then on each message goes to the service, a reply too, and each wake of the inbox,
+/// up to `shutdown`. What it gives is sent in order.
+/// `shutdown` is answered with null, and nothing follows it; `exit` then gives `ShutDown`. `Closed` comes where, from `initialized` on,
+/// `exit` comes without a `shutdown` or no more messages come. What comes at the wrong time is in the table of `lifecycle`.
+///
+/// A line that is closed to a message ends the session with `disconnected channel`, and a failed allocation with
+/// `out of memory`; what was to follow for that message is not sent. That the null could not be sent is ignored. After
+/// 2^64 - 1 events it ends as if no more messages came.
+///
+/// All that is said for a message or a wake is sent before anything else is awaited: the result of `initialize` before `initialized`, and
+/// the null before `exit`. So a client may wait for it before it sends on. That this is the reply to a request is so of all that comes up
+/// to `initialized`, and of `shutdown`; in between a service may reply to it later, unless it answers at once, as a handler does
+/// (`laws::sessions::session_answers_requests`). After a message that the line refuses nothing is awaited, but that an event is
+/// received after the null in any case.
 pub fn serve_line<L: Inbox + Outbox, S: Service>(
     alloc: Global,
     line: &mut L,
@@ -46,7 +67,7 @@ pub fn serve_line<L: Inbox + Outbox, S: Service>(
     Err(ProtocolError::disconnected())
 }
 
-/// The session from `initialized` on.
+/// The session from `initialized` on: each message goes to the service, up to the first `shutdown` or `exit`, and so does each wake.
 fn serve_turns<L: Inbox + Outbox, S: Service>(
     alloc: Global,
     line: &mut L,
@@ -114,4 +135,47 @@ fn shut_line<L: Inbox + Outbox>(
     };
     offer(line, ok_reply(id, Value::Null));
     shutdown_on(alloc, line.receive_for(EXIT_SECONDS))
+}
+
+/// What the service gives for a message.
+fn turn<S: Service>(service: &mut S, message: Message) -> Result<Output, AllocError>
+    ensures { IfOk result (λ output. S.behavior.gives service.old (message_view message) (output_view output) service.new) }
+{
+    match message {
+        Message::Request(request) => service.request(request),
+        Message::Notification(notification) => service.notification(notification),
+        Message::Response(response) => service.response(response),
+    }
+}
+
+/// The reply with this error.
+fn error_reply(id: RequestId, error: ResponseError) -> Message
+    ensures { message_view result ≡ response id (Err (error_view error)) }
+{
+    Message::Response(Response {
+        id,
+        response_result: Err(error),
+    })
+}
+
+/// Sends messages in order, up to the first that is refused.
+#[inline(always)]
+fn send_output<O: Outbox>(outbox: &mut O, output: Output) -> Result<(), ProtocolError>
+    ensures { SendsAll O.sends outbox.old (output_view output) result outbox.new }
+{
+    match output {
+        Output::Nothing => Ok(()),
+        Output::One(message) => Ok(outbox.send(message)?),
+        Output::Several(messages) => send_all(outbox, messages),
+    }
+}
+
+/// The same of a list.
+fn send_all<O: Outbox>(outbox: &mut O, messages: Vec<Message>) -> Result<(), ProtocolError>
+    ensures { SendsAll O.sends outbox.old (map message_view messages.items) result outbox.new }
+{
+    for message in messages {
+        outbox.send(message)?;
+    }
+    Ok(())
 }

@@ -3,8 +3,6 @@ use Rattle.std.proofs.Common.{arith, ◌≡◌, ◌-◌, ◌^◌, Err}
 use Rattle.std.proofs.lemmas.Result.{err_from_is_err_and}
 use Rattle.lsp_message.specs.View.{error_view}
 use Rattle.lsp_session.proofs.Line.{goes_none, goes_both, goes_run, goes_count, early_goes, start_failed, was_asked, ask_starved, declined, unanswered, finish_failed, open_starved, open_refused, opened}
-use Rattle.lsp_session.proofs.LineRuns.{line_runs}
-use Rattle.lsp_session.proofs.Logging.{logs_null}
 use Rattle.lsp_session.specs.Session.{starting}
 use Rattle.lsp_session.proofs.loops.line.serve_line.Goals as goal
 
