@@ -76,8 +76,8 @@ module _ {L : Type 0} (receives : Receives L) (sends : Sends L) (account : L →
           is = ends.is;
         },
         grew_both old ends.met new first.0 (sending null outcome ∷ gave ends.event ∷ []) first.2
-        (grew_both ends.met ends.mid new (sending null outcome ∷ []) (gave ends.event ∷ [])
-        (keeps.offering ends.met null outcome ends.mid ends.offered.sent) (keeps.receiving ends.mid ends.event new ends.received)),
+            (grew_both ends.met ends.mid new (sending null outcome ∷ []) (gave ends.event ∷ [])
+            (keeps.offering ends.met null outcome ends.mid ends.offered.sent) (keeps.receiving ends.mid ends.event new ends.received)),
       )
 
   -- a message is refused
@@ -88,8 +88,8 @@ module _ {L : Type 0} (receives : Receives L) (sends : Sends L) (account : L →
         first.0 ++ (map took ends.part ++ sending ends.unsaid (Err fault) ∷ []),
         record { letter = ends.letter; part = ends.part; unsaid = ends.unsaid; is = ends.is; waits = first.0; awaited = first.1; are = refl },
         grew_both old ends.met new first.0 (map took ends.part ++ sending ends.unsaid (Err fault) ∷ []) first.2
-        (grew_both ends.met ends.mid new (map took ends.part) (sending ends.unsaid (Err fault) ∷ []) (took_all ends.part ends.met ends.mid ends.taken)
-        (keeps.offering ends.mid ends.unsaid (Err fault) new ends.refuses)),
+            (grew_both ends.met ends.mid new (map took ends.part) (sending ends.unsaid (Err fault) ∷ []) (took_all ends.part ends.met ends.mid ends.taken)
+            (keeps.offering ends.mid ends.unsaid (Err fault) new ends.refuses)),
       )
 
   -- the end of a session

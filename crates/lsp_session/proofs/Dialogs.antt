@@ -113,8 +113,8 @@ module _ {S : Type 0} (may : Behavior S) where
     turns_on before [] p q s s' acts rest done steps turns more = rw turns (rw append-nil at more)
     turns_on before (x ∷ xs) p q s s' acts rest done steps turns more =
         let later = turns_on (before ++ x ∷ []) xs steps.0 q steps.1 s' turns.1 rest
-            (steps_both may starting p steps.0 start s steps.1 before (x ∷ []) done (one_step may p steps.0 s steps.1 x.letter x.said steps.2)) steps.3 turns.3
-            (rw append_assoc more) in
+        (steps_both may starting p steps.0 start s steps.1 before (x ∷ []) done (one_step may p steps.0 s steps.1 x.letter x.said steps.2)) steps.3 turns.3
+        (rw append_assoc more) in
         rw (turns.4, append_assoc) (turn_on before x p s turns.0 (turns.1 ++ rest) done (step_awaits p steps.0 s steps.1 x.letter x.said steps.2) turns.2 later)
 
     -- nothing came before
@@ -167,7 +167,7 @@ module _ {S : Type 0} (may : Behavior S) where
           let cut = steps_split starting q start s' t.whole last steps in
           let made = subst (λ (ys : List Exchange). Steps may cut.0 cut.1 ys q s') ends.is cut.3 in
           let so_far = steps_both may starting cut.0 made.0 start cut.1 made.1 t.whole (record { letter = Some ends.ask; said = n ∷ [] } ∷ []) cut.2
-              (one_step may cut.0 made.0 cut.1 made.1 (Some ends.ask) (n ∷ []) made.2) in
+          (one_step may cut.0 made.0 cut.1 made.1 (Some ends.ask) (n ∷ []) made.2) in
           first_turns t.whole cut.0 cut.1 t.turns t.end cut.2 t.in_turn
           (rw ends.are (awaited_on goes_on (letters_of t.whole) (sends_of t.whole) (message ends.ask) ends.waits (sending n ends.outcome ∷ gave ends.event ∷ []) ends.awaited
           (due t.whole cut.0 cut.1 cut.2 (step_awaits cut.0 made.0 cut.1 made.1 (Some ends.ask) (n ∷ []) made.2))

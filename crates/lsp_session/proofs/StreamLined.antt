@@ -1,6 +1,5 @@
 -- A session over a line that keeps an account, in bytes.
 use Rattle.lsp_session.proofs.Accounts.{talks_in_turn}
-use Rattle.lsp_session.proofs.Lending.{known_as}
 use Rattle.lsp_session.proofs.LineRuns.{line_runs}
 use Rattle.lsp_session.proofs.Ran.{session_facts}
 use Rattle.lsp_session.proofs.SessionGives.{session_gives}
@@ -8,20 +7,16 @@ use Rattle.lsp_session.specs.Account.{Act, KeepsAccount, InTurn}
 use Rattle.lsp_session.specs.FrameBoxes.{FrameOutboxSends}
 use Rattle.lsp_session.specs.Prompt.{Talks}
 use Rattle.lsp_session.specs.Session.{Behavior, starting, SessionAnswer, SessionPart, SessionOut}
-use Rattle.lsp_session.specs.SessionBytes.{Gives}
 use Rattle.lsp_session.specs.SessionFault.{session_answer}
 use Rattle.lsp_session.specs.SessionLaws.{Both}
 use Rattle.lsp_session.specs.SessionRun.{Runs}
 use Rattle.lsp_session.specs.StreamBoxes.{StreamInboxGives}
 use Rattle.lsp_session.specs.StreamLines.{act_view, account_of, IsUnused, KeepsEnds, StreamLineGives, StreamLineSends, GivesInTurn}
 use Rattle.lsp_session.specs.declared.loops.frame_outbox.FrameOutbox.{FrameOutbox}
-use Rattle.lsp_session.specs.declared.loops.handler.SessionEnd.{SessionEnd}
 use Rattle.lsp_session.specs.declared.loops.stream_inbox.StreamInbox.{StreamInbox}
 use Rattle.lsp_session.specs.declared.loops.stream_line.Noted.{Noted}
 use Rattle.lsp_session.specs.declared.loops.stream_line.StreamLine.{StreamLine}
-use Rattle.lsp_session.specs.declared.loops.stream_session.SessionFault.{SessionFault}
-use Rattle.std.proofs.Common.{◌≡◌, refl, sym, ◌∙◌, ap, subst, ℕ, List, [], ◌++◌, map, Option, IfSome}
-use Rattle.std.specs.Prelude.{Result}
+use Rattle.std.proofs.Common.{◌≡◌, refl, sym, ◌∙◌, ap, subst, ℕ, List, [], ◌++◌, map, Option}
 
 module _ {R W : Type 0} (remaining : R → Option (List ℕ)) (contents : W → Option (List ℕ)) where
   -- the line adds each act to its account where it is done
@@ -62,12 +57,3 @@ module _ {R W : Type 0} (remaining : R → Option (List ℕ)) (contents : W → 
 
     pub keeps_ends : KeepsEnds old new
     keeps_ends = (ap (λ (n : ℕ × ℕ). n.0) ran.1, ap (λ (n : ℕ × ℕ). n.1) ran.1)
-
-  -- the same of the reader and the writer that were lent
-  pub gives_lent : (P : SessionPart) (limit : ℕ) (old new : StreamLine R W) (result : Result SessionEnd SessionFault) (first last : R) (first' last' : W)
-      → old.inbox.limit ≡ limit → old.inbox.reader.now ≡ first → old.outbox.writer.now ≡ first' → last ≡ new.inbox.reader.now → last' ≡ new.outbox.writer.now
-      → GivesInTurn remaining contents P old result new
-      → IfSome (remaining first) (λ text. Gives limit P text (remaining last) (contents first') (contents last') result)
-  gives_lent P limit old new result first last first' last' limited same same' is is' gives =
-      rw (is, is', sym limited, sym same, sym same')
-      (known_as (Both P (InTurn (account_of new))) P (λ xs stop null answer both. both.0) old.inbox.limit _ _ _ _ _ gives)

@@ -10,7 +10,10 @@ ghost use Rattle.lsp_session.specs.SessionFault.{ran_out as ran_out_spec, came_t
 
 use crate::error::ProtocolError;
 use crate::loops::handler_service::HandlerService;
-use crate::loops::{Handler, ReadEnd, Service, SessionEnd, StreamLine, serve_line};
+use crate::loops::{
+    FrameOutbox, Handler, ReadEnd, Service, SessionEnd, StreamInbox, StreamLine, serve_line,
+    serve_service,
+};
 use lsp_message::{ReadFault, WriteFault};
 use serde_json::Value;
 use std::alloc::Global;
@@ -120,8 +123,10 @@ pub fn session_of_service_within<R: BufRead, W: Write, S: Service>(
         Gives limit (SessionOut S.behavior service.old service.new)
         text (R.remaining reader.new) (W.contents writer.old) (W.contents writer.new) result) }
 {
-    let mut line = StreamLine::within(alloc, reader, writer, limit);
-    session_on(alloc, &mut line, service)
+    let mut inbox = StreamInbox::within(alloc, reader, limit);
+    let mut outbox = FrameOutbox::new(alloc, writer);
+    let answer = serve_service(alloc, &mut inbox, &mut outbox, service);
+    session_answer(answer, inbox.end(), outbox.fault())
 }
 
 /// Runs a session of a server over a line that was not used yet, as `session_of_service` does over its reader and its writer, and shows

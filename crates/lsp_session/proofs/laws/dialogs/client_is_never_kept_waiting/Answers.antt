@@ -1,5 +1,4 @@
 use Rattle.lsp_session.proofs.Dialogs.{never_both_wait, replies_are_due}
-use Rattle.lsp_session.proofs.RefusedDialogs.{holds_a_reply_back, reads_on_first}
 use Rattle.lsp_session.specs.HandlerSession.{of_handler}
 use Rattle.lsp_session.proofs.laws.dialogs.client_is_never_kept_waiting.Goals as goal
 

@@ -1,13 +1,15 @@
-use Rattle.std.proofs.Common.{sym, ◌∙◌}
-use Rattle.lsp_session.specs.Session.{SessionOut}
-use Rattle.lsp_session.proofs.StreamLined.{gives_lent}
+use Rattle.std.proofs.Common.{refl, sym, ◌∙◌}
+use Rattle.lsp_session.specs.Session.{starting, SessionOut}
+use Rattle.lsp_session.proofs.Ran.{session_facts}
+use Rattle.lsp_session.proofs.SessionGives.{session_gives}
 use Rattle.lsp_session.proofs.loops.stream_session.session_of_service_within.Goals as goal
 
 pub returns : goal.returns
 returns g c =
-    gives_lent g.R.Read.remaining g.W.Write.contents (SessionOut g.S.Service.behavior c.args.service.now c.session_on.new.service) c.args.limit
-    c.within-line.result c.session_on.new.line _ c.args.reader.now _ c.args.writer.now _
-    c.within-line.ensures.limited c.within-line.ensures.unread c.within-line.ensures.unwritten
-    (c.reader-1.given.1 (sym c.within-line.ensures.same_reader ∙ sym c.session_on.ensures.same_ends.0))
-    (c.writer-1.given.1 (sym c.within-line.ensures.same_writer ∙ sym c.session_on.ensures.same_ends.1))
-    c.session_on.ensures.in_turn
+    rw (c.session_answer.ensures, c.end.ensures, c.fault.ensures) (session_gives c.args.limit g.R.Read.remaining g.W.Write.contents
+    (SessionOut g.S.Service.behavior c.args.service.now c.serve_service-answer.new.service)
+    (session_facts g.S.Service.behavior starting c.args.service.now c.serve_service-answer.new.service refl)
+    c.within-inbox.result c.serve_service-answer.new.inbox c.new-outbox.result c.serve_service-answer.new.outbox c.within-inbox.ensures.unended c.within-inbox.ensures.limited c.new-outbox.ensures.unfailed
+    c.serve_service-answer.result c.serve_service-answer.ensures c.args.reader.now _ c.args.writer.now _ c.within-inbox.ensures.unread c.new-outbox.ensures.unwritten
+    (λ names. c.reader-1.given.1 (sym c.within-inbox.ensures.same_reader ∙ sym names))
+    (λ names. c.writer-1.given.1 (sym c.new-outbox.ensures.same_writer ∙ sym names)))
