@@ -1,13 +1,19 @@
+pub mod Account
+pub mod AccountItems
 pub mod Answered
+pub mod BothEnds
 pub mod Boxes
+pub mod Dialog
 pub mod Event
 pub mod Finish
 pub mod FrameBoxes
 pub mod HandlerService
 pub mod HandlerSession
+pub mod LineParts
 pub mod Lists
 pub mod OutputView
 pub mod Outputs
+pub mod Prompt
 pub mod ProtocolError
 pub mod ProtocolErrorLaws
 pub mod ReadLoop
@@ -20,6 +26,7 @@ pub mod SessionRun
 pub mod Shutdown
 pub mod Start
 pub mod StreamBoxes
+pub mod StreamLines
 pub mod Streams
 pub mod Turns
 pub mod WriteLoop

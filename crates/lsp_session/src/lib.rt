@@ -14,7 +14,7 @@ pub use lifecycle::{
 };
 pub use loops::{
     FrameOutbox, Handler, HandlerService, Output, ReadEnd, Service, SessionEnd, SessionFault,
-    StreamInbox, WriteEnd, initialize_result, read_loop, read_loop_within, serve, serve_service,
-    session, session_answer, session_of_service, session_of_service_within, session_within,
-    write_loop,
+    StreamInbox, StreamLine, WriteEnd, initialize_result, read_loop, read_loop_within, serve,
+    serve_line, serve_service, session, session_answer, session_of_service,
+    session_of_service_within, session_on, session_within, write_loop,
 };

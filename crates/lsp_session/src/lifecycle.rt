@@ -30,10 +30,12 @@ mod initialized;
 mod kinds;
 mod lists;
 
-pub(crate) use exit::offer;
 pub use exit::shutdown;
+pub(crate) use exit::{EXIT_SECONDS, offer, shutdown_on};
 pub use gates::{CallGate, OpenGate};
+pub(crate) use initialize::start_on;
 pub use initialize::start_within;
+pub(crate) use initialized::{finish_on, ok_reply};
 pub use initialized::{finish, finish_within, wait_within};
 pub use kinds::is_exit;
 pub use lists::{ListGate, ListInbox, ListOutbox};

@@ -10,24 +10,29 @@ use lsp_message::{Message, ReadFault};
 use std::alloc::Global;
 use std::io::{BufRead, ErrorKind};
 
-mod engine;
+mod account;
+mod both_ends;
 mod frame_outbox;
 mod handler;
 mod handler_service;
+mod line;
 mod service;
 mod stream_inbox;
+mod stream_line;
 mod stream_session;
 mod write;
 
-pub use engine::serve_service;
+pub use both_ends::serve_service;
 pub use frame_outbox::FrameOutbox;
 pub use handler::{Handler, SessionEnd, initialize_result, serve};
 pub use handler_service::HandlerService;
+pub use line::serve_line;
 pub use service::{Output, Service};
 pub use stream_inbox::StreamInbox;
+pub use stream_line::StreamLine;
 pub use stream_session::{
     SessionFault, session, session_answer, session_of_service, session_of_service_within,
-    session_within,
+    session_on, session_within,
 };
 pub use write::{WriteEnd, write_loop};
 

@@ -14,7 +14,7 @@ use serde_json::Value;
 use std::alloc::Global;
 
 /// How long `shutdown` waits for `exit`.
-const EXIT_SECONDS: u64 = 30;
+pub(crate) const EXIT_SECONDS: u64 = 30;
 
 /// If the request is `shutdown`, answers it with null and waits up to 30 seconds for the notification `exit`: then `Ok(true)`. For
 /// any other request it gives `Ok(false)`, and nothing is sent or received (LSP 3.17, "Shutdown Request").
@@ -48,7 +48,7 @@ pub(crate) fn offer<O: Outbox>(outbox: &mut O, message: Message)
 }
 
 /// What an event gives in the place of `exit`.
-fn shutdown_on(alloc: Global, event: Event) -> Result<bool, ProtocolError>
+pub(crate) fn shutdown_on(alloc: Global, event: Event) -> Result<bool, ProtocolError>
     ensures { EventShutsDown (event_view event) result }
 {
     match event {

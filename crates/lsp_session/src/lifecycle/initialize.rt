@@ -47,7 +47,7 @@ pub fn start_within<I: Inbox, O: Outbox, G: Gate>(
 }
 
 /// What an event gives before `initialize` came.
-fn start_on<O: Outbox>(
+pub(crate) fn start_on<O: Outbox>(
     alloc: Global,
     outbox: &mut O,
     event: Event,

@@ -40,7 +40,7 @@ pub fn wait_within<I: Inbox, G: Gate>(
 }
 
 /// What a message gives in the place of `initialized`.
-fn finish_on(alloc: Global, message: &Message) -> Result<(), ProtocolError>
+pub(crate) fn finish_on(alloc: Global, message: &Message) -> Result<(), ProtocolError>
     ensures { EventFinishes (message_event (message_view message.now)) result }
 {
     if is_initialized(message) {

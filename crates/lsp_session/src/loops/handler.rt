@@ -8,7 +8,7 @@ ghost use Rattle.lsp_session.specs.SessionRun.{Runs};
 
 use crate::error::ProtocolError;
 use crate::lifecycle::{Inbox, Outbox};
-use crate::loops::engine::serve_service;
+use crate::loops::both_ends::serve_service;
 use crate::loops::handler_service::HandlerService;
 use lsp_message::{Notification, Request, Response, ResponseError};
 use serde_json::{Map, Value, put};

@@ -5,12 +5,14 @@ ghost use Rattle.lsp_message.specs.Frame.{no_limit};
 ghost use Rattle.lsp_session.specs.HandlerSession.{of_handler};
 ghost use Rattle.lsp_session.specs.Session.{SessionOut};
 ghost use Rattle.lsp_session.specs.SessionBytes.{Gives};
+ghost use Rattle.lsp_session.specs.StreamLines.{IsUnused, KeepsEnds, GivesInTurn};
 ghost use Rattle.lsp_session.specs.SessionFault.{ran_out as ran_out_spec, came_to_no_more as came_to_no_more_spec, protocol_fault as protocol_fault_spec, read_fault as read_fault_spec, plain_answer as plain_answer_spec, read_answer as read_answer_spec, session_answer as session_answer_spec};
 
 use crate::error::ProtocolError;
 use crate::loops::handler_service::HandlerService;
 use crate::loops::{
-    FrameOutbox, Handler, ReadEnd, Service, SessionEnd, StreamInbox, serve_service,
+    FrameOutbox, Handler, ReadEnd, Service, SessionEnd, StreamInbox, StreamLine, serve_line,
+    serve_service,
 };
 use lsp_message::{ReadFault, WriteFault};
 use serde_json::Value;
@@ -125,6 +127,25 @@ pub fn session_of_service_within<R: BufRead, W: Write, S: Service>(
     let mut outbox = FrameOutbox::new(alloc, writer);
     let answer = serve_service(alloc, &mut inbox, &mut outbox, service);
     session_answer(answer, inbox.end(), outbox.fault())
+}
+
+/// Runs a session of a server over a line that was not used yet, as `session_of_service` does over its reader and its writer, and shows
+/// in which order it read and wrote (LSP 3.17, "Base Protocol" and "Server lifecycle").
+///
+/// All that is said for a message is written before the next message is read: the result of `initialize` before `initialized`, and the
+/// null of `shutdown` before `exit`. So a client may wait for it before it sends on. That the writer is also flushed before the next
+/// message is read is tested, and no part of the contract.
+pub fn session_on<R: BufRead, W: Write, S: Service>(
+    alloc: Global,
+    line: &mut StreamLine<R, W>,
+    service: &mut S,
+) -> Result<SessionEnd, SessionFault>
+    requires unused { IsUnused line.old }
+    ensures in_turn { GivesInTurn R.remaining W.contents (SessionOut S.behavior service.old service.new) line.old result line.new }
+    ensures same_ends { KeepsEnds line.old line.new }
+{
+    let answer = serve_line(alloc, line, service);
+    session_answer(answer, line.end(), line.fault())
 }
 
 /// The answer of a session whose messages ended so, and whose outbox kept this fault of writing: of several faults that fit it is

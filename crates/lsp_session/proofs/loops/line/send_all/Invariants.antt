@@ -4,7 +4,7 @@ use Rattle.std.specs.Prelude.{map}
 use Rattle.std.specs.Vec.Iter.{into_iter_items}
 use Rattle.lsp_message.specs.View.{message_view}
 use Rattle.lsp_session.specs.Boxes.{Takes}
-use Rattle.lsp_session.proofs.loops.engine.send_all.Given as goal
+use Rattle.lsp_session.proofs.loops.line.send_all.Given as goal
 
 -- what came so far was taken
 abbrev pub invariant-loop-message : goal.invariant-loop-message

@@ -1,7 +1,7 @@
 use Rattle.std.proofs.Common.{refl, []}
 use Rattle.std.proofs.lemmas.Result.{err_from_is_err_and}
 use Rattle.lsp_message.specs.View.{message_view}
-use Rattle.lsp_session.proofs.loops.engine.send_output.Goals as goal
+use Rattle.lsp_session.proofs.loops.line.send_output.Goals as goal
 
 pub returns-in_err-send-in-One : goal.returns-in_err-send-in-One
 returns-in_err-send-in-One g c =

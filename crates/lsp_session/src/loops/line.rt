@@ -1,18 +1,24 @@
-// A session of a server (LSP 3.17, "Server lifecycle").
+// A session of a server (LSP 3.17, "Server lifecycle"), over one value that gives messages and takes them.
+ghost use Rattle.serde_json.specs.View.{view};
 ghost use Rattle.std.specs.Prelude.{◌≡◌, map, Err, IfOk};
 ghost use Rattle.lsp_message.specs.Message.{response};
 ghost use Rattle.lsp_message.specs.View.{message_view, error_view};
+ghost use Rattle.lsp_session.specs.LineParts.{FinishesOn, ShutsDownOn};
 ghost use Rattle.lsp_session.specs.OutputView.{output_view};
 ghost use Rattle.lsp_session.specs.Outputs.{SendsAll};
+ghost use Rattle.lsp_session.specs.Prompt.{Talks};
+ghost use Rattle.lsp_session.specs.Replies.{ok_reply as ok_reply_spec};
 ghost use Rattle.lsp_session.specs.Session.{serving, SessionFrom, SessionOut};
-ghost use Rattle.lsp_session.specs.SessionRun.{Runs};
-ghost use Rattle.lsp_session.specs.Shutdown.{ShutsDownAt};
 
 use crate::error::ProtocolError;
-use crate::lifecycle::{Arrival, Inbox, OpenGate, Outbox, finish, is_exit, shutdown, start_within};
+use crate::lifecycle::{
+    Arrival, EXIT_SECONDS, Event, Inbox, Outbox, finish_on, is_exit, offer, ok_reply, shutdown_on,
+    start_on,
+};
 use crate::loops::handler::SessionEnd;
 use crate::loops::service::{Output, Service};
 use lsp_message::{Message, RequestId, Response, ResponseError};
+use serde_json::Value;
 use std::alloc::{AllocError, Global};
 
 /// Runs a session of a server: the handshake, what the service gives for each message, and the shutdown (LSP 3.17,
@@ -22,57 +28,59 @@ use std::alloc::{AllocError, Global};
 /// `initialize` is answered with the service's result. Where the service gives an error, that is the reply, and the session
 /// goes on as before `initialize`: a client may send it again (LSP 3.17, "Initialize Request", `retry`). When `initialized`
 /// came, what the service gives for it is sent. From then on each message goes to the service, a reply too, and each wake of the inbox,
-/// up to `shutdown`. What it gives is sent in order (before the next message is received: that is tested, and no part of the contract).
+/// up to `shutdown`. What it gives is sent in order.
 /// `shutdown` is answered with null, and nothing follows it; `exit` then gives `ShutDown`. `Closed` comes where, from `initialized` on,
 /// `exit` comes without a `shutdown` or no more messages come. What comes at the wrong time is in the table of `lifecycle`.
 ///
-/// An outbox that is closed to a message ends the session with `disconnected channel`, and a failed allocation with
+/// A line that is closed to a message ends the session with `disconnected channel`, and a failed allocation with
 /// `out of memory`; what was to follow for that message is not sent. That the null could not be sent is ignored. After
 /// 2^64 - 1 events it ends as if no more messages came.
-pub fn serve_service<I: Inbox, O: Outbox, S: Service>(
+///
+/// All that is said for a message or a wake is sent before anything else is awaited: the result of `initialize` before `initialized`, and
+/// the null before `exit`. So a client may wait for it before it sends on. That this is the reply to a request is so of all that comes up
+/// to `initialized`, and of `shutdown`; in between a service may reply to it later, unless it answers at once, as a handler does
+/// (`laws::sessions::session_answers_requests`). After a message that the line refuses nothing is awaited, but that an event is
+/// received after the null in any case.
+pub fn serve_line<L: Inbox + Outbox, S: Service>(
     alloc: Global,
-    inbox: &mut I,
-    outbox: &mut O,
+    line: &mut L,
     service: &mut S,
 ) -> Result<SessionEnd, ProtocolError>
-    ensures { Runs I.receives O.sends (SessionOut S.behavior service.old service.new)
-        (inbox.old, outbox.old) result (inbox.new, outbox.new) }
+    ensures { Talks L.receives L.sends (SessionOut S.behavior service.old service.new) line.old result line.new }
 {
-    for _attempt in 0..u64::MAX {
-        let (id, params) = match start_within(alloc, inbox, outbox, &mut OpenGate, u64::MAX) {
+    for _turn in 0..u64::MAX {
+        let event = line.receive();
+        let (id, params) = match start_on(alloc, line, event) {
             Some(started) => started?,
-            None => return Err(ProtocolError::disconnected()),
+            None => continue,
         };
         match service.initialize(params)? {
             Ok(result) => {
-                finish(alloc, inbox, outbox, id, result)?;
+                finish_line(alloc, line, id, result)?;
                 let first = service.initialized()?;
-                send_output(outbox, first)?;
-                return serve_messages(alloc, inbox, outbox, service);
+                send_output(line, first)?;
+                return serve_turns(alloc, line, service);
             }
-            Err(error) => outbox.send(error_reply(id, error))?,
+            Err(error) => line.send(error_reply(id, error))?,
         }
     }
     Err(ProtocolError::disconnected())
 }
 
-/// The session from `initialized` on: each message goes to the service, up to the first `shutdown` or `exit`, and so does each
-/// wake. What it gives is sent in order. That this is before the next message is received is tested, and no part of the contract.
-fn serve_messages<I: Inbox, O: Outbox, S: Service>(
+/// The session from `initialized` on: each message goes to the service, up to the first `shutdown` or `exit`, and so does each wake.
+fn serve_turns<L: Inbox + Outbox, S: Service>(
     alloc: Global,
-    inbox: &mut I,
-    outbox: &mut O,
+    line: &mut L,
     service: &mut S,
 ) -> Result<SessionEnd, ProtocolError>
-    ensures { Runs I.receives O.sends (SessionFrom S.behavior serving service.old service.new)
-        (inbox.old, outbox.old) result (inbox.new, outbox.new) }
+    ensures { Talks L.receives L.sends (SessionFrom S.behavior serving service.old service.new) line.old result line.new }
 {
     for _turn in 0..u64::MAX {
-        let message = match inbox.receive_or_woken() {
+        let message = match line.receive_or_woken() {
             Arrival::Message(message) => message,
             Arrival::Woken => {
                 let output = service.woken()?;
-                send_output(outbox, output)?;
+                send_output(line, output)?;
                 continue;
             }
             Arrival::Closed => return Ok(SessionEnd::Closed),
@@ -80,29 +88,53 @@ fn serve_messages<I: Inbox, O: Outbox, S: Service>(
         if is_exit(&message) {
             return Ok(SessionEnd::Closed);
         }
-        if shut_down(alloc, inbox, outbox, &message)? {
+        if shut_line(alloc, line, &message)? {
             return Ok(SessionEnd::ShutDown);
         }
         let output = turn(service, message)?;
-        send_output(outbox, output)?;
+        send_output(line, output)?;
     }
     Ok(SessionEnd::Closed)
 }
 
-/// `shutdown`, of any message.
-fn shut_down<I: Inbox, O: Outbox>(
+/// Sends the result of `initialize`, and then waits for one message.
+fn finish_line<L: Inbox + Outbox>(
     alloc: Global,
-    inbox: &mut I,
-    outbox: &mut O,
+    line: &mut L,
+    id: RequestId,
+    initialize_result: Value,
+) -> Result<(), ProtocolError>
+    ensures { FinishesOn L.receives L.sends (ok_reply_spec id (view initialize_result)) line.old result line.new }
+{
+    if let Err(fault) = line.send(ok_reply(id, initialize_result)) {
+        return Err(ProtocolError::from(fault));
+    }
+    match line.receive() {
+        Event::Message(message) => finish_on(alloc, &message),
+        Event::Timeout => unreachable!(),
+        Event::Closed => Err(ProtocolError::disconnected()),
+    }
+}
+
+/// Answers `shutdown` with null, and then waits for `exit`. Any other message is left alone.
+fn shut_line<L: Inbox + Outbox>(
+    alloc: Global,
+    line: &mut L,
     message: &Message,
 ) -> Result<bool, ProtocolError>
-    ensures { ShutsDownAt I.receives O.sends (message_view message.now)
-        (inbox.old, outbox.old) result (inbox.new, outbox.new) }
+    ensures { ShutsDownOn L.receives L.sends (message_view message.now) line.old result line.new }
 {
-    match message {
-        Message::Request(request) => shutdown(alloc, inbox, outbox, request),
-        Message::Notification(_) | Message::Response(_) => Ok(false),
+    let Message::Request(request) = message else {
+        return Ok(false);
+    };
+    if request.method.as_str() != "shutdown" {
+        return Ok(false);
     }
+    let Ok(id) = request.id.clone() else {
+        return Err(ProtocolError::out_of_memory());
+    };
+    offer(line, ok_reply(id, Value::Null));
+    shutdown_on(alloc, line.receive_for(EXIT_SECONDS))
 }
 
 /// What the service gives for a message.

@@ -6,7 +6,7 @@ use Rattle.lsp_message.specs.View.{message_view}
 use Rattle.lsp_message.specs.declared.msg.Message as msg
 use Rattle.lsp_session.proofs.Waiting.{FoldsTo-append}
 use Rattle.lsp_session.specs.Boxes.{Takes}
-use Rattle.lsp_session.proofs.loops.engine.send_all.Goals as goal
+use Rattle.lsp_session.proofs.loops.line.send_all.Goals as goal
 
 pub loop-message-preserved : goal.loop-message-preserved
 loop-message-preserved g c =

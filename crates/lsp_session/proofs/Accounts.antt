@@ -1,0 +1,126 @@
+-- Over a line that keeps an account, a session takes its turns: what it says for a message stands before what it reads next.
+use Rattle.lsp_message.specs.Message.{Message}
+use Rattle.lsp_session.specs.Account.{Act, gave, took, sending, KeepsAccount, Awaited, IsTurnOf, AreTurnsOf, EndsInTurn, TakesTurns, InTurn}
+use Rattle.lsp_session.specs.Boxes.{Sends, Receives, Takes, WaitsFor}
+use Rattle.lsp_session.specs.Event.{Event, message}
+use Rattle.lsp_session.specs.Prompt.{event_of, Meets, BreaksOff, OffersNullFirst, EndsTalk, Talks}
+use Rattle.lsp_session.specs.Session.{Exchange, SessionAnswer, SessionPart, Stop, decided, no_more, timed_out, refused, exhausted}
+use Rattle.lsp_session.specs.SessionLaws.{Both}
+use Rattle.std.proofs.Common.{◌≡◌, refl, sym, ◌∙◌, ap, inl, inr, ℕ, List, [], ◌∷◌, ◌++◌, length, map, append_assoc, append-nil, Option, Some, None}
+use Rattle.std.specs.List.{FoldsTo}
+use Rattle.std.specs.Prelude.{Result, Ok, Err}
+
+module _ {L : Type 0} (receives : Receives L) (sends : Sends L) (account : L → List Act) (keeps : KeepsAccount receives sends account) where
+  -- the account grew by these acts
+  abbrev Grew : L → L → List Act → Type 0
+  Grew old new acts = account new ≡ account old ++ acts
+
+  grew_none : (old new : L) → old ≡ new → Grew old new []
+  grew_none old new same = rw (sym same, append-nil) refl
+
+  grew_both : (old mid new : L) (first second : List Act) → Grew old mid first → Grew mid new second → Grew old new (first ++ second)
+  grew_both old mid new first second one two = two ∙ ap (λ (xs : List Act). xs ++ second) one ∙ append_assoc (account old) first second
+
+  -- events are received
+  gave_all : (events : List Event) (old new : L) → FoldsTo receives old events new → Grew old new (map gave events)
+  gave_all [] old new run = grew_none old new run
+  gave_all (e ∷ events) old new run = grew_both old run.0 new (gave e ∷ []) (map gave events) (keeps.receiving old e run.0 run.1) (gave_all events run.0 new run.2)
+
+  -- messages are taken
+  took_all : (ms : List Message) (old new : L) → FoldsTo (Takes sends) old ms new → Grew old new (map took ms)
+  took_all [] old new run = grew_none old new run
+  took_all (m ∷ ms) old new run = grew_both old run.0 new (took m ∷ []) (map took ms) (keeps.offering old m (Ok tt) run.0 run.1) (took_all ms run.0 new run.2)
+
+  -- an event is awaited
+  waited : (event : Event) (old new : L) → WaitsFor receives old event new → (acts : List Act) × Awaited event acts × Grew old new acts
+  waited event old new waits = (
+    map gave (waits.passed ++ event ∷ []),
+    record { passed = waits.passed; only_timeouts = waits.only_timeouts; are = refl },
+    gave_all (waits.passed ++ event ∷ []) old new waits.received,
+  )
+
+  -- one turn
+  turned : (x : Exchange) (old new : L) → Meets receives sends old x new → (acts : List Act) × IsTurnOf x acts × Grew old new acts
+  turned x old new meets =
+      let first = waited (event_of x.letter) old meets.met meets.waited in (
+        first.0 ++ map took x.said,
+        record { waits = first.0; awaited = first.1; are = refl },
+        grew_both old meets.met new first.0 (map took x.said) first.2 (took_all x.said meets.met new meets.taken),
+      )
+
+  -- turns, one after another
+  turned_all : (xs : List Exchange) (old new : L) → FoldsTo (Meets receives sends) old xs new → (acts : List Act) × AreTurnsOf xs acts × Grew old new acts
+  turned_all [] old new run = ([], refl, grew_none old new run)
+  turned_all (x ∷ xs) old new run =
+      let one = turned x old run.0 run.1 in
+      let more = turned_all xs run.0 new run.2 in
+      (one.0 ++ more.0, (one.0, more.0, one.1, more.1, refl), grew_both old run.0 new one.0 more.0 one.2 more.2)
+
+  -- the null, and what comes after it
+  null_turned : (null : Message) (stop : Stop) (last : List Exchange) (old new : L) → OffersNullFirst receives sends null stop last old new
+      → (acts : List Act) × EndsInTurn 0 stop (Some null) last acts × Grew old new acts
+  null_turned null stop last old new ends =
+      let first = waited (message ends.ask) old ends.met ends.waited in
+      let outcome = ends.offered.outcome in (
+        first.0 ++ sending null outcome ∷ gave ends.event ∷ [],
+        record {
+          ask = ends.ask;
+          asks = ends.asks;
+          waits = first.0;
+          awaited = first.1;
+          outcome = outcome;
+          event = ends.event;
+          are = refl;
+          later = ends.later;
+          stops = ends.stops;
+          is = ends.is;
+        },
+        grew_both old ends.met new first.0 (sending null outcome ∷ gave ends.event ∷ []) first.2
+            (grew_both ends.met ends.mid new (sending null outcome ∷ []) (gave ends.event ∷ [])
+            (keeps.offering ends.met null outcome ends.mid ends.offered.sent) (keeps.receiving ends.mid ends.event new ends.received)),
+      )
+
+  -- a message is refused
+  broken : (fault : _) (last : List Exchange) (old new : L) → BreaksOff receives sends fault last old new
+      → (acts : List Act) × EndsInTurn 0 (refused fault) None last acts × Grew old new acts
+  broken fault last old new ends =
+      let first = waited (event_of ends.letter) old ends.met ends.waited in (
+        first.0 ++ (map took ends.part ++ sending ends.unsaid (Err fault) ∷ []),
+        record { letter = ends.letter; part = ends.part; unsaid = ends.unsaid; is = ends.is; waits = first.0; awaited = first.1; are = refl },
+        grew_both old ends.met new first.0 (map took ends.part ++ sending ends.unsaid (Err fault) ∷ []) first.2
+            (grew_both ends.met ends.mid new (map took ends.part) (sending ends.unsaid (Err fault) ∷ []) (took_all ends.part ends.met ends.mid ends.taken)
+            (keeps.offering ends.mid ends.unsaid (Err fault) new ends.refuses)),
+      )
+
+  -- the end of a session
+  ended_turn : (count : ℕ) (stop : Stop) (null : Option Message) (last : List Exchange) (old new : L) → EndsTalk receives sends count stop null last old new
+      → (acts : List Act) × EndsInTurn count stop null last acts × Grew old new acts
+  ended_turn count stop (Some null) last old new ends = null_turned null stop last old new ends
+  ended_turn count (refused fault) None last old new ends = broken fault last old new ends
+  ended_turn count decided None last old new ends = ([], (ends.0, refl), grew_none old new (sym ends.1))
+  ended_turn count no_more None last old new ends = elim ends.1 [
+    | inl closes ↦ (let w = waited Rattle.lsp_session.specs.Event.closed old new closes in (w.0, (ends.0, inl w.1), w.2))
+    | inr all ↦ ([], (ends.0, inr (all.0, refl)), grew_none old new (sym all.1))
+  ]
+  ended_turn count exhausted None last old new ends = let w = waited (event_of ends.1) old new ends.2 in (w.0, (ends.0, ends.1, w.1), w.2)
+  ended_turn count timed_out None last old new ends = absurd ends
+
+  -- A session's acts are added to the account, and they are those of its exchanges, each in its turn.
+  pub talks_in_turn : (P : SessionPart) (old new : L) (answer : SessionAnswer) → Talks receives sends P old answer new
+      → (acts : List Act) × (account new ≡ account old ++ acts) × Talks receives sends (Both P (InTurn acts)) old answer new
+  talks_in_turn P old new answer talks =
+      let first = turned_all talks.whole old talks.mid talks.prompt in
+      let end = ended_turn (length talks.whole) talks.stop talks.null talks.last talks.mid new talks.ends in (
+        first.0 ++ end.0,
+        grew_both old talks.mid new first.0 end.0 first.2 end.2,
+        record {
+          whole = talks.whole;
+          last = talks.last;
+          stop = talks.stop;
+          null = talks.null;
+          mid = talks.mid;
+          prompt = talks.prompt;
+          ends = talks.ends;
+          part = (talks.part, record { whole = talks.whole; last = talks.last; cut = refl; turns = first.0; end = end.0; are = refl; in_turn = first.1; ends = end.1 });
+        },
+      )
