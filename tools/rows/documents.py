@@ -215,7 +215,7 @@ class Documents:
         version, language, text = self.open[uri]
         places = [position(text, i, self.encoding) for i in range(len(text) + 1)]
         written = json.dumps(text, ensure_ascii=False)
-        number = "none" if version is None else version
+        number = "None" if version is None else f"Some({version})"
         return f"{uri} {number} {language} {written} {len(lines(text))} " + " ".join("%d:%d" % it for it in places)
 
 

@@ -66,7 +66,7 @@ class Boxes:
             if came == "aborted":
                 return ABORTED
             if came == "closed":
-                return f"{AT_END['new']}, disconnected"
+                return AT_END["new"]
             if came == "timeout":
                 continue
             if is_request(came, "initialize"):
@@ -75,7 +75,7 @@ class Boxes:
             if "method" not in came or is_note(came, "exit"):
                 return AT_WRONG_TIME["new"] + debug_message(came)
             if "id" in came and not self.send(too_early(came)):
-                return f"{AT_END['new']}, disconnected"
+                return AT_END["new"]
         return "undecided"
 
     def wait(self, turns):
@@ -89,12 +89,12 @@ class Boxes:
         if came == "aborted":
             return ABORTED
         if came == "closed":
-            return f"{AT_END['asked']}, disconnected"
+            return AT_END["asked"]
         return "done" if is_note(came, "initialized") else AT_WRONG_TIME["asked"] + debug_message(came)
 
     def finish(self, turns):
         if not self.send({"id": self.id, "result": None}):
-            return f"{AT_END['asked']}, disconnected"
+            return AT_END["asked"]
         return self.wait(turns) if turns else self.waited(self.receive(0))
 
     def shut(self, method):
@@ -103,7 +103,7 @@ class Boxes:
         self.send({"id": "last", "result": None})
         came = self.receive(30)
         if came == "closed":
-            return f"{AT_END['ending']}, disconnected"
+            return AT_END["ending"]
         if came == "timeout":
             return LATE
         return "true" if is_note(came, "exit") else AT_WRONG_TIME["ending"] + debug_message(came)
@@ -155,15 +155,15 @@ def writes_answer(row):
     """The messages are written one after another, each offered to the other outbox after its write."""
     counts, events = row.split(" | ")
     fills, room = map(int, counts.split(" "))
-    events, written, on, end = events_of(events), b"", [], "closed"
-    while events and end == "closed":
+    events, written, on, end = events_of(events), b"", [], "Closed"
+    while events and end == "Closed":
         came = events.pop(0)
         if came == "timeout":
             continue
         written += frame(came)
         on += [text_of(came)] if len(on) < room else []
         if len(written) > fills:
-            end, written = "write fault 1", written[:fills]
+            end, written = "Fault(Output(BrokenPipe))", written[:fills]
     return [f"{end}; wrote {escape(written)}; on {''.join(on)}; left {len(events)}"]
 
 
@@ -198,24 +198,18 @@ def lists(levels):
     return value
 
 
-def made_answer(text):
-    """A constructor gives the members that it is given. One of an error gives no data."""
-    return [text_of(json.loads(text))]
-
-
 def extract_answer(row):
-    """The params of a message as a number, or the text that the documents of `ExtractError` give, and what comes back."""
+    """The params of a message as a number, or the text that the documents of `ExtractError` give."""
     method, _, text = row.partition(" ")
     message = json.loads(text)
     kind = "request" if "id" in message else "notification"
     if message["method"] != method:
-        return [escape(f"Method mismatch for {kind} '{message['method']}'; {text_of(message)} back".encode())]
+        return [escape(f"Method mismatch for {kind} '{message['method']}'".encode())]
     if is_whole(message["params"]):
         name = f"{id_answer(message['id'])}: " if "id" in message else ""
         return [f"{name}{message['params']}"]
     # (the last words are those of `serde_json`)
-    said = f"Invalid {kind}\nMethod: {method}\n error: invalid type; {method} back"
-    return [escape(said.encode())]
+    return [escape(f"Invalid {kind}\nMethod: {method}\n error: invalid type".encode())]
 
 
 ROWS = {
@@ -225,8 +219,6 @@ ROWS = {
     "woken": lambda row: session_answer("woken", row),
     "writes": writes_answer,
     "link": link_answers,
-    "ok": made_answer,
-    "error": made_answer,
     "extract": extract_answer,
 }
 assert nesting(lists(LEVELS)) == LEVELS

@@ -152,12 +152,6 @@ def text_of(members):
     return "{" + ",".join(f"{compact(name)}:{value_text(name, it)}" for name, it in members.items()) + "}"
 
 
-def kind_of(members):
-    if "method" in members:
-        return "request" if "id" in members else "notification"
-    return "result" if "result" in members else "error"
-
-
 def length_in(value):
     digits = value[1:] if value.startswith("+") else value
     if not digits or not digits.isascii() or not digits.isdigit() or int(digits) > GREATEST:
@@ -245,20 +239,9 @@ def read_answer(data, breaks, unread, limit, kind="BrokenPipe"):
     return f"{read_text(came)}; left {escape(left + unread)}"
 
 
-def stream_answer(data):
-    came, data = read(data)
-    texts = [read_text(came)]
-    while isinstance(came, dict):
-        came, data = read(data)
-        texts.append(read_text(came))
-    return " ".join(texts)
-
-
 def body_answer(body):
     came = meaning(body)
-    if isinstance(came, int):
-        return f"read fault {came}, no message"
-    return f"{kind_of(came)} {text_of(came)}"
+    return f"read fault {came}, no message" if isinstance(came, int) else text_of(came)
 
 
 # How values print for a programmer, as Rust's `{:?}` prints them.
@@ -291,13 +274,29 @@ def debug_id(name):
     return f"RequestId(String({debug_text(name)}))" if isinstance(name, str) else f"RequestId(I32({name}))"
 
 
+def debug_error(error):
+    data = f"Some({debug_value(error['data'])})" if "data" in error else "None"
+    return f"ResponseError {{ code: {error['code']}, message: {debug_text(error['message'])}, data: {data} }}"
+
+
 def debug_message(members):
     if "method" not in members:
-        return f"Response(Response {{ id: {debug_id(members['id'])}, response_result: Ok({debug_value(members['result'])}) }})"
+        result = f"Ok({debug_value(members['result'])})" if "result" in members else f"Err({debug_error(members['error'])})"
+        return f"Response(Response {{ id: {debug_id(members['id'])}, response_result: {result} }})"
     params = f"method: {debug_text(members['method'])}, params: {debug_value(members.get('params'))}"
     if "id" in members:
         return f"Request(Request {{ id: {debug_id(members['id'])}, {params} }})"
     return f"Notification(Notification {{ {params} }})"
+
+
+# The variants of `ReadFault`, by their numbers, from 1.
+READ_FAULTS = ["Input(BrokenPipe)", "LineNotText", "LineEnd", "NoSeparator", "BadLength", "NoLength", "ShortBody", "BodyNotText", "NoJson"]
+READ_FAULTS += ["NoMessage", "Memory", "TooLong", "Batch"]
+
+
+def debug_end(end):
+    """A `ReadEnd`: that of a fault's number, or the name of another."""
+    return f"Fault({READ_FAULTS[end - 1]})" if isinstance(end, int) else {"exit": "Exit", "end": "End", "closed": "Closed"}[end]
 
 
 # Sessions (LSP 3.17, "Server lifecycle").
@@ -531,13 +530,9 @@ def messages_of(data):
             return messages, "exit"
 
 
-def end_text(end):
-    return {"end": "the end", "exit": "exit", "closed": "closed"}.get(end) or f"read fault {end}"
-
-
 def inbox_answer(data):
     messages, end = messages_of(data)
-    return "".join(f"{text_of(it)} " for it in messages) + f"{end_text(end)}, closed true"
+    return f"{''.join(map(text_of, messages))} Some({debug_end(end)}), closed true"
 
 
 def loop_answer(data, breaks, unread, limit, room):
@@ -552,14 +547,14 @@ def loop_answer(data, breaks, unread, limit, room):
         else:
             end = came
         if end:
-            return f"{end_text(end)}; sent {''.join(texts)}; left {len(data + unread)}"
+            return f"{debug_end(end)}; sent {''.join(texts)}; left {len(data + unread)}"
 
 
 def frames_answer(data, room, bad_flush, kind):
     """What comes of one write and one flush of these frames."""
     if room < len(data):
-        return f"write fault 1 by {kind}; wrote {escape(data[:room])}, 0 flushes"
-    said = f"write fault 1 by {kind}" if bad_flush == 1 else "written"
+        return f"Err(Output({kind})); wrote {escape(data[:room])}, 0 flushes"
+    said = f"Err(Output({kind}))" if bad_flush == 1 else "Ok(())"
     return f"{said}; wrote {escape(data)}, 1 flushes"
 
 
@@ -567,17 +562,17 @@ def write_answer(data, *words):
     return frames_answer(frame(read(data)[0]), *words)
 
 
-def outbox_answer(data, room, bad_flush, _):
+def outbox_answer(data, room, bad_flush, kind):
     """Each message is written and flushed, up to the first that fails, which comes back, as all behind it do."""
-    texts, written, flushes, fault = [], b"", 0, "no fault"
+    texts, written, flushes, fault = [], b"", 0, "None"
     came, data = read(data)
     while isinstance(came, dict):
-        if fault == "no fault":
+        if fault == "None":
             written += frame(came)
             flushes += len(written) <= room
             if len(written) > room or flushes == bad_flush:
-                fault, written = "write fault 1", written[:room]
-        texts.append("taken, " if fault == "no fault" else f"{text_of(came)} back, ")
+                fault, written = f"Some(Output({kind}))", written[:room]
+        texts.append("taken, " if fault == "None" else f"{text_of(came)} back, ")
         came, data = read(data)
     return f"{''.join(texts)}{fault}; wrote {shown(written)}, {flushes} flushes"
 
@@ -615,8 +610,6 @@ def answer(call, device, count, data, is_at_once, kind="BrokenPipe"):
     limit = count if device == "limits" or device == "huge" and count else GREATEST
     if call == "read":
         return read_answer(data, breaks, unread, limit, kind)
-    if call == "stream":
-        return stream_answer(data)
     if call == "front":
         return front(data)
     if call == "inbox":
@@ -684,7 +677,7 @@ def queue_answers(steps):
         elif verb == "deep":
             method, levels, data = words.split(" ")
             if int(levels) > LEVELS:
-                answers.append(f"register fault 2, {data} back")
+                answers.append(f"Unwritable('{data}')")
                 continue
             outgoing[count] = data
             params = json.loads("[" * int(levels) + "]" * int(levels))
@@ -700,25 +693,33 @@ def queue_answers(steps):
     return answers
 
 
+def debug_inner(members):
+    """A request, a notification or a response without the name of its variant."""
+    return debug_message(members).partition("(")[2].removesuffix(")")
+
+
+def with_ticket(name, reply, ticket):
+    return f"{name} {{ reply: {debug_inner(reply)}, ticket: {ticket} }}"
+
+
 def finished(pending, step):
     _, number, ticket, result = step.split(" ", 3)
     if pending.get(int(number)) != int(ticket):
-        return "nothing"
+        return "Nothing"
     del pending[int(number)]
-    return f"finished {ticket}: " + text_of({"id": int(number), "result": json.loads(result)})
+    return with_ticket("Finished", {"id": int(number), "result": json.loads(result)}, ticket)
 
 
 def cancelled(pending, params):
     """A cancellation counts where its params name the id of a request that is pending."""
     name = params.get("id") if isinstance(params, dict) else None
     if not is_id(name) or name not in pending:
-        return "nothing"
-    return f"cancelled {pending.pop(name)}: " + text_of({"id": name, "error": CANCELED})
+        return "Nothing"
+    return with_ticket("Cancelled", {"id": name, "error": CANCELED}, pending.pop(name))
 
 
-def dispatch_answers(steps, is_asked):
-    """What comes of the steps: a table of the tickets that are pending, and a count of those that were given out. `is_asked` says
-    whether the caller asks which ticket a request replaces."""
+def dispatch_answers(steps):
+    """What comes of the steps: a table of the tickets that are pending, and a count of those that were given out."""
     pending, answers, count = {}, [], 0
     for step in steps.split("; "):
         if step.startswith("finish "):
@@ -727,18 +728,16 @@ def dispatch_answers(steps, is_asked):
         message = json.loads(step)
         method, name = message.get("method"), message.get("id")
         if method is None:
-            answers.append("nothing")
+            answers.append("Nothing")
         elif name is None and method == "$/cancelRequest":
             answers.append(cancelled(pending, message.get("params")))
         elif name is None:
-            answers.append("nothing" if method.startswith("$/") else f"note: {step}")
+            answers.append("Nothing" if method.startswith("$/") else f"Note({debug_inner(message)})")
         elif method.startswith("$/"):
-            replaced = f"{pending[name]} is replaced by " if is_asked and name in pending else ""
-            answers.append(replaced + "unknown: " + text_of({"id": name, "error": NOT_FOUND}))
+            answers.append(f"Unknown({debug_inner({'id': name, 'error': NOT_FOUND})})")
         else:
-            replaced = f"{pending[name]} is replaced by " if is_asked and name in pending else ""
             pending[name] = count
-            answers.append(f"{replaced}work {count}: {step}")
+            answers.append(f"Work {{ request: {debug_inner(message)}, ticket: {count} }}")
             count += 1
     return answers
 

@@ -4,7 +4,7 @@
 // of it, or what is wrong, and whether a text is lost by it, and then each document that was open once: its URI, its version, its
 // language, its text, and how many lines it has and the position of each place where a character begins. One that is closed shows
 // `-`, and one whose text is lost `?`. A body that is no message has `unread`: it may have told of any document, so each text is lost.
-use crate::attempt::{Attempt, Stop};
+use crate::stop::Stop;
 use lsp_documents::{DocumentFault, Made, NotMade, TextDocuments, position_encoding};
 use lsp_text::{PositionEncoding, Text, TextDocument};
 use serde_json::Value;
@@ -31,11 +31,18 @@ impl Documents {
     }
 
     /// What comes of a message. One for which there was no memory is missed, so all before it is told once more.
-    pub fn attempt(&mut self, text: &str) -> Result<Attempt, Stop> {
+    pub fn answer(&mut self, text: &str) -> Result<String, Stop> {
+        let came = self.heard(text);
+        if matches!(&came, Err(Stop::Memory)) {
+            self.tell_again()?;
+        }
+        came
+    }
+
+    fn heard(&mut self, text: &str) -> Result<String, Stop> {
         let Some(message) = read(self.alloc, text)? else {
-            self.keep(text)?;
             self.documents.lose_all();
-            return self.shown("unread");
+            return self.kept(text, "unread");
         };
         let none = Value::Null;
         let params = message.get("params").unwrap_or(&none);
@@ -44,38 +51,30 @@ impl Documents {
             self.documents = TextDocuments::new(self.alloc, position_encoding(params));
             self.seen = Vec::new(self.alloc);
             self.told = Vec::new(self.alloc);
-            return Ok(Attempt::came(self.alloc, self.documents.encoding().name())?);
+            return Ok(String::from_str(self.alloc, self.documents.encoding().name())?);
         }
         match hear(&mut self.documents, method, params) {
             Ok(made) => {
-                self.keep(text)?;
                 self.see(made.uri)?;
-                self.shown(self.made_text(made)?.as_str())
+                let answer = self.made_text(made)?;
+                self.kept(text, answer.as_str())
             }
-            Err(missed) => self.refused(text, missed),
+            Err(missed) => self.missed(text, missed),
         }
     }
 
     /// What comes of a message that was not made.
-    fn refused(&mut self, text: &str, missed: NotMade<'_>) -> Result<Attempt, Stop> {
+    fn missed(&mut self, text: &str, missed: NotMade<'_>) -> Result<String, Stop> {
         if missed.fault == DocumentFault::Memory {
-            self.tell_again()?;
-            return Ok(Attempt::refused(self.alloc, "document")?);
+            return Err(Stop::Memory);
         }
-        self.keep(text)?;
         let fault = missed.fault;
         let lost = if missed.lost {
             ", its text is lost"
         } else {
             ""
         };
-        self.shown(format!(in self.alloc; "{fault}{lost}")?.as_str())
-    }
-
-    /// Keeps a message.
-    fn keep(&mut self, text: &str) -> Result<(), AllocError> {
-        self.told.push(String::from_str(self.alloc, text)?)?;
-        Ok(())
+        self.kept(text, format!(in self.alloc; "{fault}{lost}")?.as_str())
     }
 
     /// Tells all that was told to documents that begin anew.
@@ -105,8 +104,14 @@ impl Documents {
         Ok(())
     }
 
-    /// The answer, and each document.
-    fn shown(&self, answer: &str) -> Result<Attempt, Stop> {
+    /// Keeps a message, and gives the answer to it, and each document.
+    fn kept(&mut self, message: &str, answer: &str) -> Result<String, Stop> {
+        let row = self.shown(answer)?;
+        self.told.push(String::from_str(self.alloc, message)?)?;
+        Ok(row)
+    }
+
+    fn shown(&self, answer: &str) -> Result<String, AllocError> {
         let mut row = String::from_str(self.alloc, answer)?;
         for uri in self.seen.iter() {
             let uri = uri.as_str();
@@ -117,24 +122,17 @@ impl Documents {
             };
             row.push_str(shown.as_str())?;
         }
-        Ok(Attempt::Came(row))
+        Ok(row)
     }
 
     fn open_text(&self, uri: &str, document: &TextDocument) -> Result<String, AllocError> {
-        let version = self.version_text(document.version())?;
+        let version = document.version();
         let language = document.language_id();
         let text = String::from_str(self.alloc, document.text().as_str())?;
         let text = Value::from(text).to_string(self.alloc)?;
         let lines = document.text().line_count();
         let places = self.places_text(document.text())?;
-        format!(in self.alloc; "\t{uri} {version} {language} {text} {lines}{places}")
-    }
-
-    fn version_text(&self, version: Option<i32>) -> Result<String, AllocError> {
-        match version {
-            Some(version) => format!(in self.alloc; "{version}"),
-            None => String::from_str(self.alloc, "none"),
-        }
+        format!(in self.alloc; "\t{uri} {version:?} {language} {text} {lines}{places}")
     }
 
     fn places_text(&self, text: &Text) -> Result<String, AllocError> {

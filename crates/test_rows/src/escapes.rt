@@ -1,5 +1,5 @@
 // Bytes as a line of text: what is no visible ASCII character is `\r`, `\n` or `\x` and two digits.
-use crate::attempt::Stop;
+use crate::stop::Stop;
 use std::alloc::{AllocError, Global};
 use std::fmt::Write;
 

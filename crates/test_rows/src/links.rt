@@ -6,65 +6,52 @@
 // | `deep LEVELS` | the same of a notification whose params are so many lists, each in the next |
 // | `pass COUNT` | `pass` |
 // | `take`, `skip` | the same |
-use crate::attempt::{Attempt, Stop, count_in};
-use crate::messages::{message_in, nested};
+use crate::messages::{message_in, nested, text_or};
+use crate::stop::{Stop, add_step, count_in};
 use lsp_message::{Message, Notification};
 use lsp_peers::{Link, WorldFault};
-use std::alloc::{AllocError, Global};
+use std::alloc::Global;
 
-/// What comes of one step.
-pub fn attempt(alloc: Global, link: &mut Link, step: &str) -> Result<Attempt, Stop> {
+/// What comes of these steps on a link without bytes.
+pub fn answers(alloc: Global, steps: &str) -> Result<String, Stop> {
+    let mut link = Link::default(alloc);
+    let mut said = String::new(alloc);
+    for step in steps.split("; ") {
+        add_step(&mut said, call(alloc, &mut link, step)?.as_str())?;
+    }
+    Ok(said)
+}
+
+fn call(alloc: Global, link: &mut Link, step: &str) -> Result<String, Stop> {
     let (verb, word) = step.split_once(" ").unwrap_or((step, ""));
     match verb {
         "pass" => {
             let count = link.pass(count_in(word)?);
             let there = link.arrived().len();
-            Ok(Attempt::Came(format!(in alloc; "passed {count}, {there} there")?))
+            Ok(format!(in alloc; "passed {count}, {there} there")?)
         }
         "take" => take(alloc, link),
-        "skip" => {
-            let is_skipped = link.skip();
-            Ok(Attempt::Came(format!(in alloc; "skipped {is_skipped}")?))
+        "skip" => Ok(format!(in alloc; "skipped {}", link.skip())?),
+        "deep" => {
+            let params = nested(alloc, count_in(word)?)?;
+            let method = String::from_str(alloc, "deep")?;
+            write(alloc, link, &Message::from(Notification { method, params }))
         }
-        "deep" => write(alloc, link, &deep(alloc, count_in(word)?)?),
         _ => write(alloc, link, &message_in(alloc, step)?),
     }
 }
 
-/// A notification whose params are so many lists.
-fn deep(alloc: Global, levels: usize) -> Result<Message, AllocError> {
-    let params = nested(alloc, levels)?;
-    let method = String::from_str(alloc, "deep")?;
-    Ok(Message::from(Notification { method, params }))
-}
-
-fn write(alloc: Global, link: &mut Link, message: &Message) -> Result<Attempt, Stop> {
-    match link.write(message) {
-        Ok(()) => {
-            let count = link.on_way().len();
-            Ok(Attempt::Came(format!(in alloc; "{count} on the way")?))
-        }
-        Err(fault) => refused(alloc, "write", fault),
+fn write(alloc: Global, link: &mut Link, message: &Message) -> Result<String, Stop> {
+    if link.write(message).is_err() {
+        return Err(Stop::Memory);
     }
+    Ok(format!(in alloc; "{} on the way", link.on_way().len())?)
 }
 
-fn take(alloc: Global, link: &mut Link) -> Result<Attempt, Stop> {
+fn take(alloc: Global, link: &mut Link) -> Result<String, Stop> {
     match link.take() {
-        Ok(message) => Ok(Attempt::Came(taken(alloc, message)?)),
-        Err(fault) => refused(alloc, "take", fault),
-    }
-}
-
-fn taken(alloc: Global, message: Option<Message>) -> Result<String, AllocError> {
-    match message {
-        Some(message) => message.member_text(alloc),
-        None => String::from_str(alloc, "nothing"),
-    }
-}
-
-fn refused(alloc: Global, verb: &str, fault: WorldFault) -> Result<Attempt, Stop> {
-    match fault {
-        WorldFault::Memory => Attempt::refused(alloc, verb),
-        WorldFault::NotReadBack => Ok(Attempt::Came(format!(in alloc; "{fault}")?)),
+        Ok(message) => Ok(text_or(alloc, message, "nothing")?),
+        Err(WorldFault::Memory) => Err(Stop::Memory),
+        Err(WorldFault::NotReadBack) => Ok(String::from_str(alloc, "body not read back")?),
     }
 }

@@ -5,17 +5,16 @@
 //! - `=`: the bytes that the next cases are about, with the escapes `\r`, `\n` and `\x` with two digits. `+` adds a text so
 //!   many times, and `pauses` says where a reader has nothing yet (`table.rt`).
 //! - The name of a call over a reader and a writer: a case (`table.rt`).
-//! - `calls`, `serve`, `woken`, `writes`: the calls over lists (`lists.rt`).
-//! - `body`: what a content part means. `id`: how an id prints. `values`: a message that is cloned, converted and written.
-//! - `ok`, `error`, `extract`: messages that are made, and params that are taken out (`made.rt`).
-//! - `queues`, `dispatch`, `link`: calls on a state, as steps (`steps.rt`). `replay`: all steps of a dispatcher at once.
+//! - `calls`, `serve`, `served`, `woken`, `writes`: the calls over lists (`lists.rt`).
+//! - `body`: what a content part means. `id`: how an id prints. `values`: a message that is cloned, converted and written. `extract`:
+//!   params that are taken out.
+//! - `queues`, `dispatch`, `link`: calls on a state, as steps. `replay`: all steps of a dispatcher at once.
 //! - `reads`, `writes_as`: params and results by the types of `lsp_types`. `document`: a notification of an open document.
 //!
-//! If an allocation fails in a call, its line is `refused: ..`, and it is made once more. The program ends with status 1 if that
-//! is refused too, or if it has no memory of its own; and with status 2 if a call breaks a promise.
+//! If an allocation fails, in a call or in the program, the row has a line `refused: ..`, and is run once more; of a case this is so
+//! for the call alone. The program ends with status 1 if that fails too, or if it has no memory for the table or for a line.
 #![tactic(auto)]
 
-mod attempt;
 mod boxes;
 mod calls;
 mod devices;
@@ -24,28 +23,27 @@ mod documents;
 mod escapes;
 mod links;
 mod lists;
-mod made;
 mod messages;
 mod queues;
 mod reading;
 mod rows;
 mod servers;
-mod steps;
+mod stop;
 mod table;
 mod writing;
 
-use attempt::Stop;
 use rows::Rows;
 use std::io;
 use std::io::Write;
 use std::process::ExitCode;
+use stop::Stop;
 
 fn main(rt: HostRuntime) -> ExitCode {
     match run(&rt) {
         Ok(()) => ExitCode::SUCCESS,
         Err(stop) => {
-            let _ = writeln!(rt.stderr(), "test_rows: {stop}");
-            ExitCode::from(stop.status())
+            let _ = writeln!(rt.stderr(), "test_rows: {}", stop.text());
+            ExitCode::FAILURE
         }
     }
 }

@@ -1,6 +1,6 @@
 // What a client sends, read by its types: the fields of the params, texts in quotes, or `refused`.
-use crate::attempt::{Attempt, Stop};
 use crate::messages::value_in;
+use crate::stop::Stop;
 use lsp_types::{
     DidChangeTextDocumentParams, DidCloseTextDocumentParams, DidOpenTextDocumentParams,
     DidSaveTextDocumentParams, InitializeParams, Range, TextDocumentContentChangeEvent,
@@ -10,13 +10,14 @@ use serde_json::{Error, Value, from_value};
 use std::alloc::{AllocError, Global};
 
 /// What comes of a message with a method and params.
-pub fn attempt(alloc: Global, text: &str) -> Result<Attempt, Stop> {
+pub fn answer(alloc: Global, text: &str) -> Result<String, Stop> {
     let message = value_in(alloc, text)?;
     let method = message.get("method").and_then(Value::as_str).unwrap_or("");
     let params = message.get("params").ok_or(Stop::Table)?.clone()?;
     match fields(alloc, method, params) {
-        Ok(row) => Ok(Attempt::Came(row)),
-        Err(_) => Attempt::came(alloc, "refused"),
+        Ok(row) => Ok(row),
+        Err(fault) if fault.is_memory() => Err(Stop::Memory),
+        Err(_) => Ok(String::from_str(alloc, "refused")?),
     }
 }
 
@@ -26,7 +27,7 @@ fn fields(alloc: Global, method: &str, params: Value) -> Result<String, Error> {
         methods::DID_OPEN => Ok(did_open(alloc, from_value(alloc, params)?)?),
         methods::DID_CHANGE => Ok(did_change(alloc, from_value(alloc, params)?)?),
         methods::DID_SAVE => Ok(did_save(alloc, from_value(alloc, params)?)?),
-        methods::DID_CLOSE => Ok(did_close(alloc, from_value(alloc, params)?)?),
+        methods::DID_CLOSE => Ok(did_close(from_value(alloc, params)?)),
         _ => Ok(position(alloc, from_value(alloc, params)?)?),
     }
 }
@@ -73,8 +74,8 @@ fn did_save(alloc: Global, params: DidSaveTextDocumentParams) -> Result<String, 
     format!(in alloc; "{} {text}", params.text_document.uri)
 }
 
-fn did_close(_alloc: Global, params: DidCloseTextDocumentParams) -> Result<String, AllocError> {
-    Ok(params.text_document.uri)
+fn did_close(params: DidCloseTextDocumentParams) -> String {
+    params.text_document.uri
 }
 
 fn position(alloc: Global, params: TextDocumentPositionParams) -> Result<String, AllocError> {

@@ -1,11 +1,10 @@
 // One row after another.
-use crate::attempt::{Attempt, Stop, add_came, add_refused, count_in};
-use crate::calls::{Run, attempt_of};
+use crate::calls::{Attempt, Run, attempt_of};
 use crate::documents::Documents;
-use crate::steps::Machine;
-use crate::table::{Case, Given, case_of};
-use crate::{dispatching, lists, made, messages, reading, writing};
-use std::alloc::Global;
+use crate::stop::{Stop, count_in};
+use crate::table::{Case, Given, case_in};
+use crate::{dispatching, links, lists, messages, queues, reading, writing};
+use std::alloc::{AllocError, Global};
 
 /// What the next row is about.
 #[derive(Drop)]
@@ -34,40 +33,49 @@ impl Rows {
             "=" => self.given = Given::new(self.alloc, rest)?,
             "+" => self.given.repeat(self.alloc, rest)?,
             "pauses" => self.given.pause(rest)?,
-            "queues" => Machine::queues(self.alloc).run(self.alloc, &mut said, rest)?,
-            "dispatch" => Machine::dispatcher(self.alloc).run(self.alloc, &mut said, rest)?,
-            "link" => Machine::link(self.alloc).run(self.alloc, &mut said, rest)?,
-            _ => match case_of(word, rest)? {
-                Some(case) => self.run_case(&mut said, case)?,
-                None => self.run_whole(&mut said, word, rest)?,
-            },
+            "front"
+            | "read"
+            | "inbox"
+            | "loop"
+            | "write"
+            | "frames"
+            | "outbox"
+            | "session"
+            | "speaks"
+            | "tolerant" => self.run_case(&mut said, case_in(word, rest)?)?,
+            _ => self.run_whole(&mut said, word, rest)?,
         }
         Ok(said)
     }
 
-    /// Runs a row that is run again as a whole if it was refused.
+    /// Runs a row that is run again as a whole if an allocation failed.
     fn run_whole(&mut self, said: &mut String, word: &str, rest: &str) -> Result<(), Stop> {
-        match self.whole_of(word, rest)? {
-            Attempt::Came(came) => return Ok(add_came(said, came.as_str())?),
-            Attempt::Refused(what) => add_refused(said, what.as_str())?,
-        }
-        let came = self.whole_of(word, rest)?.again()?;
-        Ok(add_came(said, came.as_str())?)
+        let came = match self.answer(word, rest) {
+            Err(Stop::Memory) => {
+                add_line(said, "refused: ", word)?;
+                self.answer(word, rest)?
+            }
+            came => came?,
+        };
+        Ok(add_line(said, "", came.as_str())?)
     }
 
-    fn whole_of(&mut self, word: &str, rest: &str) -> Result<Attempt, Stop> {
+    fn answer(&mut self, word: &str, rest: &str) -> Result<String, Stop> {
         match word {
-            "document" => self.documents.attempt(rest),
+            "document" => self.documents.answer(rest),
             "body" => messages::meaning(self.alloc, rest),
             "id" => messages::id_text(self.alloc, rest),
             "values" => messages::values(self.alloc, rest),
-            "ok" => made::result(self.alloc, rest),
-            "error" => made::error(self.alloc, rest),
-            "extract" => made::extracted(self.alloc, rest),
+            "extract" => messages::extracted(self.alloc, rest),
+            "queues" => queues::answers(self.alloc, rest),
+            "dispatch" => dispatching::dispatched(self.alloc, rest),
             "replay" => dispatching::replayed(self.alloc, rest),
-            "reads" => reading::attempt(self.alloc, rest),
-            "writes_as" => writing::attempt(self.alloc, rest),
-            _ => lists::attempt(self.alloc, word, rest),
+            "link" => links::answers(self.alloc, rest),
+            "reads" => reading::answer(self.alloc, rest),
+            "writes_as" => writing::answer(self.alloc, rest),
+            "calls" => lists::called(self.alloc, rest),
+            "writes" => lists::written(self.alloc, rest),
+            _ => lists::session(self.alloc, word, rest),
         }
     }
 
@@ -77,7 +85,11 @@ impl Rows {
         for count in case.from..=case.to {
             let came = self.run_at(said, case, count)?;
             if came != last {
-                add_came(said, format!(in self.alloc; "{count}: {came}")?.as_str())?;
+                add_line(
+                    said,
+                    "",
+                    format!(in self.alloc; "{count}: {came}")?.as_str(),
+                )?;
             }
             last = came;
         }
@@ -103,8 +115,18 @@ impl Rows {
     fn run_once(&self, said: &mut String, run: Run<'_>) -> Result<String, Stop> {
         match attempt_of(self.alloc, run, &self.given)? {
             Attempt::Came(came) => return Ok(came),
-            Attempt::Refused(what) => add_refused(said, what.as_str())?,
+            Attempt::Refused(what) => add_line(said, "refused: ", what.as_str())?,
         }
-        attempt_of(self.alloc, run, &self.given)?.again()
+        match attempt_of(self.alloc, run, &self.given)? {
+            Attempt::Came(came) => Ok(came),
+            Attempt::Refused(_) => Err(Stop::Memory),
+        }
     }
+}
+
+fn add_line(said: &mut String, before: &str, text: &str) -> Result<(), AllocError> {
+    said.push_str("  ")?;
+    said.push_str(before)?;
+    said.push_str(text)?;
+    said.push_str("\n")
 }

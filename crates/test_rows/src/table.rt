@@ -1,7 +1,7 @@
 // The words of a case, and the bytes that cases are about.
-use crate::attempt::{Stop, count_in, cut};
 use crate::devices::Pause;
 use crate::escapes::unescape;
+use crate::stop::{Stop, count_in, cut};
 use std::alloc::Global;
 use std::io::ErrorKind;
 
@@ -35,88 +35,54 @@ impl Given {
     /// `AT:COUNT ..`: at these places, which rise, a reader has nothing until so many bytes were written and flushed.
     pub fn pause(&mut self, words: &str) -> Result<(), Stop> {
         for word in words.split(' ') {
-            self.pauses.push(pause_in(word)?)?;
+            let (at, written) = cut(word, ":")?;
+            self.pauses.push(Pause {
+                at: count_in(at)?,
+                written: count_in(written)?,
+            })?;
         }
         Ok(())
     }
 }
 
-fn pause_in(word: &str) -> Result<Pause, Stop> {
-    let (at, written) = cut(word, ":")?;
-    Ok(Pause {
-        at: count_in(at)?,
-        written: count_in(written)?,
-    })
-}
-
 /// A case: `CALL PIECES DEVICE FROM TO`, and perhaps the kind of the error with which the device fails. The call is made with each
 /// size of pieces, for each count of the device, from the first to the last.
+///
+/// | Call | What is called |
+/// |---|---|
+/// | `front` | the same |
+/// | `read` | `Message::read`, once; with a limit `Message::read_within` |
+/// | `inbox` | a `StreamInbox`, up to the first event that is no message, and once more |
+/// | `loop` | `read_loop` into a list, for which the count of `fills` is the room; with a limit `read_loop_within` |
+/// | `write` | `Message::write` of the first message |
+/// | `frames` | `write_frames` of all bytes |
+/// | `outbox` | a `FrameOutbox` to which all messages are sent |
+/// | `session` | `session` of the echo, with no capabilities; with a limit `session_within` |
+/// | `speaks` | `session_of_service` of the server that speaks; with a limit `session_with_within` |
+/// | `tolerant` | `tolerant_session_with_woken` of the same; with a limit `tolerant_session_with_within`, which wakes no server |
+///
+/// | Device | What happens after the count |
+/// |---|---|
+/// | `whole` | nothing |
+/// | `ends` | the input ends after so many bytes |
+/// | `breaks` | the reader fails once after so many bytes, and goes on |
+/// | `fills` | the writer fails once after so many bytes, and takes more |
+/// | `flushes` | the flush of this number fails, from 1 |
+/// | `limits` | the call has a limit: a content part has at most so many bytes |
+/// | `huge` | no memory holds the content part, so the refusal is the answer; the count is the limit, or 0 where there is none |
 #[derive(Clone, Copy)]
 pub struct Case<'a> {
-    pub call: Call,
+    pub call: &'a str,
     /// How many bytes the reader gives and the writer takes at a time, with commas between the sizes.
     pub steps: &'a str,
-    pub device: Device,
+    pub device: &'a str,
     pub from: usize,
     pub to: usize,
     pub kind: ErrorKind,
 }
 
-/// What is called.
-#[derive(Clone, Copy)]
-pub enum Call {
-    /// `front`.
-    Front,
-    /// `Message::read`, once; with a limit `Message::read_within`.
-    Read,
-    /// `Message::read` up to the end or a fault.
-    Stream,
-    /// A `StreamInbox`, up to the first event that is no message, and once more.
-    Inbox,
-    /// `read_loop` into a list, for which the count of `fills` is the room; with a limit `read_loop_within`.
-    Loop,
-    /// `Message::write` of the first message.
-    Write,
-    /// `write_frames` of all bytes.
-    Frames,
-    /// A `FrameOutbox` to which all messages are sent.
-    Outbox,
-    /// `session` of the echo, with no capabilities; with a limit `session_within`.
-    Session,
-    /// `session_of_service` of the server that speaks; with a limit `session_with_within`.
-    Speaks,
-    /// `tolerant_session_with_woken` of the same; with a limit `tolerant_session_with_within`, which wakes no server.
-    Tolerant,
-}
-
-/// What happens after a count of bytes or calls.
-#[derive(Clone, Copy, PartialEq, Eq)]
-pub enum Device {
-    /// Nothing.
-    Whole,
-    /// The input ends after so many bytes.
-    Ends,
-    /// The reader fails once after so many bytes, and goes on.
-    Breaks,
-    /// The writer fails once after so many bytes, and takes more.
-    Fills,
-    /// The flush of this number fails, from 1.
-    Flushes,
-    /// The call has a limit: a content part has at most so many bytes.
-    Limits,
-    /// No memory holds the content part, so the refusal is the answer. The count is the limit, or 0 where there is none.
-    Huge,
-}
-
-/// The case of these words. There is none where they are no case.
-pub fn case_of<'a>(call: &str, rest: &'a str) -> Result<Option<Case<'a>>, Stop> {
-    match call_of(call) {
-        Some(call) => Ok(Some(case_in(call, rest)?)),
-        None => Ok(None),
-    }
-}
-
-fn case_in(call: Call, words: &str) -> Result<Case<'_>, Stop> {
+/// The case of these words.
+pub fn case_in<'a>(call: &'a str, words: &'a str) -> Result<Case<'a>, Stop> {
     let (steps, words) = cut(words, " ")?;
     let (device, words) = cut(words, " ")?;
     let (from, words) = cut(words, " ")?;
@@ -124,41 +90,11 @@ fn case_in(call: Call, words: &str) -> Result<Case<'_>, Stop> {
     Ok(Case {
         call,
         steps,
-        device: device_of(device)?,
+        device,
         from: count_in(from)?,
         to: count_in(to)?,
         kind: kind_of(kind)?,
     })
-}
-
-fn call_of(word: &str) -> Option<Call> {
-    match word {
-        "front" => Some(Call::Front),
-        "read" => Some(Call::Read),
-        "stream" => Some(Call::Stream),
-        "inbox" => Some(Call::Inbox),
-        "loop" => Some(Call::Loop),
-        "write" => Some(Call::Write),
-        "frames" => Some(Call::Frames),
-        "outbox" => Some(Call::Outbox),
-        "session" => Some(Call::Session),
-        "speaks" => Some(Call::Speaks),
-        "tolerant" => Some(Call::Tolerant),
-        _ => None,
-    }
-}
-
-fn device_of(word: &str) -> Result<Device, Stop> {
-    match word {
-        "whole" => Ok(Device::Whole),
-        "ends" => Ok(Device::Ends),
-        "breaks" => Ok(Device::Breaks),
-        "fills" => Ok(Device::Fills),
-        "flushes" => Ok(Device::Flushes),
-        "limits" => Ok(Device::Limits),
-        "huge" => Ok(Device::Huge),
-        _ => Err(Stop::Table),
-    }
 }
 
 fn kind_of(word: &str) -> Result<ErrorKind, Stop> {

@@ -1,42 +1,31 @@
 // What a server sends: a value is made of the members that its type has, and written by its type.
-use crate::attempt::{Attempt, Stop};
 use crate::messages::value_in;
+use crate::stop::Stop;
 use lsp_types::{
     CompletionItem, CompletionItemKind, CompletionList, CompletionOptions, ConfigurationItem,
     ConfigurationParams, Diagnostic, DiagnosticSeverity, DocumentSymbol, Hover, InitializeResult,
     InsertTextFormat, Location, MarkupContent, MarkupKind, MessageType, NumberOrString,
-    PublishDiagnosticsParams, Range, ServerCapabilities, ShowMessageParams, SymbolKind,
+    PublishDiagnosticsParams, ServerCapabilities, ShowMessageParams, SymbolKind,
     TextDocumentSyncKind, TextEdit, WorkspaceEdit, methods,
 };
-use serde::Serialize;
+use serde::{DeserializeOwned, Serialize};
 use serde_json::{Value, from_value, to_value};
 use std::alloc::Global;
 use std::collections::BTreeMap;
 
 /// What comes of a message with a method and params, or a result.
-pub fn attempt(alloc: Global, text: &str) -> Result<Attempt, Stop> {
+pub fn answer(alloc: Global, text: &str) -> Result<String, Stop> {
     let message = value_in(alloc, text)?;
     let method = message.get("method").and_then(Value::as_str).unwrap_or("");
-    let text = match message.get("result") {
-        Some(result) => of_result(alloc, method, result)?,
-        None => of_params(alloc, method, member(&message, "params")?)?,
+    let Some(found) = message.get("result").or(message.get("params")) else {
+        return Err(Stop::Table);
     };
-    Ok(Attempt::Came(text))
-}
-
-fn of_params(alloc: Global, method: &str, params: &Value) -> Result<String, Stop> {
-    match method {
-        methods::PUBLISH_DIAGNOSTICS => written(alloc, &diagnostics(alloc, params)?),
-        methods::SHOW_MESSAGE => written(alloc, &message(alloc, params)?),
-        methods::CONFIGURATION => written(alloc, &configuration(alloc, params)?),
-        "workspace/applyEdit" => written(alloc, &workspace_edit(alloc, member(params, "edit")?)?),
-        _ => Err(Stop::Table),
-    }
-}
-
-fn of_result(alloc: Global, method: &str, found: &Value) -> Result<String, Stop> {
     match method {
         "initialize" => written(alloc, &initialize(alloc, found)?),
+        methods::PUBLISH_DIAGNOSTICS => written(alloc, &diagnostics(alloc, found)?),
+        methods::SHOW_MESSAGE => written(alloc, &message_shown(alloc, found)?),
+        methods::CONFIGURATION => written(alloc, &configuration(alloc, found)?),
+        "workspace/applyEdit" => written(alloc, &workspace_edit(alloc, member(found, "edit")?)?),
         methods::HOVER => written(alloc, &hover(alloc, found)?),
         methods::COMPLETION => written(alloc, &completions(alloc, found)?),
         methods::DEFINITION => written(alloc, &locations(alloc, found)?),
@@ -49,89 +38,98 @@ fn written<T: Serialize>(alloc: Global, value: &T) -> Result<String, Stop> {
     Ok(to_value(alloc, value)?.to_string(alloc)?)
 }
 
+fn member<'v>(found: &'v Value, key: &str) -> Result<&'v Value, Stop> {
+    match found.get(key) {
+        Some(value) => Ok(value),
+        None => Err(Stop::Table),
+    }
+}
+
+/// A member as it is read: a text, a number, a range, or `None` where there is none.
+fn read<T: DeserializeOwned>(alloc: Global, found: &Value, key: &str) -> Result<T, Stop> {
+    let value = found.get(key).unwrap_or(&Value::Null).clone()?;
+    Ok(from_value(alloc, value)?)
+}
+
+/// The items of a list.
+fn items(found: &Value) -> Result<&[Value], Stop> {
+    match found.as_array() {
+        Some(items) => Ok(items.as_slice()),
+        None => Err(Stop::Table),
+    }
+}
+
 fn initialize(alloc: Global, found: &Value) -> Result<InitializeResult, Stop> {
     let info = member(found, "serverInfo")?;
     let capabilities = capabilities(alloc, member(found, "capabilities")?)?;
-    let name = text(alloc, info, "name")?;
+    let name: String = read(alloc, info, "name")?;
     let mut result = InitializeResult::new(alloc, capabilities, name.as_str())?;
-    result.server_info.version = text_in(alloc, info, "version")?;
+    result.server_info.version = read(alloc, info, "version")?;
     Ok(result)
 }
 
 fn capabilities(alloc: Global, found: &Value) -> Result<ServerCapabilities, Stop> {
-    let sync = found.pointer("/textDocumentSync/change");
+    let sync: Option<u32> = match found.get("textDocumentSync") {
+        Some(sync) => read(alloc, sync, "change")?,
+        None => None,
+    };
     let completion = match found.get("completionProvider") {
-        Some(options) => Some(completion_options(alloc, options)?),
+        Some(options) => Some(CompletionOptions {
+            trigger_characters: read(alloc, options, "triggerCharacters")?,
+            resolve_provider: read(alloc, options, "resolveProvider")?,
+        }),
         None => None,
     };
     Ok(ServerCapabilities {
-        position_encoding: text_in(alloc, found, "positionEncoding")?,
-        text_document_sync: sync.and_then(whole).map(TextDocumentSyncKind),
+        position_encoding: read(alloc, found, "positionEncoding")?,
+        text_document_sync: sync.map(TextDocumentSyncKind),
         completion_provider: completion,
-        hover_provider: flag(found, "hoverProvider"),
-        definition_provider: flag(found, "definitionProvider"),
-        references_provider: flag(found, "referencesProvider"),
-        document_symbol_provider: flag(found, "documentSymbolProvider"),
-        document_formatting_provider: flag(found, "documentFormattingProvider"),
-        rename_provider: flag(found, "renameProvider"),
+        hover_provider: read(alloc, found, "hoverProvider")?,
+        definition_provider: read(alloc, found, "definitionProvider")?,
+        references_provider: read(alloc, found, "referencesProvider")?,
+        document_symbol_provider: read(alloc, found, "documentSymbolProvider")?,
+        document_formatting_provider: read(alloc, found, "documentFormattingProvider")?,
+        rename_provider: read(alloc, found, "renameProvider")?,
     })
 }
 
-fn completion_options(alloc: Global, found: &Value) -> Result<CompletionOptions, Stop> {
-    Ok(CompletionOptions {
-        trigger_characters: from_value(alloc, or_null(found, "triggerCharacters")?)?,
-        resolve_provider: flag(found, "resolveProvider"),
-    })
-}
-
-fn diagnostics(alloc: Global, params: &Value) -> Result<PublishDiagnosticsParams, Stop> {
+fn diagnostics(alloc: Global, found: &Value) -> Result<PublishDiagnosticsParams, Stop> {
     let mut diagnostics = Vec::new(alloc);
-    for found in list(params, "diagnostics")? {
+    for found in items(member(found, "diagnostics")?)? {
         diagnostics.push(diagnostic(alloc, found)?)?;
     }
     Ok(PublishDiagnosticsParams {
-        uri: text(alloc, params, "uri")?,
-        version: from_value(alloc, or_null(params, "version")?)?,
+        uri: read(alloc, found, "uri")?,
+        version: read(alloc, found, "version")?,
         diagnostics,
     })
 }
 
 fn diagnostic(alloc: Global, found: &Value) -> Result<Diagnostic, Stop> {
-    let severity = number(found, "severity");
-    let mut diagnostic = Diagnostic::new(
-        range(alloc, found, "range")?,
-        DiagnosticSeverity(severity.unwrap_or(0)),
-        text(alloc, found, "message")?,
-    );
-    if severity.is_none() {
-        diagnostic.severity = None;
-    }
-    diagnostic.code = code_in(alloc, found)?;
-    diagnostic.source = text_in(alloc, found, "source")?;
-    diagnostic.data = value_of(found, "data")?;
-    Ok(diagnostic)
+    let severity: Option<u32> = read(alloc, found, "severity")?;
+    Ok(Diagnostic {
+        range: read(alloc, found, "range")?,
+        severity: severity.map(DiagnosticSeverity),
+        code: code_in(alloc, found)?,
+        source: read(alloc, found, "source")?,
+        message: read(alloc, found, "message")?,
+        data: read(alloc, found, "data")?,
+    })
 }
 
 fn code_in(alloc: Global, found: &Value) -> Result<Option<NumberOrString>, Stop> {
     match found.get("code") {
         Some(Value::String(code)) => Ok(Some(NumberOrString::String(code.clone()?))),
-        Some(code) => Ok(Some(NumberOrString::Number(from_value(alloc, code.clone()?)?))),
-        None => Ok(None),
-    }
-}
-
-fn value_of(found: &Value, key: &str) -> Result<Option<Value>, Stop> {
-    match found.get(key) {
-        Some(value) => Ok(Some(value.clone()?)),
+        Some(_) => Ok(Some(NumberOrString::Number(read(alloc, found, "code")?))),
         None => Ok(None),
     }
 }
 
 fn hover(alloc: Global, found: &Value) -> Result<Hover, Stop> {
-    let MarkupContent { kind, value } = markup(alloc, member(found, "contents")?)?;
-    let mut hover = Hover::new(kind, value);
-    hover.range = from_value(alloc, or_null(found, "range")?)?;
-    Ok(hover)
+    Ok(Hover {
+        contents: markup(alloc, member(found, "contents")?)?,
+        range: read(alloc, found, "range")?,
+    })
 }
 
 fn markup(alloc: Global, found: &Value) -> Result<MarkupContent, Stop> {
@@ -141,46 +139,50 @@ fn markup(alloc: Global, found: &Value) -> Result<MarkupContent, Stop> {
     };
     Ok(MarkupContent {
         kind,
-        value: text(alloc, found, "value")?,
+        value: read(alloc, found, "value")?,
     })
 }
 
 fn completions(alloc: Global, found: &Value) -> Result<CompletionList, Stop> {
-    let mut items = Vec::new(alloc);
-    for item in list(found, "items")? {
-        items.push(completion(alloc, item)?)?;
+    let mut list = Vec::new(alloc);
+    for item in items(member(found, "items")?)? {
+        list.push(completion(alloc, item)?)?;
     }
     Ok(CompletionList {
-        is_incomplete: flag(found, "isIncomplete").unwrap_or(false),
-        items,
+        is_incomplete: read(alloc, found, "isIncomplete")?,
+        items: list,
     })
 }
 
 fn completion(alloc: Global, found: &Value) -> Result<CompletionItem, Stop> {
-    let kind = number(found, "kind");
-    let label = text(alloc, found, "label")?;
-    let mut item = CompletionItem::new(label, CompletionItemKind(kind.unwrap_or(0)));
-    if kind.is_none() {
-        item.kind = None;
-    }
-    item.detail = text_in(alloc, found, "detail")?;
-    if let Some(shown) = found.get("documentation") {
-        item.documentation = Some(markup(alloc, shown)?);
-    }
-    item.sort_text = text_in(alloc, found, "sortText")?;
-    item.filter_text = text_in(alloc, found, "filterText")?;
-    item.insert_text = text_in(alloc, found, "insertText")?;
-    item.insert_text_format = number(found, "insertTextFormat").map(InsertTextFormat);
-    if let Some(edit) = found.get("textEdit") {
-        item.text_edit = Some(text_edit(alloc, edit)?);
-    }
-    Ok(item)
+    let kind: Option<u32> = read(alloc, found, "kind")?;
+    let format: Option<u32> = read(alloc, found, "insertTextFormat")?;
+    let documentation = match found.get("documentation") {
+        Some(shown) => Some(markup(alloc, shown)?),
+        None => None,
+    };
+    let text_edit = match found.get("textEdit") {
+        Some(edit) => Some(text_edit(alloc, edit)?),
+        None => None,
+    };
+    Ok(CompletionItem {
+        label: read(alloc, found, "label")?,
+        kind: kind.map(CompletionItemKind),
+        detail: read(alloc, found, "detail")?,
+        documentation,
+        sort_text: read(alloc, found, "sortText")?,
+        filter_text: read(alloc, found, "filterText")?,
+        insert_text: read(alloc, found, "insertText")?,
+        insert_text_format: format.map(InsertTextFormat),
+        text_edit,
+        data: read(alloc, found, "data")?,
+    })
 }
 
 fn text_edit(alloc: Global, found: &Value) -> Result<TextEdit, Stop> {
     Ok(TextEdit {
-        range: range(alloc, found, "range")?,
-        new_text: text(alloc, found, "newText")?,
+        range: read(alloc, found, "range")?,
+        new_text: read(alloc, found, "newText")?,
     })
 }
 
@@ -190,7 +192,7 @@ fn workspace_edit(alloc: Global, found: &Value) -> Result<WorkspaceEdit, Stop> {
         return Err(Stop::Table);
     };
     for (uri, edits) in documents.iter() {
-        let edits = text_edits(alloc, items_of(edits)?)?;
+        let edits = text_edits(alloc, items(edits)?)?;
         changes.insert(uri.clone()?, edits)?;
     }
     Ok(WorkspaceEdit { changes })
@@ -206,34 +208,25 @@ fn text_edits(alloc: Global, found: &[Value]) -> Result<Vec<TextEdit>, Stop> {
 
 fn locations(alloc: Global, found: &Value) -> Result<Vec<Location>, Stop> {
     let mut locations = Vec::new(alloc);
-    for found in items_of(found)? {
-        locations.push(location(alloc, found)?)?;
+    for found in items(found)? {
+        locations.push(Location {
+            range: read(alloc, found, "range")?,
+            uri: read(alloc, found, "uri")?,
+        })?;
     }
     Ok(locations)
 }
 
-fn location(alloc: Global, found: &Value) -> Result<Location, Stop> {
-    Ok(Location {
-        range: range(alloc, found, "range")?,
-        uri: text(alloc, found, "uri")?,
-    })
-}
-
 fn symbols(alloc: Global, found: &Value) -> Result<Vec<DocumentSymbol>, Stop> {
     let mut symbols = Vec::new(alloc);
-    for found in items_of(found)? {
-        let children = children(alloc, list(found, "children")?)?;
+    for found in items(found)? {
+        let mut children = Vec::new(alloc);
+        for child in items(member(found, "children")?)? {
+            children.push(symbol(alloc, child, Vec::new(alloc))?)?;
+        }
         symbols.push(symbol(alloc, found, children)?)?;
     }
     Ok(symbols)
-}
-
-fn children(alloc: Global, found: &[Value]) -> Result<Vec<DocumentSymbol>, Stop> {
-    let mut children = Vec::new(alloc);
-    for child in found {
-        children.push(symbol(alloc, child, Vec::new(alloc))?)?;
-    }
-    Ok(children)
 }
 
 fn symbol(
@@ -242,85 +235,29 @@ fn symbol(
     children: Vec<DocumentSymbol>,
 ) -> Result<DocumentSymbol, Stop> {
     Ok(DocumentSymbol {
-        name: text(alloc, found, "name")?,
-        detail: text_in(alloc, found, "detail")?,
-        kind: SymbolKind(number(found, "kind").unwrap_or(0)),
-        range: range(alloc, found, "range")?,
-        selection_range: range(alloc, found, "selectionRange")?,
+        name: read(alloc, found, "name")?,
+        detail: read(alloc, found, "detail")?,
+        kind: SymbolKind(read(alloc, found, "kind")?),
+        range: read(alloc, found, "range")?,
+        selection_range: read(alloc, found, "selectionRange")?,
         children,
     })
 }
 
-fn message(alloc: Global, params: &Value) -> Result<ShowMessageParams, Stop> {
+fn message_shown(alloc: Global, found: &Value) -> Result<ShowMessageParams, Stop> {
     Ok(ShowMessageParams {
-        typ: MessageType(number(params, "type").unwrap_or(0)),
-        message: text(alloc, params, "message")?,
+        typ: MessageType(read(alloc, found, "type")?),
+        message: read(alloc, found, "message")?,
     })
 }
 
-fn configuration(alloc: Global, params: &Value) -> Result<ConfigurationParams, Stop> {
-    let mut items = Vec::new(alloc);
-    for item in list(params, "items")? {
-        items.push(configuration_item(alloc, item)?)?;
+fn configuration(alloc: Global, found: &Value) -> Result<ConfigurationParams, Stop> {
+    let mut list = Vec::new(alloc);
+    for item in items(member(found, "items")?)? {
+        list.push(ConfigurationItem {
+            scope_uri: read(alloc, item, "scopeUri")?,
+            section: read(alloc, item, "section")?,
+        })?;
     }
-    Ok(ConfigurationParams { items })
-}
-
-fn configuration_item(alloc: Global, item: &Value) -> Result<ConfigurationItem, Stop> {
-    Ok(ConfigurationItem {
-        scope_uri: text_in(alloc, item, "scopeUri")?,
-        section: text_in(alloc, item, "section")?,
-    })
-}
-
-fn member<'v>(found: &'v Value, key: &str) -> Result<&'v Value, Stop> {
-    match found.get(key) {
-        Some(value) => Ok(value),
-        None => Err(Stop::Table),
-    }
-}
-
-fn or_null(found: &Value, key: &str) -> Result<Value, Stop> {
-    Ok(found.get(key).unwrap_or(&Value::Null).clone()?)
-}
-
-fn items_of(found: &Value) -> Result<&[Value], Stop> {
-    match found.as_array() {
-        Some(items) => Ok(items.as_slice()),
-        None => Err(Stop::Table),
-    }
-}
-
-fn list<'v>(found: &'v Value, key: &str) -> Result<&'v [Value], Stop> {
-    items_of(member(found, key)?)
-}
-
-fn range(alloc: Global, found: &Value, key: &str) -> Result<Range, Stop> {
-    Ok(from_value(alloc, member(found, key)?.clone()?)?)
-}
-
-fn text(alloc: Global, found: &Value, key: &str) -> Result<String, Stop> {
-    match text_in(alloc, found, key)? {
-        Some(text) => Ok(text),
-        None => Err(Stop::Table),
-    }
-}
-
-fn text_in(alloc: Global, found: &Value, key: &str) -> Result<Option<String>, Stop> {
-    match found.get(key).and_then(Value::as_str) {
-        Some(text) => Ok(Some(String::from_str(alloc, text)?)),
-        None => Ok(None),
-    }
-}
-
-fn number(found: &Value, key: &str) -> Option<u32> {
-    whole(found.get(key)?)
-}
-
-fn whole(found: &Value) -> Option<u32> {
-    u32::try_from(found.as_u64()?).ok()
-}
-
-fn flag(found: &Value, key: &str) -> Option<bool> {
-    found.get(key)?.as_bool()
+    Ok(ConfigurationParams { items: list })
 }
