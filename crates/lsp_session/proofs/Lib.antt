@@ -11,6 +11,7 @@ pub mod Ran
 pub mod Refused
 pub mod RefusedDialogs
 pub mod RefusedReplies
+pub mod RefusedRuns
 pub mod SameTexts
 pub mod SessionGives
 pub mod StreamLined

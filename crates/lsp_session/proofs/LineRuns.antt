@@ -3,12 +3,12 @@ use Rattle.lsp_message.specs.Message.{Message}
 use Rattle.lsp_session.proofs.Ran.{IsWhole, sends_both, came_both, all_after}
 use Rattle.lsp_session.proofs.Waiting.{FoldsTo-append, list_all-push}
 use Rattle.lsp_session.specs.Boxes.{Sends, Receives, Takes, WaitsFor, is_timeout}
-use Rattle.lsp_session.specs.Event.{Event, message, timeout, closed, woken}
+use Rattle.lsp_session.specs.Event.{Event, message, timeout, closed}
 use Rattle.lsp_session.specs.Prompt.{event_of, StopsAfterNull, Meets, BreaksOff, OffersNullFirst, EndsTalk, Talks}
 use Rattle.lsp_session.specs.Session.{SessionAnswer, SessionPart, Exchange, came_of, sends_of, Stop, decided, no_more, timed_out, refused, exhausted}
 use Rattle.lsp_session.specs.SessionRun.{came_in, is_open, Brings, OffersLast, Gets, AwaitsExit, Runs}
 use Rattle.lsp_session.specs.declared.lifecycle.SendFault.{SendFault}
-use Rattle.std.proofs.Common.{◌≡◌, refl, sym, ◌∙◌, inl, inr, ◌⊎◌, ◌≤◌, ◌-◌, ◌^◌, true, List, [], ◌∷◌, ◌++◌, length, length-append, append_assoc, append-nil, arith, Option, Some, None}
+use Rattle.std.proofs.Common.{◌≡◌, refl, ◌∙◌, inl, inr, ◌≤◌, ◌-◌, true, List, [], ◌∷◌, ◌++◌, length, length-append, append_assoc, append-nil, arith, Option, Some, None}
 use Rattle.std.proofs.lemmas.List.Elements.{filter_map-append}
 use Rattle.std.proofs.lemmas.List.Folds.{list_all-append}
 use Rattle.std.specs.List.{FoldsTo, list_all, filter_map}

@@ -1,9 +1,6 @@
 -- An inbox and an outbox that were lent, as one value with both ends. For private clauses.
-use Rattle.std.specs.Prelude.{◌≡◌, Result}
-use Rattle.lsp_message.specs.Message.{Message}
+use Rattle.std.specs.Prelude.{◌≡◌}
 use Rattle.lsp_session.specs.Boxes.{Sends, Receives}
-use Rattle.lsp_session.specs.Event.{Event}
-use Rattle.lsp_session.specs.declared.lifecycle.SendFault.{SendFault}
 use Rattle.lsp_session.specs.declared.loops.both_ends.BothEnds.{BothEnds}
 
 module _ {I O : Type 0} where

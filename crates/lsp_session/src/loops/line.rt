@@ -48,7 +48,7 @@ pub fn serve_line<L: Inbox + Outbox, S: Service>(
 ) -> Result<SessionEnd, ProtocolError>
     ensures { Talks L.receives L.sends (SessionOut S.behavior service.old service.new) line.old result line.new }
 {
-    for _turn in 0..u64::MAX {
+    for _attempt in 0..u64::MAX {
         let event = line.receive();
         let (id, params) = match start_on(alloc, line, event) {
             Some(started) => started?,

@@ -3,7 +3,7 @@ use Rattle.lsp_session.specs.Session.{starting}
 use Rattle.lsp_session.proofs.loops.line.serve_line.Given as goal
 
 -- nothing but early messages came so far, or `initialize` was declined
-abbrev pub invariant-loop-turn : goal.invariant-loop-turn
-invariant-loop-turn g l =
+abbrev pub invariant-loop-attempt : goal.invariant-loop-attempt
+invariant-loop-attempt g l =
     Goes g.S.Service.behavior g.L.Inbox.receives g.L.Outbox.sends
-    l._turn starting l.initial.service l.initial.line starting l.service l.line
+    l._attempt starting l.initial.service l.initial.line starting l.service l.line

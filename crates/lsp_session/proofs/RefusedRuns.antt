@@ -1,0 +1,286 @@
+-- Runs over one value that are no session: over a line that is the account of its acts, in order, whatever comes later.
+use Rattle.lsp_message.specs.Id.{Id}
+use Rattle.lsp_message.specs.Message.{Message, ErrorObject, request, response}
+use Rattle.lsp_session.proofs.Waiting.{and-true, list_all-push}
+use Rattle.lsp_session.specs.Boxes.{Sends, Receives, Takes, WaitsFor, is_timeout}
+use Rattle.lsp_session.specs.Event.{Event, message, timeout, closed}
+use Rattle.lsp_session.specs.Prompt.{event_of, Meets, EndsTalk, Talks}
+use Rattle.lsp_session.specs.Replies.{null_reply, IsEarlyReply}
+use Rattle.lsp_session.specs.Session.{Behavior, SessionAnswer, SessionPart, Exchange, Stop, decided, no_more, timed_out, refused, exhausted, Phase, starting, serving, phase_after, is_initialize, is_served, Leaves, Step, Steps, Reaches, SessionFrom, SessionOut}
+use Rattle.lsp_session.specs.declared.lifecycle.SendFault.{SendFault}
+use Rattle.serde_json.specs.Data.{Data}
+use Rattle.std.proofs.Common.{◌≡◌, refl, sym, ◌∙◌, ap, inl, inr, ℕ, Bool, true, false, ◌&&◌, List, [], ◌∷◌, ◌++◌, map, length, append_assoc, append-nil, Option, Some, None, codes}
+use Rattle.std.proofs.lemmas.List.Folds.{list_all-append}
+use Rattle.std.specs.Bool.{MatchBool}
+use Rattle.std.specs.List.{FoldsTo, list_all}
+use Rattle.std.specs.Prelude.{Result, Ok, Err}
+use Rattle.std.specs.Str.{bytes_eq}
+
+-- what a line does: it gives this event, or it is sent this message and answers so
+pub data Act : Type 0 where
+  gave : Event → Act
+  got : Message → Result (Unit {0}) SendFault → Act
+
+-- a line that is the account of what it did
+abbrev pub Gives : Receives (List Act)
+Gives old event new = new ≡ old ++ gave event ∷ []
+
+abbrev pub Gets : Sends (List Act)
+Gets old m outcome new = new ≡ old ++ got m outcome ∷ []
+
+-- the account after a wait: timeouts, and then the event
+waited : (passed : List Event) (event : Event) (old new : List Act) → FoldsTo Gives old (passed ++ event ∷ []) new → new ≡ old ++ (map gave passed ++ gave event ∷ [])
+waited [] event old new run = let same : run.0 ≡ new = run.2 in sym same ∙ run.1
+waited (e ∷ es) event old new run =
+    waited es event run.0 new run.2 ∙ ap (λ (l : List Act). l ++ (map gave es ++ gave event ∷ [])) run.1 ∙ append_assoc old (gave e ∷ []) (map gave es ++ gave event ∷ [])
+
+-- the account grows
+abbrev Grows : List Act → List Act → Type 0
+Grows old new = (more : List Act) × (new ≡ old ++ more)
+
+grows_by : (old mid new : List Act) (act : Act) → mid ≡ old ++ act ∷ [] → Grows mid new → Grows old new
+grows_by old mid new act first more = (act ∷ more.0, more.1 ∙ ap (λ (l : List Act). l ++ more.0) first ∙ append_assoc old (act ∷ []) more.0)
+
+grows_both : (old mid new : List Act) → Grows old mid → Grows mid new → Grows old new
+grows_both old mid new first more = (first.0 ++ more.0, more.1 ∙ ap (λ (l : List Act). l ++ more.0) first.1 ∙ append_assoc old first.0 more.0)
+
+grows_none : (old new : List Act) → old ≡ new → Grows old new
+grows_none old new same = ([], sym same ∙ sym (append-nil old))
+
+sent_grows : (ms : List Message) (old new : List Act) → FoldsTo (Takes Gets) old ms new → Grows old new
+sent_grows [] old new run = grows_none old new run
+sent_grows (m ∷ ms) old new run = grows_by old run.0 new (got m (Ok tt)) run.1 (sent_grows ms run.0 new run.2)
+
+waited_grows : (event : Event) (old new : List Act) → WaitsFor Gives old event new → Grows old new
+waited_grows event old new waits = (map gave waits.passed ++ gave event ∷ [], waited waits.passed event old new waits.received)
+
+met_grows : (xs : List Exchange) (old new : List Act) → FoldsTo (Meets Gives Gets) old xs new → Grows old new
+met_grows [] old new run = grows_none old new run
+met_grows (x ∷ xs) old new run =
+    grows_both old run.1.met new (waited_grows (event_of x.letter) old run.1.met run.1.waited)
+    (grows_both run.1.met run.0 new (sent_grows x.said run.1.met run.0 run.1.taken) (met_grows xs run.0 new run.2))
+
+end_grows : (count : ℕ) (stop : Stop) (null : Option Message) (last : List Exchange) (old new : List Act) → EndsTalk Gives Gets count stop null last old new → Grows old new
+end_grows count stop (Some null) last old new end =
+    grows_both old end.met new (waited_grows (message end.ask) old end.met end.waited)
+    (grows_by end.met end.mid new (got null end.offered.outcome) end.offered.sent (grows_by end.mid new new (gave end.event) end.received (grows_none new new refl)))
+end_grows count (refused fault) None last old new end =
+    grows_both old end.met new (waited_grows (event_of end.letter) old end.met end.waited)
+    (grows_both end.met end.mid new (sent_grows end.part end.met end.mid end.taken) (grows_by end.mid new new (got end.unsaid (Err fault)) end.refuses (grows_none new new refl)))
+end_grows count decided None last old new end = grows_none old new (sym end.1)
+end_grows count no_more None last old new end = elim end.1 [
+  | inl waits ↦ waited_grows closed old new waits
+  | inr all ↦ grows_none old new (sym all.1)
+]
+end_grows count exhausted None last old new end = waited_grows (event_of end.1) old new end.2
+end_grows count timed_out None last old new end = absurd end
+
+-- ---- It waits twice, and says nothing for the first message.
+
+no_more_of : (part : List Message) (unsaid : Message) → part ++ unsaid ∷ [] ≡ [] → ⊥
+no_more_of [] unsaid e = cc (e)
+no_more_of (m ∷ ms) unsaid e = cc (e)
+
+module _ {S : Type 0} (may : Behavior S) (p : Phase) (ask : Message)
+    (speaks : (s s' : S) (said : List Message) (next : Phase) → Step may p s (Some ask) said next s' → said ≡ [] → ⊥) where
+  step_as : (x y : Exchange) (s s' : S) (next : Phase) → x ≡ y → x.letter ≡ Some ask → Step may p s y.letter y.said next s' → Step may p s (Some ask) x.said next s'
+  step_as x y s s' next same letter step = rw (sym letter, same) step
+
+  -- something is said for the first message
+  says_some : (stop : Stop) (s s' : S) (q : Phase) (x : Exchange) (rest : List Exchange) → Reaches may stop p s (x ∷ rest) q s' → x.letter ≡ Some ask → x.said ≡ [] → ⊥
+  says_some (refused fault) s s' q x rest broken letter none = by_cut broken.earlier broken.cut broken.steps
+    where
+      by_cut : (earlier : List Exchange) → x ∷ rest ≡ earlier ++ record { letter = broken.letter; said = broken.part ++ broken.unsaid ∷ [] } ∷ []
+          → Steps may p s earlier broken.next broken.mid → ⊥
+      by_cut [] cut steps =
+          let same : x ≡ record { letter = broken.letter; said = broken.part ++ broken.unsaid ∷ [] } = cc (cut) in
+          no_more_of broken.part broken.unsaid (sym (ap (λ (y : Exchange). y.said) same) ∙ none)
+      by_cut (y ∷ ys) cut steps =
+          let same : x ≡ y = cc (cut) in
+          speaks s steps.1 x.said steps.0 (step_as x y s steps.1 steps.0 same letter steps.2) none
+  says_some stop s s' q x rest steps letter none = speaks s steps.1 x.said steps.0 (rw letter at steps.2) none
+
+  module _ (next : Event) (later : List Act) where
+    -- it waits for the message, and then again
+    abbrev pub twice : List Act
+    twice = gave (message ask) ∷ gave next ∷ later
+
+    begins : (passed : List Event) (event : Event) (rest : List Act) → list_all is_timeout passed ≡ true → (map gave passed ++ gave event ∷ []) ++ rest ≡ twice
+        → (event ≡ message ask) × (rest ≡ gave next ∷ later)
+    begins [] event rest all e = (cc (e), cc (e))
+    begins (timeout ∷ passed) event rest all e = absurd (cc (e))
+    begins (other ∷ passed) event rest all e = absurd (cc (all))
+
+    asks : (letter : Option Message) → event_of letter ≡ message ask → letter ≡ Some ask
+    asks None e = absurd (cc (e))
+    asks (Some m) e = cc
+
+    -- after a wait something was said
+    says_one : (event : Event) (m : Message) (outcome : Result (Unit {0}) SendFault) (met here : List Act)
+        → WaitsFor Gives [] event met → here ≡ met ++ got m outcome ∷ [] → Grows here twice → ⊥
+    unfolding grows_by
+    says_one event m outcome met here waits said more =
+        let grown = grows_by met here twice (got m outcome) said more in
+        let all : (map gave waits.passed ++ gave event ∷ []) ++ got m outcome ∷ more.0 ≡ twice =
+        ap (λ (l : List Act). l ++ got m outcome ∷ more.0) (sym (waited waits.passed event [] met waits.received)) ∙ sym grown.1 in
+        let rest : got m outcome ∷ more.0 ≡ gave next ∷ later = (begins waits.passed event (got m outcome ∷ more.0) waits.only_timeouts all).1 in
+        absurd (cc (rest))
+
+    says : (letter : Option Message) (said : List Message) (met mid : List Act) → WaitsFor Gives [] (event_of letter) met → FoldsTo (Takes Gets) met said mid
+        → Grows mid twice → (letter ≡ Some ask → said ≡ [] → ⊥) → ⊥
+    says letter [] met mid waits taken more some =
+        let grown = grows_both met mid twice (grows_none met mid taken) more in
+        let all : (map gave waits.passed ++ gave (event_of letter) ∷ []) ++ grown.0 ≡ twice =
+        ap (λ (l : List Act). l ++ grown.0) (sym (waited waits.passed (event_of letter) [] met waits.received)) ∙ sym grown.1 in
+        some (asks letter (begins waits.passed (event_of letter) grown.0 waits.only_timeouts all).0) refl
+    says letter (m ∷ ms) met mid waits taken more some =
+        says_one (event_of letter) m (Ok tt) met taken.0 waits taken.1 (grows_both taken.0 mid twice (sent_grows ms taken.0 mid taken.2) more)
+
+    -- nothing was said
+    waits_alone : (event : Event) → WaitsFor Gives [] event twice → ⊥
+    waits_alone event waits =
+        let all : (map gave waits.passed ++ gave event ∷ []) ++ [] ≡ twice = append-nil (map gave waits.passed ++ gave event ∷ []) ∙ sym (waited waits.passed event [] twice waits.received) in
+        let rest : [] ≡ gave next ∷ later = (begins waits.passed event [] waits.only_timeouts all).1 in
+        absurd (cc (rest))
+
+    pub waits_twice : (s s' : S) (answer : SessionAnswer) → Talks Gives Gets (SessionFrom may p s s') [] answer twice → ⊥
+    waits_twice s s' answer talks = by_first talks.whole talks.last talks.stop talks.null talks.prompt talks.ends talks.part.reached
+      where
+        by_first : (whole last : List Exchange) (stop : Stop) (null : Option Message) → FoldsTo (Meets Gives Gets) [] whole talks.mid
+            → EndsTalk Gives Gets (length whole) stop null last talks.mid twice → Reaches may stop p s (whole ++ last) talks.part.last talks.part.after → ⊥
+        by_first (x ∷ xs) last stop null prompt end reached =
+            says x.letter x.said prompt.1.met prompt.0 prompt.1.waited prompt.1.taken
+            (grows_both prompt.0 talks.mid twice (met_grows xs prompt.0 talks.mid prompt.2) (end_grows (length (x ∷ xs)) stop null last talks.mid twice end))
+            (says_some stop s talks.part.after talks.part.last x (xs ++ last) reached)
+        by_first [] last stop null prompt end reached = by_end stop null (rw (sym prompt) at end)
+          where
+            by_end : (stop : Stop) (null : Option Message) → EndsTalk Gives Gets 0 stop null last [] twice → ⊥
+            by_end stop (Some null) end = says_one (message end.ask) null end.offered.outcome end.met end.mid end.waited end.offered.sent
+                (grows_by end.mid twice twice (gave end.event) end.received (grows_none twice twice refl))
+            by_end (refused fault) None end = by_part end.part end.taken
+              where
+                by_part : (part : List Message) → FoldsTo (Takes Gets) end.met part end.mid → ⊥
+                by_part [] taken = says_one (event_of end.letter) end.unsaid (Err fault) end.met twice end.waited
+                    (end.refuses ∙ ap (λ (l : List Act). l ++ got end.unsaid (Err fault) ∷ []) (sym taken)) (grows_none twice twice refl)
+                by_part (m ∷ ms) taken = says_one (event_of end.letter) m (Ok tt) end.met taken.0 end.waited taken.1
+                    (grows_both taken.0 end.mid twice (sent_grows ms taken.0 end.mid taken.2) (grows_by end.mid twice twice (got end.unsaid (Err fault)) end.refuses (grows_none twice twice refl)))
+            by_end decided None end = absurd (cc (end.1))
+            by_end no_more None end = elim end.1 [
+              | inl waits ↦ waits_alone closed waits
+              | inr all ↦ absurd (cc (all.1))
+            ]
+            by_end exhausted None end = waits_alone (event_of end.1) end.2
+            by_end timed_out None end = absurd end
+
+one_said : (m : Message) (said : List Message) → said ≡ m ∷ [] → said ≡ [] → ⊥
+one_said m said one none = cc (one, none)
+
+given_for : {S : Type 0} (may : Behavior S) (s s' : S) (m : Message) (said : List Message) (next : Phase) → is_served m ≡ true
+    → Step may serving s (Some m) said next s' → may.gives s m said s'
+given_for may s s' m said next served step = let given : may.gives s m said s' × (next ≡ serving) = rw served at step in given.0
+
+module _ {S : Type 0} (may : Behavior S) (s s' : S) (answer : SessionAnswer) (i : Id) (method : List ℕ) (params : Data) (next : Event) (later : List Act) where
+  -- The first request gets no reply before something else is awaited: neither the result of `initialize` nor an error.
+  pub first_reply_held : Talks Gives Gets (SessionOut may s s') [] answer (gave (message (request i method params)) ∷ gave next ∷ later) → ⊥
+  first_reply_held = waits_twice may starting (request i method params) speaks next later s s' answer
+    where
+      speaks : (s s' : S) (said : List Message) (next : Phase) → Step may starting s (Some (request i method params)) said next s' → said ≡ [] → ⊥
+      speaks s s' said next step none = by_method (is_initialize (request i method params)) step
+        where
+          by_method : (b : Bool)
+              → MatchBool b
+              ((outcome : Result Data ErrorObject) × may.initializes s params outcome s' × (said ≡ response i outcome ∷ []) × (next ≡ phase_after outcome))
+              ((reply : Message) × IsEarlyReply i reply × (said ≡ reply ∷ []) × (next ≡ starting) × (s' ≡ s)) → ⊥
+          by_method true step = one_said (response i step.0) said step.2 none
+          by_method false step = one_said step.0 said step.2 none
+
+  -- `shutdown` gets no null before `exit` is awaited.
+  pub null_held : bytes_eq method (codes "shutdown") ≡ true
+      → Talks Gives Gets (SessionFrom may serving s s') [] answer (gave (message (request i method params)) ∷ gave next ∷ later) → ⊥
+  null_held asks = waits_twice may serving (request i method params) speaks next later s s' answer
+    where
+      speaks : (s s' : S) (said : List Message) (next : Phase) → Step may serving s (Some (request i method params)) said next s' → said ≡ [] → ⊥
+      speaks s s' said next step none =
+          let left : Leaves (request i method params) said next × (s' ≡ s) = rw asks at step in
+          one_said (null_reply i) said left.0.0 none
+
+  -- A service that says something for each request says nothing for one before something else is awaited.
+  pub reply_held : is_served (request i method params) ≡ true
+      → ((s s' : S) (said : List Message) → may.gives s (request i method params) said s' → said ≡ [] → ⊥)
+      → Talks Gives Gets (SessionFrom may serving s s') [] answer (gave (message (request i method params)) ∷ gave next ∷ later) → ⊥
+  reply_held served gives = waits_twice may serving (request i method params) speaks next later s s' answer
+    where
+      speaks : (s s' : S) (said : List Message) (next : Phase) → Step may serving s (Some (request i method params)) said next s' → said ≡ [] → ⊥
+      speaks s s' said next step none =
+          gives s s' said (given_for may s s' (request i method params) said next served step) none
+
+-- ---- It goes on after a refused message.
+
+-- a message that was sent was taken
+abbrev is_fine : Act → Bool
+is_fine (got m (Err fault)) = false
+is_fine act = true
+
+abbrev AllFine : List Act → Type 0
+AllFine acts = list_all is_fine acts ≡ true
+
+still_fine : (old new : List Act) (act : Act) → is_fine act ≡ true → new ≡ old ++ act ∷ [] → AllFine old → AllFine new
+still_fine old new act fine grown all = rw grown (list_all-push is_fine old act all fine)
+
+fine_after : {A : Type 0} (R : List Act → A → List Act → Type 0) → ((old : List Act) (x : A) (new : List Act) → R old x new → AllFine old → AllFine new)
+    → (xs : List A) (old new : List Act) → FoldsTo R old xs new → AllFine old → AllFine new
+fine_after R one [] old new run all = let same : old ≡ new = run in rw same at all
+fine_after R one (x ∷ xs) old new run all = fine_after R one xs run.0 new run.2 (one old x run.0 run.1 all)
+
+fine_sent : (ms : List Message) (old new : List Act) → FoldsTo (Takes Gets) old ms new → AllFine old → AllFine new
+fine_sent = fine_after (Takes Gets) (λ old m new step all. still_fine old new (got m (Ok tt)) refl step all)
+
+fine_waited : (event : Event) (old new : List Act) → WaitsFor Gives old event new → AllFine old → AllFine new
+fine_waited event old new waits = fine_after Gives (λ old e new step all. still_fine old new (gave e) refl step all) (waits.passed ++ event ∷ []) old new waits.received
+
+fine_met : (xs : List Exchange) (old new : List Act) → FoldsTo (Meets Gives Gets) old xs new → AllFine old → AllFine new
+fine_met = fine_after (Meets Gives Gets) (λ old x new meets all. fine_sent x.said meets.met new meets.taken (fine_waited (event_of x.letter) old meets.met meets.waited all))
+
+module _ (before : List Act) (m : Message) (fault : SendFault) (act : Act) (later : List Act) where
+  -- a message is refused, and something is done after that
+  abbrev pub goes_on : List Act
+  goes_on = before ++ got m (Err fault) ∷ act ∷ later
+
+  not_fine : AllFine goes_on → ⊥
+  not_fine all =
+      let both : list_all is_fine before && false ≡ true = sym (list_all-append is_fine before (got m (Err fault) ∷ act ∷ later)) ∙ all in
+      let wrong : false ≡ true = (and-true (list_all is_fine before) false both).1 in
+      absurd (cc (wrong))
+
+  not_last : (earlier : List Act) (last : Act) (front : List Act) → AllFine earlier → earlier ++ last ∷ [] ≡ front ++ got m (Err fault) ∷ act ∷ later → ⊥
+  not_last [] last [] all e = cc (e)
+  not_last [] last (b ∷ []) all e = cc (e)
+  not_last [] last (b ∷ b' ∷ bs) all e = cc (e)
+  not_last (x ∷ xs) last [] all e =
+      let same : x ≡ got m (Err fault) = cc (e) in
+      let fine : is_fine x ≡ true = (and-true (is_fine x) (list_all is_fine xs) all).0 in
+      let wrong : false ≡ true = rw same at fine in
+      absurd (cc (wrong))
+  not_last (x ∷ xs) last (b ∷ bs) all e =
+      let tails : xs ++ last ∷ [] ≡ bs ++ got m (Err fault) ∷ act ∷ later = cc (e) in
+      not_last xs last bs (and-true (is_fine x) (list_all is_fine xs) all).1 tails
+
+  -- Nothing is awaited and nothing is sent after a message that was refused, where no null was sent: after a reply or the result of
+  -- `initialize`, for two.
+  pub goes_on_after_refusal : (P : SessionPart) (answer : SessionAnswer) (talks : Talks Gives Gets P [] answer goes_on) → talks.null ≡ None → ⊥
+  goes_on_after_refusal P answer talks none = by_end talks.stop (rw none at talks.ends)
+    where
+      so_far : AllFine talks.mid
+      so_far = fine_met talks.whole [] talks.mid talks.prompt refl
+
+      by_end : (stop : Stop) → EndsTalk Gives Gets (length talks.whole) stop None talks.last talks.mid goes_on → ⊥
+      by_end (refused lost) end =
+          not_last end.mid (got end.unsaid (Err lost)) before
+          (fine_sent end.part end.met end.mid end.taken (fine_waited (event_of end.letter) talks.mid end.met end.waited so_far)) (sym end.refuses)
+      by_end decided end = not_fine (ap (λ (l : List Act). list_all is_fine l) end.1 ∙ so_far)
+      by_end no_more end = elim end.1 [
+        | inl waits ↦ not_fine (fine_waited closed talks.mid goes_on waits so_far)
+        | inr all ↦ not_fine (ap (λ (l : List Act). list_all is_fine l) all.1 ∙ so_far)
+      ]
+      by_end exhausted end = not_fine (fine_waited (event_of end.1) talks.mid goes_on end.2 so_far)
+      by_end timed_out end = absurd end
