@@ -28,12 +28,6 @@ impl Echo {
 }
 
 impl Handler for Echo {
-    ghost use Rattle.std.specs.Prelude.{⊤};
-
-    ghost answers = { λ _ _ _ _ _ _. ⊤ };
-
-    ghost notes = { λ _ _ _ _. ⊤ };
-
     fn answer(&mut self, request: &Request) -> Result<Result<Value, ResponseError>, AllocError> {
         self.asked = self.asked.saturating_add(1);
         if request.method.as_str() == "demo/echo" {
@@ -111,21 +105,7 @@ impl Talker {
 }
 
 impl Server for Talker {
-    ghost use Rattle.std.specs.Prelude.{⊤};
-
     type Payload = Asked;
-
-    ghost initializes = { λ _ _ _ _. ⊤ };
-
-    ghost begins = { λ _ _ _. ⊤ };
-
-    ghost requested = { λ _ _ _ _ _ _. ⊤ };
-
-    ghost notified = { λ _ _ _ _ _. ⊤ };
-
-    ghost replied = { λ _ _ _ _ _. ⊤ };
-
-    ghost takes_back = { λ _ _ _. ⊤ };
 
     fn initialize(&mut self, _params: Value) -> Result<Result<Value, ResponseError>, AllocError> {
         Ok(Ok(json!(in self.alloc; { "capabilities": {} })?))
