@@ -1,6 +1,6 @@
 -- Over a line that keeps an account, a session takes its turns: what it says for a message stands before what it reads next.
 use Rattle.lsp_message.specs.Message.{Message}
-use Rattle.lsp_session.specs.Account.{Act, gave, took, sending, KeepsAccount, Awaited, IsTurnOf, AreTurnsOf, EndsInTurn, TakesTurns, InTurn}
+use Rattle.lsp_session.specs.Account.{Act, gave, took, sending, KeepsAccount, Awaited, IsTurnOf, AreTurnsOf, EndsInTurn, InTurn}
 use Rattle.lsp_session.specs.Boxes.{Sends, Receives, Takes, WaitsFor}
 use Rattle.lsp_session.specs.Event.{Event, message}
 use Rattle.lsp_session.specs.Prompt.{event_of, Meets, BreaksOff, OffersNullFirst, EndsTalk, Talks}
@@ -8,7 +8,7 @@ use Rattle.lsp_session.specs.Session.{Exchange, SessionAnswer, SessionPart, Stop
 use Rattle.lsp_session.specs.SessionLaws.{Both}
 use Rattle.std.proofs.Common.{◌≡◌, refl, sym, ◌∙◌, ap, inl, inr, ℕ, List, [], ◌∷◌, ◌++◌, length, map, append_assoc, append-nil, Option, Some, None}
 use Rattle.std.specs.List.{FoldsTo}
-use Rattle.std.specs.Prelude.{Result, Ok, Err}
+use Rattle.std.specs.Prelude.{Ok, Err}
 
 module _ {L : Type 0} (receives : Receives L) (sends : Sends L) (account : L → List Act) (keeps : KeepsAccount receives sends account) where
   -- the account grew by these acts

@@ -1,18 +1,17 @@
 -- Runs in which a session and its client wait for each other, and accounts that are in no turn.
 use Rattle.lsp_message.specs.Id.{Id}
 use Rattle.lsp_message.specs.Message.{Message, request, notification}
-use Rattle.lsp_session.proofs.Ran.{letters_both}
-use Rattle.lsp_session.specs.Account.{Act, gave, took, lost, sending, Awaited, AreTurnsOf, NullInTurn}
-use Rattle.lsp_session.specs.Answered.{RepliesTo, RepliesToEach, requests_of}
+use Rattle.lsp_session.specs.Account.{Act, gave, took, lost, AreTurnsOf}
+use Rattle.lsp_session.specs.Answered.{RepliesTo, requests_of}
 use Rattle.lsp_session.specs.Boxes.{is_timeout}
 use Rattle.lsp_session.specs.Dialog.{Client, NeverBothWait, WaitsForReplies}
 use Rattle.lsp_session.specs.Event.{Event, message, timeout, closed, woken}
-use Rattle.lsp_session.specs.Session.{Exchange, Stop, request_id}
+use Rattle.lsp_session.specs.Session.{Exchange, request_id}
 use Rattle.serde_json.specs.Data.{Data}
-use Rattle.std.proofs.Common.{◌≡◌, refl, sym, ◌∙◌, ap, subst, ◌+◌, suc, ℕ, Bool, true, false, true≢false, List, [], ◌∷◌, ◌++◌, length, length-append, map, arith, append_assoc, Option, Some, None}
+use Rattle.std.proofs.Common.{◌≡◌, refl, sym, ◌∙◌, ap, ◌+◌, suc, ℕ, Bool, true, false, true≢false, List, [], ◌∷◌, ◌++◌, length, length-append, map, arith, Some}
 use Rattle.std.proofs.lemmas.Bool.{eqb-true, eq-eqb}
 use Rattle.std.proofs.lemmas.List.Elements.{filter_map-append}
-use Rattle.std.specs.List.{AllZip, list_all, filter_map}
+use Rattle.std.specs.List.{AllZip, list_all}
 use Rattle.std.specs.Prelude.{codes, eqb}
 
 -- a client that goes on once it got as many messages as it sent requests

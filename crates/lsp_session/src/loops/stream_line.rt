@@ -24,7 +24,7 @@ enum Noted {
 }
 
 /// Gives a reader's messages, as a `StreamInbox` does, and writes messages to a writer, as a `FrameOutbox` does (LSP 3.17, "Base
-/// Protocol"). Clauses see an account of both: what was read and what was written, in one order. It costs nothing when a program runs.
+/// Protocol"). Clauses see an account of both: what was read and what was written, in one order. Of it one byte is left when a program runs.
 #[derive(Drop)]
 pub struct StreamLine<'a, R, W> {
     inbox: StreamInbox<'a, R>,
