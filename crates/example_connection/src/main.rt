@@ -1,12 +1,18 @@
 //! A whole language server over standard input and output, as a loop of its own. It says how long the path of a document
 //! is: a request `textDocument/hover` is answered with it. What to call a path it asks its client once, at the start, if the
 //! client can tell (`workspace/configuration`, section `paths`, a text).
+//!
+//! With the word `client` the program is a test client: it asks the server, which then runs in a thread, or with `client ADDRESS` another
+//! server, and prints the answer.
 #![tactic(auto)]
+
+mod client;
 
 use anyhow::{Result, bail};
 use lsp_server::{Connection, Message, ReqQueue, Request, Response};
 use serde_json::{Value, json};
 use std::alloc::{AllocError, Global};
+use std::env;
 use std::sync::Wait;
 use std::time::Clock;
 
@@ -27,6 +33,11 @@ enum Asked {
 }
 
 fn main(rt: HostRuntime) -> Result<()> {
+    let words: Vec<String> = env::args(&rt)?.skip(1).collect(rt.alloc())?;
+    if !words.is_empty() {
+        let answer = client::answer_to(&rt, words.as_slice())?;
+        return Ok(println!(rt; "{answer}")?);
+    }
     let (connection, threads) = Connection::stdio(&rt)?;
     let served = serve(&rt, connection);
     let threads = threads.flush(&rt);
@@ -64,7 +75,7 @@ fn serve<R: Wait + Clock + AllocGlobal>(rt: &R, connection: Connection) -> Resul
 
 fn send<R: Wait>(rt: &R, connection: &Connection, message: Message) -> Result<()> {
     if connection.sender.send(rt, message).is_err() {
-        bail!("the client is gone");
+        bail!("the other side is gone");
     }
     Ok(())
 }

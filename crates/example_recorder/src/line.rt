@@ -1,10 +1,11 @@
 // The lines of a recording.
+use anyhow::{Result, bail};
 use lsp_server::Message;
 use serde_json::Value;
-use std::alloc::{AllocError, Global};
+use std::alloc::Global;
 
 /// Which way a message goes.
-#[derive(Clone, Copy, PartialEq, Eq)]
+#[derive(Clone, Copy)]
 pub enum Way {
     /// From the client to the server.
     ToServer,
@@ -22,19 +23,23 @@ impl Way {
     }
 }
 
-/// The way and the body of a line. There is none where it is no line of a recording.
-pub fn split(line: &str) -> Option<(Way, &str)> {
+/// The way and the body of a line.
+pub fn split(line: &str) -> Result<(Way, &str)> {
     if let Some(body) = line.strip_prefix("-> ") {
-        return Some((Way::ToServer, body));
+        return Ok((Way::ToServer, body));
     }
-    let body = line.strip_prefix("<- ")?;
-    Some((Way::ToClient, body))
+    match line.strip_prefix("<- ") {
+        Some(body) => Ok((Way::ToClient, body)),
+        None => bail!("no line of a recording: {line}"),
+    }
 }
 
-/// The message of a body. There is none where the text is no message.
-pub fn message_of(alloc: Global, body: &str) -> Result<Option<Message>, AllocError> {
-    match Value::from_str(alloc, body) {
-        Ok(tree) => Ok(Message::from_tree(tree)),
-        Err(_) => Ok(None),
+/// The message of a body.
+pub fn message_of(alloc: Global, body: &str) -> Result<Message> {
+    if let Ok(tree) = Value::from_str(alloc, body)
+        && let Some(message) = Message::from_tree(tree)
+    {
+        return Ok(message);
     }
+    bail!("no message: {body}")
 }

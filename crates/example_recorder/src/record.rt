@@ -9,7 +9,7 @@ use std::sync::Wait;
 use std::thread::Threads;
 
 /// When a recording is over.
-#[derive(Clone, Copy, PartialEq, Eq)]
+#[derive(Clone, Copy)]
 pub enum Until {
     /// Both sides have closed.
     BothClose,
@@ -58,7 +58,7 @@ where
     write_lines(rt, &entries, log, until)?;
     downward.join(rt)?;
     let client_threads = client_threads.flush(rt);
-    if until == Until::BothClose {
+    if matches!(until, Until::BothClose) {
         upward.join(rt)?;
         client_threads.join(rt)?;
         server_threads.join(rt)?;
@@ -93,8 +93,11 @@ fn write_lines<R: Wait, W: Write>(
                 writeln!(log, "{mark} {body}")?;
                 log.flush()?;
             }
-            Entry::End(Way::ToClient) if until == Until::ServerCloses => return Ok(()),
-            Entry::End(_way) => {}
+            Entry::End(way) => {
+                if matches!(way, Way::ToClient) && matches!(until, Until::ServerCloses) {
+                    return Ok(());
+                }
+            }
         }
     }
     Ok(())

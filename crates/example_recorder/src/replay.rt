@@ -14,13 +14,10 @@ const PATIENCE: u64 = 10;
 /// Writes the client's messages of a recording as frames.
 pub fn write_frames<W: Write>(alloc: Global, recording: &str, writer: &mut W) -> Result<()> {
     for line in recording.lines() {
-        match split(line) {
-            Some((Way::ToServer, body)) => match message_of(alloc, body)? {
-                Some(message) => message.write(alloc, writer)?,
-                None => bail!("no message: {line}"),
-            },
-            Some((Way::ToClient, _)) => {}
-            None => bail!("no line of a recording: {line}"),
+        let (way, body) = split(line)?;
+        match way {
+            Way::ToServer => message_of(alloc, body)?.write(alloc, writer)?,
+            Way::ToClient => {}
         }
     }
     Ok(())
@@ -39,19 +36,17 @@ pub fn compare<R: Wait + Clock + AllocGlobal, W: Write>(
     let Connection { sender, receiver } = connection;
     let mut count: u64 = 0;
     for line in recording.lines() {
-        let Some((way, body)) = split(line) else {
-            bail!("no line of a recording: {line}");
-        };
-        if way == Way::ToClient {
-            expect(rt, &receiver, Some(body), report)?;
-            count = count.saturating_add(1);
-            continue;
-        }
-        let Some(message) = message_of(rt.alloc(), body)? else {
-            bail!("no message: {line}");
-        };
-        if sender.send(rt, message).is_err() {
-            bail!("the server is gone");
+        let (way, body) = split(line)?;
+        match way {
+            Way::ToServer => {
+                if sender.send(rt, message_of(rt.alloc(), body)?).is_err() {
+                    bail!("the server is gone");
+                }
+            }
+            Way::ToClient => {
+                expect(rt, &receiver, Some(body), report)?;
+                count = count.saturating_add(1);
+            }
         }
     }
     drop(sender);

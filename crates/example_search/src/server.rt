@@ -113,12 +113,6 @@ impl Server for Sums {
         };
         match heard {
             Ok(made) => self.hear(made),
-            Err(
-                NotMade {
-                    fault: DocumentFault::Memory,
-                    ..
-                },
-            ) => Err(AllocError),
             Err(missed) => self.complain(missed),
         }
     }
@@ -290,6 +284,9 @@ impl Sums {
     fn complain(&self, missed: NotMade<'_>) -> Result<Acts, AllocError> {
         let mut acts = Vec::new(self.alloc);
         let fault = missed.fault;
+        if matches!(fault, DocumentFault::Memory) {
+            return Err(AllocError);
+        }
         let Some(uri) = missed.uri else {
             acts.push(self.log(1, format!(in self.alloc; "{fault}")?)?)?;
             self.mark_all(&mut acts)?;

@@ -100,14 +100,8 @@ impl From<io::Error> for Stop {
     }
 }
 
-/// Prints that a call was refused. It is made once more then.
-pub fn print_refused<R: Print>(rt: &R, alloc: Global, what: &str) -> Result<(), Stop> {
-    rt.println(format!(in alloc; "  refused: {what}")?.as_str())?;
-    Ok(())
-}
-
-/// Prints what came of a call.
-pub fn print_came<R: Print>(rt: &R, alloc: Global, came: &str) -> Result<(), Stop> {
-    rt.println(format!(in alloc; "  {came}")?.as_str())?;
+/// Prints a line below a row: what came of a call, or, behind `refused: `, which call is made once more.
+pub fn print_below<R: Print>(rt: &R, alloc: Global, what: &str, came: &str) -> Result<(), Stop> {
+    rt.println(format!(in alloc; "  {what}{came}")?.as_str())?;
     Ok(())
 }

@@ -201,10 +201,13 @@ fn shut_down<R: Wait + Clock + AllocGlobal>(
     alloc: Global,
     server: &Connection,
 ) -> Result<String, AllocError> {
-    let Ok(Message::Request(request)) = server.receiver.recv(rt) else {
-        return String::from_str(alloc, "no request");
+    let Ok(message) = server.receiver.recv(rt) else {
+        return String::from_str(alloc, "no message");
     };
-    is_shut(alloc, server.handle_shutdown(rt, &request))
+    match message {
+        Message::Request(request) => is_shut(alloc, server.handle_shutdown(rt, &request)),
+        _ => String::from_str(alloc, "no request"),
+    }
 }
 
 /// Whether a server whose client stays and says nothing gives `exit` up, after 30 seconds and not before.

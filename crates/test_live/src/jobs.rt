@@ -21,7 +21,7 @@ pub struct Scripted {
 }
 
 /// What a job comes to.
-#[derive(Clone, Copy, PartialEq, Eq)]
+#[derive(Clone, Copy)]
 enum Ending {
     Value,
     Count,

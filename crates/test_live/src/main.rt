@@ -27,7 +27,7 @@ mod sessions;
 mod signals;
 mod table;
 
-use attempt::{Attempt, Stop, print_came, print_refused};
+use attempt::{Attempt, Stop, print_below};
 use sessions::{Run, attempt_of};
 use std::alloc::Global;
 use std::io::Write;
@@ -79,7 +79,7 @@ where
         }
     }
     if let Some(thread) = silent {
-        print_came(rt, alloc, thread.join(rt)?.as_str())?;
+        print_below(rt, alloc, "", thread.join(rt)?.as_str())?;
     }
     Ok(())
 }
@@ -116,11 +116,11 @@ where
         return run_case(rt, alloc, case, given);
     }
     match whole_of(rt, alloc, word, rest)? {
-        Attempt::Came(came) => return print_came(rt, alloc, came.as_str()),
-        Attempt::Refused(what) => print_refused(rt, alloc, what.as_str())?,
+        Attempt::Came(came) => return print_below(rt, alloc, "", came.as_str()),
+        Attempt::Refused(what) => print_below(rt, alloc, "refused: ", what.as_str())?,
     }
     let came = whole_of(rt, alloc, word, rest)?.again()?;
-    print_came(rt, alloc, came.as_str())
+    print_below(rt, alloc, "", came.as_str())
 }
 
 /// A row that is no case.
@@ -157,7 +157,12 @@ where
     for count in case.from..=case.to {
         let came = run_at(rt, alloc, case, given, count)?;
         if came != last {
-            print_came(rt, alloc, format!(in alloc; "{count}: {came}")?.as_str())?;
+            print_below(
+                rt,
+                alloc,
+                format!(in alloc; "{count}: ")?.as_str(),
+                came.as_str(),
+            )?;
         }
         last = came;
     }
@@ -202,7 +207,7 @@ where
 {
     match attempt_of(rt, alloc, run, given)? {
         Attempt::Came(came) => return Ok(came),
-        Attempt::Refused(what) => print_refused(rt, alloc, what.as_str())?,
+        Attempt::Refused(what) => print_below(rt, alloc, "refused: ", what.as_str())?,
     }
     attempt_of(rt, alloc, run, given)?.again()
 }

@@ -107,12 +107,13 @@ impl<R: Wait + Drop> Bench<R> {
         let (id, words) = words.split_once(" ").unwrap_or(("", words));
         let (value, script) = words.split_once(" ").unwrap_or(("", words));
         let job = job_of(self.alloc, &self.signals, script, small_of(value))?;
-        let told = match self.pool.take_on(id_of(id), job) {
-            Ok(()) => "taken, ",
-            Err(TakeFault::Full) => "full, ",
-            Err(TakeFault::Memory) => "no memory, ",
-        };
-        self.told.push_str(told)
+        match self.pool.take_on(id_of(id), job) {
+            Ok(()) => self.told.push_str("taken, "),
+            Err(fault) => self.told.push_str(match fault {
+                TakeFault::Full => "full, ",
+                TakeFault::Memory => "no memory, ",
+            }),
+        }
     }
 
     fn hear(&mut self) -> Result<(), AllocError> {
@@ -138,12 +139,19 @@ impl<R: Wait + Drop> Bench<R> {
             return self.told.push_str("no memory, ");
         };
         match found {
-            None => self.told.push_str("nothing, ")?,
-            Some(JobNews::Report(report)) => write!(self.told, "report {}, ", report.params)?,
-            Some(JobNews::Outcome(Ok(value))) => write!(self.told, "outcome {value}, ")?,
-            Some(JobNews::Outcome(Err(error))) => write!(self.told, "error {}, ", error.code)?,
+            Some(news) => self.tell_news(news),
+            None => self.told.push_str("nothing, "),
         }
-        Ok(())
+    }
+
+    fn tell_news(&mut self, news: JobNews) -> Result<(), AllocError> {
+        match news {
+            JobNews::Report(report) => write!(self.told, "report {}, ", report.params),
+            JobNews::Outcome(outcome) => match outcome {
+                Ok(value) => write!(self.told, "outcome {value}, "),
+                Err(error) => write!(self.told, "error {}, ", error.code),
+            },
+        }
     }
 
     fn tell_waiting(&mut self, id: &RequestId) -> Result<(), AllocError> {

@@ -58,9 +58,11 @@ pub fn woken<R: Wait>(rt: &R, alloc: Global, method: &str) -> Result<Attempt, St
 }
 
 fn name_of(alloc: Global, parcel: Option<Parcel<Message>>) -> Result<String, AllocError> {
+    let Some(parcel) = parcel else {
+        return String::from_str(alloc, "nothing");
+    };
     match parcel {
-        Some(Parcel::Message(message)) => message.member_text(alloc),
-        Some(Parcel::End) => String::from_str(alloc, "the end"),
-        None => String::from_str(alloc, "nothing"),
+        Parcel::Message(message) => message.member_text(alloc),
+        Parcel::End => String::from_str(alloc, "the end"),
     }
 }

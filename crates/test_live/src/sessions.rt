@@ -7,8 +7,7 @@ use crate::servers::{Echo, Talker};
 use crate::signals::{Signal, Signals, is_alone};
 use crate::table::{Call, Device, Given};
 use lsp_jobs::{PoolSize, run_jobs_within};
-use lsp_message::{ReadFault, WriteFault};
-use lsp_server::{Connection, IoFault};
+use lsp_server::Connection;
 use lsp_service::QueuedServer;
 use lsp_session::{SessionEnd, SessionFault};
 use lsp_threads::{
@@ -17,6 +16,7 @@ use lsp_threads::{
 };
 use serde_json::{Map, Value};
 use std::alloc::{AllocError, Global};
+use std::fmt::Write as _;
 use std::io::{BufRead, Write};
 use std::sync::{Arc, Wait};
 use std::thread::{Builder, Threads};
@@ -34,19 +34,6 @@ pub struct Run {
 }
 
 impl Run {
-    fn is_over(self, device: Device) -> bool {
-        self.device == device
-    }
-
-    /// The count of the device, if the case has this one.
-    fn at(self, device: Device) -> Option<usize> {
-        if self.device == device {
-            Some(self.count)
-        } else {
-            None
-        }
-    }
-
     /// How many bytes a content part may have.
     fn limit(self) -> u64 {
         match self.device {
@@ -54,11 +41,6 @@ impl Run {
             Device::Huge if self.count > 0 => self.count as u64,
             _ => u64::MAX,
         }
-    }
-
-    /// Whether a thread is not started.
-    fn lacks_thread(self) -> bool {
-        matches!(self.device, Device::NoReader | Device::NoWriter)
     }
 }
 
@@ -95,22 +77,30 @@ fn source(
     signals: &Arc<Signals>,
 ) -> Result<Source, AllocError> {
     let bytes = given.bytes.as_slice();
-    let end = run.at(Device::Ends).unwrap_or(usize::MAX).min(bytes.len());
+    let end = match run.device {
+        Device::Ends => run.count.min(bytes.len()),
+        _ => bytes.len(),
+    };
+    let (fails_at, shows_on) = match run.device {
+        Device::Breaks => (Some(run.count), false),
+        Device::Looks => (Some(run.count), true),
+        _ => (None, false),
+    };
     Ok(Source {
         signals: Arc::try_clone(signals)?,
         bytes: Vec::from_slice(alloc, &bytes[..end])?,
         taken: 0,
         shown: 0,
         step: run.step,
-        fails_at: run.at(Device::Breaks).or(run.at(Device::Looks)),
-        shows_on: run.is_over(Device::Looks),
+        fails_at,
+        shows_on,
         pauses: pauses(alloc, run, given)?,
         over: 0,
     })
 }
 
 fn pauses(alloc: Global, run: Run, given: &Given) -> Result<Vec<Pause>, AllocError> {
-    if run.is_over(Device::Waits) {
+    if matches!(run.device, Device::Waits) {
         let pause = Pause {
             at: run.count,
             signal: Signal::Written,
@@ -125,16 +115,24 @@ fn pauses(alloc: Global, run: Run, given: &Given) -> Result<Vec<Pause>, AllocErr
 const ROOM: usize = 65536;
 
 fn sink(alloc: Global, run: Run, signals: &Arc<Signals>) -> Result<Sink, AllocError> {
-    Ok(Sink {
+    let mut sink = Sink {
         signals: Arc::try_clone(signals)?,
         taken: Vec::with_capacity(alloc, ROOM)?,
-        room: run.at(Device::Fills).unwrap_or(usize::MAX),
-        bad_flush: run.at(Device::Flushes).unwrap_or(0),
+        room: usize::MAX,
+        bad_flush: 0,
         flushes: 0,
         writes: 0,
-        is_slow: run.is_over(Device::Slow),
-        is_gated: run.is_over(Device::Gated),
-    })
+        is_slow: false,
+        is_gated: false,
+    };
+    match run.device {
+        Device::Fills => sink.room = run.count,
+        Device::Flushes => sink.bad_flush = run.count,
+        Device::Slow => sink.is_slow = true,
+        Device::Gated => sink.is_gated = true,
+        _ => {}
+    }
+    Ok(sink)
 }
 
 /// How a session of the handler ends, and what it wrote.
@@ -153,7 +151,7 @@ where
     let mut echo = Echo {
         alloc,
         signals: Arc::try_clone(signals)?,
-        is_gated: run.is_over(Device::Gated),
+        is_gated: matches!(run.device, Device::Gated),
     };
     let limit = run.limit();
     let ran = run_threads_by(
@@ -238,8 +236,8 @@ where
 /// Builders of threads. No thread gets a stack of `usize::MAX` bytes.
 fn builders(run: Run) -> Builders {
     Builders {
-        writer: builder(run.is_over(Device::NoWriter)),
-        reader: builder(run.is_over(Device::NoReader)),
+        writer: builder(matches!(run.device, Device::NoWriter)),
+        reader: builder(matches!(run.device, Device::NoReader)),
     }
 }
 
@@ -251,23 +249,36 @@ fn builder(is_refused: bool) -> Builder {
     }
 }
 
+/// How a session in threads ended, and what it wrote.
 fn threads_answer(
     alloc: Global,
     ran: Result<Threaded<Sink>, StartFault>,
     run: Run,
     signals: &Arc<Signals>,
 ) -> Result<Attempt, AllocError> {
-    let Threaded { writer, answer } = match ran {
-        Ok(done) => done,
-        Err(fault) => return not_started(alloc, fault, run, signals),
-    };
-    let is_refused = matches!(&answer, Err(SessionFault::Memory));
-    let end = match answer {
-        Ok(SessionEnd::ShutDown) => String::from_str(alloc, "shut down")?,
-        Ok(SessionEnd::Closed) => String::from_str(alloc, "closed")?,
-        Err(fault) => format!(in alloc; "{fault}")?,
-    };
-    told(alloc, run, end, &writer, is_refused)
+    match ran {
+        Ok(Threaded { writer, answer }) => {
+            let end = session_end(alloc, answer)?;
+            told(alloc, run, end.as_str(), &writer)
+        }
+        Err(fault) => not_started(alloc, fault, run, signals),
+    }
+}
+
+fn session_end(
+    alloc: Global,
+    answer: Result<SessionEnd, SessionFault>,
+) -> Result<String, AllocError> {
+    match answer {
+        Ok(end) => String::from_str(
+            alloc,
+            match end {
+                SessionEnd::ShutDown => "shut down",
+                SessionEnd::Closed => "closed",
+            },
+        ),
+        Err(fault) => format!(in alloc; "{fault}"),
+    }
 }
 
 /// What a call says that started no thread, or not both. A case that refuses a thread tells how often a device was called.
@@ -277,11 +288,13 @@ fn not_started(
     run: Run,
     signals: &Arc<Signals>,
 ) -> Result<Attempt, AllocError> {
-    if run.lacks_thread() {
-        let calls = signals.calls();
-        return Ok(Attempt::Came(format!(in alloc; "{fault}, {calls} calls")?));
+    match run.device {
+        Device::NoReader | Device::NoWriter => {
+            let calls = signals.calls();
+            Ok(Attempt::Came(format!(in alloc; "{fault}, {calls} calls")?))
+        }
+        _ => Ok(Attempt::Refused(format!(in alloc; "{fault}; wrote ")?)),
     }
-    Ok(Attempt::Refused(format!(in alloc; "{fault}; wrote ")?))
 }
 
 /// How passing messages on ends, and what it wrote.
@@ -297,41 +310,42 @@ where
     R: Threads + Wait + Copy + Drop + Send + 'static,
 {
     let mut writer = writer;
-    let builder = builder(run.is_over(Device::NoReader));
-    let ended = pump_by(rt, builder, alloc, reader, &mut writer, run.limit());
-    let is_refused = matches!(
-        &ended,
-        Err(PumpFault::Read(ReadFault::Memory) | PumpFault::Write(WriteFault::Memory))
-    );
-    let end = match ended {
-        Ok(()) => String::from_str(alloc, "passed on")?,
-        Err(PumpFault::Start(fault)) => return not_started(alloc, fault, run, signals),
-        Err(fault) => format!(in alloc; "{fault}")?,
-    };
-    told(alloc, run, end, &writer, is_refused)
+    let builder = builder(matches!(run.device, Device::NoReader));
+    match pump_by(rt, builder, alloc, reader, &mut writer, run.limit()) {
+        Ok(()) => told(alloc, run, "passed on", &writer),
+        Err(PumpFault::Start(fault)) => not_started(alloc, fault, run, signals),
+        Err(fault) => {
+            let end = format!(in alloc; "{fault}")?;
+            told(alloc, run, end.as_str(), &writer)
+        }
+    }
 }
 
 /// An end, and what was written.
-fn told(
-    alloc: Global,
-    run: Run,
-    end: String,
-    writer: &Sink,
-    is_refused: bool,
-) -> Result<Attempt, AllocError> {
+fn told(alloc: Global, run: Run, end: &str, writer: &Sink) -> Result<Attempt, AllocError> {
+    let bytes = writer.taken.as_slice();
     let written = match run.call {
-        Call::Many => escape(alloc, in_order(alloc, writer.taken.as_slice())?.as_bytes())?,
-        _ => escape(alloc, writer.taken.as_slice())?,
+        Call::Many => escape(alloc, in_order(alloc, bytes)?.as_bytes())?,
+        _ => escape(alloc, bytes)?,
     };
-    let writes = match run.call {
-        Call::Burst => format!(in alloc; ", in {} writes", writer.writes)?,
-        _ => String::new(alloc),
-    };
-    let said = format!(in alloc; "{end}; wrote {written}{writes}")?;
-    if is_refused && !run.is_over(Device::Huge) {
-        return Ok(Attempt::Refused(said));
+    let mut said = format!(in alloc; "{end}; wrote {written}")?;
+    if matches!(run.call, Call::Burst) {
+        write!(said, ", in {} writes", writer.writes)?;
     }
-    Ok(Attempt::Came(said))
+    Ok(attempt(run, end, said))
+}
+
+/// What came of a call that ended so: that an allocation failed, unless no memory could be enough.
+fn attempt(run: Run, end: &str, said: String) -> Attempt {
+    if matches!(run.device, Device::Huge) || !lacks_memory(end) {
+        return Attempt::Came(said);
+    }
+    Attempt::Refused(said)
+}
+
+/// Whether a fault that prints so is a failed allocation.
+fn lacks_memory(fault: &str) -> bool {
+    fault == "out of memory" || fault == "read fault 11" || fault == "write fault 2"
 }
 
 /// Frames in the order of their texts.
@@ -374,32 +388,19 @@ where
             threads.flush(rt).join(rt)
         }
     };
+    let end = match ended {
+        Ok(()) => String::from_str(alloc, "fine")?,
+        Err(fault) => format!(in alloc; "{fault}")?,
+    };
     let written = signals.count(Signal::Written);
-    match ended {
-        Ok(()) => Ok(Attempt::Came(format!(in alloc; "fine; wrote {written} bytes")?)),
-        Err(fault) => Ok(faulty(
-            format!(in alloc; "{fault}; wrote {written} bytes")?,
-            fault,
-            run,
-        )),
-    }
-}
-
-fn faulty(said: String, fault: IoFault, run: Run) -> Attempt {
-    let is_refused = matches!(
-        fault,
-        IoFault::Memory | IoFault::Read(ReadFault::Memory) | IoFault::Write(WriteFault::Memory)
-    );
-    if is_refused && !run.is_over(Device::Huge) {
-        return Attempt::Refused(said);
-    }
-    Attempt::Came(said)
+    let said = format!(in alloc; "{end}; wrote {written} bytes")?;
+    Ok(attempt(run, end.as_str(), said))
 }
 
 /// Sends each message back, up to the last one, or lets the receiver go at once. The connection is dropped then.
 fn part<R: Wait>(rt: &R, run: Run, connection: Connection) {
     let Connection { sender, receiver } = connection;
-    if run.call == Call::Left {
+    if matches!(run.call, Call::Left) {
         drop(receiver);
         drop(sender);
         return;

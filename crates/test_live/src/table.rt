@@ -45,21 +45,28 @@ impl Given {
 fn pause_of(word: &str) -> Option<Pause> {
     let mut words = word.split(':');
     let at = words.next()?.parse::<usize>().ok()?;
-    let signal = signal_of(words.next()?)?;
+    let signal = named(&SIGNALS, words.next()?)?;
     let wanted = words.next()?.parse::<u64>().ok()?;
     Some(Pause { at, signal, wanted })
 }
 
-fn signal_of(word: &str) -> Option<Signal> {
-    match word {
-        "written" => Some(Signal::Written),
-        "messages" => Some(Signal::Messages),
-        "writes" => Some(Signal::Writes),
-        "requests" => Some(Signal::Requests),
-        "begun" => Some(Signal::Begun),
-        "ended" => Some(Signal::Ended),
-        _ => None,
+static SIGNALS: [(&str, Signal); 6] = [
+    ("written", Signal::Written),
+    ("messages", Signal::Messages),
+    ("writes", Signal::Writes),
+    ("requests", Signal::Requests),
+    ("begun", Signal::Begun),
+    ("ended", Signal::Ended),
+];
+
+/// What stands beside a word.
+fn named<T: Copy>(table: &[(&str, T)], word: &str) -> Option<T> {
+    for (name, it) in table {
+        if *name == word {
+            return Some(*it);
+        }
     }
+    None
 }
 
 /// A case: `CALL HOW PIECES DEVICE FROM TO`, and with the device `waits` how many bytes have to be written. The call is made with each
@@ -78,7 +85,7 @@ pub struct Case<'a> {
 }
 
 /// What is called.
-#[derive(Clone, Copy, PartialEq, Eq)]
+#[derive(Clone, Copy)]
 pub enum Call {
     /// `run_threads_by`, with no capabilities and the handler.
     Session,
@@ -101,7 +108,7 @@ pub enum Call {
 }
 
 /// What happens after a count of bytes or calls.
-#[derive(Clone, Copy, PartialEq, Eq)]
+#[derive(Clone, Copy)]
 pub enum Device {
     /// Nothing.
     Whole,
@@ -133,11 +140,11 @@ pub enum Device {
 
 /// The case of these words. There is none where they are no case.
 pub fn case_of<'a>(call: &str, rest: &'a str) -> Option<Case<'a>> {
-    let call = call_of(call)?;
+    let call = named(&CALLS, call)?;
     let mut words = rest.split(' ');
     let pool = pool_of(words.next()?)?;
     let steps = words.next()?;
-    let device = device_of(words.next()?)?;
+    let device = named(&DEVICES, words.next()?)?;
     let from = words.next()?.parse::<usize>().ok()?;
     let to = words.next()?.parse::<usize>().ok()?;
     let written = words.next().unwrap_or("0").parse::<u64>().ok()?;
@@ -178,15 +185,6 @@ static CALLS: [(&str, Call); 9] = [
     ("left", Call::Left),
 ];
 
-fn call_of(word: &str) -> Option<Call> {
-    for (name, call) in CALLS {
-        if name == word {
-            return Some(call);
-        }
-    }
-    None
-}
-
 static DEVICES: [(&str, Device); 13] = [
     ("whole", Device::Whole),
     ("ends", Device::Ends),
@@ -202,12 +200,3 @@ static DEVICES: [(&str, Device); 13] = [
     ("no_reader", Device::NoReader),
     ("no_writer", Device::NoWriter),
 ];
-
-fn device_of(word: &str) -> Option<Device> {
-    for (name, device) in DEVICES {
-        if name == word {
-            return Some(device);
-        }
-    }
-    None
-}

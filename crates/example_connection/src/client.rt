@@ -1,0 +1,108 @@
+//! A small test client: it holds a session with a server, in which it asks one thing. The server runs in a thread of the same program, or
+//! listens at an address.
+use crate::{send, serve};
+use anyhow::{Result, bail};
+use lsp_server::{Connection, Message, Notification, Request, RequestId, Response, spawn};
+use serde_json::{Value, json};
+use std::net::Net;
+use std::sync::Wait;
+use std::thread::Threads;
+use std::time::Clock;
+
+/// What a server answers: that of this program at the word `client`, and another one at `client ADDRESS`.
+pub fn answer_to<R>(rt: &R, words: &[String]) -> Result<Value>
+where
+    R: Net + Threads + Wait + Clock + AllocGlobal + Copy + Drop + Send + 'static,
+    R::Stream: Send + 'static,
+{
+    match words {
+        [word] if word.as_str() == "client" => ask_thread(rt),
+        [word, address] if word.as_str() == "client" => ask_address(rt, address.as_str()),
+        _ => bail!("usage: example_connection [client [ADDRESS]]"),
+    }
+}
+
+/// What the server that listens at an address answers, as `127.0.0.1:9257`.
+pub fn ask_address<R>(rt: &R, address: &str) -> Result<Value>
+where
+    R: Net + Threads + Wait + Clock + AllocGlobal + Copy + Drop + Send + 'static,
+    R::Stream: Send + 'static,
+{
+    let (connection, threads) = Connection::connect(rt, address)?;
+    let answer = hold_session(rt, &connection)?;
+    // The threads end once the connection is dropped.
+    drop(connection);
+    threads.join(rt)?;
+    Ok(answer)
+}
+
+/// What the server of this program answers. It runs in a thread, and needs no socket.
+pub fn ask_thread<R>(rt: &R) -> Result<Value>
+where
+    R: Threads + Wait + Clock + AllocGlobal + Copy + Drop + Send + 'static,
+{
+    let (client, server) = Connection::memory(rt.alloc())?;
+    let thread = spawn(rt, server, |rt, server| serve(&rt, server))?;
+    let answer = hold_session(rt, &client);
+    // The server would wait for more.
+    drop(client);
+    thread.join(rt)?;
+    answer
+}
+
+/// The messages of the session (LSP 3.17, "Server lifecycle").
+fn hold_session<R: Wait + AllocGlobal>(rt: &R, connection: &Connection) -> Result<Value> {
+    let about = json!(in rt.alloc(); { "processId": null, "rootUri": null, "capabilities": {} })?;
+    ask(rt, connection, 1, "initialize", about)?;
+    tell(rt, connection, "initialized")?;
+    let place = json!(in rt.alloc(); { "textDocument": { "uri": "file:///a.rs" } })?;
+    let answer = ask(rt, connection, 2, "textDocument/hover", place)?;
+    ask(rt, connection, 3, "shutdown", Value::Null)?;
+    tell(rt, connection, "exit")?;
+    Ok(answer)
+}
+
+/// Sends a request under a new id, and waits for its result. What else the server sends is passed over.
+fn ask<R: Wait + AllocGlobal>(
+    rt: &R,
+    connection: &Connection,
+    id: i32,
+    method: &str,
+    params: Value,
+) -> Result<Value> {
+    let method = String::from_str(rt.alloc(), method)?;
+    let id = RequestId::from(id);
+    let request = Request {
+        id: id.clone()?,
+        method,
+        params,
+    };
+    send(rt, connection, Message::from(request))?;
+    for message in connection.receiver.iter(rt) {
+        let Message::Response(reply) = message else {
+            continue;
+        };
+        let Response {
+            id: theirs,
+            response_result: outcome,
+        } = reply;
+        if theirs == id {
+            return match outcome {
+                Ok(result) => Ok(result),
+                Err(error) => bail!("error {}: {}", error.code, error.message),
+            };
+        }
+    }
+    bail!("the server is gone")
+}
+
+/// Sends a notification without params.
+fn tell<R: Wait + AllocGlobal>(rt: &R, connection: &Connection, method: &str) -> Result<()> {
+    let method = String::from_str(rt.alloc(), method)?;
+    let params = Value::Null;
+    send(
+        rt,
+        connection,
+        Message::from(Notification { method, params }),
+    )
+}
