@@ -26,21 +26,7 @@ struct Computation {
 type Acts = Vec<Act<()>>;
 
 impl Server for Jobs {
-    ghost use Rattle.std.specs.Prelude.{⊤};
-
     type Payload = ();
-
-    ghost initializes = { λ _ _ _ _. ⊤ };
-
-    ghost begins = { λ _ _ _. ⊤ };
-
-    ghost requested = { λ _ _ _ _ _ _. ⊤ };
-
-    ghost notified = { λ _ _ _ _ _. ⊤ };
-
-    ghost replied = { λ _ _ _ _ _. ⊤ };
-
-    ghost takes_back = { λ _ _ _. ⊤ };
 
     fn initialize(&mut self, _params: Value) -> Result<Result<Value, ResponseError>, AllocError> {
         let mut result = Map::new(self.alloc);
@@ -81,12 +67,6 @@ impl Server for Jobs {
 }
 
 impl JobServer<Computation> for Jobs {
-    ghost use Rattle.std.specs.Prelude.{⊤};
-
-    ghost starts = { λ _ _ _. ⊤ };
-
-    ghost finishes = { λ _ _ _ _ _. ⊤ };
-
     fn take_jobs(&mut self) -> Result<Vec<Start<Computation>>, AllocError> {
         Ok(mem::replace(&mut self.starting, Vec::new(self.alloc)))
     }
@@ -101,10 +81,6 @@ impl JobServer<Computation> for Jobs {
 }
 
 impl Job for Computation {
-    ghost use Rattle.std.specs.Prelude.{⊤};
-
-    ghost answers = { λ _ _. ⊤ };
-
     fn run<P: Progress>(
         self,
         _token: &CancellationToken,

@@ -62,21 +62,7 @@ enum Asked {
 type Acts = Vec<Act<Asked>>;
 
 impl Server for Checker {
-    ghost use Rattle.std.specs.Prelude.{⊤};
-
     type Payload = Asked;
-
-    ghost initializes = { λ _ _ _ _. ⊤ };
-
-    ghost begins = { λ _ _ _. ⊤ };
-
-    ghost requested = { λ _ _ _ _ _ _. ⊤ };
-
-    ghost notified = { λ _ _ _ _ _. ⊤ };
-
-    ghost replied = { λ _ _ _ _ _. ⊤ };
-
-    ghost takes_back = { λ _ _ _. ⊤ };
 
     fn initialize(&mut self, params: Value) -> Result<Result<Value, ResponseError>, AllocError> {
         let params = match read_as::<InitializeParams>(self.alloc, params)? {

@@ -39,10 +39,6 @@ impl Progress for Silence {
 }
 
 impl Job for Search {
-    ghost use Rattle.std.specs.Prelude.{⊤};
-
-    ghost answers = { λ _ _. ⊤ };
-
     fn run<P: Progress>(
         self,
         token: &CancellationToken,

@@ -42,21 +42,7 @@ pub enum Asked {
 type Acts = Vec<Act<Asked>>;
 
 impl Server for Sums {
-    ghost use Rattle.std.specs.Prelude.{⊤};
-
     type Payload = Asked;
-
-    ghost initializes = { λ _ _ _ _. ⊤ };
-
-    ghost begins = { λ _ _ _. ⊤ };
-
-    ghost requested = { λ _ _ _ _ _ _. ⊤ };
-
-    ghost notified = { λ _ _ _ _ _. ⊤ };
-
-    ghost replied = { λ _ _ _ _ _. ⊤ };
-
-    ghost takes_back = { λ _ _ _. ⊤ };
 
     fn initialize(&mut self, params: Value) -> Result<Result<Value, ResponseError>, AllocError> {
         let path = "/capabilities/workspace/configuration";
@@ -138,12 +124,6 @@ impl Server for Sums {
 }
 
 impl JobServer<Search> for Sums {
-    ghost use Rattle.std.specs.Prelude.{⊤};
-
-    ghost starts = { λ _ _ _. ⊤ };
-
-    ghost finishes = { λ _ _ _ _ _. ⊤ };
-
     fn take_jobs(&mut self) -> Result<Vec<Start<Search>>, AllocError> {
         Ok(mem::replace(&mut self.starting, Vec::new(self.alloc)))
     }

@@ -102,10 +102,6 @@ fn progress_of(alloc: Global, number: u64) -> Result<Notification, AllocError> {
 }
 
 impl Job for Scripted {
-    ghost use Rattle.std.specs.Prelude.{⊤};
-
-    ghost answers = { λ _ _. ⊤ };
-
     fn run<P: Progress>(
         self,
         token: &CancellationToken,

@@ -21,10 +21,6 @@ pub struct Echo {
 }
 
 impl Handler for Echo {
-    ghost answers = { λ _ _ _ _ _ _. Unit };
-
-    ghost notes = { λ _ _ _ _. Unit };
-
     fn answer(&mut self, request: &Request) -> Result<Result<Value, ResponseError>, AllocError> {
         self.signals.tell(Signal::Requests);
         if self.is_gated && self.signals.wait(Signal::Pauses, 2).is_err() {
@@ -176,21 +172,7 @@ impl Talker {
 }
 
 impl Server for Talker {
-    ghost use Rattle.std.specs.Prelude.{⊤};
-
     type Payload = Asked;
-
-    ghost initializes = { λ _ _ _ _. ⊤ };
-
-    ghost begins = { λ _ _ _. ⊤ };
-
-    ghost requested = { λ _ _ _ _ _ _. ⊤ };
-
-    ghost notified = { λ _ _ _ _ _. ⊤ };
-
-    ghost replied = { λ _ _ _ _ _. ⊤ };
-
-    ghost takes_back = { λ _ _ _. ⊤ };
 
     fn initialize(&mut self, _params: Value) -> Result<Result<Value, ResponseError>, AllocError> {
         Ok(Ok(json!(in self.alloc; { "capabilities": {} })?))
@@ -252,12 +234,6 @@ impl Server for Talker {
 }
 
 impl JobServer<Scripted> for Talker {
-    ghost use Rattle.std.specs.Prelude.{⊤};
-
-    ghost starts = { λ _ _ _. ⊤ };
-
-    ghost finishes = { λ _ _ _ _ _. ⊤ };
-
     fn take_jobs(&mut self) -> Result<Vec<Start<Scripted>>, AllocError> {
         Ok(mem::replace(&mut self.starts, Vec::new(self.alloc)))
     }
