@@ -512,6 +512,7 @@ def pumped(data, breaks, limit):
 STREAMS = {
     "session": lambda *words: served(Echo(), *words),
     "speaks": lambda *words: served(Talker(), *words),
+    "line": lambda *words: served(Talker(), *words),
     "tolerant": lambda data, breaks, limit: served_tolerantly(Talker() if limit == GREATEST else Unwoken(), data, breaks, limit)[:2],
     "pump": pumped,
     "burst": pumped,

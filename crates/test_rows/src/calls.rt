@@ -9,7 +9,8 @@ use lsp_message::{Front, Message, ReadFault, WriteFault, front, write_frames};
 use lsp_service::{QueuedServer, session_with_within};
 use lsp_session::{
     Event, FrameOutbox, Inbox, ListOutbox, Outbox, ReadEnd, SendFault, SessionEnd, SessionFault,
-    StreamInbox, read_loop, read_loop_within, session, session_of_service, session_within,
+    StreamInbox, StreamLine, read_loop, read_loop_within, session, session_of_service, session_on,
+    session_within,
 };
 use lsp_tolerant::{
     FaultCounts, Ignore, tolerant_session_with_within, tolerant_session_with_woken,
@@ -100,6 +101,7 @@ pub fn attempt_of(alloc: Global, run: Run<'_>, given: &Given) -> Result<Attempt,
         "outbox" => outbox_answer(alloc, &mut reader, &mut writer),
         "session" => session_answer(alloc, run, &mut reader, &mut writer),
         "speaks" => speaks_answer(alloc, run, &mut reader, &mut writer),
+        "line" => line_answer(alloc, run, &mut reader, &mut writer),
         _ => tolerant_answer(alloc, run, &mut reader, &mut writer),
     }
 }
@@ -288,6 +290,19 @@ fn speaks_answer(
         return ended_answer(alloc, run, end, writer, "");
     }
     let end = session_of_service(alloc, reader, writer, &mut QueuedServer::new(alloc, talker));
+    ended_answer(alloc, run, end, writer, "")
+}
+
+/// The same over one value that holds the reader and the writer.
+fn line_answer(
+    alloc: Global,
+    run: Run<'_>,
+    reader: &mut Source<'_>,
+    writer: &mut Sink<'_>,
+) -> Result<Attempt, Stop> {
+    let mut service = QueuedServer::new(alloc, Talker::new(alloc));
+    let mut line = StreamLine::within(alloc, reader, writer, u64::MAX);
+    let end = session_on(alloc, &mut line, &mut service);
     ended_answer(alloc, run, end, writer, "")
 }
 

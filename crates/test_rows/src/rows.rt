@@ -42,6 +42,7 @@ impl Rows {
             | "outbox"
             | "session"
             | "speaks"
+            | "line"
             | "tolerant" => self.run_case(&mut said, case_in(word, rest)?)?,
             _ => self.run_whole(&mut said, word, rest)?,
         }
