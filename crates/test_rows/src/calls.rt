@@ -303,6 +303,7 @@ fn line_answer(
     let mut service = QueuedServer::new(alloc, Talker::new(alloc));
     let mut line = StreamLine::within(alloc, reader, writer, u64::MAX);
     let end = session_on(alloc, &mut line, &mut service);
+    drop(line);
     ended_answer(alloc, run, end, writer, "")
 }
 
