@@ -4,7 +4,6 @@
 //   memory N            the Nth allocation is refused
 //   memory-from N       the Nth allocation is refused, and each one after it
 //   elsewhere N         of the allocations that other threads than the first make, the Nth is refused
-//   elsewhere-from N    the same, and each one after it
 //   thread N            the Nth thread is not started
 //   socket N            the Nth call that makes a socket or sets it up fails
 //   read N HOW          of the Nth read: `error` fails it, `interrupt` interrupts it, `short` lets it move one byte
@@ -79,9 +78,9 @@ __attribute__((constructor)) static void start(void) {
     const char *pieces = strstr(plan, " in ");
     if (pieces && sscanf(pieces, " in %llu", &most) == 1)
         piece = most;
-    lasts = is(word, "memory-from") || is(word, "elsewhere-from");
+    lasts = is(word, "memory-from");
     how = is(manner, "interrupt") ? IS_INTERRUPT : is(manner, "short") ? IS_SHORT : IS_ERROR;
-    if (is(word, "memory") || is(word, "memory-from"))
+    if (is(word, "memory") || lasts)
         kind_to_fail = MEMORY;
     else if (is(word, "elsewhere") || is(word, "elsewhere-from"))
         kind_to_fail = ELSEWHERE;
