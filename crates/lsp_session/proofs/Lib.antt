@@ -7,6 +7,7 @@ pub mod Lending
 pub mod Line
 pub mod LineRuns
 pub mod Ordering
+pub mod Phases
 pub mod Ran
 pub mod Refused
 pub mod RefusedDialogs
