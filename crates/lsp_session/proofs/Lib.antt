@@ -13,6 +13,7 @@ pub mod Refused
 pub mod RefusedDialogs
 pub mod RefusedReplies
 pub mod RefusedRuns
+pub mod RefusedWakes
 pub mod SameTexts
 pub mod SessionGives
 pub mod StreamLined
