@@ -3,8 +3,9 @@ ghost use Rattle.std.specs.Prelude.{◌≡◌, true, IfErr};
 ghost use Rattle.lsp_server.specs.IoFault.{is_start_fault};
 
 use crate::io_fault::IoFault;
-use crate::io_threads::{IoThreads, read_all, start_threads, write_all};
+use crate::io_threads::{IoThreads, read_all, start_threads};
 use crate::transport::{ChannelInbox, ChannelOutbox};
+use crate::writing::write_all;
 use crossbeam_channel::{Receiver, Sender, unbounded};
 use lsp_message::{Message, Request, RequestId};
 use lsp_session::{
@@ -56,7 +57,8 @@ impl Connection {
     /// Makes a connection over any reader and writer, such as the pipes of a child process. A content part may have at most
     /// `limit` bytes; with `u64::MAX` any number.
     ///
-    /// The reader gets a buffer here. The writer needs none, since each frame is one write. The faults are those of `stdio`.
+    /// The reader gets a buffer here. The writer needs none: frames of messages that wait together are one write. The faults are
+    /// those of `stdio`.
     pub fn over<R, S, W>(
         rt: &R,
         reader: S,

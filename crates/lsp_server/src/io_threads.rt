@@ -1,19 +1,16 @@
 //! The threads of a connection: one reads, one writes, and one drops large messages that were written.
 ghost use Rattle.std.specs.Prelude.{◌≡◌, true, IfErr, IfSome, IsSome};
 ghost use Rattle.lsp_server.specs.IoFault.{is_start_fault, reader_answer, ended_answer};
-ghost use Rattle.lsp_message.specs.View.{message_view};
-ghost use Rattle.lsp_message.specs.Written.{Writes};
-ghost use Rattle.lsp_server.specs.Writing.{WritesMessages};
 
 use crate::io_fault::IoFault;
 use crate::transport::ForwardingOutbox;
 use crate::written::{Written, channels_of_written, drop_all};
 use crossbeam_channel::{Receiver, Sender, bounded};
-use lsp_message::{Message, WriteFault, write_frames};
+use lsp_message::Message;
 use lsp_session::{ReadEnd, read_loop_within};
 use lsp_threads::spent::Spent;
 use std::alloc::Global;
-use std::io::{BufRead, Write};
+use std::io::BufRead;
 use std::sync::Wait;
 use std::thread;
 use std::thread::{JoinHandle, Threads};
@@ -173,53 +170,5 @@ fn reader_end(end: ReadEnd) -> Result<(), IoFault>
         ReadEnd::Fault(fault) => Err(IoFault::Read(fault)),
         ReadEnd::Closed => Err(IoFault::Closed),
         ReadEnd::Memory => Err(IoFault::Memory),
-    }
-}
-
-/// The thread that writes.
-pub(crate) fn write_all<R: Wait + Drop, W: Write + Drop>(
-    rt: R,
-    alloc: Global,
-    outgoing: Receiver<Message>,
-    mut writer: W,
-    written: Written<Message>,
-) -> Result<(), IoFault> {
-    write_messages(&rt, alloc, &outgoing, &mut writer, &written)
-}
-
-/// Writes what the channel gives as frames, in order, until the channel is closed or a write fails (LSP 3.17, "Base Protocol").
-fn write_messages<'a, R: Wait, W: Write>(
-    rt: &'a R,
-    alloc: Global,
-    outgoing: &'a Receiver<Message>,
-    writer: &mut W,
-    written: &Written<Message>,
-) -> Result<(), IoFault>
-    ensures { WritesMessages (W.contents writer.old) result (W.contents writer.new) }
-{
-    for message in outgoing.iter(rt) {
-        if let Err(fault) = write_message(rt, alloc, message, writer, written) {
-            return Err(IoFault::Write(fault));
-        }
-    }
-    Ok(())
-}
-
-/// Writes a message as a frame, and lets the message go before the write, which may wait.
-fn write_message<R: Wait, W: Write>(
-    rt: &R,
-    alloc: Global,
-    message: Message,
-    writer: &mut W,
-    written: &Written<Message>,
-) -> Result<(), WriteFault>
-    ensures { Writes (message_view message) (W.contents writer.old) result (W.contents writer.new) }
-{
-    match message.to_frame(alloc) {
-        Ok(frame) => {
-            written.let_go(rt, message, frame.len());
-            write_frames(writer, frame.as_str())
-        }
-        Err(_) => Err(WriteFault::Memory),
     }
 }

@@ -17,6 +17,7 @@ mod serving_thread;
 mod socket;
 mod stdio;
 mod transport;
+mod writing;
 mod written;
 
 pub use connection::Connection;

@@ -104,7 +104,7 @@ impl Connection {
         R::Stream: Send + 'static,
         ensures { IfErr result (λ fault. is_connect_fault fault ≡ true) }
     {
-        // A frame is one write, so holding it back gathers nothing. Where the option is refused, frames are only slower.
+        // What waits is one write, so holding it back gathers nothing. Where the option is refused, frames are only slower.
         let _ = stream.set_nodelay(true);
         let patience = Duration::from_secs(WRITE_SECONDS);
         stream

@@ -143,6 +143,7 @@ impl Write for Sink {
             return Err(io::Error::from(ErrorKind::BrokenPipe));
         }
         self.taken.extend_from_slice(&buf[..count])?;
+        self.signals.taken(self.taken.len());
         Ok(count)
     }
 

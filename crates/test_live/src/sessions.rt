@@ -365,7 +365,7 @@ fn in_order(alloc: Global, written: &[u8]) -> Result<String, AllocError> {
     Ok(text)
 }
 
-/// What the threads of a connection answer, and how many bytes were written and flushed.
+/// What the threads of a connection answer, and how many bytes were written and flushed; of a writer that fills, how many it took.
 fn connected<R>(
     rt: &R,
     alloc: Global,
@@ -392,7 +392,12 @@ where
         Ok(()) => String::from_str(alloc, "fine")?,
         Err(fault) => format!(in alloc; "{fault}")?,
     };
-    let written = signals.count(Signal::Written);
+    // How many frames a write has is not known, so of a writer that fails those count that it took.
+    let counted = match run.device {
+        Device::Fills => Signal::Taken,
+        _ => Signal::Written,
+    };
+    let written = signals.count(counted);
     let said = format!(in alloc; "{end}; wrote {written} bytes")?;
     Ok(attempt(run, end.as_str(), said))
 }

@@ -9,6 +9,8 @@ use std::{io, thread};
 pub enum Signal {
     /// So many bytes were written and flushed.
     Written,
+    /// So many bytes were written.
+    Taken,
     /// So many messages were written and flushed.
     Messages,
     /// So many writes began.
@@ -33,6 +35,7 @@ pub enum Signal {
 #[derive(Drop)]
 pub struct Signals {
     written: AtomicU64,
+    taken: AtomicU64,
     messages: AtomicU64,
     writes: AtomicU64,
     requests: AtomicU64,
@@ -54,6 +57,7 @@ impl Signals {
     pub fn new() -> Signals {
         Signals {
             written: AtomicU64::new(0),
+            taken: AtomicU64::new(0),
             messages: AtomicU64::new(0),
             writes: AtomicU64::new(0),
             requests: AtomicU64::new(0),
@@ -70,6 +74,7 @@ impl Signals {
     fn counter(&self, signal: Signal) -> &AtomicU64 {
         match signal {
             Signal::Written => &self.written,
+            Signal::Taken => &self.taken,
             Signal::Messages => &self.messages,
             Signal::Writes => &self.writes,
             Signal::Requests => &self.requests,
@@ -90,6 +95,11 @@ impl Signals {
     /// The signal comes once more.
     pub fn tell(&self, signal: Signal) {
         self.counter(signal).fetch_add(1, Ordering::SeqCst);
+    }
+
+    /// So many bytes are written.
+    pub fn taken(&self, count: usize) {
+        self.taken.store(count as u64, Ordering::SeqCst);
     }
 
     /// So many bytes are written and flushed.

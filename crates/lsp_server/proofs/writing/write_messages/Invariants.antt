@@ -1,6 +1,6 @@
 use Rattle.lsp_server.specs.Writing.{WritesMessages}
 use Rattle.std.specs.Prelude.{Ok}
-use Rattle.lsp_server.proofs.io_threads.write_messages.Given as goal
+use Rattle.lsp_server.proofs.writing.write_messages.Given as goal
 
 -- all messages so far were written
 abbrev pub invariant-loop-message : goal.invariant-loop-message
