@@ -35,8 +35,8 @@ pub use lsp_service::{
 pub use lsp_session::{
     Arrival, CallGate, Event, FrameOutbox, Gate, Handler, Inbox, ListGate, ListInbox, ListOutbox,
     OpenGate, Outbox, ProtocolError, ReadEnd, SendFault, SessionEnd, SessionFault, StreamInbox,
-    WriteEnd, finish, finish_within, read_loop, read_loop_within, serve, session, session_within,
-    shutdown, start_within, wait_within, write_loop,
+    StreamLine, WriteEnd, finish, finish_within, read_loop, read_loop_within, serve, serve_line,
+    session, session_on, session_within, shutdown, start_within, wait_within, write_loop,
 };
 pub use lsp_threads::{
     Builders, PumpFault, StartFault, Threaded, pump, pump_within, run_threads,

@@ -4,7 +4,7 @@ ghost use Rattle.lsp_session.specs.Boxes.{handed_back};
 
 use crossbeam_channel::{Receiver, RecvTimeoutError, SendError, Sender};
 use lsp_message::Message;
-use lsp_session::{Event, Inbox, Outbox, SendFault};
+use lsp_session::{Arrival, Event, Inbox, Outbox, SendFault};
 use lsp_threads::spent::Spent;
 use std::sync::Wait;
 use std::time::{Clock, Duration};
@@ -37,6 +37,10 @@ impl<'a, R: Wait + Clock> Inbox for ChannelInbox<'a, R> {
             Ok(message) => Event::Message(message),
             Err(_) => Event::Closed,
         }
+    }
+
+    fn receive_or_woken(&mut self) -> Arrival {
+        Arrival::from_event(self.receive())
     }
 }
 

@@ -17,7 +17,8 @@ use std::io::{BufRead, Write};
 
 /// Runs a session of a server that speaks, from a reader's bytes to a writer's (LSP 3.17, "Base Protocol" and "Server lifecycle"),
 /// and gives the server back with the answer. The server is given the messages after `initialized`, and what it does at each is
-/// written before the next is read (tested, and no part of this contract).
+/// written before the next is read. This contract says what is read and what is written, and not in which order, since a reader and a
+/// writer are two values. `lsp_session::session_on` runs the same session over one value, a `StreamLine`, and its contract has the order.
 ///
 /// The lifecycle, the faults, and what is left in the reader are those of `session`. The answer is
 /// - `Ok`, where the session ended by `exit`, or from `initialized` on by the end of the input,

@@ -4,13 +4,13 @@ use Rattle.lsp_session.specs.Account.{Act, gave, took, sending, KeepsAccount, Aw
 use Rattle.lsp_session.specs.Boxes.{Sends, Receives, Takes, WaitsFor}
 use Rattle.lsp_session.specs.Event.{Event, message}
 use Rattle.lsp_session.specs.Prompt.{event_of, Meets, BreaksOff, OffersNullFirst, EndsTalk, Talks}
-use Rattle.lsp_session.specs.Session.{Exchange, SessionAnswer, SessionPart, Stop, decided, no_more, timed_out, refused, exhausted}
+use Rattle.lsp_session.specs.Session.{Exchange, SessionAnswer, SessionPart, Stop, decided, no_more, timed_out, refused, exhausted, Phase}
 use Rattle.lsp_session.specs.SessionLaws.{Both}
 use Rattle.std.proofs.Common.{◌≡◌, refl, sym, ◌∙◌, ap, inl, inr, ℕ, List, [], ◌∷◌, ◌++◌, length, map, append_assoc, append-nil, Option, Some, None}
 use Rattle.std.specs.List.{FoldsTo}
 use Rattle.std.specs.Prelude.{Ok, Err}
 
-module _ {L : Type 0} (receives : Receives L) (sends : Sends L) (account : L → List Act) (keeps : KeepsAccount receives sends account) where
+module _ {L : Type 0} (receives listens : Receives L) (sends : Sends L) (account : L → List Act) (keeps : KeepsAccount receives sends account) where
   -- the account grew by these acts
   abbrev Grew : L → L → List Act → Type 0
   Grew old new acts = account new ≡ account old ++ acts
@@ -40,27 +40,27 @@ module _ {L : Type 0} (receives : Receives L) (sends : Sends L) (account : L →
   )
 
   -- one turn
-  turned : (x : Exchange) (old new : L) → Meets receives sends old x new → (acts : List Act) × IsTurnOf x acts × Grew old new acts
+  turned : (x : Exchange) (old new : Phase × L) → Meets receives listens sends old x new → (acts : List Act) × IsTurnOf x acts × Grew old.1 new.1 acts
   turned x old new meets =
-      let first = waited (event_of x.letter) old meets.met meets.waited in (
+      let first = waited (event_of x.letter) old.1 meets.met meets.waited.0 in (
         first.0 ++ map took x.said,
         record { waits = first.0; awaited = first.1; are = refl },
-        grew_both old meets.met new first.0 (map took x.said) first.2 (took_all x.said meets.met new meets.taken),
+        grew_both old.1 meets.met new.1 first.0 (map took x.said) first.2 (took_all x.said meets.met new.1 meets.taken),
       )
 
   -- turns, one after another
-  turned_all : (xs : List Exchange) (old new : L) → FoldsTo (Meets receives sends) old xs new → (acts : List Act) × AreTurnsOf xs acts × Grew old new acts
-  turned_all [] old new run = ([], refl, grew_none old new run)
+  turned_all : (xs : List Exchange) (old new : Phase × L) → FoldsTo (Meets receives listens sends) old xs new → (acts : List Act) × AreTurnsOf xs acts × Grew old.1 new.1 acts
+  turned_all [] old new run = ([], refl, grew_none old.1 new.1 (ap (λ (a : Phase × L). a.1) run))
   turned_all (x ∷ xs) old new run =
       let one = turned x old run.0 run.1 in
       let more = turned_all xs run.0 new run.2 in
-      (one.0 ++ more.0, (one.0, more.0, one.1, more.1, refl), grew_both old run.0 new one.0 more.0 one.2 more.2)
+      (one.0 ++ more.0, (one.0, more.0, one.1, more.1, refl), grew_both old.1 run.0.1 new.1 one.0 more.0 one.2 more.2)
 
   -- the null, and what comes after it
-  null_turned : (null : Message) (stop : Stop) (last : List Exchange) (old new : L) → OffersNullFirst receives sends null stop last old new
+  null_turned : (phase : Phase) (null : Message) (stop : Stop) (last : List Exchange) (old new : L) → OffersNullFirst receives listens sends phase null stop last old new
       → (acts : List Act) × EndsInTurn 0 stop (Some null) last acts × Grew old new acts
-  null_turned null stop last old new ends =
-      let first = waited (message ends.ask) old ends.met ends.waited in
+  null_turned phase null stop last old new ends =
+      let first = waited (message ends.ask) old ends.met ends.waited.0 in
       let outcome = ends.offered.outcome in (
         first.0 ++ sending null outcome ∷ gave ends.event ∷ [],
         record {
@@ -81,10 +81,10 @@ module _ {L : Type 0} (receives : Receives L) (sends : Sends L) (account : L →
       )
 
   -- a message is refused
-  broken : (fault : _) (last : List Exchange) (old new : L) → BreaksOff receives sends fault last old new
+  broken : (phase : Phase) (fault : _) (last : List Exchange) (old new : L) → BreaksOff receives listens sends phase fault last old new
       → (acts : List Act) × EndsInTurn 0 (refused fault) None last acts × Grew old new acts
-  broken fault last old new ends =
-      let first = waited (event_of ends.letter) old ends.met ends.waited in (
+  broken phase fault last old new ends =
+      let first = waited (event_of ends.letter) old ends.met ends.waited.0 in (
         first.0 ++ (map took ends.part ++ sending ends.unsaid (Err fault) ∷ []),
         record { letter = ends.letter; part = ends.part; unsaid = ends.unsaid; is = ends.is; waits = first.0; awaited = first.1; are = refl },
         grew_both old ends.met new first.0 (map took ends.part ++ sending ends.unsaid (Err fault) ∷ []) first.2
@@ -93,24 +93,24 @@ module _ {L : Type 0} (receives : Receives L) (sends : Sends L) (account : L →
       )
 
   -- the end of a session
-  ended_turn : (count : ℕ) (stop : Stop) (null : Option Message) (last : List Exchange) (old new : L) → EndsTalk receives sends count stop null last old new
+  ended_turn : (phase : Phase) (count : ℕ) (stop : Stop) (null : Option Message) (last : List Exchange) (old new : L) → EndsTalk receives listens sends phase count stop null last old new
       → (acts : List Act) × EndsInTurn count stop null last acts × Grew old new acts
-  ended_turn count stop (Some null) last old new ends = null_turned null stop last old new ends
-  ended_turn count (refused fault) None last old new ends = broken fault last old new ends
-  ended_turn count decided None last old new ends = ([], (ends.0, refl), grew_none old new (sym ends.1))
-  ended_turn count no_more None last old new ends = elim ends.1 [
-    | inl closes ↦ (let w = waited Rattle.lsp_session.specs.Event.closed old new closes in (w.0, (ends.0, inl w.1), w.2))
+  ended_turn phase count stop (Some null) last old new ends = null_turned phase null stop last old new ends
+  ended_turn phase count (refused fault) None last old new ends = broken phase fault last old new ends
+  ended_turn phase count decided None last old new ends = ([], (ends.0, refl), grew_none old new (sym ends.1))
+  ended_turn phase count no_more None last old new ends = elim ends.1 [
+    | inl closes ↦ (let w = waited Rattle.lsp_session.specs.Event.closed old new closes.0 in (w.0, (ends.0, inl w.1), w.2))
     | inr all ↦ ([], (ends.0, inr (all.0, refl)), grew_none old new (sym all.1))
   ]
-  ended_turn count exhausted None last old new ends = let w = waited (event_of ends.1) old new ends.2 in (w.0, (ends.0, ends.1, w.1), w.2)
-  ended_turn count timed_out None last old new ends = absurd ends
+  ended_turn phase count exhausted None last old new ends = let w = waited (event_of ends.1) old new ends.2.0 in (w.0, (ends.0, ends.1, w.1), w.2)
+  ended_turn phase count timed_out None last old new ends = absurd ends
 
   -- A session's acts are added to the account, and they are those of its exchanges, each in its turn.
-  pub talks_in_turn : (P : SessionPart) (old new : L) (answer : SessionAnswer) → Talks receives sends P old answer new
-      → (acts : List Act) × (account new ≡ account old ++ acts) × Talks receives sends (Both P (InTurn acts)) old answer new
-  talks_in_turn P old new answer talks =
-      let first = turned_all talks.whole old talks.mid talks.prompt in
-      let end = ended_turn (length talks.whole) talks.stop talks.null talks.last talks.mid new talks.ends in (
+  pub talks_in_turn : (phase : Phase) (P : SessionPart) (old new : L) (answer : SessionAnswer) → Talks receives listens sends phase P old answer new
+      → (acts : List Act) × (account new ≡ account old ++ acts) × Talks receives listens sends phase (Both P (InTurn acts)) old answer new
+  talks_in_turn phase P old new answer talks =
+      let first = turned_all talks.whole (phase, old) (talks.reached, talks.mid) talks.prompt in
+      let end = ended_turn talks.reached (length talks.whole) talks.stop talks.null talks.last talks.mid new talks.ends in (
         first.0 ++ end.0,
         grew_both old talks.mid new first.0 end.0 first.2 end.2,
         record {
@@ -118,6 +118,7 @@ module _ {L : Type 0} (receives : Receives L) (sends : Sends L) (account : L →
           last = talks.last;
           stop = talks.stop;
           null = talks.null;
+          reached = talks.reached;
           mid = talks.mid;
           prompt = talks.prompt;
           ends = talks.ends;

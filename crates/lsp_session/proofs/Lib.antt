@@ -7,11 +7,13 @@ pub mod Lending
 pub mod Line
 pub mod LineRuns
 pub mod Ordering
+pub mod Phases
 pub mod Ran
 pub mod Refused
 pub mod RefusedDialogs
 pub mod RefusedReplies
 pub mod RefusedRuns
+pub mod RefusedWakes
 pub mod SameTexts
 pub mod SessionGives
 pub mod StreamLined

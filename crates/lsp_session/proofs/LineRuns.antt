@@ -5,7 +5,7 @@ use Rattle.lsp_session.proofs.Waiting.{FoldsTo-append, list_all-push}
 use Rattle.lsp_session.specs.Boxes.{Sends, Receives, Takes, WaitsFor, is_timeout}
 use Rattle.lsp_session.specs.Event.{Event, message, timeout, closed}
 use Rattle.lsp_session.specs.Prompt.{event_of, StopsAfterNull, Meets, BreaksOff, OffersNullFirst, EndsTalk, Talks}
-use Rattle.lsp_session.specs.Session.{SessionAnswer, SessionPart, Exchange, came_of, sends_of, Stop, decided, no_more, timed_out, refused, exhausted}
+use Rattle.lsp_session.specs.Session.{SessionAnswer, SessionPart, Exchange, came_of, sends_of, Stop, decided, no_more, timed_out, refused, exhausted, Phase}
 use Rattle.lsp_session.specs.SessionRun.{came_in, is_open, Brings, OffersLast, Gets, AwaitsExit, Runs}
 use Rattle.lsp_session.specs.declared.lifecycle.SendFault.{SendFault}
 use Rattle.std.proofs.Common.{◌≡◌, refl, ◌∙◌, inl, inr, ◌≤◌, ◌-◌, true, List, [], ◌∷◌, ◌++◌, length, length-append, append_assoc, append-nil, arith, Option, Some, None}
@@ -116,7 +116,7 @@ module _ {I O : Type 0} (receives : Receives I) (sends : Sends O) where
   gets_all old new output stop whole taken = (new, taken, refl)
 
   -- A line, each of whose receives is one of its inbox, and each of whose sends is one of its outbox. Something of it stays as it is.
-  module _ {L N : Type 0} (gives : Receives L) (takes : Sends L) (ends : L → I × O) (kept : L → N)
+  module _ {L N : Type 0} (gives listens : Receives L) (takes : Sends L) (ends : L → I × O) (kept : L → N)
       (of_gives : (old : L) (event : Event) (new : L) → gives old event new
       → receives (ends old).0 event (ends new).0 × ((ends new).1 ≡ (ends old).1) × (kept new ≡ kept old))
       (of_takes : (old : L) (m : Message) (outcome : Result (Unit {0}) SendFault) (new : L) → takes old m outcome new
@@ -155,25 +155,25 @@ module _ {I O : Type 0} (receives : Receives I) (sends : Sends O) where
       taken : FoldsTo (Takes sends) (ends old).1 (sends_of xs) (ends new).1
       same : kept new ≡ kept old
 
-    met : (xs : List Exchange) (old new : L) → FoldsTo (Meets gives takes) old xs new → Met old xs new
+    met : (xs : List Exchange) (old new : Phase × L) → FoldsTo (Meets gives listens takes) old xs new → Met old.1 xs new.1
     met [] old new run =
         let same : old ≡ new = run in
         rw same (record { events = []; received = refl; came = refl; still_open = refl; many = omega arith; taken = refl; same = refl })
     met (x ∷ xs) old new run =
         let rest = met xs run.0 new run.2 in
-        let waits = waits_in (event_of x.letter) old run.1.met run.1.waited in
-        let took = taken_in x.said run.1.met run.0 run.1.taken in
+        let waits = waits_in (event_of x.letter) old.1 run.1.met run.1.waited.0 in
+        let took = taken_in x.said run.1.met run.0.1 run.1.taken in
         let first = waits.0.passed ++ event_of x.letter ∷ [] in
         let came = letters_waited waits.0.passed (event_of x.letter) waits.0.only_timeouts ∙ (came_one x.letter).0 in
         record {
           events = first ++ rest.events;
-          received = FoldsTo-append receives first rest.events (ends old).0 (ends run.1.met).0 (ends new).0 waits.0.received
-              (from_same receives (ends run.0).0 (ends run.1.met).0 rest.events (ends new).0 took.1 rest.received);
+          received = FoldsTo-append receives first rest.events (ends old.1).0 (ends run.1.met).0 (ends new.1).0 waits.0.received
+              (from_same receives (ends run.0.1).0 (ends run.1.met).0 rest.events (ends new.1).0 took.1 rest.received);
           came = rw (filter_map-append came_in first rest.events, came, rest.came) refl;
           still_open = open_both first rest.events (open_waited waits.0.passed (event_of x.letter) (came_one x.letter).1 waits.0.only_timeouts) rest.still_open;
           many = rw (length-append first rest.events, length-append waits.0.passed (event_of x.letter ∷ [])) (omega (arith, rest.many));
-          taken = FoldsTo-append (Takes sends) x.said (sends_of xs) (ends old).1 (ends run.0).1 (ends new).1
-              (from_same (Takes sends) (ends run.1.met).1 (ends old).1 x.said (ends run.0).1 waits.1 took.0) rest.taken;
+          taken = FoldsTo-append (Takes sends) x.said (sends_of xs) (ends old.1).1 (ends run.0.1).1 (ends new.1).1
+              (from_same (Takes sends) (ends run.1.met).1 (ends old.1).1 x.said (ends run.0.1).1 waits.1 took.0) rest.taken;
           same = rest.same ∙ took.2 ∙ waits.2;
         }
 
@@ -182,10 +182,10 @@ module _ {I O : Type 0} (receives : Receives I) (sends : Sends O) where
     Both P answer old new = Runs receives sends P (ends old) answer (ends new) × (kept new ≡ kept old)
 
     -- the null, and one event after it
-    after_null : (P : SessionPart) (answer : SessionAnswer) (stop : Stop) (null : Message) (last : List Exchange) (old new : L) → P last stop (Some null) answer
-        → OffersNullFirst gives takes null stop last old new → Both P answer old new
-    after_null P answer stop null last old new part end =
-        let waits = waits_in (message end.ask) old end.met end.waited in
+    after_null : (phase : Phase) (P : SessionPart) (answer : SessionAnswer) (stop : Stop) (null : Message) (last : List Exchange) (old new : L) → P last stop (Some null) answer
+        → OffersNullFirst gives listens takes phase null stop last old new → Both P answer old new
+    after_null phase P answer stop null last old new part end =
+        let waits = waits_in (message end.ask) old end.met end.waited.0 in
         let offered = of_takes end.met null end.offered.outcome end.mid end.offered.sent in
         let received = of_gives end.mid end.event new end.received in
         let first = waits.0.passed ++ message end.ask ∷ [] in
@@ -230,10 +230,10 @@ module _ {I O : Type 0} (receives : Receives I) (sends : Sends O) where
         )
 
     -- the last message or wake came, and what is said for it was refused
-    breaks_off : (P : SessionPart) (answer : SessionAnswer) (fault : SendFault) (last : List Exchange) (old new : L) → P last (refused fault) None answer
-        → BreaksOff gives takes fault last old new → Both P answer old new
-    breaks_off P answer fault last old new part end =
-        let waits = waits_in (event_of end.letter) old end.met end.waited in
+    breaks_off : (phase : Phase) (P : SessionPart) (answer : SessionAnswer) (fault : SendFault) (last : List Exchange) (old new : L) → P last (refused fault) None answer
+        → BreaksOff gives listens takes phase fault last old new → Both P answer old new
+    breaks_off phase P answer fault last old new part end =
+        let waits = waits_in (event_of end.letter) old end.met end.waited.0 in
         let took = taken_in end.part end.met end.mid end.taken in
         let refuses = of_takes end.mid end.unsaid (Err fault) new end.refuses in (
           record {
@@ -256,11 +256,11 @@ module _ {I O : Type 0} (receives : Receives I) (sends : Sends O) where
         )
 
     -- a session over the line is one over its boxes
-    pub line_runs : (P : SessionPart) (old : L) (answer : SessionAnswer) (new : L) → Talks gives takes P old answer new → Both P answer old new
-    line_runs P old answer new talks = by_end talks.stop talks.null talks.part talks.ends
+    pub line_runs : (phase : Phase) (P : SessionPart) (old : L) (answer : SessionAnswer) (new : L) → Talks gives listens takes phase P old answer new → Both P answer old new
+    line_runs phase P old answer new talks = by_end talks.stop talks.null talks.part talks.ends
       where
         so_far : Met old talks.whole talks.mid
-        so_far = met talks.whole old talks.mid talks.prompt
+        so_far = met talks.whole (phase, old) (talks.reached, talks.mid) talks.prompt
 
         after : Both (Later P talks.whole) answer talks.mid new → Both P answer old new
         after end = (
@@ -289,15 +289,15 @@ module _ {I O : Type 0} (receives : Receives I) (sends : Sends O) where
         )
 
         by_end : (stop : Stop) (null : Option Message) → P (talks.whole ++ talks.last) stop null answer
-            → EndsTalk gives takes (length talks.whole) stop null talks.last talks.mid new → Both P answer old new
-        by_end stop (Some null) part end = after (after_null (Later P talks.whole) answer stop null talks.last talks.mid new part end)
-        by_end (refused fault) None part end = after (breaks_off (Later P talks.whole) answer fault talks.last talks.mid new part end)
+            → EndsTalk gives listens takes talks.reached (length talks.whole) stop null talks.last talks.mid new → Both P answer old new
+        by_end stop (Some null) part end = after (after_null talks.reached (Later P talks.whole) answer stop null talks.last talks.mid new part end)
+        by_end (refused fault) None part end = after (breaks_off talks.reached (Later P talks.whole) answer fault talks.last talks.mid new part end)
         by_end decided None part end = at_once decided tt end.0 end.1 (so_far.came, so_far.still_open) part
         by_end no_more None part end = elim end.1 [
-          | inl closes ↦ after (ends_silent (Later P talks.whole) answer no_more talks.last talks.mid new closed tt end.0 closes
+          | inl closes ↦ after (ends_silent (Later P talks.whole) answer no_more talks.last talks.mid new closed tt end.0 closes.0
               (λ passed all. (letters_waited passed closed all, inl (passed, refl, all_open passed all))) part)
           | inr all ↦ at_once no_more tt end.0 all.1 (so_far.came, inr (omega (arith, so_far.many, all.0), so_far.still_open)) part
         ]
         by_end timed_out None part end = absurd end
-        by_end exhausted None part end = after (ends_silent (Later P talks.whole) answer exhausted talks.last talks.mid new (event_of end.1) tt end.0 end.2
+        by_end exhausted None part end = after (ends_silent (Later P talks.whole) answer exhausted talks.last talks.mid new (event_of end.1) tt end.0 end.2.0
             (λ passed all. (end.1, letters_waited passed (event_of end.1) all ∙ (came_one end.1).0, open_waited passed (event_of end.1) (came_one end.1).1 all)) part)

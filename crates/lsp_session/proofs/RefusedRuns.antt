@@ -1,4 +1,5 @@
--- Runs over one value that are no session: over a line that is the account of its acts, in order, whatever comes later.
+-- Runs over one value that are no session: over a line that is the account of its acts, in order, whatever comes later, and whatever
+-- is said of its wakes.
 use Rattle.lsp_message.specs.Id.{Id}
 use Rattle.lsp_message.specs.Message.{Message, ErrorObject, request, response}
 use Rattle.lsp_session.proofs.Waiting.{and-true, list_all-push}
@@ -54,26 +55,26 @@ sent_grows (m ∷ ms) old new run = grows_by old run.0 new (got m (Ok tt)) run.1
 waited_grows : (event : Event) (old new : List Act) → WaitsFor Gives old event new → Grows old new
 waited_grows event old new waits = (map gave waits.passed ++ gave event ∷ [], waited waits.passed event old new waits.received)
 
-met_grows : (xs : List Exchange) (old new : List Act) → FoldsTo (Meets Gives Gets) old xs new → Grows old new
-met_grows [] old new run = grows_none old new run
-met_grows (x ∷ xs) old new run =
-    grows_both old run.1.met new (waited_grows (event_of x.letter) old run.1.met run.1.waited)
-    (grows_both run.1.met run.0 new (sent_grows x.said run.1.met run.0 run.1.taken) (met_grows xs run.0 new run.2))
+met_grows : (listens : Receives (List Act)) (xs : List Exchange) (old new : Phase × List Act) → FoldsTo (Meets Gives listens Gets) old xs new → Grows old.1 new.1
+met_grows listens [] old new run = grows_none old.1 new.1 (ap (λ (a : Phase × List Act). a.1) run)
+met_grows listens (x ∷ xs) old new run =
+    grows_both old.1 run.1.met new.1 (waited_grows (event_of x.letter) old.1 run.1.met run.1.waited.0)
+    (grows_both run.1.met run.0.1 new.1 (sent_grows x.said run.1.met run.0.1 run.1.taken) (met_grows listens xs run.0 new run.2))
 
-end_grows : (count : ℕ) (stop : Stop) (null : Option Message) (last : List Exchange) (old new : List Act) → EndsTalk Gives Gets count stop null last old new → Grows old new
-end_grows count stop (Some null) last old new end =
-    grows_both old end.met new (waited_grows (message end.ask) old end.met end.waited)
+end_grows : (listens : Receives (List Act)) (phase : Phase) (count : ℕ) (stop : Stop) (null : Option Message) (last : List Exchange) (old new : List Act) → EndsTalk Gives listens Gets phase count stop null last old new → Grows old new
+end_grows listens phase count stop (Some null) last old new end =
+    grows_both old end.met new (waited_grows (message end.ask) old end.met end.waited.0)
     (grows_by end.met end.mid new (got null end.offered.outcome) end.offered.sent (grows_by end.mid new new (gave end.event) end.received (grows_none new new refl)))
-end_grows count (refused fault) None last old new end =
-    grows_both old end.met new (waited_grows (event_of end.letter) old end.met end.waited)
+end_grows listens phase count (refused fault) None last old new end =
+    grows_both old end.met new (waited_grows (event_of end.letter) old end.met end.waited.0)
     (grows_both end.met end.mid new (sent_grows end.part end.met end.mid end.taken) (grows_by end.mid new new (got end.unsaid (Err fault)) end.refuses (grows_none new new refl)))
-end_grows count decided None last old new end = grows_none old new (sym end.1)
-end_grows count no_more None last old new end = elim end.1 [
-  | inl waits ↦ waited_grows closed old new waits
+end_grows listens phase count decided None last old new end = grows_none old new (sym end.1)
+end_grows listens phase count no_more None last old new end = elim end.1 [
+  | inl waits ↦ waited_grows closed old new waits.0
   | inr all ↦ grows_none old new (sym all.1)
 ]
-end_grows count exhausted None last old new end = waited_grows (event_of end.1) old new end.2
-end_grows count timed_out None last old new end = absurd end
+end_grows listens phase count exhausted None last old new end = waited_grows (event_of end.1) old new end.2.0
+end_grows listens phase count timed_out None last old new end = absurd end
 
 -- ---- It waits twice, and says nothing for the first message.
 
@@ -143,33 +144,33 @@ module _ {S : Type 0} (may : Behavior S) (p : Phase) (ask : Message)
         let rest : [] ≡ gave next ∷ later = (begins waits.passed event [] waits.only_timeouts all).1 in
         absurd (cc (rest))
 
-    pub waits_twice : (s s' : S) (answer : SessionAnswer) → Talks Gives Gets (SessionFrom may p s s') [] answer twice → ⊥
-    waits_twice s s' answer talks = by_first talks.whole talks.last talks.stop talks.null talks.prompt talks.ends talks.part.reached
+    pub waits_twice : (listens : Receives (List Act)) (s s' : S) (answer : SessionAnswer) → Talks Gives listens Gets p (SessionFrom may p s s') [] answer twice → ⊥
+    waits_twice listens s s' answer talks = by_first talks.whole talks.last talks.stop talks.null talks.prompt talks.ends talks.part.reached
       where
-        by_first : (whole last : List Exchange) (stop : Stop) (null : Option Message) → FoldsTo (Meets Gives Gets) [] whole talks.mid
-            → EndsTalk Gives Gets (length whole) stop null last talks.mid twice → Reaches may stop p s (whole ++ last) talks.part.last talks.part.after → ⊥
+        by_first : (whole last : List Exchange) (stop : Stop) (null : Option Message) → FoldsTo (Meets Gives listens Gets) (p, []) whole (talks.reached, talks.mid)
+            → EndsTalk Gives listens Gets talks.reached (length whole) stop null last talks.mid twice → Reaches may stop p s (whole ++ last) talks.part.last talks.part.after → ⊥
         by_first (x ∷ xs) last stop null prompt end reached =
-            says x.letter x.said prompt.1.met prompt.0 prompt.1.waited prompt.1.taken
-            (grows_both prompt.0 talks.mid twice (met_grows xs prompt.0 talks.mid prompt.2) (end_grows (length (x ∷ xs)) stop null last talks.mid twice end))
+            says x.letter x.said prompt.1.met prompt.0.1 prompt.1.waited.0 prompt.1.taken
+            (grows_both prompt.0.1 talks.mid twice (met_grows listens xs prompt.0 (talks.reached, talks.mid) prompt.2) (end_grows listens talks.reached (length (x ∷ xs)) stop null last talks.mid twice end))
             (says_some stop s talks.part.after talks.part.last x (xs ++ last) reached)
-        by_first [] last stop null prompt end reached = by_end stop null (rw (sym prompt) at end)
+        by_first [] last stop null prompt end reached = by_end stop null (rw (ap (λ (a : Phase × List Act). a.1) (sym prompt)) at end)
           where
-            by_end : (stop : Stop) (null : Option Message) → EndsTalk Gives Gets 0 stop null last [] twice → ⊥
-            by_end stop (Some null) end = says_one (message end.ask) null end.offered.outcome end.met end.mid end.waited end.offered.sent
+            by_end : (stop : Stop) (null : Option Message) → EndsTalk Gives listens Gets talks.reached 0 stop null last [] twice → ⊥
+            by_end stop (Some null) end = says_one (message end.ask) null end.offered.outcome end.met end.mid end.waited.0 end.offered.sent
                 (grows_by end.mid twice twice (gave end.event) end.received (grows_none twice twice refl))
             by_end (refused fault) None end = by_part end.part end.taken
               where
                 by_part : (part : List Message) → FoldsTo (Takes Gets) end.met part end.mid → ⊥
-                by_part [] taken = says_one (event_of end.letter) end.unsaid (Err fault) end.met twice end.waited
+                by_part [] taken = says_one (event_of end.letter) end.unsaid (Err fault) end.met twice end.waited.0
                     (end.refuses ∙ ap (λ (l : List Act). l ++ got end.unsaid (Err fault) ∷ []) (sym taken)) (grows_none twice twice refl)
-                by_part (m ∷ ms) taken = says_one (event_of end.letter) m (Ok tt) end.met taken.0 end.waited taken.1
+                by_part (m ∷ ms) taken = says_one (event_of end.letter) m (Ok tt) end.met taken.0 end.waited.0 taken.1
                     (grows_both taken.0 end.mid twice (sent_grows ms taken.0 end.mid taken.2) (grows_by end.mid twice twice (got end.unsaid (Err fault)) end.refuses (grows_none twice twice refl)))
             by_end decided None end = absurd (cc (end.1))
             by_end no_more None end = elim end.1 [
-              | inl waits ↦ waits_alone closed waits
+              | inl waits ↦ waits_alone closed waits.0
               | inr all ↦ absurd (cc (all.1))
             ]
-            by_end exhausted None end = waits_alone (event_of end.1) end.2
+            by_end exhausted None end = waits_alone (event_of end.1) end.2.0
             by_end timed_out None end = absurd end
 
 one_said : (m : Message) (said : List Message) → said ≡ m ∷ [] → said ≡ [] → ⊥
@@ -179,10 +180,10 @@ given_for : {S : Type 0} (may : Behavior S) (s s' : S) (m : Message) (said : Lis
     → Step may serving s (Some m) said next s' → may.gives s m said s'
 given_for may s s' m said next served step = let given : may.gives s m said s' × (next ≡ serving) = rw served at step in given.0
 
-module _ {S : Type 0} (may : Behavior S) (s s' : S) (answer : SessionAnswer) (i : Id) (method : List ℕ) (params : Data) (next : Event) (later : List Act) where
+module _ {S : Type 0} (may : Behavior S) (s s' : S) (answer : SessionAnswer) (i : Id) (method : List ℕ) (params : Data) (next : Event) (later : List Act) (listens : Receives (List Act)) where
   -- The first request gets no reply before something else is awaited: neither the result of `initialize` nor an error.
-  pub first_reply_held : Talks Gives Gets (SessionOut may s s') [] answer (gave (message (request i method params)) ∷ gave next ∷ later) → ⊥
-  first_reply_held = waits_twice may starting (request i method params) speaks next later s s' answer
+  pub first_reply_held : Talks Gives listens Gets starting (SessionOut may s s') [] answer (gave (message (request i method params)) ∷ gave next ∷ later) → ⊥
+  first_reply_held = waits_twice may starting (request i method params) speaks next later listens s s' answer
     where
       speaks : (s s' : S) (said : List Message) (next : Phase) → Step may starting s (Some (request i method params)) said next s' → said ≡ [] → ⊥
       speaks s s' said next step none = by_method (is_initialize (request i method params)) step
@@ -196,8 +197,8 @@ module _ {S : Type 0} (may : Behavior S) (s s' : S) (answer : SessionAnswer) (i 
 
   -- `shutdown` gets no null before `exit` is awaited.
   pub null_held : bytes_eq method (codes "shutdown") ≡ true
-      → Talks Gives Gets (SessionFrom may serving s s') [] answer (gave (message (request i method params)) ∷ gave next ∷ later) → ⊥
-  null_held asks = waits_twice may serving (request i method params) speaks next later s s' answer
+      → Talks Gives listens Gets serving (SessionFrom may serving s s') [] answer (gave (message (request i method params)) ∷ gave next ∷ later) → ⊥
+  null_held asks = waits_twice may serving (request i method params) speaks next later listens s s' answer
     where
       speaks : (s s' : S) (said : List Message) (next : Phase) → Step may serving s (Some (request i method params)) said next s' → said ≡ [] → ⊥
       speaks s s' said next step none =
@@ -207,8 +208,8 @@ module _ {S : Type 0} (may : Behavior S) (s s' : S) (answer : SessionAnswer) (i 
   -- A service that says something for each request says nothing for one before something else is awaited.
   pub reply_held : is_served (request i method params) ≡ true
       → ((s s' : S) (said : List Message) → may.gives s (request i method params) said s' → said ≡ [] → ⊥)
-      → Talks Gives Gets (SessionFrom may serving s s') [] answer (gave (message (request i method params)) ∷ gave next ∷ later) → ⊥
-  reply_held served gives = waits_twice may serving (request i method params) speaks next later s s' answer
+      → Talks Gives listens Gets serving (SessionFrom may serving s s') [] answer (gave (message (request i method params)) ∷ gave next ∷ later) → ⊥
+  reply_held served gives = waits_twice may serving (request i method params) speaks next later listens s s' answer
     where
       speaks : (s s' : S) (said : List Message) (next : Phase) → Step may serving s (Some (request i method params)) said next s' → said ≡ [] → ⊥
       speaks s s' said next step none =
@@ -238,8 +239,9 @@ fine_sent = fine_after (Takes Gets) (λ old m new step all. still_fine old new (
 fine_waited : (event : Event) (old new : List Act) → WaitsFor Gives old event new → AllFine old → AllFine new
 fine_waited event old new waits = fine_after Gives (λ old e new step all. still_fine old new (gave e) refl step all) (waits.passed ++ event ∷ []) old new waits.received
 
-fine_met : (xs : List Exchange) (old new : List Act) → FoldsTo (Meets Gives Gets) old xs new → AllFine old → AllFine new
-fine_met = fine_after (Meets Gives Gets) (λ old x new meets all. fine_sent x.said meets.met new meets.taken (fine_waited (event_of x.letter) old meets.met meets.waited all))
+fine_met : (listens : Receives (List Act)) (xs : List Exchange) (old new : Phase × List Act) → FoldsTo (Meets Gives listens Gets) old xs new → AllFine old.1 → AllFine new.1
+fine_met listens [] old new run all = let same : old ≡ new = run in rw same at all
+fine_met listens (x ∷ xs) old new run all = fine_met listens xs run.0 new run.2 (fine_sent x.said run.1.met run.0.1 run.1.taken (fine_waited (event_of x.letter) old.1 run.1.met run.1.waited.0 all))
 
 module _ (before : List Act) (m : Message) (fault : SendFault) (act : Act) (later : List Act) where
   -- a message is refused, and something is done after that
@@ -267,20 +269,20 @@ module _ (before : List Act) (m : Message) (fault : SendFault) (act : Act) (late
 
   -- Nothing is awaited and nothing is sent after a message that was refused, where no null was sent: after a reply or the result of
   -- `initialize`, for two.
-  pub goes_on_after_refusal : (P : SessionPart) (answer : SessionAnswer) (talks : Talks Gives Gets P [] answer goes_on) → talks.null ≡ None → ⊥
-  goes_on_after_refusal P answer talks none = by_end talks.stop (rw none at talks.ends)
+  pub goes_on_after_refusal : (listens : Receives (List Act)) (phase : Phase) (P : SessionPart) (answer : SessionAnswer) (talks : Talks Gives listens Gets phase P [] answer goes_on) → talks.null ≡ None → ⊥
+  goes_on_after_refusal listens phase P answer talks none = by_end talks.stop (rw none at talks.ends)
     where
       so_far : AllFine talks.mid
-      so_far = fine_met talks.whole [] talks.mid talks.prompt refl
+      so_far = fine_met listens talks.whole (phase, []) (talks.reached, talks.mid) talks.prompt refl
 
-      by_end : (stop : Stop) → EndsTalk Gives Gets (length talks.whole) stop None talks.last talks.mid goes_on → ⊥
+      by_end : (stop : Stop) → EndsTalk Gives listens Gets talks.reached (length talks.whole) stop None talks.last talks.mid goes_on → ⊥
       by_end (refused lost) end =
           not_last end.mid (got end.unsaid (Err lost)) before
-          (fine_sent end.part end.met end.mid end.taken (fine_waited (event_of end.letter) talks.mid end.met end.waited so_far)) (sym end.refuses)
+          (fine_sent end.part end.met end.mid end.taken (fine_waited (event_of end.letter) talks.mid end.met end.waited.0 so_far)) (sym end.refuses)
       by_end decided end = not_fine (ap (λ (l : List Act). list_all is_fine l) end.1 ∙ so_far)
       by_end no_more end = elim end.1 [
-        | inl waits ↦ not_fine (fine_waited closed talks.mid goes_on waits so_far)
+        | inl waits ↦ not_fine (fine_waited closed talks.mid goes_on waits.0 so_far)
         | inr all ↦ not_fine (ap (λ (l : List Act). list_all is_fine l) all.1 ∙ so_far)
       ]
-      by_end exhausted end = not_fine (fine_waited (event_of end.1) talks.mid goes_on end.2 so_far)
+      by_end exhausted end = not_fine (fine_waited (event_of end.1) talks.mid goes_on end.2.0 so_far)
       by_end timed_out end = absurd end

@@ -4,6 +4,7 @@ use Rattle.lsp_session.proofs.LineRuns.{line_runs}
 use Rattle.lsp_session.proofs.Ran.{session_facts}
 use Rattle.lsp_session.proofs.SessionGives.{session_gives}
 use Rattle.lsp_session.specs.Account.{Act, KeepsAccount, InTurn}
+use Rattle.lsp_session.specs.Boxes.{Receives}
 use Rattle.lsp_session.specs.FrameBoxes.{FrameOutboxSends}
 use Rattle.lsp_session.specs.Prompt.{Talks}
 use Rattle.lsp_session.specs.Session.{Behavior, starting, SessionAnswer, SessionPart, SessionOut}
@@ -30,23 +31,23 @@ module _ {R W : Type 0} (remaining : R → Option (List ℕ)) (contents : W → 
   abbrev names : StreamLine R W → ℕ × ℕ
   names line = (line.inbox.reader.ghost_name, line.outbox.writer.ghost_name)
 
-  module _ {S : Type 0} (may : Behavior S) (s s' : S) (old new : StreamLine R W) (unused : IsUnused old) (answer : SessionAnswer)
-      (talks : Talks (StreamLineGives remaining) (StreamLineSends contents) (SessionOut may s s') old answer new) where
+  module _ {S : Type 0} (may : Behavior S) (listens : Receives (StreamLine R W)) (s s' : S) (old new : StreamLine R W) (unused : IsUnused old) (answer : SessionAnswer)
+      (talks : Talks (StreamLineGives remaining) listens (StreamLineSends contents) starting (SessionOut may s s') old answer new) where
     -- of the acts of the session, which are all of the account
     abbrev Turns : List Act → SessionPart
     Turns acts = Both (SessionOut may s s') (InTurn acts)
 
-    in_turn : Talks (StreamLineGives remaining) (StreamLineSends contents) (Turns (account_of new)) old answer new
+    in_turn : Talks (StreamLineGives remaining) listens (StreamLineSends contents) starting (Turns (account_of new)) old answer new
     in_turn =
-        let t = talks_in_turn (StreamLineGives remaining) (StreamLineSends contents) (λ (line : StreamLine R W). account_of line) keeps_account (SessionOut may s s') old new answer talks in
+        let t = talks_in_turn (StreamLineGives remaining) listens (StreamLineSends contents) (λ (line : StreamLine R W). account_of line) keeps_account starting (SessionOut may s s') old new answer talks in
         let all : account_of new ≡ t.0 = t.1 ∙ ap (λ (noted : List Noted). map act_view noted ++ t.0) unused.2 in
-        subst (λ (acts : List Act). Talks (StreamLineGives remaining) (StreamLineSends contents) (Turns acts) old answer new) (sym all) t.2
+        subst (λ (acts : List Act). Talks (StreamLineGives remaining) listens (StreamLineSends contents) starting (Turns acts) old answer new) (sym all) t.2
 
     ran : Runs (StreamInboxGives remaining) (FrameOutboxSends contents) (Turns (account_of new)) (ends old) answer (ends new) × (names new ≡ names old)
-    ran = line_runs (StreamInboxGives remaining) (FrameOutboxSends contents) (StreamLineGives remaining) (StreamLineSends contents) ends names
+    ran = line_runs (StreamInboxGives remaining) (FrameOutboxSends contents) (StreamLineGives remaining) listens (StreamLineSends contents) ends names
         (λ a event b gives. (gives.0, gives.1, rw (gives.0.1, gives.1) refl))
         (λ a m outcome b takes. (takes.0, takes.1, rw (takes.1, takes.0.1) refl))
-        (Turns (account_of new)) old answer new in_turn
+        starting (Turns (account_of new)) old answer new in_turn
 
     -- a session over a line, in bytes
     pub gives_in_turn : GivesInTurn remaining contents (SessionOut may s s') old (session_answer answer new.inbox.end new.outbox.fault) new

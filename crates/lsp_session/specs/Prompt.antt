@@ -1,12 +1,13 @@
 -- A session over one value with both ends: all that is said for a message is sent before anything else is awaited. So a client may
 -- wait for it before it sends on. Of `initialize`, of each request before it and of `shutdown` it is the reply; of a request in between
--- it is the reply where the service answers at once, as `AnswersRequests` says. Of two values, each with one end, this says no order.
+-- it is the reply where the service answers at once, as `AnswersRequests` says. From `initialized` up to `shutdown` the session waits
+-- for wakes too, as its line says. Of two values, each with one end, this says neither.
 use Rattle.std.specs.List.{FoldsTo}
-use Rattle.std.specs.Prelude.{◌≡◌, ◌≤◌, ◌-◌, ◌^◌, ◌⊎◌, ℕ, true, List, [], ◌∷◌, ◌++◌, length, Option, Some, None, Err}
-use Rattle.lsp_message.specs.Message.{Message}
+use Rattle.std.specs.Prelude.{◌≡◌, ◌≤◌, ◌-◌, ◌^◌, ◌⊎◌, ◌&&◌, if◌then◌else◌, ℕ, Bool, true, false, List, [], ◌∷◌, ◌++◌, length, Option, Some, None, Ok, Err}
+use Rattle.lsp_message.specs.Message.{Message, response}
 use Rattle.lsp_session.specs.Boxes.{Sends, Receives, Offers, Takes, WaitsFor}
 use Rattle.lsp_session.specs.Event.{Event, message, timeout, closed, woken}
-use Rattle.lsp_session.specs.Session.{SessionAnswer, SessionPart, Exchange, is_shutdown, Stop, decided, no_more, timed_out, refused, exhausted}
+use Rattle.lsp_session.specs.Session.{SessionAnswer, SessionPart, Exchange, is_initialize, is_shutdown, Stop, decided, no_more, timed_out, refused, exhausted, Phase, starting, replied, serving}
 use Rattle.lsp_session.specs.declared.lifecycle.SendFault.{SendFault}
 
 -- the event that brings a message, or that wakes the service
@@ -23,56 +24,87 @@ StopsAfterNull timeout timed_out later = later ≡ []
 StopsAfterNull closed no_more later = later ≡ []
 StopsAfterNull event stop later = ⊥
 
-module _ {L : Type 0} (receives : Receives L) (sends : Sends L) where
-  -- A message or a wake comes, and then all that is said for it is sent, in order, and taken. Nothing else is awaited in between.
-  pub record Meets (old : L) (x : Exchange) (new : L) : Type 0 where
-    pub met : L
-    pub waited : WaitsFor receives old (event_of x.letter) met
-    pub taken : FoldsTo (Takes sends) met x.said new
+-- a response with a result
+abbrev pub is_result : Message → Bool
+is_result (response i (Ok result)) = true
+is_result m = false
 
-  -- A last message or wake comes, and what is said for it is sent up to a message that is refused. Nothing is awaited after that.
-  pub record BreaksOff (fault : SendFault) (last : List Exchange) (old new : L) : Type 0 where
-    pub letter : Option Message
-    pub part : List Message
-    pub unsaid : Message
-    pub is : last ≡ record { letter = letter; said = part ++ unsaid ∷ [] } ∷ []
-    pub met : L
-    pub waited : WaitsFor receives old (event_of letter) met
-    pub mid : L
-    pub taken : FoldsTo (Takes sends) met part mid
-    pub refuses : sends mid unsaid (Err fault) new
+-- the request `initialize` came, and its result is all that is said for it
+abbrev pub is_granted : Option Message → List Message → Bool
+is_granted (Some m) (reply ∷ []) = is_initialize m && is_result reply
+is_granted letter said = false
 
-  -- `shutdown` comes, then the null is sent, whatever the line answers, and only then one event is received, the last one.
-  pub record OffersNullFirst (null : Message) (stop : Stop) (last : List Exchange) (old new : L) : Type 0 where
-    pub ask : Message
-    pub asks : is_shutdown ask ≡ true
-    pub met : L
-    pub waited : WaitsFor receives old (message ask) met
-    pub mid : L
-    pub offered : Offers sends null met mid
-    pub event : Event
-    pub received : receives mid event new
-    pub later : List Exchange
-    pub stops : StopsAfterNull event stop later
-    pub is : last ≡ record { letter = Some ask; said = null ∷ [] } ∷ later
+-- The phase after an exchange that a session goes on from, as the exchange itself tells: `initialize` gets a result, and then one more
+-- message comes, which is `initialized`, since a session goes on from no other there.
+abbrev pub next_phase : Phase → Exchange → Phase
+next_phase starting x = if is_granted x.letter x.said then replied else starting
+next_phase replied x = serving
+next_phase phase x = phase
 
-  -- How a session ends after so many whole exchanges, and the exchanges of that end. Where a message decided, nothing else is awaited.
-  -- Where no more comes, that is the event, or 2^64 - 1 exchanges were all. Where an allocation fails, one more message or wake came.
-  abbrev pub EndsTalk : ℕ → Stop → Option Message → List Exchange → L → L → Type 0
-  EndsTalk count stop (Some null) last old new = OffersNullFirst null stop last old new
-  EndsTalk count (refused fault) None last old new = BreaksOff fault last old new
-  EndsTalk count decided None last old new = (last ≡ []) × (new ≡ old)
-  EndsTalk count no_more None last old new = (last ≡ []) × (WaitsFor receives old closed new ⊎ ((2 ^ 64 - 1 ≤ count) × (new ≡ old)))
-  EndsTalk count exhausted None last old new = (last ≡ []) × (letter : Option Message) × WaitsFor receives old (event_of letter) new
-  EndsTalk count timed_out None last old new = ⊥
+module _ {L : Type 0} (receives listens : Receives L) where
+  -- what the line says besides of a wait in this phase: from `initialized` up to `shutdown` it also gives wakes
+  abbrev pub ListensIn : Phase → L → Event → L → Type 0
+  ListensIn serving old event new = listens old event new
+  ListensIn phase old event new = Unit {0}
 
-  -- A session, or its part from some message on: whole exchanges, one after another, and then its end.
-  pub record Talks (P : SessionPart) (old : L) (answer : SessionAnswer) (new : L) : Type 0 where
-    pub whole : List Exchange
-    pub last : List Exchange
-    pub stop : Stop
-    pub null : Option Message
-    pub mid : L
-    pub prompt : FoldsTo Meets old whole mid
-    pub ends : EndsTalk (length whole) stop null last mid new
-    pub part : P (whole ++ last) stop null answer
+  -- the event is awaited in this phase
+  abbrev pub WaitsIn : Phase → L → Event → L → Type 0
+  WaitsIn phase old event new = WaitsFor receives old event new × ListensIn phase old event new
+
+  module _ (sends : Sends L) where
+    -- In this phase a message or a wake comes, and then all that is said for it is sent, in order, and taken. Nothing else is awaited
+    -- in between. Then it is the next phase.
+    pub record Meets (old : Phase × L) (x : Exchange) (new : Phase × L) : Type 0 where
+      pub met : L
+      pub waited : WaitsIn old.0 old.1 (event_of x.letter) met
+      pub taken : FoldsTo (Takes sends) met x.said new.1
+      pub next : new.0 ≡ next_phase old.0 x
+
+    -- A last message or wake comes, and what is said for it is sent up to a message that is refused. Nothing is awaited after that.
+    pub record BreaksOff (phase : Phase) (fault : SendFault) (last : List Exchange) (old new : L) : Type 0 where
+      pub letter : Option Message
+      pub part : List Message
+      pub unsaid : Message
+      pub is : last ≡ record { letter = letter; said = part ++ unsaid ∷ [] } ∷ []
+      pub met : L
+      pub waited : WaitsIn phase old (event_of letter) met
+      pub mid : L
+      pub taken : FoldsTo (Takes sends) met part mid
+      pub refuses : sends mid unsaid (Err fault) new
+
+    -- `shutdown` comes, then the null is sent, whatever the line answers, and only then one event is received, the last one.
+    pub record OffersNullFirst (phase : Phase) (null : Message) (stop : Stop) (last : List Exchange) (old new : L) : Type 0 where
+      pub ask : Message
+      pub asks : is_shutdown ask ≡ true
+      pub met : L
+      pub waited : WaitsIn phase old (message ask) met
+      pub mid : L
+      pub offered : Offers sends null met mid
+      pub event : Event
+      pub received : receives mid event new
+      pub later : List Exchange
+      pub stops : StopsAfterNull event stop later
+      pub is : last ≡ record { letter = Some ask; said = null ∷ [] } ∷ later
+
+    -- How a session ends in this phase, after so many whole exchanges, and the exchanges of that end. Where a message decided, nothing
+    -- else is awaited. Where no more comes, that is the event, or 2^64 - 1 exchanges were all. Where an allocation fails, one more
+    -- message or wake came.
+    abbrev pub EndsTalk : Phase → ℕ → Stop → Option Message → List Exchange → L → L → Type 0
+    EndsTalk phase count stop (Some null) last old new = OffersNullFirst phase null stop last old new
+    EndsTalk phase count (refused fault) None last old new = BreaksOff phase fault last old new
+    EndsTalk phase count decided None last old new = (last ≡ []) × (new ≡ old)
+    EndsTalk phase count no_more None last old new = (last ≡ []) × (WaitsIn phase old closed new ⊎ ((2 ^ 64 - 1 ≤ count) × (new ≡ old)))
+    EndsTalk phase count exhausted None last old new = (last ≡ []) × (letter : Option Message) × WaitsIn phase old (event_of letter) new
+    EndsTalk phase count timed_out None last old new = ⊥
+
+    -- A session from some phase on: whole exchanges, one after another, and then its end.
+    pub record Talks (phase : Phase) (P : SessionPart) (old : L) (answer : SessionAnswer) (new : L) : Type 0 where
+      pub whole : List Exchange
+      pub last : List Exchange
+      pub stop : Stop
+      pub null : Option Message
+      pub reached : Phase
+      pub mid : L
+      pub prompt : FoldsTo Meets (phase, old) whole (reached, mid)
+      pub ends : EndsTalk reached (length whole) stop null last mid new
+      pub part : P (whole ++ last) stop null answer

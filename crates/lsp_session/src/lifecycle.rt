@@ -62,12 +62,31 @@ pub enum Arrival {
     Closed,
 }
 
+impl Arrival {
+    /// What a receive without limit gave. It is no wake.
+    pub fn from_event(event: Event) -> Arrival
+        requires { event_view event ≢ timeout }
+        ensures { arrival_view result ≡ event_view event }
+    {
+        match event {
+            Event::Message(message) => Arrival::Message(message),
+            Event::Timeout => unreachable!(),
+            Event::Closed => Arrival::Closed,
+        }
+    }
+}
+
 /// Gives messages one after another.
 pub trait Inbox {
+    ghost use Rattle.std.specs.Prelude.{⊤};
     ghost use Rattle.lsp_session.specs.Event.{Event};
 
     /// One receive may give this event, and change the contents so.
     ghost receives: { Self → Event → Self → Type 0 };
+
+    /// What a wait that also gives wakes says besides. An inbox that wakes says here that such a wait passes over none, where
+    /// `receive` may.
+    ghost listens: { Self → Event → Self → Type 0 } = { λ _ _ _. ⊤ };
 
     /// Waits for a message, but no longer than this many seconds.
     fn receive_for(&mut self, seconds: u64) -> Event
@@ -78,17 +97,12 @@ pub trait Inbox {
         ensures receives { WaitsFor receives self.old (event_view result) self.new }
         ensures never_timeout { event_view result ≢ timeout };
 
-    /// Waits for a message or a wake, without limit. A session calls it from `initialized` up to `shutdown` and nowhere else, so that
-    /// no service is woken before or after; that it calls it there, and not `receive`, is tested and no part of a contract. An inbox that wakes writes it; any other one leaves it as it is, and gives no wake.
+    /// Waits for a message or a wake, without limit. A session calls it from `initialized` up to `shutdown`, and nowhere else, so no
+    /// service is woken before or after. That it calls it there, and not `receive`, is in the contract of a session over one value
+    /// (`serve_line`). An inbox that gives no wake writes `Arrival::from_event(self.receive())`.
     fn receive_or_woken(&mut self) -> Arrival
-        ensures { WaitsFor receives self.old (arrival_view result) self.new }
-    {
-        match self.receive() {
-            Event::Message(message) => Arrival::Message(message),
-            Event::Timeout => unreachable!(),
-            Event::Closed => Arrival::Closed,
-        }
-    }
+        ensures receives { WaitsFor receives self.old (arrival_view result) self.new }
+        ensures listens { listens self.old (arrival_view result) self.new };
 }
 
 /// Why a message was not taken. Each variant gives it back.

@@ -1,7 +1,6 @@
 // An inbox that reads messages, and reads on after a content part that is none.
 ghost use Rattle.std.specs.Prelude.{◌≡◌, None};
-ghost use Rattle.lsp_session.specs.Boxes.{WaitsFor};
-ghost use Rattle.lsp_session.specs.Event.{arrival_view, event_view};
+ghost use Rattle.lsp_session.specs.Event.{event_view};
 ghost use Rattle.lsp_tolerant.specs.Passing.{is_of_body as is_of_body_spec};
 ghost use Rattle.lsp_tolerant.specs.TolerantBoxes.{ReadsNext, ReadsOnAtBody, TolerantInboxGives};
 
@@ -98,9 +97,12 @@ impl<'a, R: BufRead, L: Listener> TolerantInbox<'a, R, L> {
 }
 
 impl<'a, R: BufRead, L: Listener> Inbox for TolerantInbox<'a, R, L> {
-    ghost use Rattle.lsp_tolerant.specs.TolerantBoxes.{TolerantInboxGives};
+    ghost use Rattle.lsp_tolerant.specs.TolerantBoxes.{ReadsOnAtBody, TolerantInboxGives};
 
     ghost receives = { TolerantInboxGives R.remaining L.hears };
+
+    // Where a wake can tell of such a part, none ends the messages.
+    ghost listens = { λ old _ new. ReadsOnAtBody old new };
 
     fn receive_for(&mut self, _seconds: u64) -> Event {
         self.next_event()
@@ -111,12 +113,8 @@ impl<'a, R: BufRead, L: Listener> Inbox for TolerantInbox<'a, R, L> {
         self.next_event()
     }
 
-    // The second clause is not the trait's: where a wake can tell of such a part, none ends the messages.
     #[tactic(auto, using(lsp_session::proofs::Waiting::waits_none))]
-    fn receive_or_woken(&mut self) -> Arrival
-        ensures given { WaitsFor (TolerantInboxGives R.remaining L.hears) self.old (arrival_view result) self.new }
-        ensures reads_on { ReadsOnAtBody self.old self.new }
-    {
+    fn receive_or_woken(&mut self) -> Arrival {
         match self.read_next() {
             Ok(Some(message)) => Arrival::Message(message),
             Ok(None) => Arrival::Closed,

@@ -6,7 +6,7 @@ ghost use Rattle.lsp_session.specs.Account.{Act, KeepsAccount, InTurn};
 ghost use Rattle.lsp_session.specs.Dialog.{Client, NeverBothWait, WaitsForReplies, WaitsForItsDue};
 ghost use Rattle.lsp_session.specs.HandlerSession.{of_handler};
 ghost use Rattle.lsp_session.specs.Prompt.{Talks};
-ghost use Rattle.lsp_session.specs.Session.{Exchange, SessionAnswer, SessionPart, Stop, SessionOut};
+ghost use Rattle.lsp_session.specs.Session.{starting, Exchange, SessionAnswer, SessionPart, Stop, SessionOut};
 ghost use Rattle.lsp_session.specs.SessionLaws.{Both};
 
 use crate::lifecycle::{Inbox, Outbox};
@@ -17,9 +17,9 @@ use crate::loops::{Handler, Service};
 /// `exit` is (LSP 3.17, "Server lifecycle"). These turns are said of the same exchanges as all else.
 pub fn session_takes_turns<L: Inbox + Outbox, S: Service>()
     ensures { (account : L → List Act) (old new : S) (before after : L) (answer : SessionAnswer)
-        → KeepsAccount L.receives L.sends account → Talks L.receives L.sends (SessionOut S.behavior old new) before answer after
+        → KeepsAccount L.receives L.sends account → Talks L.receives L.listens L.sends starting (SessionOut S.behavior old new) before answer after
         → (acts : List Act) × (account after ≡ account before ++ acts)
-        × Talks L.receives L.sends (Both (SessionOut S.behavior old new) (InTurn acts)) before answer after }
+        × Talks L.receives L.listens L.sends starting (Both (SessionOut S.behavior old new) (InTurn acts)) before answer after }
 {}
 
 /// A client that waits only for what is owed to it is never kept waiting by a session that takes its turns: whenever the session awaits

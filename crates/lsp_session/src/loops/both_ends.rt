@@ -24,6 +24,8 @@ impl<'a, I: Inbox, O: Outbox> Inbox for BothEnds<'a, I, O> {
 
     ghost receives = { BothReceive I.receives };
 
+    ghost listens = { BothReceive I.listens };
+
     fn receive_for(&mut self, seconds: u64) -> Event {
         self.inbox.receive_for(seconds)
     }
@@ -55,7 +57,8 @@ impl<'a, I: Inbox, O: Outbox> Outbox for BothEnds<'a, I, O> {
 /// goes on as before `initialize`: a client may send it again (LSP 3.17, "Initialize Request", `retry`). When `initialized`
 /// came, what the service gives for it is sent. From then on each message goes to the service, a reply too, and each wake of the inbox,
 /// up to `shutdown`. What it gives is sent in order, and before the next message is awaited. Of two values no contract can say that, and
-/// this one doesn't; `serve_line`, which this calls with both as one, has it in its own.
+/// this one doesn't; `serve_line`, which this calls with both as one, has it in its own. Nor does this one say that the session waits
+/// for wakes (`Inbox::listens`), so one that passes over each of them would meet it too. That is in the contract of `serve_line` as well.
 /// `shutdown` is answered with null, and nothing follows it; `exit` then gives `ShutDown`. `Closed` comes where, from `initialized` on,
 /// `exit` comes without a `shutdown` or no more messages come. What comes at the wrong time is in the table of `lifecycle`.
 ///

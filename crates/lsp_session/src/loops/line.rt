@@ -3,12 +3,13 @@ ghost use Rattle.serde_json.specs.View.{view};
 ghost use Rattle.std.specs.Prelude.{◌≡◌, map, Err, IfOk};
 ghost use Rattle.lsp_message.specs.Message.{response};
 ghost use Rattle.lsp_message.specs.View.{message_view, error_view};
+ghost use Rattle.lsp_session.specs.Event.{arrival_view};
 ghost use Rattle.lsp_session.specs.LineParts.{FinishesOn, ShutsDownOn};
 ghost use Rattle.lsp_session.specs.OutputView.{output_view};
 ghost use Rattle.lsp_session.specs.Outputs.{SendsAll};
-ghost use Rattle.lsp_session.specs.Prompt.{Talks};
+ghost use Rattle.lsp_session.specs.Prompt.{Talks, WaitsIn};
 ghost use Rattle.lsp_session.specs.Replies.{ok_reply as ok_reply_spec};
-ghost use Rattle.lsp_session.specs.Session.{serving, SessionFrom, SessionOut};
+ghost use Rattle.lsp_session.specs.Session.{starting, serving, SessionFrom, SessionOut};
 
 use crate::error::ProtocolError;
 use crate::lifecycle::{
@@ -36,6 +37,9 @@ use std::alloc::{AllocError, Global};
 /// `out of memory`; what was to follow for that message is not sent. That the null could not be sent is ignored. After
 /// 2^64 - 1 events it ends as if no more messages came.
 ///
+/// From `initialized` up to `shutdown` each wait is one of `Inbox::receive_or_woken`, so what the line says of such a wait (`listens`)
+/// holds of each. Where it says there that no wake is passed over, the service is told of every wake.
+///
 /// All that is said for a message or a wake is sent before anything else is awaited: the result of `initialize` before `initialized`, and
 /// the null before `exit`. So a client may wait for it before it sends on. That this is the reply to a request is so of all that comes up
 /// to `initialized`, and of `shutdown`; in between a service may reply to it later, unless it answers at once, as a handler does
@@ -46,7 +50,7 @@ pub fn serve_line<L: Inbox + Outbox, S: Service>(
     line: &mut L,
     service: &mut S,
 ) -> Result<SessionEnd, ProtocolError>
-    ensures { Talks L.receives L.sends (SessionOut S.behavior service.old service.new) line.old result line.new }
+    ensures { Talks L.receives L.listens L.sends starting (SessionOut S.behavior service.old service.new) line.old result line.new }
 {
     for _attempt in 0..u64::MAX {
         let event = line.receive();
@@ -73,10 +77,10 @@ fn serve_turns<L: Inbox + Outbox, S: Service>(
     line: &mut L,
     service: &mut S,
 ) -> Result<SessionEnd, ProtocolError>
-    ensures { Talks L.receives L.sends (SessionFrom S.behavior serving service.old service.new) line.old result line.new }
+    ensures { Talks L.receives L.listens L.sends serving (SessionFrom S.behavior serving service.old service.new) line.old result line.new }
 {
     for _turn in 0..u64::MAX {
-        let message = match line.receive_or_woken() {
+        let message = match wait_serving(line) {
             Arrival::Message(message) => message,
             Arrival::Woken => {
                 let output = service.woken()?;
@@ -95,6 +99,13 @@ fn serve_turns<L: Inbox + Outbox, S: Service>(
         send_output(line, output)?;
     }
     Ok(SessionEnd::Closed)
+}
+
+/// Waits as a session does that serves its client: for a message or a wake.
+fn wait_serving<L: Inbox>(line: &mut L) -> Arrival
+    ensures { WaitsIn L.receives L.listens serving line.old (arrival_view result) line.new }
+{
+    line.receive_or_woken()
 }
 
 /// Sends the result of `initialize`, and then waits for one message.

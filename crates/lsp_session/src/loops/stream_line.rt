@@ -4,7 +4,7 @@ ghost use Rattle.lsp_message.specs.Frame.{no_limit};
 ghost use Rattle.lsp_session.specs.Event.{event_view};
 ghost use Rattle.lsp_session.specs.StreamLines.{account_of, IsUnused, StreamLineGives, StreamLineSends};
 
-use crate::lifecycle::{Event, Inbox, Outbox, SendFault};
+use crate::lifecycle::{Arrival, Event, Inbox, Outbox, SendFault};
 use crate::loops::account::Account;
 use crate::loops::{FrameOutbox, ReadEnd, StreamInbox};
 use lsp_message::{Message, WriteFault};
@@ -25,6 +25,8 @@ enum Noted {
 
 /// Gives a reader's messages, as a `StreamInbox` does, and writes messages to a writer, as a `FrameOutbox` does (LSP 3.17, "Base
 /// Protocol"). Clauses see an account of both: what was read and what was written, in one order. Of it one byte is left when a program runs.
+///
+/// A line has to be dropped (`drop(line)`) before its reader and its writer are used again.
 #[derive(Drop)]
 pub struct StreamLine<'a, R, W> {
     inbox: StreamInbox<'a, R>,
@@ -80,6 +82,10 @@ impl<'a, R: BufRead, W: Write> Inbox for StreamLine<'a, R, W> {
     #[tactic(auto, using(crate::proofs::Waiting::waits_none))]
     fn receive(&mut self) -> Event {
         self.receive_for(0)
+    }
+
+    fn receive_or_woken(&mut self) -> Arrival {
+        Arrival::from_event(self.receive())
     }
 }
 

@@ -2,5 +2,5 @@ use Rattle.std.proofs.Common.{refl}
 use Rattle.lsp_session.proofs.BothEnds.{waits_both}
 use Rattle.lsp_session.proofs.loops.both_ends.BothEndsInbox.receive_or_woken.Goals as goal
 
-pub returns : goal.returns
-returns g c = waits_both g.I.Inbox.receives _ _ _ c.receive_or_woken.ensures refl (refl, refl)
+pub returns-clause-receives : goal.returns-clause-receives
+returns-clause-receives g c = waits_both g.I.Inbox.receives _ _ _ c.receive_or_woken.ensures.receives refl (refl, refl)
