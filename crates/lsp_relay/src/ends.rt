@@ -231,13 +231,15 @@ impl<M: Drop> RelayRx<M> {
         ensures taken { TakenIs result self.old.taken self.new.taken }
         ensures wakes { self.new.wakes ≡ wakes_after result self.old.wakes }
     {
-        match self
+        let Ok(item) = self
             .receiver
             .try_recv_as::<Received, R>(rt, &mut self.pass)
-        {
-            Ok(Some(parcel)) => Taken::Parcel(parcel),
-            Ok(None) => Taken::Wake,
-            Err(_) => Taken::Nothing,
+        else {
+            return Taken::Nothing;
+        };
+        match item {
+            Some(parcel) => Taken::Parcel(parcel),
+            None => Taken::Wake,
         }
     }
 

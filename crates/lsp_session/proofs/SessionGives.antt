@@ -71,7 +71,7 @@ abbrev pub BeginsWith : ℕ → List ℕ → List Message → List ℕ → Type 
 BeginsWith limit = FoldsTo (Begins limit)
 
 -- no wake came
-abbrev Unwoken : List (Option Message) → Type 0
+abbrev pub Unwoken : List (Option Message) → Type 0
 Unwoken came = list_all (λ (c : Option Message). is_some c) came ≡ true
 
 module _ (limit : ℕ) where
@@ -102,7 +102,7 @@ module _ (limit : ℕ) where
   never_woken (timeout ∷ events) old new run = never_woken events run.0 new run.2
 
   -- the messages of a text are what was read of it, where no wake came
-  reads_all : (came : List (Option Message)) (text at : List ℕ) → Unwoken came → BeginsWith limit text (letters_in came) at → FoldsTo (ReadsMessage limit) text came at
+  pub reads_all : (came : List (Option Message)) (text at : List ℕ) → Unwoken came → BeginsWith limit text (letters_in came) at → FoldsTo (ReadsMessage limit) text came at
   reads_all [] text at none begins = begins
   reads_all (Some m ∷ came) text at none begins = (begins.0, begins.1, reads_all came begins.0 at none begins.2)
   reads_all (None ∷ came) text at none begins = let e : false ≡ true = none in absurd (cc (e))
@@ -164,7 +164,7 @@ module _ (limit : ℕ) where
   no_timeout (event ∷ earlier) old new run = no_timeout earlier run.0 new run.2
 
 -- what the events brought, but for what came at a failed allocation
-came_unwoken : (events : List Event) (came : List (Option Message)) (stop : Stop) → Brings events came stop → Unwoken (filter_map came_in events) → Unwoken came
+pub came_unwoken : (events : List Event) (came : List (Option Message)) (stop : Stop) → Brings events came stop → Unwoken (filter_map came_in events) → Unwoken came
 came_unwoken events came decided brought none = rw brought.0 at none
 came_unwoken events came no_more brought none = rw brought.0 at none
 came_unwoken events came timed_out brought none = rw brought.0 at none
