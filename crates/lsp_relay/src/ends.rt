@@ -200,6 +200,7 @@ impl<M: Drop> RelayRx<M> {
         ensures relay { self.new.relay ≡ self.old.relay }
         ensures some { IfSome result (λ parcel. self.new.taken ≡ self.old.taken ++ parcel ∷ []) }
         ensures none { IfNone result (self.new.taken ≡ self.old.taken) }
+        ensures wakes { self.old.wakes ≤ self.new.wakes }
     {
         for _ in rt.forever() {
             match self.take_or_wake(rt) {
