@@ -1,5 +1,5 @@
+pub mod Contents
 pub mod Framing
 pub mod Pump
-pub mod RelayBoxes
 pub mod Threads
 pub use Rattle.lsp_relay.specs.Relay

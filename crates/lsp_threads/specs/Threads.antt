@@ -6,7 +6,6 @@ use Rattle.lsp_message.specs.Written.{GetsFrames, GetsFramesAndPart, IsOutput}
 use Rattle.lsp_session.specs.Session.{SessionAnswer, SessionPart, Stop}
 use Rattle.lsp_session.specs.SessionBytes.{Ends, SessionOver}
 use Rattle.lsp_session.specs.declared.loops.ReadEnd.{ReadEnd}
-use Rattle.lsp_session.specs.declared.loops.ReadEnd.TheVariants.{Exit}
 use Rattle.lsp_session.specs.declared.loops.handler.SessionEnd.{SessionEnd}
 use Rattle.lsp_session.specs.declared.loops.stream_session.SessionFault.{SessionFault}
 use Rattle.lsp_session.specs.declared.loops.stream_session.SessionFault.TheVariants.{Write, Memory}
@@ -23,10 +22,12 @@ pub record BreaksOffWithin (ms : List Message) (old new : Option (List ℕ)) : T
 abbrev pub GetsFirst : List Message → Option (List ℕ) → Option (List ℕ) → Type 0
 GetsFirst ms old new = (sent : List Message) × (unsent : List Message) × (ms ≡ sent ++ unsent) × GetsFrames sent old new
 
--- The first frame of the text is this message, and the rest follows it; or others woke the session, and nothing was read.
-abbrev pub ReadsOrWakes : ℕ → List ℕ → Option Message → List ℕ → Type 0
-ReadsOrWakes limit text (Some m) rest = Begins limit text m rest
-ReadsOrWakes limit text None rest = rest ≡ text
+-- The first frame of the text is this message, and the rest follows it; or others woke the session, and nothing was read. That comes only
+-- where others may wake it.
+abbrev pub ReadsOrWakes : Bool → ℕ → List ℕ → Option Message → List ℕ → Type 0
+ReadsOrWakes wakeable limit text (Some m) rest = Begins limit text m rest
+ReadsOrWakes true limit text None rest = rest ≡ text
+ReadsOrWakes false limit text None rest = ⊥
 
 -- For what a session in threads answers: as one over bytes ends, whatever is left of the text, since the reader is gone.
 abbrev pub EndsInThreads : ℕ → Result SessionEnd SessionFault → SessionAnswer → Stop → Option Message → List ℕ → Type 0
@@ -39,13 +40,18 @@ WroteInThreads old new (Err (Write fault)) stop null sends = IsOutput fault × B
 WroteInThreads old new (Err Memory) stop null sends = GetsFirst sends old new
 WroteInThreads old new result stop null sends = GetsFrames sends old new
 
--- bytes in to bytes out
-abbrev pub ThreadsGive : ℕ → SessionPart → List ℕ → Option (List ℕ) → Option (List ℕ) → Result SessionEnd SessionFault → Type 0
-ThreadsGive limit P text old new result = SessionOver (ReadsOrWakes limit) P text (EndsInThreads limit result) (WroteInThreads old new result)
+-- bytes in to bytes out, where others may wake the session, or nobody
+abbrev pub ThreadsGiveOver : Bool → ℕ → SessionPart → List ℕ → Option (List ℕ) → Option (List ℕ) → Result SessionEnd SessionFault → Type 0
+ThreadsGiveOver wakeable limit P text old new result =
+    SessionOver (ReadsOrWakes wakeable limit) P text (EndsInThreads limit result) (WroteInThreads old new result)
 
--- What ended the messages of a session whose inbox was closed so, and gave an `exit` so: a reader's end counts where the
--- session came to it. For private clauses.
-abbrev pub session_end : Bool → Bool → ReadEnd → Option ReadEnd
-session_end true exited read = Some read
-session_end false true read = Some Exit
-session_end false false read = None
+-- the same where nobody may: no wake comes
+abbrev pub ThreadsGive : ℕ → SessionPart → List ℕ → Option (List ℕ) → Option (List ℕ) → Result SessionEnd SessionFault → Type 0
+ThreadsGive = ThreadsGiveOver false
+
+-- What ended the messages of a session whose inbox took End so, or ended so before: a reader's end counts where the session came to it.
+-- For private clauses.
+abbrev pub session_end : Bool → Option ReadEnd → ReadEnd → Option ReadEnd
+session_end drained (Some end) read = Some end
+session_end true None read = Some read
+session_end false None read = None
