@@ -146,14 +146,27 @@ fn inbox_answer(alloc: Global, reader: &mut Source<'_>) -> Result<Attempt, Stop>
     let mut inbox = StreamInbox::new(alloc, reader);
     let mut texts = String::new(alloc);
     for _ in 0..MOST {
-        let Event::Message(message) = inbox.receive_for(1) else {
+        let event = inbox.receive_for(1);
+        let is_message = add_event(alloc, &mut texts, &event);
+        drop(event);
+        if !is_message? {
             break;
-        };
-        texts.push_str(message.member_text(alloc)?.as_str())?;
+        }
     }
     let end = inbox.end();
-    let is_closed = matches!(inbox.receive(), Event::Closed);
+    let last = inbox.receive();
+    let is_closed = matches!(&last, Event::Closed);
+    drop(last);
     Ok(Attempt::Came(format!(in alloc; "{texts} {end:?}, closed {is_closed}")?))
+}
+
+/// Adds the member text of an event that is a message, and tells whether it is one.
+fn add_event(alloc: Global, texts: &mut String, event: &Event) -> Result<bool, AllocError> {
+    let Event::Message(message) = event else {
+        return Ok(false);
+    };
+    texts.push_str(message.member_text(alloc)?.as_str())?;
+    Ok(true)
 }
 
 /// What a loop hands on, how it ends, and how many bytes it leaves.
@@ -188,6 +201,7 @@ fn write_answer(
 ) -> Result<Attempt, Stop> {
     let message = next_message(alloc, reader)?.ok_or(Stop::Table)?;
     let written = message.write(alloc, writer);
+    drop(message);
     written_answer(alloc, run, written, writer)
 }
 
@@ -251,13 +265,17 @@ fn outbox_answer(
 
 /// The message that came back.
 fn back_text(alloc: Global, fault: SendFault) -> Result<String, Stop> {
-    match fault {
-        SendFault::Closed(message) => {
-            let text = message.member_text(alloc)?;
-            Ok(format!(in alloc; "{text} back, ")?)
-        }
+    let text = match &fault {
+        SendFault::Closed(message) => returned_text(alloc, message),
         SendFault::Memory(_) => Err(Stop::Memory),
-    }
+    };
+    drop(fault);
+    text
+}
+
+fn returned_text(alloc: Global, message: &Message) -> Result<String, Stop> {
+    let text = message.member_text(alloc)?;
+    Ok(format!(in alloc; "{text} back, ")?)
 }
 
 /// How a session of the echo ends, and what it wrote.

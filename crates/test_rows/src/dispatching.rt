@@ -9,32 +9,41 @@ use std::alloc::{AllocError, Global};
 pub fn dispatched(alloc: Global, steps: &str) -> Result<String, Stop> {
     let mut dispatcher = Dispatcher::default(alloc);
     let mut answers = Vec::new(alloc);
-    for step in steps.split("; ") {
-        answers.push(answer(&mut dispatcher, call_in(alloc, step)?)?)?;
-    }
+    call_each(alloc, &mut dispatcher, &mut answers, steps)?;
     Ok(texts_of(alloc, answers.as_slice())?)
+}
+
+fn call_each(
+    alloc: Global,
+    dispatcher: &mut Dispatcher,
+    answers: &mut Vec<Answer>,
+    steps: &str,
+) -> Result<(), Stop> {
+    for step in steps.split("; ") {
+        answers.push(answer(dispatcher, call_in(alloc, step)?)?)?;
+    }
+    Ok(())
 }
 
 fn answer(dispatcher: &mut Dispatcher, call: Call) -> Result<Answer, Stop> {
     match call {
-        Call::Deliver(message) => match dispatcher.deliver(message) {
-            Ok(answer) => Ok(answer),
-            Err(_) => Err(Stop::Memory),
-        },
+        Call::Deliver(message) => dispatcher.deliver(message).or(Err(Stop::Memory)),
         Call::Finish { id, ticket, result } => Ok(dispatcher.finish(id, ticket, result)),
     }
 }
 
 /// What all steps give on a new dispatcher.
 pub fn replayed(alloc: Global, steps: &str) -> Result<String, Stop> {
+    let answers = replay(alloc, calls_in(alloc, steps)?).or(Err(Stop::Memory))?;
+    Ok(texts_of(alloc, answers.as_slice())?)
+}
+
+fn calls_in(alloc: Global, steps: &str) -> Result<Vec<Call>, Stop> {
     let mut calls = Vec::new(alloc);
     for step in steps.split("; ") {
         calls.push(call_in(alloc, step)?)?;
     }
-    match replay(alloc, calls) {
-        Ok(answers) => Ok(texts_of(alloc, answers.as_slice())?),
-        Err(_) => Err(Stop::Memory),
-    }
+    Ok(calls)
 }
 
 fn texts_of(alloc: Global, answers: &[Answer]) -> Result<String, AllocError> {

@@ -35,16 +35,16 @@ fn call(alloc: Global, link: &mut Link, step: &str) -> Result<String, Stop> {
         "deep" => {
             let params = nested(alloc, count_in(word)?)?;
             let method = String::from_str(alloc, "deep")?;
-            write(alloc, link, &Message::from(Notification { method, params }))
+            write(alloc, link, Message::from(Notification { method, params }))
         }
-        _ => write(alloc, link, &message_in(alloc, step)?),
+        _ => write(alloc, link, message_in(alloc, step)?),
     }
 }
 
-fn write(alloc: Global, link: &mut Link, message: &Message) -> Result<String, Stop> {
-    if link.write(message).is_err() {
-        return Err(Stop::Memory);
-    }
+fn write(alloc: Global, link: &mut Link, message: Message) -> Result<String, Stop> {
+    let written = link.write(&message);
+    drop(message);
+    written.or(Err(Stop::Memory))?;
     Ok(format!(in alloc; "{} on the way", link.on_way().len())?)
 }
 

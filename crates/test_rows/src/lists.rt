@@ -187,7 +187,9 @@ fn shut(alloc: Global, boxes: &mut Boxes<'_>, method: &str) -> Result<String, St
         method: String::from_str(alloc, method)?,
         params: Value::Null,
     };
-    match shutdown(alloc, &mut boxes.inbox, &mut boxes.outbox, &request) {
+    let answer = shutdown(alloc, &mut boxes.inbox, &mut boxes.outbox, &request);
+    drop(request);
+    match answer {
         Ok(true) => Ok(String::from_str(alloc, "true")?),
         Ok(false) => Ok(String::from_str(alloc, "false")?),
         Err(error) => said(alloc, Err(error), ""),

@@ -38,10 +38,12 @@ pub fn text_or(
     message: Option<Message>,
     otherwise: &str,
 ) -> Result<String, AllocError> {
-    match message {
+    let text = match &message {
         Some(message) => message.member_text(alloc),
         None => String::from_str(alloc, otherwise),
-    }
+    };
+    drop(message);
+    text
 }
 
 /// The id in a tree, as it prints.
@@ -82,7 +84,20 @@ fn meant(alloc: Global, message: Option<Message>, by_tree: String) -> Result<Str
 
 /// Reads the message in a member text, clones it, and gives its texts, its tree and its frame.
 pub fn values(alloc: Global, text: &str) -> Result<String, Stop> {
-    let message = message_in(alloc, text)?.clone()?;
+    let message = cloned(message_in(alloc, text)?)?;
+    let texts = texts_of(alloc, &message);
+    drop(message);
+    texts
+}
+
+/// A clone of a message that is dropped.
+fn cloned(message: Message) -> Result<Message, AllocError> {
+    let clone: Result<_, _> = message.clone();
+    drop(message);
+    clone
+}
+
+fn texts_of(alloc: Global, message: &Message) -> Result<String, Stop> {
     let members = message.member_text(alloc)?;
     let tree = message.to_value(alloc)?;
     let body = message.body_text(alloc)?;
@@ -100,16 +115,22 @@ pub fn extracted(alloc: Global, row: &str) -> Result<String, Stop> {
     let said = match message_in(alloc, text)? {
         Message::Request(request) => of_request(alloc, request, method)?,
         Message::Notification(notification) => of_notification(alloc, notification, method)?,
-        Message::Response(_) => return Err(Stop::Table),
+        Message::Response(response) => {
+            drop(response);
+            return Err(Stop::Table);
+        }
     };
     Ok(escape(alloc, said.as_bytes())?)
 }
 
 fn of_request(alloc: Global, request: Request, method: &str) -> Result<String, AllocError> {
-    match request.extract::<i32>(alloc, method) {
+    let extracted = request.extract::<i32>(alloc, method);
+    let text = match &extracted {
         Ok((id, number)) => format!(in alloc; "{id}: {number}"),
         Err(error) => format!(in alloc; "{error}"),
-    }
+    };
+    drop(extracted);
+    text
 }
 
 fn of_notification(
@@ -117,8 +138,11 @@ fn of_notification(
     notification: Notification,
     method: &str,
 ) -> Result<String, AllocError> {
-    match notification.extract::<i32>(alloc, method) {
+    let extracted = notification.extract::<i32>(alloc, method);
+    let text = match &extracted {
         Ok(number) => format!(in alloc; "{number}"),
         Err(error) => format!(in alloc; "{error}"),
-    }
+    };
+    drop(extracted);
+    text
 }

@@ -67,10 +67,9 @@ fn register(alloc: Global, queue: &mut Queue, verb: &str, words: &str) -> Result
 
 fn receive(alloc: Global, queue: &mut Queue, words: &str) -> Result<String, Stop> {
     let (id, data) = cut(words, " ")?;
-    match queue.incoming.register(id_in(alloc, id)?, data_in(data)?) {
-        Ok(()) => Ok(format!(in alloc; "received {id}")?),
-        Err(_) => Err(Stop::Memory),
-    }
+    let registered = queue.incoming.register(id_in(alloc, id)?, data_in(data)?);
+    registered.or(Err(Stop::Memory))?;
+    Ok(format!(in alloc; "received {id}")?)
 }
 
 fn cancel(alloc: Global, queue: &mut Queue, word: &str) -> Result<String, Stop> {

@@ -147,12 +147,14 @@ impl Server for Talker {
         match asked {
             Asked::For(id) => self.one(Act::Reply(id, outcome)),
             Asked::Configuration(number) => {
+                drop(outcome);
                 self.one(self.tell("demo/pushed", Value::from(number))?)
             }
         }
     }
 
-    fn unsent(&mut self, _asked: Asked) -> Result<(), AllocError> {
+    fn unsent(&mut self, asked: Asked) -> Result<(), AllocError> {
+        drop(asked);
         Ok(())
     }
 }
