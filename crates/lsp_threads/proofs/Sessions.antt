@@ -4,10 +4,7 @@ use Rattle.std.specs.Bool.{MatchBool}
 use Rattle.std.specs.List.{FoldsTo}
 use Rattle.std.specs.Prelude.{Result, Ok, Err, IfOk}
 use mathlib.Core.List.{IsPrefix}
-use Rattle.lsp_message.proofs.Contents.{frame_unread}
-use Rattle.lsp_message.specs.Frame.{body_means, reading_within}
 use Rattle.lsp_message.specs.Message.{Message as Sent}
-use Rattle.lsp_message.specs.Reading.{StopsWithin}
 use Rattle.lsp_message.specs.View.{message_view}
 use Rattle.lsp_message.specs.declared.frame.WriteFault.{WriteFault}
 use Rattle.lsp_message.specs.declared.frame.WriteFault.TheVariants.{Output, Memory as NoMemory}
@@ -17,8 +14,8 @@ use Rattle.lsp_relay.specs.Relay.{ended, has_end, Sending}
 use Rattle.lsp_relay.specs.declared.ends.Parcel.{Parcel}
 use Rattle.lsp_relay.specs.declared.ends.Parcel.TheVariants as parcel
 use Rattle.lsp_session.proofs.Ran.{Facts}
-use Rattle.lsp_session.proofs.SessionGives.{BeginsWith, letters_in, left_after, stop_ends, NotRefused, WakingGives}
-use Rattle.lsp_session.specs.Session.{Exchange, came_of, letters_of, sends_of, SessionAnswer, SessionPart, Stop, decided, refused}
+use Rattle.lsp_session.proofs.SessionGives.{BeginsWith, left_after, stop_ends, NotRefused, WakingGives}
+use Rattle.lsp_session.specs.Session.{Exchange, came_of, letters_of, sends_of, SessionAnswer, SessionPart, Stop}
 use Rattle.lsp_session.specs.SessionBytes.{LeftWithin, Wrote}
 use Rattle.lsp_session.specs.SessionFault.{read_answer, session_answer}
 use Rattle.lsp_session.specs.SessionRun.{all_of, Runs}
@@ -110,9 +107,9 @@ module _ (limit : ℕ) (P : SessionPart)
 
 -- A session in threads that is described otherwise.
 module _ (P Q : SessionPart)
-    (to : (xs : List Exchange) (stop : Stop) (null : Option Sent) (answer : SessionAnswer) → P xs stop null answer → Q xs stop null answer) (limit : ℕ) where
+    (to : (xs : List Exchange) (stop : Stop) (null : Option Sent) (answer : SessionAnswer) → P xs stop null answer → Q xs stop null answer) (wakeable : Bool) (limit : ℕ) where
   -- where the bytes are known, and both threads were started
-  pub started_as : {T F : Type 0} {wakeable : Bool} (contents : T → Option (List ℕ)) (answer_of : T → Result SessionEnd SessionFault) (known old : Option (List ℕ)) (result : Result T F)
+  pub started_as : {T F : Type 0} (contents : T → Option (List ℕ)) (answer_of : T → Result SessionEnd SessionFault) (known old : Option (List ℕ)) (result : Result T F)
       → IfSome known (λ text. IfOk result (λ done. ThreadsGiveOver wakeable limit P text old (contents done) (answer_of done)))
       → IfSome known (λ text. IfOk result (λ done. ThreadsGiveOver wakeable limit Q text old (contents done) (answer_of done)))
   started_as contents answer_of None old result gives = tt

@@ -1,5 +1,5 @@
 -- What came to a session that nobody woke.
-use Rattle.std.proofs.Common.{◌≡◌, sym, ◌∙◌, Bool, true, false, true≢false, ℕ, List, [], ◌∷◌, ◌++◌, Option, Some, None, ◌&&◌, is_some, refl}
+use Rattle.std.proofs.Common.{◌≡◌, sym, ◌∙◌, Bool, true, false, true≢false, ℕ, List, [], ◌∷◌, Option, Some, None, ◌&&◌, is_some, refl}
 use Rattle.std.proofs.lemmas.List.Folds.{list_all-append}
 use Rattle.std.specs.List.{FoldsTo, list_all, filter_map}
 use Rattle.lsp_message.specs.Message.{Message}

@@ -1,7 +1,6 @@
 use Rattle.std.proofs.Common.{arith, ◌∷◌, [], ◌++◌, ◌∙◌, ap, sym, true, if◌then◌else◌}
 use Rattle.lsp_message.specs.Letters.{is_exit}
 use Rattle.lsp_message.specs.View.{message_view}
-use Rattle.lsp_message.specs.declared.msg.Message.{Message}
 use Rattle.lsp_relay.specs.Relay.{has_end}
 use Rattle.lsp_relay.specs.declared.ends.Parcel.TheVariants as parcel
 use Rattle.lsp_threads.proofs.relay_boxes.RelayInbox+R+Message.next_event.Goals as goal
