@@ -23,4 +23,4 @@ returns g c =
     (job_session g.row.T.Denot g.S.Server g.S.JobServer.starts g.S.JobServer.finishes g.J.Job.answers old new c.new-pooled.result c.args.server _ c.new-queued.ensures
     (c.new-pooled.ensures ∙ ap (λ t. (c.args.server, t)) c.in-Ok-start_pool.ensures)
     (c.into_parts-server.ensures ∙ ap (λ (p : PooledServer _ _ _). p.server) c.into_server.ensures)) true c.args.limit
-    (λ (done : Threaded _). g.W.Write.contents done.writer) (λ (done : Threaded _). done.answer) _ _ _ c.run_threads_of_service_over-done.ensures
+    (λ (done : Threaded _). g.W.Write.contents done.writer) (λ (done : Threaded _). done.answer) _ _ _ (rw c.in-Ok-waker.ensures.made at c.run_threads_of_service_over-done.ensures)
