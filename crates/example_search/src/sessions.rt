@@ -1,5 +1,5 @@
 // A session of the server: on one thread, with a thread that reads and one that writes, and with threads that search.
-ghost use Rattle.std.specs.Prelude.{IfOk, IfSome};
+ghost use Rattle.std.specs.Prelude.{true, IfOk, IfSome};
 ghost use Rattle.lsp_message.specs.Frame.{no_limit};
 ghost use Rattle.lsp_session.specs.SessionBytes.{Gives};
 ghost use Rattle.lsp_threads.specs.Threads.{ThreadsGive, ThreadsGiveOver};
