@@ -1,8 +1,8 @@
 // A session of the server: on one thread, with a thread that reads and one that writes, and with threads that search.
-ghost use Rattle.std.specs.Prelude.{IfOk, IfSome};
+ghost use Rattle.std.specs.Prelude.{true, IfOk, IfSome};
 ghost use Rattle.lsp_message.specs.Frame.{no_limit};
 ghost use Rattle.lsp_session.specs.SessionBytes.{Gives};
-ghost use Rattle.lsp_threads.specs.Threads.{ThreadsGive};
+ghost use Rattle.lsp_threads.specs.Threads.{ThreadsGive, ThreadsGiveOver};
 ghost use Rattle.lsp_jobs.specs.JobLaw.{LawfulJobSession};
 ghost use Rattle.lsp_service.specs.Stated.{unwoken};
 ghost use Rattle.example_search.specs.Promise.{AnswersOnce};
@@ -80,7 +80,7 @@ where
     R: BufRead + Drop + Send + 'static,
     W: Write + Drop + Send + 'static,
     ensures { IfSome (R.remaining reader) (λ text. IfOk result.1 (λ done.
-        ThreadsGive no_limit (LawfulJobSession T ⟦<Sums as Server>⟧ ⟦<Sums as JobServer<Search>>⟧.starts
+        ThreadsGiveOver true no_limit (LawfulJobSession T ⟦<Sums as Server>⟧ ⟦<Sums as JobServer<Search>>⟧.starts
         ⟦<Sums as JobServer<Search>>⟧.finishes ⟦<Search as Job>⟧.answers sums result.0)
         text (W.contents writer) (W.contents done.writer) done.answer)) }
 {

@@ -1,11 +1,11 @@
 //! What a session of a server with jobs does, in its user's words.
-ghost use Rattle.std.specs.Prelude.{◌≡◌, ℕ, List, Option, Result};
+ghost use Rattle.std.specs.Prelude.{◌≡◌, true, ℕ, List, Option, Result};
 ghost use Rattle.lsp_message.specs.Message.{Message};
 ghost use Rattle.lsp_session.specs.Session.{Exchange, SessionAnswer, Stop};
 ghost use Rattle.lsp_session.specs.declared.loops.handler.SessionEnd.{SessionEnd as EndOfSession};
 ghost use Rattle.lsp_session.specs.declared.loops.stream_session.SessionFault.{SessionFault as FaultOfSession};
 ghost use Rattle.lsp_service.specs.Law.{AnswersInitialize, TakesPart};
-ghost use Rattle.lsp_threads.specs.Threads.{ThreadsGive};
+ghost use Rattle.lsp_threads.specs.Threads.{ThreadsGiveOver};
 ghost use Rattle.lsp_jobs.specs.JobLaw.{LawfulJobSession, PartActsByJobs};
 ghost use Rattle.lsp_jobs.specs.JobSession.{JobSession, seen_with_jobs};
 ghost use Rattle.lsp_jobs.specs.PoolView.{table_of};
@@ -24,8 +24,8 @@ pub fn session_with_jobs_keeps_laws<T: Wait + Drop, S: JobServer<J>, J: Job>()
         → JobSession T S.Server S.starts S.finishes J.answers first last exchanges stop null answer
         → LawfulJobSession T S.Server S.starts S.finishes J.answers first last exchanges stop null answer }
     ensures bytes { (limit : ℕ) (first last : S) (text : List ℕ) (before after : Option (List ℕ)) (answer : Result EndOfSession FaultOfSession)
-        → ThreadsGive limit (JobSession T S.Server S.starts S.finishes J.answers first last) text before after answer
-        → ThreadsGive limit (LawfulJobSession T S.Server S.starts S.finishes J.answers first last) text before after answer }
+        → ThreadsGiveOver true limit (JobSession T S.Server S.starts S.finishes J.answers first last) text before after answer
+        → ThreadsGiveOver true limit (LawfulJobSession T S.Server S.starts S.finishes J.answers first last) text before after answer }
 {}
 
 /// At each wake nothing is done, or one notification is sent, or a request is answered: with an outcome to which the job may come that the

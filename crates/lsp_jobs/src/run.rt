@@ -1,7 +1,7 @@
 // A session of a server whose long requests are jobs, in threads.
-ghost use Rattle.std.specs.Prelude.{IfOk, IfSome};
+ghost use Rattle.std.specs.Prelude.{true, IfOk, IfSome};
 ghost use Rattle.lsp_message.specs.Frame.{no_limit};
-ghost use Rattle.lsp_threads.specs.Threads.{ThreadsGive};
+ghost use Rattle.lsp_threads.specs.Threads.{ThreadsGiveOver};
 ghost use Rattle.lsp_jobs.specs.JobSession.{JobSession};
 
 use crate::job::Job;
@@ -46,7 +46,7 @@ where
     S: JobServer<J> + Drop,
     J: Job + Send + 'static,
     ensures { IfSome (R.remaining reader) (λ text. IfOk result.1 (λ done.
-        ThreadsGive no_limit (JobSession T S.Server S.starts S.finishes J.answers server result.0)
+        ThreadsGiveOver true no_limit (JobSession T S.Server S.starts S.finishes J.answers server result.0)
         text (W.contents writer) (W.contents done.writer) done.answer)) }
 {
     run_jobs_within(rt, alloc, reader, writer, size, server, u64::MAX)
@@ -70,7 +70,7 @@ where
     S: JobServer<J> + Drop,
     J: Job + Send + 'static,
     ensures { IfSome (R.remaining reader) (λ text. IfOk result.1 (λ done.
-        ThreadsGive limit (JobSession T S.Server S.starts S.finishes J.answers server result.0)
+        ThreadsGiveOver true limit (JobSession T S.Server S.starts S.finishes J.answers server result.0)
         text (W.contents writer) (W.contents done.writer) done.answer)) }
 {
     let Ok((mut tx, rx)) = relay::<Message>(alloc, ROOM) else {

@@ -7,7 +7,7 @@ use Rattle.std.proofs.lemmas.Str.{is_utf8-from_IsUtf8}
 use Rattle.std.specs.Str.{IsUtf8, is_utf8}
 use Rattle.serde_json.specs.Data.{Data, null, boolean, number, string, array, object}
 use Rattle.serde_json.specs.Read.{read}
-use Rattle.lsp_message.specs.Frame.{body_means, tree_means, no_message, RunsOut, body_of, content_of, frame_of, no_limit, reading_of}
+use Rattle.lsp_message.specs.Frame.{body_means, tree_means, no_message, RunsOutBefore, body_of, content_of, frame_of, no_limit, reading_of}
 use Rattle.lsp_message.specs.HeaderPart.{header_of}
 use Rattle.lsp_message.specs.Meaning.{meaning}
 use Rattle.lsp_message.specs.Message.{Message}
@@ -30,7 +30,7 @@ module _ {M : Type 0} (means : List ℕ → Result M ReadFault) (limit : ℕ) wh
   abbrev bytes : ℕ → List ℕ → Reading (List ℕ)
   bytes n left = record { outcome = Ok (Some (take n left)); rest = drop n left }
 
-  body_of-bytes : (n : ℕ) (left items : List ℕ) → (body_of Ok n left).outcome ≡ Ok (Some items)
+  pub body_of-bytes : (n : ℕ) (left items : List ℕ) → (body_of Ok n left).outcome ≡ Ok (Some items)
       → ((body_of means n left).outcome ≡ result_map_both Some (λ fault. fault) (means items)) × ((body_of means n left).rest ≡ (body_of Ok n left).rest)
   body_of-bytes n left items = at (nat_lt (length left) n)
     where
@@ -40,7 +40,7 @@ module _ {M : Type 0} (means : List ℕ → Result M ReadFault) (limit : ℕ) wh
       at true is = absurd (cc)
       at false is = let same : take n left ≡ items = cc in (ap (λ l. result_map_both Some (λ fault. fault) (means l)) same, refl)
 
-  body_of-fault : (n : ℕ) (left : List ℕ) (fault : ReadFault) → (body_of Ok n left).outcome ≡ Err fault → (body_of means n left).outcome ≡ Err fault
+  pub body_of-fault : (n : ℕ) (left : List ℕ) (fault : ReadFault) → (body_of Ok n left).outcome ≡ Err fault → (body_of means n left).outcome ≡ Err fault
   body_of-fault n left fault = at (nat_lt (length left) n)
     where
       at : (t : Bool) → (cond {A = Reading (List ℕ)} t (record { outcome = Err ShortBody; rest = [] }) (bytes n left)).outcome ≡ Err fault
@@ -48,7 +48,7 @@ module _ {M : Type 0} (means : List ℕ → Result M ReadFault) (limit : ℕ) wh
       at true is = cc
       at false is = absurd (cc)
 
-  body_of-rest : (n : ℕ) (left : List ℕ) → (body_of means n left).rest ≡ (body_of Ok n left).rest
+  pub body_of-rest : (n : ℕ) (left : List ℕ) → (body_of means n left).rest ≡ (body_of Ok n left).rest
   body_of-rest n left = at (nat_lt (length left) n)
     where
       at : (t : Bool) → (cond {A = Reading M} t (record { outcome = Err ShortBody; rest = [] }) (whole n left)).rest
@@ -191,23 +191,19 @@ content_known body = given_known (body_means body) (at (is_utf8 body) (read body
 module _ (limit : ℕ) where
   -- memory ran out in the header part
   pub memory_in_header : (fault : ReadFault) (a b : Option (List ℕ)) → IfSome a (λ text. AnswersHeader (λ n. n) (Err fault) b (header_of text)) → fault ≡ Memory
-      → IfSome a (λ text. RunsOut limit text b)
+      → IfSome a (λ text. RunsOutBefore limit text b)
   memory_in_header fault None b header is = tt
   memory_in_header fault (Some text) b header is = inl (subst (λ f. AnswersHeader (λ n. n) (Err f) b (header_of text)) is header)
 
   -- or after it, before the content part was begun
   pub memory_after_header : (a b c : Option (List ℕ)) (n : ℕ) → n ≤ limit → IfSome a (λ text. AnswersHeader (λ n. n) (Ok (Some n)) b (header_of text)) → c ≡ b
-      → IfSome a (λ text. RunsOut limit text c)
+      → IfSome a (λ text. RunsOutBefore limit text c)
   memory_after_header None b c n within header same = tt
-  memory_after_header (Some text) b c n within header same = inr (n, header.0, within, inl (same ∙ header.1))
+  memory_after_header (Some text) b c n within header same = inr (n, header.0, within, same ∙ header.1)
 
-  -- or after the content part
-  pub memory_after_content : (a b c : Option (List ℕ)) (n : ℕ) (items : List ℕ) → n ≤ limit → IfSome a (λ text. AnswersHeader (λ n. n) (Ok (Some n)) b (header_of text))
-      → IfSome b (λ left. Answers (λ bytes. bytes) (Ok (Some items)) c (body_of Ok n left)) → IfSome a (λ text. RunsOut limit text c)
-  memory_after_content None b c n items within header body = tt
-  memory_after_content (Some text) b c n items within header body =
-      let read = frame_read body_means limit (Some text) b c n items within header body in
-      inr (n, header.0, within, inr (read.1, λ short. subst IsKnownContent (sym read.0 ∙ short) (content_known items)))
+-- a content part that was taken is not short
+pub content_is_no_short : (body : List ℕ) (r : Result (Option Message) ReadFault) → r ≡ given (body_means body) → r ≢ Err ShortBody
+content_is_no_short body r is = λ short. subst IsKnownContent (sym is ∙ short) (content_known body)
 
 -- with no limit no length is above it
 not_too_long : (text : List ℕ) → (reading_of text).outcome ≢ Err TooLong

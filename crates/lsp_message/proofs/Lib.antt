@@ -1,3 +1,4 @@
+pub mod ContentParts
 pub mod Contents
 pub mod FrontOfFrame
 mod FrontSteps

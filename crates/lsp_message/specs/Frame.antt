@@ -50,6 +50,10 @@ module _ {M : Type 0} (means : List ℕ → Result M ReadFault) where
 abbrev pub reading_within : ℕ → List ℕ → Reading Message
 reading_within limit text = frame_of body_means limit text
 
+-- the same of the bytes of the content part, whatever they mean
+abbrev pub content_within : ℕ → List ℕ → Reading (List ℕ)
+content_within limit text = frame_of Ok limit text
+
 -- the greatest length that a header part can give
 abbrev pub no_limit : ℕ
 no_limit = 2 ^ 64 - 1
@@ -61,6 +65,12 @@ reading_of text = reading_within no_limit text
 -- the text begins with a frame that means this message, and the rest follows it
 abbrev pub Begins : ℕ → List ℕ → Message → List ℕ → Type 0
 Begins limit text m rest = reading_within limit text ≡ record { outcome = Ok (Some m); rest = rest }
+
+-- Memory ran out in the header part; or where the room for a content part within the limit was reserved, and none of it was taken.
+abbrev pub RunsOutBefore : ℕ → List ℕ → Option (List ℕ) → Type 0
+RunsOutBefore limit text left =
+    StopsBefore left (header_of text)
+    ⊎ ((n : ℕ) × ((header_of text).outcome ≡ Ok (Some n)) × (n ≤ limit) × (left ≡ Some (header_of text).rest))
 
 -- Memory ran out: in the header part; or where the room for a content part within the limit was reserved, and none of it was
 -- taken; or after the whole content part was taken.

@@ -8,6 +8,7 @@ use std::fmt;
 use std::io::ErrorKind;
 
 pub(crate) mod body;
+pub(crate) mod content;
 pub(crate) mod extent;
 pub(crate) mod header;
 pub(crate) mod line;

@@ -8,6 +8,7 @@ pub mod laws;
 mod msg;
 
 pub use error::ExtractError;
+pub use frame::content::read_content_within;
 pub use frame::extent::Front;
 pub use frame::scan::front;
 pub use frame::write::write_frames;

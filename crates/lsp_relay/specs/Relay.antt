@@ -18,17 +18,20 @@ abbrev pub Relay : Type 0 → Type 0
 Relay M = TableId × Badge (Key (Option (Parcel M)))
 
 module _ {M : Type 0} where
-  abbrev pub sender_account : List (Parcel M) → Account M
-  sender_account sent = record { sends = true; takes = false; sent = sent; taken = []; wakes = 0 }
+  abbrev pub sender_account : List (Parcel M) → Bool → Account M
+  sender_account sent wakeable = record { sends = true; takes = false; may_wake = false; sent = sent; taken = []; wakes = 0; wakeable = wakeable }
 
   abbrev pub receiver_account : List (Parcel M) → ℕ → Account M
-  receiver_account taken wakes = record { sends = false; takes = true; sent = []; taken = taken; wakes = wakes }
+  receiver_account taken wakes = record { sends = false; takes = true; may_wake = false; sent = []; taken = taken; wakes = wakes; wakeable = false }
 
-  abbrev pub both_account : List (Parcel M) → List (Parcel M) → ℕ → Account M
-  both_account sent taken wakes = record { sends = true; takes = true; sent = sent; taken = taken; wakes = wakes }
+  abbrev pub both_account : List (Parcel M) → List (Parcel M) → ℕ → Bool → Account M
+  both_account sent taken wakes wakeable = record { sends = true; takes = true; may_wake = false; sent = sent; taken = taken; wakes = wakes; wakeable = wakeable }
+
+  abbrev pub waker_account : ℕ → Account M
+  waker_account given = record { sends = false; takes = false; may_wake = true; sent = []; taken = []; wakes = given; wakeable = false }
 
   abbrev pub no_account : Account M
-  no_account = record { sends = false; takes = false; sent = []; taken = []; wakes = 0 }
+  no_account = record { sends = false; takes = false; may_wake = false; sent = []; taken = []; wakes = 0; wakeable = false }
 
   -- the parcels among what a channel holds: the others are wakes
   abbrev pub parcels_of : List (Option (Parcel M)) → List (Parcel M)
@@ -61,19 +64,32 @@ module _ {M : Type 0} where
   wakes_after taken.Wake count = count + 1
   wakes_after found count = count
 
-  -- one pass at most may send, and its account has what was sent; the same for takes
-  abbrev pub Agrees : ℕ → ℕ → List (Parcel M) → List (Parcel M) → ℕ → Account M → Type 0
-  Agrees sender receiver sent taken pass account =
-      (account.sends ≡ true → (pass ≡ sender) × (account.sent ≡ sent)) × (account.takes ≡ true → (pass ≡ receiver) × (account.taken ≡ taken))
+  -- no wake is among what a channel holds
+  abbrev pub HoldsNoWake : List (Option (Parcel M)) → Type 0
+  HoldsNoWake [] = Unit {0}
+  HoldsNoWake (None ∷ rest) = ⊥
+  HoldsNoWake (Some parcel ∷ rest) = HoldsNoWake rest
 
-  -- The rule of a relay: what was taken, and then the parcels that are held, is what was sent. Wakes are no part of it.
+  -- One pass at most may send, and its account has what was sent, and whether a waker was made; the same for takes, and how many wakes
+  -- were taken. A pass may wake only where a waker was made.
+  abbrev pub Agrees : ℕ → ℕ → List (Parcel M) → List (Parcel M) → ℕ → Bool → ℕ → Account M → Type 0
+  Agrees sender receiver sent taken wakes wakeable pass account =
+      (account.sends ≡ true → (pass ≡ sender) × (account.sent ≡ sent) × (account.wakeable ≡ wakeable))
+      × (account.takes ≡ true → (pass ≡ receiver) × (account.taken ≡ taken) × (account.wakes ≡ wakes))
+      × (account.may_wake ≡ true → wakeable ≡ true)
+
+  -- The rule of a relay: what was taken, and then the parcels that are held, is what was sent. Where no waker was made, no wake is held,
+  -- and none was taken.
   pub record TakenThenHeldIsSent (held : List (Option (Parcel M))) (accounts : List (Account M)) : Type 0 where
     pub sender : ℕ
     pub receiver : ℕ
     pub sent : List (Parcel M)
     pub taken : List (Parcel M)
+    pub wakes : ℕ
+    pub wakeable : Bool
     pub whole : sent ≡ taken ++ parcels_of held
-    pub agree : (pass : ℕ) (account : Account M) → get_elem? accounts pass ≡ some account → Agrees sender receiver sent taken pass account
+    pub unwoken : wakeable ≡ false → (wakes ≡ 0) × HoldsNoWake held
+    pub agree : (pass : ℕ) (account : Account M) → get_elem? accounts pass ≡ some account → Agrees sender receiver sent taken wakes wakeable pass account
 
   -- no End was sent
   abbrev pub IsOpen : List (Parcel M) → Type 0
@@ -104,10 +120,11 @@ module _ {M : Type 0} where
   abbrev pub relay_of : Pass (Option (Parcel M)) (Account M) → Relay M
   relay_of pass = (pass.table_id, pass.me.0.of)
 
--- the sender's end, as callers see it
+-- the sender's end, as callers see it: also, whether a waker was ever made
 pub record Sending (M : Type 0) : Type 0 where
   pub relay : Relay M
   pub sent : List (Parcel M)
+  pub wakeable : Bool
 
 -- the receiver's end, as callers see it
 pub record Taking (M : Type 0) : Type 0 where

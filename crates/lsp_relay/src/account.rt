@@ -9,24 +9,29 @@ pub struct Account<M> {
     pub sends: bool,
     /// Whether it may take.
     pub takes: bool,
+    /// Whether it may wake.
+    pub may_wake: bool,
     /// What was sent with it, in order.
     pub sent: LinkedList<Parcel<M>>,
     /// What was taken with it, in order.
     pub taken: LinkedList<Parcel<M>>,
     /// How many wakes were sent or taken with it.
     pub wakes: u64,
+    /// Whether a waker was ever made, where it may send.
+    pub wakeable: bool,
 }
 
-/// The rule of a relay: what was taken, and then the parcels that are held, is what was sent. The channel holds `None` for a wake.
+/// The rule of a relay: what was taken, and then the parcels that are held, is what was sent; and where no waker was made, there are no
+/// wakes. The channel holds `None` for a wake.
 pub(crate) struct InOrder;
 
 impl<M> Protocol<Option<Parcel<M>>, Account<M>> for InOrder {
     ghost use Rattle.lsp_relay.specs.Relay.{both_account, TakenThenHeldIsSent};
-    ghost use Rattle.std.specs.Prelude.{[]};
+    ghost use Rattle.std.specs.Prelude.{[], false};
 
     ghost holds = { TakenThenHeldIsSent };
 
-    ghost first = { both_account [] [] 0 };
+    ghost first = { both_account [] [] 0 false };
 }
 
 /// The two roles are given to two passes, and come together again.
@@ -35,7 +40,7 @@ pub(crate) struct Roles;
 impl<M> Split<Account<M>> for Roles {
     ghost use Rattle.lsp_relay.specs.Relay.{sender_account, receiver_account};
 
-    ghost left = { λ v. sender_account v.sent };
+    ghost left = { λ v. sender_account v.sent v.wakeable };
 
     ghost right = { λ v. receiver_account v.taken v.wakes };
 }
@@ -43,7 +48,7 @@ impl<M> Split<Account<M>> for Roles {
 impl<M> Join<Account<M>> for Roles {
     ghost use Rattle.lsp_relay.specs.Relay.{both_account, no_account};
 
-    ghost both = { λ v w. both_account v.sent w.taken w.wakes };
+    ghost both = { λ v w. both_account v.sent w.taken w.wakes v.wakeable };
 
     ghost spent = { no_account };
 }
@@ -59,15 +64,27 @@ impl<M> Split<Account<M>> for Lend {
     ghost right = { λ v. receiver_account v.taken v.wakes };
 }
 
-/// A pass without a role is made, and this one stays as it is.
-pub(crate) struct Admit;
+/// A waker is made by the sender, which knows it.
+pub(crate) struct MakeWaker;
 
-impl<M> Split<Account<M>> for Admit {
-    ghost use Rattle.lsp_relay.specs.Relay.{no_account};
+impl<M> Split<Account<M>> for MakeWaker {
+    ghost use Rattle.std.specs.Prelude.{true};
+    ghost use Rattle.lsp_relay.specs.Relay.{waker_account};
+
+    ghost left = { λ v. record v { wakeable = true } };
+
+    ghost right = { λ v. waker_account 0 };
+}
+
+/// A waker makes another one.
+pub(crate) struct CopyWaker;
+
+impl<M> Split<Account<M>> for CopyWaker {
+    ghost use Rattle.lsp_relay.specs.Relay.{waker_account};
 
     ghost left = { λ v. v };
 
-    ghost right = { λ v. no_account };
+    ghost right = { λ v. waker_account 0 };
 }
 
 /// A parcel was added at the back.
@@ -109,12 +126,12 @@ impl<M> Lesson<Option<Parcel<M>>, Account<M>> for Received {
     ghost fact = { λ v items. Unit {0} };
 }
 
-/// What was sent is what was taken and the parcels that are held.
+/// What was sent is what was taken and the parcels that are held. Where no waker was made, no wake was taken.
 pub(crate) struct Whole;
 
 impl<M> Lesson<Option<Parcel<M>>, Account<M>> for Whole {
-    ghost use Rattle.std.specs.Prelude.{◌≡◌, ◌++◌};
+    ghost use Rattle.std.specs.Prelude.{◌≡◌, ◌++◌, false};
     ghost use Rattle.lsp_relay.specs.Relay.{parcels_of};
 
-    ghost fact = { λ v items. v.sent ≡ v.taken ++ parcels_of items };
+    ghost fact = { λ v items. (v.sent ≡ v.taken ++ parcels_of items) × (v.wakeable ≡ false → v.wakes ≡ 0) };
 }

@@ -1,10 +1,12 @@
 //! The two ends of a relay: a bounded channel with one sender and one receiver, each of which keeps account of its parcels. The
 //! channel holds a parcel as `Some`, and a wake as `None`. The account of the one that takes, and of each waker, counts wakes.
 ghost use Rattle.std.specs.Bool.{MatchBool};
-ghost use Rattle.std.specs.Prelude.{◌≡◌, ◌<◌, ◌+◌, [], ◌∷◌, ◌++◌, IfErr, IfNone, IfOk, IfSome, OnOk};
+ghost use Rattle.std.specs.Prelude.{◌≡◌, ◌<◌, ◌≤◌, ◌+◌, [], ◌∷◌, ◌++◌, false, IfErr, IfNone, IfOk, IfSome, OnErr, OnOk};
 ghost use mathlib.Core.List.{IsPrefix};
 
-use crate::account::{Account, Admit, InOrder, Lend, Received, Roles, Sent, Whole, Woken};
+use crate::account::{
+    Account, CopyWaker, InOrder, Lend, MakeWaker, Received, Roles, Sent, Whole, Woken,
+};
 use crossbeam_channel::{Pass, RuledReceiver, RuledSender, bounded_with};
 use std::alloc::{AllocError, Global};
 use std::marker::Model;
@@ -30,7 +32,8 @@ pub enum Taken<M> {
     Nothing,
 }
 
-/// The sender's end of a relay. Contracts see which relay it belongs to and the parcels that were sent, in order.
+/// The sender's end of a relay. Contracts see which relay it belongs to, the parcels that were sent, in order, and whether a waker was
+/// ever made.
 #[derive(Drop)]
 #[derive_where(Debug)]
 pub struct RelayTx<M: Drop> {
@@ -48,9 +51,9 @@ impl<M: Drop> Model for RelayTx<M> {
 
     ghost Value = { Sending M };
 
-    ghost view = { λ t. record { relay = relay_of t.pass; sent = (account_of t.pass).sent } };
+    ghost view = { λ t. record { relay = relay_of t.pass; sent = (account_of t.pass).sent; wakeable = (account_of t.pass).wakeable } };
 
-    ghost invariant = { λ t. IsSeatAt (sends_on t.sender) t.pass × (account_of t.pass ≡ sender_account (account_of t.pass).sent) × EndsAtMostOnce (account_of t.pass).sent };
+    ghost invariant = { λ t. IsSeatAt (sends_on t.sender) t.pass × (account_of t.pass ≡ sender_account (account_of t.pass).sent (account_of t.pass).wakeable) × EndsAtMostOnce (account_of t.pass).sent };
 }
 
 /// The receiver's end of a relay. Contracts see which relay it belongs to, the parcels that were taken, in order, and how many wakes
@@ -88,15 +91,16 @@ pub struct RelayWaker<M: Drop> {
 }
 
 impl<M: Drop> Model for RelayWaker<M> {
+    ghost use Rattle.std.specs.Prelude.{◌≡◌};
     ghost use Rattle.crossbeam_channel.specs.Claims.{IsSeatAt};
     ghost use Rattle.crossbeam_channel.specs.Ends.{sends_on};
-    ghost use Rattle.lsp_relay.specs.Relay.{Waking, account_of, relay_of};
+    ghost use Rattle.lsp_relay.specs.Relay.{Waking, account_of, relay_of, waker_account};
 
     ghost Value = { Waking M };
 
     ghost view = { λ w. record { relay = relay_of w.pass; given = (account_of w.pass).wakes } };
 
-    ghost invariant = { λ w. IsSeatAt (sends_on w.sender) w.pass };
+    ghost invariant = { λ w. IsSeatAt (sends_on w.sender) w.pass × (account_of w.pass ≡ waker_account (account_of w.pass).wakes) };
 }
 
 /// Makes a relay with room for this many parcels and wakes, at least one. The error means that an allocation failed.
@@ -104,7 +108,7 @@ pub fn relay<M: Drop>(alloc: Global, room: usize) -> Result<(RelayTx<M>, RelayRx
     requires { 0 < room }
     ensures one_relay { IfOk result (λ ends. ends.1.relay ≡ ends.0.relay) }
     ensures empty { IfOk result (λ ends. (ends.0.sent ≡ []) × (ends.1.taken ≡ [])) }
-    ensures unwoken { IfOk result (λ ends. ends.1.wakes ≡ 0) }
+    ensures unwoken { IfOk result (λ ends. (ends.1.wakes ≡ 0) × (ends.0.wakeable ≡ false)) }
 {
     let (sender, receiver, mut sends) = bounded_with(alloc, room)?;
     let takes = sender.another::<Roles>(&mut sends);
@@ -120,6 +124,7 @@ pub fn relay<M: Drop>(alloc: Global, room: usize) -> Result<(RelayTx<M>, RelayRx
 }
 
 impl<M: Drop> RelayTx<M> {
+    ghost use Rattle.std.specs.Prelude.{true};
     ghost use Rattle.lsp_relay.specs.Relay.{IsOpen};
 
     /// Adds the parcel at the back in one step. It waits while the relay is full. Send nothing after `Parcel::End`.
@@ -128,6 +133,7 @@ impl<M: Drop> RelayTx<M> {
     pub fn send<R: Wait>(&mut self, rt: &R, parcel: Parcel<M>) -> Result<(), Parcel<M>>
         requires open { IsOpen self.old.sent }
         ensures relay { self.new.relay ≡ self.old.relay }
+        ensures wakeable { self.new.wakeable ≡ self.old.wakeable }
         ensures sent { OnOk result (self.new.sent ≡ self.old.sent ++ parcel ∷ []) }
         ensures refused { IfErr result (λ back. (back ≡ parcel) × (self.new.sent ≡ self.old.sent)) }
     {
@@ -146,10 +152,11 @@ impl<M: Drop> RelayTx<M> {
     /// Makes a waker of the thread that takes. The error means that an allocation failed.
     pub fn waker(&mut self) -> Result<RelayWaker<M>, AllocError>
         ensures relay { IfOk result (λ waker. waker ≡ record { relay = self.old.relay; given = 0 }) }
-        ensures same { self.new ≡ self.old }
+        ensures made { OnOk result (self.new ≡ record { relay = self.old.relay; sent = self.old.sent; wakeable = true }) }
+        ensures same { OnErr result (self.new ≡ self.old) }
     {
         let sender = self.sender.try_clone()?;
-        let pass = self.sender.another::<Admit>(&mut self.pass);
+        let pass = self.sender.another::<MakeWaker>(&mut self.pass);
         Ok(RelayWaker { sender, pass })
     }
 }
@@ -161,7 +168,7 @@ impl<M: Drop> RelayWaker<M> {
         ensures same { self.new ≡ self.old }
     {
         let sender = self.sender.try_clone()?;
-        let pass = self.sender.another::<Admit>(&mut self.pass);
+        let pass = self.sender.another::<CopyWaker>(&mut self.pass);
         Ok(RelayWaker { sender, pass })
     }
 
@@ -193,6 +200,7 @@ impl<M: Drop> RelayRx<M> {
         ensures relay { self.new.relay ≡ self.old.relay }
         ensures some { IfSome result (λ parcel. self.new.taken ≡ self.old.taken ++ parcel ∷ []) }
         ensures none { IfNone result (self.new.taken ≡ self.old.taken) }
+        ensures wakes { self.old.wakes ≤ self.new.wakes }
     {
         for _ in rt.forever() {
             match self.take_or_wake(rt) {
@@ -218,19 +226,34 @@ impl<M: Drop> RelayRx<M> {
         }
     }
 
+    /// As `take_or_wake`, but it doesn't wait. `Taken::Nothing` comes where nothing stands at the front.
+    pub fn try_take<R: Wait>(&mut self, rt: &R) -> Taken<M>
+        ensures relay { self.new.relay ≡ self.old.relay }
+        ensures taken { TakenIs result self.old.taken self.new.taken }
+        ensures wakes { self.new.wakes ≡ wakes_after result self.old.wakes }
+    {
+        match self.receiver.try_recv_as::<Received, R>(rt, &mut self.pass) {
+            Ok(Some(parcel)) => Taken::Parcel(parcel),
+            Ok(None) => Taken::Wake,
+            Err(_) => Taken::Nothing,
+        }
+    }
+
     /// Takes without waiting. `None` means that no parcel was taken: nothing or a wake stood at the front.
     fn take_at_once<R: Wait>(&mut self, rt: &R) -> Option<Parcel<M>>
         ensures relay { self.new.relay ≡ self.old.relay }
         ensures some { IfSome result (λ parcel. self.new.taken ≡ self.old.taken ++ parcel ∷ []) }
         ensures none { IfNone result (self.new.taken ≡ self.old.taken) }
+        ensures wakes { self.old.wakes ≤ self.new.wakes }
     {
-        self.receiver
-            .try_recv_as::<Received, R>(rt, &mut self.pass)
-            .unwrap_or(None)
+        match self.try_take(rt) {
+            Taken::Parcel(parcel) => Some(parcel),
+            Taken::Wake | Taken::Nothing => None,
+        }
     }
 
     /// Takes a parcel without waiting, when both ends are in one thread again. Afterwards what was taken is a beginning of what
-    /// was sent, in order, and all of it if `Parcel::End` was taken.
+    /// was sent, in order, and all of it if `Parcel::End` was taken. If no waker was ever made, no wake was taken.
     ///
     /// `None` means that no parcel was taken. It comes if the relay is empty, and where a wake stood at the front, which is taken then.
     pub fn settle<R: Wait>(&mut self, rt: &R, tx: &mut RelayTx<M>) -> Option<Parcel<M>>
@@ -240,6 +263,8 @@ impl<M: Drop> RelayRx<M> {
         ensures none { IfNone result (self.new.taken ≡ self.old.taken) }
         ensures settled { IsPrefix self.new.taken tx.new.sent }
         ensures whole { has_end self.new.taken ≡ true → self.new.taken ≡ tx.new.sent }
+        ensures wakes { self.old.wakes ≤ self.new.wakes }
+        ensures unwoken { tx.old.wakeable ≡ false → self.new.wakes ≡ 0 }
         ensures sender { tx.new ≡ tx.old }
     {
         let front = self.take_at_once(rt);
@@ -251,10 +276,12 @@ impl<M: Drop> RelayRx<M> {
     }
 }
 
-/// Settles a relay whose ends are in one thread again, and drops both. What was taken is a beginning of what was sent.
+/// Settles a relay whose ends are in one thread again, and drops both. What was taken is a beginning of what was sent. If no waker was
+/// ever made, no wake was taken.
 pub fn settle_all<R: Wait, M: Drop>(rt: &R, rx: RelayRx<M>, tx: RelayTx<M>)
     requires { rx.relay ≡ tx.relay }
-    ensures { IsPrefix rx.taken tx.sent }
+    ensures settled { IsPrefix rx.taken tx.sent }
+    ensures unwoken { tx.wakeable ≡ false → rx.wakes ≡ 0 }
 {
     let mut rx = rx;
     let mut tx = tx;

@@ -1,5 +1,5 @@
 // The relay of `lsp_relay`, which carries anything, for messages.
-ghost use Rattle.std.specs.Prelude.{◌≡◌, ◌<◌, [], IfOk};
+ghost use Rattle.std.specs.Prelude.{◌≡◌, ◌<◌, [], false, IfOk};
 
 use lsp_message::Message;
 use std::alloc::{AllocError, Global};
@@ -7,10 +7,12 @@ use std::alloc::{AllocError, Global};
 /// What a relay carries: a message, or `End`, the sign that no more follow.
 pub type Parcel = lsp_relay::Parcel<Message>;
 
-/// The sender's end of a relay. Contracts see which relay it belongs to and the parcels that were sent, in order.
+/// The sender's end of a relay. Contracts see which relay it belongs to and the parcels that were sent, in order, and
+/// whether a waker was ever made.
 pub type RelayTx = lsp_relay::RelayTx<Message>;
 
-/// The receiver's end of a relay. Contracts see which relay it belongs to and the parcels that were taken, in order.
+/// The receiver's end of a relay. Contracts see which relay it belongs to and the parcels that were taken, in order, and
+/// how many wakes.
 pub type RelayRx = lsp_relay::RelayRx<Message>;
 
 /// Makes a relay with room for this many parcels, at least one. The error means that an allocation failed.
@@ -18,6 +20,7 @@ pub fn relay(alloc: Global, room: usize) -> Result<(RelayTx, RelayRx), AllocErro
     requires { 0 < room }
     ensures one_relay { IfOk result (λ ends. ends.1.relay ≡ ends.0.relay) }
     ensures empty { IfOk result (λ ends. (ends.0.sent ≡ []) × (ends.1.taken ≡ [])) }
+    ensures unwoken { IfOk result (λ ends. (ends.1.wakes ≡ 0) × (ends.0.wakeable ≡ false)) }
 {
     lsp_relay::relay(alloc, room)
 }

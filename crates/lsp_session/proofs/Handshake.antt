@@ -5,12 +5,11 @@ use Rattle.lsp_session.proofs.Waiting.{FoldsTo-append, list_all-push}
 use Rattle.lsp_session.specs.Boxes.{Sends, Receives}
 use Rattle.lsp_session.specs.Event.{message, timeout}
 use Rattle.lsp_session.specs.Finish.{FinishAnswer, is_idle, Finishes, AwaitsWithin}
-use Rattle.lsp_session.specs.Session.{ended}
 use Rattle.lsp_session.specs.Start.{StartAnswer, is_undecided, request_of, IsEarlyReply, fault_of_refusal, PassesOver, StartsWithin, Ends}
 use Rattle.lsp_session.specs.Turns.{Turn, got, TakesTurn}
 use Rattle.lsp_session.specs.declared.lifecycle.SendFault.{SendFault}
 use Rattle.serde_json.specs.Data.{Data}
-use Rattle.std.proofs.Common.{◌≡◌, refl, inl, inr, ℕ, ◌-◌, Bool, true, false, List, [], ◌∷◌, ◌++◌, length, arith, Some, codes, ◌+◌, ◌<◌, length-append}
+use Rattle.std.proofs.Common.{◌≡◌, refl, inl, inr, ℕ, Bool, true, false, List, [], ◌∷◌, ◌++◌, length, arith, Some, codes, ◌+◌, ◌<◌, length-append}
 use Rattle.std.proofs.lemmas.Fn.{FoldsTo-push}
 use Rattle.std.proofs.lemmas.List.Elements.{filter_map-append}
 use Rattle.std.proofs.lemmas.List.Folds.{list_all-append}

@@ -8,7 +8,7 @@ use Rattle.lsp_session.specs.Prompt.{event_of, StopsAfterNull, Meets, BreaksOff,
 use Rattle.lsp_session.specs.Session.{SessionAnswer, SessionPart, Exchange, came_of, sends_of, Stop, decided, no_more, timed_out, refused, exhausted, Phase}
 use Rattle.lsp_session.specs.SessionRun.{came_in, is_open, Brings, OffersLast, Gets, AwaitsExit, Runs}
 use Rattle.lsp_session.specs.declared.lifecycle.SendFault.{SendFault}
-use Rattle.std.proofs.Common.{◌≡◌, refl, ◌∙◌, inl, inr, ◌≤◌, ◌-◌, true, List, [], ◌∷◌, ◌++◌, length, length-append, append_assoc, append-nil, arith, Option, Some, None}
+use Rattle.std.proofs.Common.{◌≡◌, refl, ◌∙◌, inl, inr, ◌≤◌, true, List, [], ◌∷◌, ◌++◌, length, length-append, append_assoc, append-nil, arith, Option, Some, None}
 use Rattle.std.proofs.lemmas.List.Elements.{filter_map-append}
 use Rattle.std.proofs.lemmas.List.Folds.{list_all-append}
 use Rattle.std.specs.List.{FoldsTo, list_all, filter_map}

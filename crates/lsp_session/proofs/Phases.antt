@@ -1,6 +1,6 @@
 -- The phase that the exchanges of a session tell is the one that its steps reach, as long as it goes on.
 use Rattle.lsp_message.specs.Message.{Message, ErrorObject, request, notification, response}
-use Rattle.lsp_message.specs.Methods.{is_early, is_initialize, is_initialized, is_exit}
+use Rattle.lsp_message.specs.Methods.{is_early, is_initialized, is_exit}
 use Rattle.lsp_session.proofs.Ran.{IsOpen}
 use Rattle.lsp_session.specs.Prompt.{is_result, next_phase}
 use Rattle.lsp_session.specs.ProtocolError.{ProtocolFault, expected_initialize, expected_initialized, unexpected_in_shutdown}

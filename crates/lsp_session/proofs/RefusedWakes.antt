@@ -4,15 +4,14 @@ use Rattle.lsp_message.specs.Message.{Message}
 use Rattle.lsp_session.proofs.Line.{ends_at_exit}
 use Rattle.lsp_session.proofs.Waiting.{waits_none}
 use Rattle.lsp_session.specs.Boxes.{Sends, Receives, Takes}
-use Rattle.lsp_session.specs.Event.{Event, message, timeout, closed, woken}
+use Rattle.lsp_session.specs.Event.{Event, message, woken}
 use Rattle.lsp_session.specs.Prompt.{event_of, next_phase, WaitsIn, Meets, EndsTalk, Talks}
 use Rattle.lsp_session.specs.Session.{Behavior, SessionAnswer, SessionPart, Exchange, came_of, Stop, decided, no_more, timed_out, refused, exhausted, Phase, serving, SessionFrom}
 use Rattle.lsp_session.specs.SessionLaws.{Both}
-use Rattle.lsp_session.specs.declared.lifecycle.SendFault.{SendFault}
 use Rattle.lsp_session.specs.declared.loops.handler.SessionEnd.TheVariants.{Closed}
 use Rattle.std.proofs.Common.{◌≡◌, refl, sym, ◌∙◌, ap, Bool, true, false, List, [], ◌∷◌, ◌++◌, length, map, Option, Some, None}
 use Rattle.std.specs.List.{FoldsTo, list_all}
-use Rattle.std.specs.Prelude.{Result, Ok, Err}
+use Rattle.std.specs.Prelude.{Ok}
 
 abbrev is_wake : Event → Bool
 is_wake woken = true

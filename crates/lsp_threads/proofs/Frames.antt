@@ -66,11 +66,11 @@ framed_more m old new frame (Err fault) is joined = tt
 
 -- ---- what a thread that reads sent
 module _ (limit : ℕ) where
-  pub handed_frames : (known : Option (List ℕ)) (tx : Sending (String Global)) (start mid : Framing) (left : Option (List ℕ)) (sent : List (Parcel (String Global))) (end : ReadEnd)
+  pub handed_frames : (known : Option (List ℕ)) (tx : Sending (String Global)) (start mid : Framing) (left : Option (List ℕ)) (back : Sending (String Global)) (end : ReadEnd)
       → start ≡ record { relay = tx.relay; bytes = [] } → IfSome known (λ text. Hands limit FramingSends text start mid left end)
-      → parcel_bytes sent ≡ mid.bytes → AreEnded sent → IfSome known (λ text. HandsFrames limit text tx end sent)
-  handed_frames None tx start mid left sent end same handed all ended = tt
-  handed_frames (Some text) tx start mid left sent end same handed all ended =
+      → parcel_bytes back.sent ≡ mid.bytes → AreEnded back.sent → IfSome known (λ text. HandsFrames limit text tx end back)
+  handed_frames None tx start mid left back end same handed all ended = tt
+  handed_frames (Some text) tx start mid left back end same handed all ended =
       (mid, left, subst (λ f. Hands limit FramingSends text f mid left end) same handed, all, ended)
 
   same_bytes : (end : ReadEnd) (mid new : Framing) → After limit FramingSends mid end new → new.bytes ≡ mid.bytes
@@ -80,9 +80,9 @@ module _ (limit : ℕ) where
   abbrev pub unsent : Sending (String Global) → Framing
   unsent tx = record { relay = tx.relay; bytes = [] }
 
-  pub sent_frames : (tx : Sending (String Global)) (sent : List (Parcel (String Global))) (text : List ℕ) (end : ReadEnd) → HandsFrames limit text tx end sent
-      → (new : Framing) × (on : HandedOn limit FramingSends text (unsent tx) end new) × AreFramesOf on.messages (parcel_bytes sent)
-  sent_frames tx sent text end (mid, left, handed, all, ended) =
+  pub sent_frames : (tx back : Sending (String Global)) (text : List ℕ) (end : ReadEnd) → HandsFrames limit text tx end back
+      → (new : Framing) × (on : HandedOn limit FramingSends text (unsent tx) end new) × AreFramesOf on.messages (parcel_bytes back.sent)
+  sent_frames tx back text end (mid, left, handed, all, ended) =
       let on = handed_on limit FramingSends (λ old m back new refuses. refuses) text (unsent tx) mid left end handed in
       let frames = framed (unsent tx) on.mid on.messages on.taken in
       let bytes = all ∙ same_bytes end on.mid mid on.after ∙ frames.2 in
@@ -214,12 +214,12 @@ module _ (limit : ℕ) where
     pumped bytes read (Some NoMemory) frames told reads (output, some, begun) = absurd output
 
   -- the same of what was sent on a relay and what was taken from it
-  pub pumped_over : (known : Option (List ℕ)) (a b : Option (List ℕ)) (tx : Sending (String Global)) (sent taken : List (Parcel (String Global))) (read : ReadEnd) (fault : Option WriteFault)
-      → IfSome known (λ text. HandsFrames limit text tx read sent) → WritesParcels taken fault a b → IsPrefix taken sent
+  pub pumped_over : (known : Option (List ℕ)) (a b : Option (List ℕ)) (tx back : Sending (String Global)) (taken : List (Parcel (String Global))) (read : ReadEnd) (fault : Option WriteFault)
+      → IfSome known (λ text. HandsFrames limit text tx read back) → WritesParcels taken fault a b → IsPrefix taken back.sent
       → IfSome known (λ text. Pumps limit text a b (pump_answer read fault))
-  pumped_over None a b tx sent taken read fault handed written settled = tt
-  pumped_over (Some text) a b tx sent taken read fault handed written settled =
-      let all = sent_frames limit tx sent text read handed in
+  pumped_over None a b tx back taken read fault handed written settled = tt
+  pumped_over (Some text) a b tx back taken read fault handed written settled =
+      let all = sent_frames limit tx back text read handed in
       let on = all.1 in
-      let frames = subst (λ ps. AreFramesOf on.messages (parcel_bytes ps)) (same_parcels taken sent written.0 handed.4 settled) all.2 in
+      let frames = subst (λ ps. AreFramesOf on.messages (parcel_bytes ps)) (same_parcels taken back.sent written.0 handed.4 settled) all.2 in
       pumped text a b on.messages (parcel_bytes taken) read fault frames on.told on.reads written.1

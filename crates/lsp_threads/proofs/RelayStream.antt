@@ -1,8 +1,8 @@
 -- What boxes over a relay of messages did: its inbox, over the messages that a thread read, gives what an inbox over the text itself gives.
-use Rattle.std.proofs.Common.{◌≡◌, List, [], ◌∷◌, ◌++◌, ◌∙◌, ℕ, ap, sym, refl, map, append_assoc, append-nil, Option, Some, None, IfSome, OnSome, Result, Ok, Err, subst, Bool, true, false, true≢false}
+use Rattle.std.proofs.Common.{arith, ◌≡◌, ◌≤◌, ◌+◌, List, [], ◌∷◌, ◌++◌, ◌∙◌, ℕ, ap, sym, refl, map, append_assoc, append-nil, Option, Some, None, IfSome, OnSome, Result, Ok, Err, subst, Bool, true, false, true≢false}
 use Rattle.std.proofs.KnownBytes.{Appends-trans}
 use Rattle.std.proofs.lemmas.Fn.{FoldsTo-push}
-use Rattle.std.specs.List.{FoldsTo}
+use Rattle.std.specs.List.{FoldsTo, filter_map}
 use Rattle.lsp_message.specs.Message as plain
 use Rattle.lsp_message.specs.View.{message_view}
 use Rattle.lsp_message.specs.Written.{GetsFrames, Writes}
@@ -18,10 +18,11 @@ use Rattle.lsp_session.specs.Event.{Event, message, closed, woken}
 use Rattle.lsp_session.specs.FrameBoxes.{kept_write}
 use Rattle.lsp_session.specs.ReadLoop.{Hands}
 use Rattle.lsp_session.specs.Session.{Stop, refused}
-use Rattle.lsp_session.specs.SessionRun.{all_of, Gets, OffersLast}
+use Rattle.lsp_session.specs.SessionRun.{all_of, came_in, Gets, OffersLast}
 use Rattle.lsp_session.specs.WriteLoop.{OffersAll}
 use Rattle.lsp_session.specs.declared.lifecycle.SendFault.{SendFault}
 use Rattle.lsp_session.specs.declared.loops.ReadEnd.{ReadEnd}
+use Rattle.lsp_threads.proofs.Wakes.{Unwoken}
 use Rattle.lsp_threads.specs.RelayBoxes.{HandsOn, RelaySends, RelayGives, Receiving, WritesAll}
 use Rattle.std.proofs.lemmas.List.{append_cancel_left}
 use Rattle.std.specs.Bool.{MatchBool}
@@ -52,29 +53,32 @@ offered_relay old new (m ∷ ms) run = offered_relay run.0 new ms run.2 ∙ send
 -- these messages were sent, in order
 pub record Posted (old : Sending Message) (ms : List plain.Message) (new : Sending Message) : Type 0 where
   pub same_relay : new.relay ≡ old.relay
+  pub same_wakeable : new.wakeable ≡ old.wakeable
   pub xs : List Message
   pub views : map message_view xs ≡ ms
   pub sent : new.sent ≡ old.sent ++ map parcel.Message xs
 
 pub posted : (old new : Sending Message) (ms : List plain.Message) → FoldsTo (Takes RelaySends) old ms new → Posted old ms new
-posted old new [] run = rw (sym run) (record { same_relay = refl; xs = []; views = refl; sent = sym (append-nil old.sent) })
+posted old new [] run = rw (sym run) (record { same_relay = refl; same_wakeable = refl; xs = []; views = refl; sent = sym (append-nil old.sent) })
 posted old new (m ∷ ms) run =
     let later = posted run.0 new ms run.2 in
     let x = run.1.1.0 in
     let first : message_view x ≡ m = run.1.1.1 in
     record {
       same_relay = later.same_relay ∙ run.1.0;
+      same_wakeable = later.same_wakeable ∙ run.1.2;
       xs = x ∷ later.xs;
       views = λ i. first i ∷ later.views i;
       sent = later.sent ∙ ap (λ l. l ++ map parcel.Message later.xs) run.1.1.2 ∙ append_assoc old.sent (parcel.Message x ∷ []) (map parcel.Message later.xs);
     }
 
 -- what a loop handed on, and then End
-pub handed_parcels : (limit : ℕ) (known : Option (List ℕ)) (tx old mid : Sending Message) (left : Option (List ℕ)) (sent : List (Parcel Message)) (end : ReadEnd) → old ≡ tx
-    → IfSome known (λ text. Hands limit RelaySends text old mid left end) → sent ≡ mid.sent ++ parcel.End ∷ [] → IfSome known (λ text. HandsOn limit text tx end sent)
-handed_parcels limit None tx old mid left sent end same hands finished = tt
-handed_parcels limit (Some text) tx old mid left sent end same hands finished =
-    (mid, left, subst (λ (s : Sending Message). Hands limit RelaySends text s mid left end) same hands, finished)
+pub handed_parcels : (limit : ℕ) (known : Option (List ℕ)) (tx old mid : Sending Message) (left : Option (List ℕ)) (new : Sending Message) (end : ReadEnd) → old ≡ tx
+    → IfSome known (λ text. Hands limit RelaySends text old mid left end) → new.sent ≡ mid.sent ++ parcel.End ∷ [] → new.wakeable ≡ mid.wakeable
+    → IfSome known (λ text. HandsOn limit text tx end new)
+handed_parcels limit None tx old mid left new end same hands finished kept = tt
+handed_parcels limit (Some text) tx old mid left new end same hands finished kept =
+    (mid, left, subst (λ (s : Sending Message). Hands limit RelaySends text s mid left end) same hands, finished, kept)
 
 module _ (old new : Sending Message) (output : List plain.Message) (mid : Sending Message) (run : FoldsTo (Takes RelaySends) old output mid) where
   null_posted : (null : plain.Message) (outcome : Result (Unit {0}) SendFault) → RelaySends mid null outcome new → Posted old (output ++ null ∷ []) new
@@ -92,13 +96,34 @@ all_posted old new output null (refused fault) got = absurd got.0.5
 all_posted old new output null stop got = (tt, last_posted old new output got.0 got.1 null got.2)
 
 -- ---- what was taken
+-- the inbox after a wake
+abbrev woken_once : Receiving Message → Receiving Message
+woken_once old = record old { wakes = old.wakes + 1 }
+
 -- an inbox keeps the relay
 pub gives_relay : (events : List Event) (old new : Receiving Message) → FoldsTo RelayGives old events new → new.relay ≡ old.relay
 gives_relay [] old new run = sym (ap (λ (t : Receiving Message). t.relay) run)
 gives_relay (message m ∷ events) old new run = gives_relay events run.0 new run.2 ∙ run.1.0
 gives_relay (closed ∷ events) old new run = gives_relay events run.0 new run.2 ∙ run.1.0
-gives_relay (woken ∷ events) old new run = gives_relay events old new (rw run.1 at run.2)
+gives_relay (woken ∷ events) old new run = gives_relay events run.0 new run.2 ∙ ap (λ (t : Receiving Message). t.relay) run.1
 gives_relay (event ∷ events) old new run = absurd run.1
+
+-- wakes that were taken stay taken
+wakes_grow : (events : List Event) (old new : Receiving Message) → FoldsTo RelayGives old events new → old.wakes ≤ new.wakes
+wakes_grow [] old new run = omega (arith, ap (λ (t : Receiving Message). t.wakes) run)
+wakes_grow (message m ∷ events) old new run = omega (arith, run.1.4, wakes_grow events run.0 new run.2)
+wakes_grow (closed ∷ events) old new run = omega (arith, run.1.3, wakes_grow events run.0 new run.2)
+wakes_grow (woken ∷ events) old new run = omega (arith, ap (λ (t : Receiving Message). t.wakes) run.1, wakes_grow events run.0 new run.2)
+wakes_grow (event ∷ events) old new run = absurd run.1
+
+-- where no wake was taken, the inbox gave none
+pub none_woken : (events : List Event) (old new : Receiving Message) → FoldsTo RelayGives old events new → new.wakes ≡ 0 → Unwoken (filter_map came_in events)
+none_woken [] old new run none = refl
+none_woken (message m ∷ events) old new run none = none_woken events run.0 new run.2 none
+none_woken (closed ∷ events) old new run none = none_woken events run.0 new run.2 none
+none_woken (woken ∷ events) old new run none =
+    absurd (omega (arith, none, ap (λ (t : Receiving Message). t.wakes) run.1, wakes_grow events run.0 new run.2))
+none_woken (event ∷ events) old new run none = absurd run.1
 
 -- ---- what was written
 module _ (ms : List plain.Message) (m : plain.Message) (a b c : Option (List ℕ)) where
@@ -127,7 +152,7 @@ grows (closed ∷ events) old new run = at (has_end old.taken) run.1.2 (grows ev
     at : (b : Bool) → MatchBool b (run.0.taken ≡ old.taken) (run.0.taken ≡ old.taken ++ parcel.End ∷ []) → IsPrefix run.0.taken new.taken → IsPrefix old.taken new.taken
     at true same later = (later.0, ap (λ l. l ++ later.0) (sym same) ∙ later.1)
     at false more later = (parcel.End ∷ later.0, sym (append_assoc old.taken (parcel.End ∷ []) later.0) ∙ ap (λ l. l ++ later.0) (sym more) ∙ later.1)
-grows (woken ∷ events) old new run = grows events old new (rw run.1 at run.2)
+grows (woken ∷ events) old new run = grows events (woken_once old) new (rw run.1 at run.2)
 grows (event ∷ events) old new run = absurd run.1
 
 module _ (limit : ℕ) where
@@ -193,7 +218,7 @@ module _ (limit : ℕ) where
         let same : run.0.taken ≡ old.taken = rw ends at run.1.2 in
         let later = after_end events run.0 left (ap has_end same ∙ ends) run.2 in
         ((done left, (refl, refl, keeps left), later.0), later.1)
-    after_end (woken ∷ events) old left ends run = let later = after_end events old left ends (rw run.1 at run.2) in ((done left, refl, later.0), later.1)
+    after_end (woken ∷ events) old left ends run = let later = after_end events (woken_once old) left ends (rw run.1 at run.2) in ((done left, refl, later.0), later.1)
     after_end (event ∷ events) old left ends run = absurd run.1
 
     after_exit : (events : List Event) (old : Receiving Message) (left : Option (List ℕ)) → read ≡ Exit → old.exited ≡ true → has_end old.taken ≡ false → ToCome old (parcel.End ∷ [])
@@ -206,7 +231,7 @@ module _ (limit : ℕ) where
         let later = after_end events run.0 left (ap has_end last ∙ has_end_closed old.taken) run.2 in
         ((done left, (refl, refl, keeps left), later.0), later.1)
     after_exit (woken ∷ events) old left exit exited still_open to_come run =
-        let later = after_exit events old left exit exited still_open to_come (rw run.1 at run.2) in ((done left, refl, later.0), later.1)
+        let later = after_exit events (woken_once old) left exit exited still_open to_come (rw run.1 at run.2) in ((done left, refl, later.0), later.1)
     after_exit (event ∷ events) old left exit exited still_open to_come run = absurd run.1
 
     none_left : (more : List Message) → map message_view more ≡ [] → more ≡ []
@@ -252,13 +277,21 @@ module _ (limit : ℕ) where
         let later = after_end events run.0 left.0 (ap has_end last ∙ has_end_closed old.taken) run.2 in
         (done left.0, ((done left.0, left.1, later.0), later.1))
     goes_on (woken ∷ events) old at more still_open unexited to_come reads taken run =
-        let later = goes_on events old at more still_open unexited to_come reads taken (rw run.1 at run.2) in (later.0, ((going at, refl, later.1.0), later.1.1))
+        let later = goes_on events (woken_once old) at more still_open unexited to_come reads taken (rw run.1 at run.2) in (later.0, ((going at, refl, later.1.0), later.1.1))
     goes_on (event ∷ events) old at more still_open unexited to_come reads taken run = absurd run.1
 
   -- the outbox of the thread that reads takes each message
   never_full : (read : ReadEnd) (mid new : Sending Message) → After limit RelaySends mid read new → (new ≡ mid) × NotFull read
   never_full Memory mid new after = absurd after.2
   never_full end mid new after = (after, tt)
+
+  -- what is sent by the thread that reads makes no waker
+  pub hands_keep : (text : List ℕ) (tx back : Sending Message) (read : ReadEnd) → HandsOn limit text tx read back → back.wakeable ≡ tx.wakeable
+  hands_keep text tx back read (mid, left, handed, finished, kept) =
+      let on = handed_on limit RelaySends (λ old m back new refused. refused) text tx mid left read handed in
+      let whole = never_full read on.mid mid on.after in
+      let all = posted tx on.mid on.messages on.taken in
+      kept ∙ ap (λ (s : Sending Message). s.wakeable) whole.0 ∙ all.same_wakeable
 
   -- what is taken to the end begins with what the inbox took
   taken_first : (b : Bool) (inbox taken sent : List (Parcel Message)) → MatchBool b (taken ≡ inbox) ((more : List Message) × (taken ≡ inbox ++ ended more)) → IsPrefix taken sent
@@ -268,16 +301,17 @@ module _ (limit : ℕ) where
       (ended more.0 ++ settled.0, sym (append_assoc inbox (ended more.0) settled.0) ∙ ap (λ l. l ++ settled.0) (sym more.1) ∙ settled.1)
 
   module _ (inbox inbox' : Receiving Message) (none : inbox.taken ≡ []) (unexited : inbox.exited ≡ false) (events : List Event) (run : FoldsTo RelayGives inbox events inbox')
-      (taken sent : List (Parcel Message)) (drained : MatchBool (has_end inbox'.taken) (taken ≡ inbox'.taken) ((more : List Message) × (taken ≡ inbox'.taken ++ ended more)))
-      (settled : IsPrefix taken sent) (tx : Sending Message) (empty : tx.sent ≡ []) (read : ReadEnd) where
+      (taken : List (Parcel Message)) (back : Sending Message)
+      (drained : MatchBool (has_end inbox'.taken) (taken ≡ inbox'.taken) ((more : List Message) × (taken ≡ inbox'.taken ++ ended more)))
+      (settled : IsPrefix taken back.sent) (tx : Sending Message) (empty : tx.sent ≡ []) (read : ReadEnd) where
     -- what the inbox did over the relay, as an inbox over the text
-    pub as_stream : (text : List ℕ) → HandsOn limit text tx read sent
+    pub as_stream : (text : List ℕ) → HandsOn limit text tx read back
         → (s : Stream) × (FoldsTo (WakingGives limit) (record { remaining = Some text; end = None }) events s × (s.end ≡ session_end (has_end inbox'.taken) inbox'.exited read))
-    as_stream text (mid, left, handed, finished) =
+    as_stream text (mid, left, handed, finished, kept) =
         let on = handed_on limit RelaySends (λ old m back new refused. refused) text tx mid left read handed in
         let whole = never_full read on.mid mid on.after in
         let all = posted tx on.mid on.messages on.taken in
-        let begun = taken_first (has_end inbox'.taken) inbox'.taken taken sent drained settled in
+        let begun = taken_first (has_end inbox'.taken) inbox'.taken taken back.sent drained settled in
         let sent_is = finished ∙ ap (λ (s : Sending Message). s.sent ++ parcel.End ∷ []) whole.0
         ∙ ap (λ l. l ++ parcel.End ∷ []) (all.sent ∙ ap (λ l. l ++ map parcel.Message all.xs) empty) in
         goes_on read inbox' begun.0 events inbox text all.xs (ap has_end none) unexited (begun.1 ∙ sent_is ∙ ap (λ l. l ++ ended all.xs) (sym none))

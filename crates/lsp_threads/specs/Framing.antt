@@ -35,9 +35,9 @@ abbrev pub AreEnded : List (Parcel (String Global)) → Type 0
 AreEnded sent = (texts : List (String Global)) × (sent ≡ ended texts)
 
 -- what was sent is the frames that a loop over the messages of the text hands on, whose content parts have at most so many bytes, and then End
-abbrev pub HandsFrames : ℕ → List ℕ → Sending (String Global) → ReadEnd → List (Parcel (String Global)) → Type 0
-HandsFrames limit text old end sent = (mid : Framing) × (left : Option (List ℕ))
-    × Hands limit FramingSends text (record { relay = old.relay; bytes = [] }) mid left end × (parcel_bytes sent ≡ mid.bytes) × AreEnded sent
+abbrev pub HandsFrames : ℕ → List ℕ → Sending (String Global) → ReadEnd → Sending (String Global) → Type 0
+HandsFrames limit text old end new = (mid : Framing) × (left : Option (List ℕ))
+    × Hands limit FramingSends text (record { relay = old.relay; bytes = [] }) mid left end × (parcel_bytes new.sent ≡ mid.bytes) × AreEnded new.sent
 
 -- the bytes were written, or a write failed so after a beginning of them
 abbrev pub WritesBytes : List ℕ → Option WriteFault → Option (List ℕ) → Option (List ℕ) → Type 0

@@ -23,10 +23,10 @@ pub record BreaksOffWithin (ms : List Message) (old new : Option (List ℕ)) : T
 abbrev pub GetsFirst : List Message → Option (List ℕ) → Option (List ℕ) → Type 0
 GetsFirst ms old new = (sent : List Message) × (unsent : List Message) × (ms ≡ sent ++ unsent) × GetsFrames sent old new
 
--- The first frame of the text is this message, and the rest follows it; or others woke the session, and nothing was read.
-abbrev pub ReadsOrWakes : ℕ → List ℕ → Option Message → List ℕ → Type 0
-ReadsOrWakes limit text (Some m) rest = Begins limit text m rest
-ReadsOrWakes limit text None rest = rest ≡ text
+-- The first frame of the text is this message, and the rest follows it; or others woke the session, if they can, and nothing was read.
+abbrev pub ReadsOrWakes : Bool → ℕ → List ℕ → Option Message → List ℕ → Type 0
+ReadsOrWakes wakeable limit text (Some m) rest = Begins limit text m rest
+ReadsOrWakes wakeable limit text None rest = (wakeable ≡ true) × (rest ≡ text)
 
 -- For what a session in threads answers: as one over bytes ends, whatever is left of the text, since the reader is gone.
 abbrev pub EndsInThreads : ℕ → Result SessionEnd SessionFault → SessionAnswer → Stop → Option Message → List ℕ → Type 0
@@ -39,9 +39,14 @@ WroteInThreads old new (Err (Write fault)) stop null sends = IsOutput fault × B
 WroteInThreads old new (Err Memory) stop null sends = GetsFirst sends old new
 WroteInThreads old new result stop null sends = GetsFrames sends old new
 
--- bytes in to bytes out
+-- bytes in to bytes out, of a session that others can wake or not
+abbrev pub ThreadsGiveOver : Bool → ℕ → SessionPart → List ℕ → Option (List ℕ) → Option (List ℕ) → Result SessionEnd SessionFault → Type 0
+ThreadsGiveOver wakeable limit P text old new result =
+    SessionOver (ReadsOrWakes wakeable limit) P text (EndsInThreads limit result) (WroteInThreads old new result)
+
+-- nobody can wake the session
 abbrev pub ThreadsGive : ℕ → SessionPart → List ℕ → Option (List ℕ) → Option (List ℕ) → Result SessionEnd SessionFault → Type 0
-ThreadsGive limit P text old new result = SessionOver (ReadsOrWakes limit) P text (EndsInThreads limit result) (WroteInThreads old new result)
+ThreadsGive = ThreadsGiveOver false
 
 -- What ended the messages of a session whose inbox was closed so, and gave an `exit` so: a reader's end counts where the
 -- session came to it. For private clauses.

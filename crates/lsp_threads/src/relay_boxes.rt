@@ -1,5 +1,5 @@
 //! The ends of a relay of messages, as an outbox and as an inbox.
-ghost use Rattle.std.specs.Prelude.{◌≡◌, ◌++◌, ◌∷◌, [], List, true, false, if◌then◌else◌, IfNone, IfSome, MatchBool};
+ghost use Rattle.std.specs.Prelude.{◌≡◌, ◌≤◌, ◌+◌, ◌++◌, ◌∷◌, [], List, true, false, if◌then◌else◌, IfNone, IfSome, MatchBool};
 ghost use Rattle.lsp_message.specs.Letters.{is_exit as exit_spec};
 ghost use Rattle.lsp_message.specs.View.{message_view};
 ghost use Rattle.lsp_session.specs.Event.{arrival_view, event_view};
@@ -18,6 +18,7 @@ pub fn deliver<R: Wait, M: Drop>(rt: &R, tx: &mut RelayTx<M>, parcel: Parcel<M>)
     requires { IsOpen tx.old.sent }
     ensures relay { tx.new.relay ≡ tx.old.relay }
     ensures sent { tx.new.sent ≡ tx.old.sent ++ parcel ∷ [] }
+    ensures wakeable { tx.new.wakeable ≡ tx.old.wakeable }
 {
     let mut parcel = parcel;
     for _ in rt.forever() {
@@ -33,6 +34,7 @@ pub fn deliver<R: Wait, M: Drop>(rt: &R, tx: &mut RelayTx<M>, parcel: Parcel<M>)
 pub fn collect<R: Wait, M: Drop>(rt: &R, rx: &mut RelayRx<M>) -> Parcel<M>
     ensures relay { rx.new.relay ≡ rx.old.relay }
     ensures taken { rx.new.taken ≡ rx.old.taken ++ result ∷ [] }
+    ensures wakes { rx.old.wakes ≤ rx.new.wakes }
 {
     for _ in rt.forever() {
         if let Some(parcel) = rx.take(rt) {
@@ -47,6 +49,8 @@ fn collect_or_wake<R: Wait, M: Drop>(rt: &R, rx: &mut RelayRx<M>) -> Option<Parc
     ensures relay { rx.new.relay ≡ rx.old.relay }
     ensures parcel { IfSome result (λ parcel. rx.new.taken ≡ rx.old.taken ++ parcel ∷ []) }
     ensures wake { IfNone result (rx.new.taken ≡ rx.old.taken) }
+    ensures unwoken { IfSome result (λ parcel. rx.new.wakes ≡ rx.old.wakes) }
+    ensures counted { IfNone result (rx.new.wakes ≡ rx.old.wakes + 1) }
 {
     for _ in rt.forever() {
         match rx.take_or_wake(rt) {
@@ -87,6 +91,7 @@ impl<R: Wait + Drop, M: Drop> RelayOutbox<R, M> {
     pub fn finish(self) -> RelayTx<M>
         ensures relay { result.relay ≡ self.relay }
         ensures sent { result.sent ≡ self.sent ++ Parcel.End ∷ [] }
+        ensures wakeable { result.wakeable ≡ self.wakeable }
     {
         let RelayOutbox { rt, mut tx } = self;
         deliver(&rt, &mut tx, Parcel::End);
@@ -171,7 +176,7 @@ impl<R: Wait + Drop, M: Drop> Model for RelayInbox<R, M> {
 
     ghost Value = { Receiving M };
 
-    ghost view = { λ b. record { relay = b.rx.relay; taken = b.rx.taken; exited = b.exited } };
+    ghost view = { λ b. record { relay = b.rx.relay; taken = b.rx.taken; exited = b.exited; wakes = b.rx.wakes } };
 
     ghost invariant = { λ b. b.closed ≡ has_end b.rx.taken };
 }
@@ -179,7 +184,7 @@ impl<R: Wait + Drop, M: Drop> Model for RelayInbox<R, M> {
 impl<R: Wait + Drop, M: Drop> RelayInbox<R, M> {
     pub fn new(rt: R, rx: RelayRx<M>) -> RelayInbox<R, M>
         requires { has_end rx.taken ≡ false }
-        ensures { result ≡ record { relay = rx.relay; taken = rx.taken; exited = false } }
+        ensures { result ≡ record { relay = rx.relay; taken = rx.taken; exited = false; wakes = rx.wakes } }
     {
         RelayInbox {
             rt,
@@ -207,6 +212,7 @@ impl<R: Wait + Drop, M: Drop> RelayInbox<R, M> {
     pub fn drain(self) -> RelayRx<M>
         ensures relay { result.relay ≡ self.relay }
         ensures taken { MatchBool (has_end self.taken) (result.taken ≡ self.taken) ((more : List M) × (result.taken ≡ self.taken ++ ended more)) }
+        ensures wakes { self.wakes ≤ result.wakes }
     {
         let RelayInbox {
             rt,
@@ -235,6 +241,7 @@ fn is_end<M: Drop>(parcel: Parcel<M>) -> bool
 fn take_to_end<R: Wait, M: Drop>(rt: &R, rx: &mut RelayRx<M>)
     ensures relay { rx.new.relay ≡ rx.old.relay }
     ensures taken { (more : List M) × (rx.new.taken ≡ rx.old.taken ++ ended more) }
+    ensures wakes { rx.old.wakes ≤ rx.new.wakes }
 {
     for _ in rt.forever() {
         if is_end(collect(rt, rx)) {

@@ -4,7 +4,7 @@ ghost use Rattle.std.specs.Prelude.{◌≡◌, [], IfOk, IfSome};
 ghost use Rattle.lsp_message.specs.Frame.{no_limit};
 ghost use Rattle.lsp_session.specs.HandlerSession.{of_handler};
 ghost use Rattle.lsp_session.specs.Session.{SessionOut};
-ghost use Rattle.lsp_threads.specs.Threads.{ThreadsGive};
+ghost use Rattle.lsp_threads.specs.Threads.{ThreadsGive, ThreadsGiveOver};
 
 use crate::serving::{serve_between, start_both};
 use crate::workers::{ROOM, StartFault};
@@ -196,8 +196,8 @@ where
 }
 
 /// As `run_threads_of_service_by`, over a relay that the caller made, which no message has passed. Wakers of the relay wake the
-/// service, from `initialized` up to `shutdown`; a wake before or after is passed over. That a wake arrives is tested, and no part of
-/// this contract.
+/// service, from `initialized` up to `shutdown`; a wake before or after is passed over. If you made no waker, the service is never
+/// woken. That a wake arrives is tested, and no part of this contract.
 ///
 /// Both ends of the relay are gone when this returns, also after a fault: a wake gives false from then on, and one that waits for
 /// room gives up (tested as well). `service` runs on the caller's thread, and should not wake itself: the relay may be full.
@@ -219,7 +219,7 @@ where
     requires fresh { (ends.0.sent ≡ []) × (ends.1.taken ≡ []) }
     requires same { ends.1.relay ≡ ends.0.relay }
     ensures { IfSome (R.remaining reader) (λ text. IfOk result (λ done.
-        ThreadsGive limit (SessionOut S.behavior service.old service.new)
+        ThreadsGiveOver ends.0.wakeable limit (SessionOut S.behavior service.old service.new)
         text (W.contents writer) (W.contents done.writer) done.answer)) }
 {
     match start_both(rt, builders, alloc, ends, reader, limit, writer) {

@@ -1,7 +1,7 @@
 //! The session between the two threads, and how they are started.
 ghost use Rattle.std.specs.Prelude.{◌≡◌, [], IfOk, IfSome};
 ghost use Rattle.lsp_session.specs.Session.{SessionOut};
-ghost use Rattle.lsp_threads.specs.Threads.{ThreadsGive, session_end as session_end_spec};
+ghost use Rattle.lsp_threads.specs.Threads.{ThreadsGiveOver, session_end as session_end_spec};
 
 use crate::relay_boxes::{RelayInbox, ReplyOutbox, deliver};
 use crate::run::{Builders, Threaded};
@@ -49,7 +49,8 @@ where
     requires fresh { (ends.0.sent ≡ []) × (ends.1.taken ≡ []) }
     requires same { ends.1.relay ≡ ends.0.relay }
     ensures reading { IfOk result (λ workers. (workers.rx.taken ≡ []) × (workers.reading.promise.tx.value.relay ≡ workers.rx.relay)
-        × (workers.reading.promise.tx.value.sent ≡ []) × (workers.reading.promise.reader.value ≡ reader) × (workers.reading.promise.limit ≡ limit)) }
+        × (workers.reading.promise.tx.value.sent ≡ []) × (workers.reading.promise.reader.value ≡ reader) × (workers.reading.promise.limit ≡ limit)
+        × (workers.reading.promise.tx.value.wakeable ≡ ends.0.wakeable)) }
     ensures writing { IfOk result (λ workers. (workers.replies.sent ≡ []) × (workers.writing.promise.rx.value.relay ≡ workers.replies.relay)
         × (workers.writing.promise.writer.value ≡ writer)) }
 {
@@ -114,7 +115,7 @@ where
     requires reading { (workers.rx.taken ≡ []) × (workers.reading.promise.tx.value.relay ≡ workers.rx.relay) × (workers.reading.promise.tx.value.sent ≡ []) }
     requires writing { (workers.replies.sent ≡ []) × (workers.writing.promise.rx.value.relay ≡ workers.replies.relay) }
     ensures { IfSome (R.remaining workers.reading.promise.reader.value) (λ text.
-        ThreadsGive workers.reading.promise.limit (SessionOut S.behavior service.old service.new) text
+        ThreadsGiveOver workers.reading.promise.tx.value.wakeable workers.reading.promise.limit (SessionOut S.behavior service.old service.new) text
         (W.contents workers.writing.promise.writer.value) (W.contents result.writer) result.answer) }
 {
     let Workers {

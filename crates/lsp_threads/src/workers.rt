@@ -52,12 +52,11 @@ impl Error for StartFault {}
 pub trait ReadsInto: Drop {
     ghost use Rattle.std.specs.Prelude.{ℕ, List};
     ghost use Rattle.lsp_relay.specs.Relay.{Sending};
-    ghost use Rattle.lsp_relay.specs.declared.ends.Parcel.{Parcel as parcel};
     ghost use Rattle.lsp_session.specs.declared.loops.ReadEnd.{ReadEnd as read_end};
 
-    /// The messages of these bytes, whose content parts have at most so many, were sent on this end of a relay and ended so, and
-    /// these parcels were sent then.
-    ghost hands_on: { ℕ → List ℕ → Sending Self → read_end → List (parcel Self) → Type 0 };
+    /// The messages of these bytes, whose content parts have at most so many, were sent on this end of a relay and ended so, and the
+    /// end is this then.
+    ghost hands_on: { ℕ → List ℕ → Sending Self → read_end → Sending Self → Type 0 };
 
     /// Sends the messages of a reader, whose content parts have at most `limit` bytes, and then End.
     fn read_into<R: Wait + Drop, S: BufRead + Drop>(
@@ -69,7 +68,7 @@ pub trait ReadsInto: Drop {
     ) -> (RelayTx<Self>, ReadEnd)
         requires { tx.sent ≡ [] }
         ensures relay { result.0.relay ≡ tx.relay }
-        ensures sent { IfSome (S.remaining reader) (λ text. hands_on limit text tx result.1 result.0.sent) };
+        ensures sent { IfSome (S.remaining reader) (λ text. hands_on limit text tx result.1 result.0) };
 }
 
 /// What a thread that writes takes from a relay. The thread is started for any such type, for the same reason.
@@ -106,7 +105,7 @@ impl<S: BufRead, M: ReadsInto> Promise<(RelayTx<M>, ReadEnd)> for Reader<S, M> {
     ghost use Rattle.std.specs.Prelude.{◌≡◌, IfSome};
 
     ghost kept_by = { λ p r. (r.0.relay ≡ p.tx.value.relay)
-        × IfSome (S.remaining p.reader.value) (λ text. M.hands_on p.limit text p.tx.value r.1 r.0.sent) };
+        × IfSome (S.remaining p.reader.value) (λ text. M.hands_on p.limit text p.tx.value r.1 r.0) };
 }
 
 /// What the thread that writes gives back: the receiver's end of the relay that it was given, of which all was taken, and
@@ -201,7 +200,7 @@ impl ReadsInto for Message {
     ) -> (RelayTx<Message>, ReadEnd)
         requires { tx.sent ≡ [] }
         ensures relay { result.0.relay ≡ tx.relay }
-        ensures sent { IfSome (S.remaining reader) (λ text. HandsOn limit text tx result.1 result.0.sent) }
+        ensures sent { IfSome (S.remaining reader) (λ text. HandsOn limit text tx result.1 result.0) }
     {
         let mut reader = reader;
         let mut outbox = RelayOutbox::new(rt, tx);

@@ -11,8 +11,7 @@ ghost use Rattle.lsp_message.specs.ReadingSteps.{Decodes};
 ghost use Rattle.lsp_message.specs.View.{message_view};
 ghost use Rattle.lsp_message.specs.Written.{IsFrameOf, Writes};
 
-use crate::frame::body::read_body;
-use crate::frame::read::read_header;
+use crate::frame::content::read_content_within;
 use crate::frame::write::{with_header, write_body};
 use crate::frame::{ReadFault, WriteFault};
 use crate::msg::Message;
@@ -55,15 +54,23 @@ impl Message {
         ensures memory { result ≡ Err ReadFault.Memory → IfSome (R.remaining reader.old) (λ text.
             RunsOut limit text (R.remaining reader.new)) }
     {
-        let count = match read_header(alloc, reader)? {
-            Some(count) => count,
+        let content = match read_content_within(alloc, reader, limit)? {
+            Some(content) => content,
             None => return Ok(None),
         };
-        if count > limit {
-            return Err(ReadFault::TooLong);
+        Ok(Some(Message::from_content(alloc, &content)?))
+    }
+
+    /// The message that a content part holds (LSP 3.17, "Content Part"), as `read_content_within` gives one.
+    ///
+    /// The fault is `BodyNotText`, `NoJson`, `NoMessage` or `Batch`, or `Memory` if an allocation failed.
+    pub fn from_content(alloc: Global, content: &[u8]) -> Result<Message, ReadFault>
+        ensures { Decodes message_view result (body_means content.now) }
+    {
+        match std::str::from_utf8(content) {
+            Ok(text) => message_in_text(alloc, text),
+            Err(_) => Err(ReadFault::BodyNotText),
         }
-        let body = read_body(alloc, reader, count)?;
-        Ok(Some(message_in(alloc, &body)?))
     }
 
     /// Writes one message as a frame (LSP 3.17, "Base Protocol"), and flushes the writer once.
@@ -89,16 +96,6 @@ impl Message {
     {
         let body = self.body_text(alloc)?;
         with_header(alloc, body)
-    }
-}
-
-/// The message that a content part holds.
-fn message_in(alloc: Global, body: &[u8]) -> Result<Message, ReadFault>
-    ensures { Decodes message_view result (body_means body.now) }
-{
-    match std::str::from_utf8(body) {
-        Ok(text) => message_in_text(alloc, text),
-        Err(_) => Err(ReadFault::BodyNotText),
     }
 }
 

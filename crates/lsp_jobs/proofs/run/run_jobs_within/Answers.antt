@@ -1,6 +1,6 @@
 use denote.Exit.{yes}
 use denote.Param.Send.{param_send, arg_send}
-use Rattle.std.proofs.Common.{ap, ◌∙◌}
+use Rattle.std.proofs.Common.{ap, ◌∙◌, true}
 use Rattle.lsp_message.proofs.Sendable.{message_send}
 use Rattle.lsp_session.specs.Session.{SessionOut}
 use Rattle.lsp_service.specs.QueuedServer.{at_woken_desk}
@@ -22,5 +22,5 @@ returns g c =
     started_as (SessionOut (at_woken_desk may) old new) (JobSession g.row.T.Denot g.S.Server g.S.JobServer.starts g.S.JobServer.finishes g.J.Job.answers c.args.server _)
     (job_session g.row.T.Denot g.S.Server g.S.JobServer.starts g.S.JobServer.finishes g.J.Job.answers old new c.new-pooled.result c.args.server _ c.new-queued.ensures
     (c.new-pooled.ensures ∙ ap (λ t. (c.args.server, t)) c.in-Ok-start_pool.ensures)
-    (c.into_parts-server.ensures ∙ ap (λ (p : PooledServer _ _ _). p.server) c.into_server.ensures)) c.args.limit
-    (λ (done : Threaded _). g.W.Write.contents done.writer) (λ (done : Threaded _). done.answer) _ _ _ c.run_threads_of_service_over-done.ensures
+    (c.into_parts-server.ensures ∙ ap (λ (p : PooledServer _ _ _). p.server) c.into_server.ensures)) true c.args.limit
+    (λ (done : Threaded _). g.W.Write.contents done.writer) (λ (done : Threaded _). done.answer) _ _ _ (rw c.in-Ok-waker.ensures.made at c.run_threads_of_service_over-done.ensures)

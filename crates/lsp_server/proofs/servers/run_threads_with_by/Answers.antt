@@ -1,3 +1,4 @@
+use Rattle.std.proofs.Common.{false}
 use Rattle.lsp_session.specs.Session.{SessionOut}
 use Rattle.lsp_service.proofs.Taking.{session_of}
 use Rattle.lsp_service.specs.QueuedServer.{at_desk, ServerSession}
@@ -11,5 +12,5 @@ returns g c =
     let old = c.new-queued.result in
     let new = c.run_threads_of_service_by-done.new.service in
     started_as (SessionOut (at_desk (unwoken g.S.Server)) old new) (ServerSession (unwoken g.S.Server) c.args.server _)
-    (session_of (unwoken g.S.Server) old new c.args.server _ c.new-queued.ensures c.into_server.ensures) c.args.limit
+    (session_of (unwoken g.S.Server) old new c.args.server _ c.new-queued.ensures c.into_server.ensures) false c.args.limit
     (λ (done : Threaded _). g.W.Write.contents done.writer) (λ (done : Threaded _). done.answer) _ _ _ c.run_threads_of_service_by-done.ensures

@@ -5,6 +5,6 @@ use Rattle.lsp_session.specs.SessionLaws.{Both, KeepsOrder}
 use Rattle.lsp_threads.proofs.laws.threads_keep_order.Goals as goal
 
 pub returns : goal.returns
-returns g c = λ limit old new text before after answer gives.
+returns g c = λ wakeable limit old new text before after answer gives.
     let P = SessionOut g.S.Service.behavior old new in
     over_as P (Both P KeepsOrder) (λ xs stop null answer out. (out, keeps_order g.S.Service.behavior old new xs stop null answer out)) _ text _ _ gives

@@ -1,4 +1,4 @@
-use Rattle.std.proofs.Common.{◌∷◌, [], ◌++◌, ◌∙◌, ap, sym, map, append_assoc}
+use Rattle.std.proofs.Common.{arith, ◌∷◌, [], ◌++◌, ◌∙◌, ap, sym, map, append_assoc}
 use Rattle.std.proofs.lemmas.List.{map-append}
 use Rattle.lsp_relay.specs.declared.ends.Parcel.TheVariants as parcel
 use Rattle.lsp_threads.proofs.relay_boxes.take_to_end.Goals as goal
@@ -12,4 +12,5 @@ loop-preserved g c =
         c.collect.ensures.taken ∙ ap (λ p. c.loop.rx.taken ++ p ∷ []) m.1 ∙ ap (λ l. l ++ parcel.Message m.0 ∷ []) was.1 ∙ append_assoc start (map parcel.Message was.0) (parcel.Message m.0 ∷ [])
             ∙ ap (λ l. start ++ l) (sym (map-append parcel.Message was.0 (m.0 ∷ []))),
       ),
+      omega (arith, c.loop.invariant.2, c.collect.ensures.wakes),
     )

@@ -1,4 +1,4 @@
-use Rattle.std.proofs.Common.{◌∙◌, ap, refl, sym}
+use Rattle.std.proofs.Common.{arith, ◌∙◌, ap, refl, sym}
 use Rattle.lsp_message.specs.declared.msg.Message.{Message}
 use Rattle.lsp_session.proofs.Ran.{session_facts}
 use Rattle.lsp_session.specs.Session.{starting, SessionOut}
@@ -34,6 +34,7 @@ returns g c =
     _ _ c.new-inbox.result c.serve_service-answer.new.inbox c.new-outbox.result c.serve_service-answer.new.outbox c.serve_service-answer.result c.serve_service-answer.ensures
     (ap (λ (t : Receiving Message). t.taken) c.new-inbox.ensures ∙ c.requires.reading.0) (ap (λ (t : Receiving Message). t.exited) c.new-inbox.ensures)
     (ap (λ (s : Sending Message). s.sent) c.new-outbox.ensures ∙ c.requires.writing.0)
-    c.drain-rx.result.taken c.join-tx.result.0.sent c.drain-rx.ensures.taken c.settle_all.ensures c.args.workers.reading.promise.tx.value c.requires.reading.2 c.join-tx.result.1
-    c.join-replies_rx.result.0.taken c.finish-replies.result.sent c.finish-replies.ensures.sent c.join-replies_rx.result.2 c.join-replies_rx.ensures.1 c.settle_all-2.ensures
+    c.drain-rx.result.taken c.join-tx.result.0 c.drain-rx.ensures.taken c.settle_all.ensures.settled
+    (λ e. omega (arith, c.settle_all.ensures.unwoken e, c.drain-rx.ensures.wakes)) c.args.workers.reading.promise.tx.value c.requires.reading.2 c.join-tx.result.1
+    c.join-replies_rx.result.0.taken c.finish-replies.result.sent c.finish-replies.ensures.sent c.join-replies_rx.result.2 c.join-replies_rx.ensures.1 c.settle_all-2.ensures.settled
     _ c.join-tx.ensures.1)

@@ -17,7 +17,7 @@ invariant_of-self g c = elim c.match-send_as.branch [
   )
   | in-Err+in-Some w ↦ let same = w.in-Err.ensures.rule.1 in (
     search rules,
-    same ∙ c.self.invariant.1 ∙ ap sender_account (sym (ap (λ (v : Account _). v.sent) same)),
+    same ∙ c.self.invariant.1 ∙ (λ i. sender_account (ap (λ (v : Account _). v.sent) (sym same) i) (ap (λ (v : Account _). v.wakeable) (sym same) i)),
     subst EndsAtMostOnce (sym (ap (λ (v : Account _). v.sent) same)) c.self.invariant.2,
   )
 ]

@@ -1,6 +1,6 @@
 use Rattle.lsp_message.specs.Letters.{is_exit}
 use Rattle.lsp_message.specs.View.{message_view}
-use Rattle.std.proofs.Common.{true, ◌∷◌, [], ◌++◌, ◌∙◌, ap, refl, sym, if◌then◌else◌}
+use Rattle.std.proofs.Common.{arith, true, ◌∷◌, [], ◌++◌, ◌∙◌, ap, refl, sym, if◌then◌else◌}
 use Rattle.lsp_relay.specs.Relay.{has_end}
 use Rattle.lsp_threads.specs.RelayBoxes.{Receiving}
 use Rattle.lsp_relay.specs.declared.ends.Parcel.TheVariants as parcel
@@ -23,4 +23,5 @@ returns-in-Some-Message g c =
       ap (λ (t : Receiving Message). has_end t.taken) (sym c.self.view_is) ∙ sym c.self.invariant ∙ c.if-self.false,
       c.exits-self-inside.ensures ∙ ap (λ (t : Receiving Message). if is_exit (message_view m) then true else t.exited) c.self.view_is,
       (m, refl, grown ∙ ap (λ (t : Receiving Message). t.taken ++ parcel.Message m ∷ []) c.self.view_is),
+      omega (arith, rw (c.in-Some-Message.is) at c.collect_or_wake.ensures.unwoken, ap (λ (t : Receiving Message). t.wakes) c.self.view_is),
     )

@@ -12,4 +12,5 @@ pub returns-clause-sends : goal.returns-clause-sends
 returns-clause-sends g c = (
   c.deliver.ensures.relay ∙ ap (λ (s : Sending Message). s.relay) c.self.view_is,
   (c.args.message, refl, c.deliver.ensures.sent ∙ ap (λ (s : Sending Message). s.sent ++ parcel.Message c.args.message ∷ []) c.self.view_is),
+  c.deliver.ensures.wakeable ∙ ap (λ (s : Sending Message). s.wakeable) c.self.view_is,
 )

@@ -10,4 +10,4 @@ returns-clause-relay g c =
 
 pub returns-clause-sent : goal.returns-clause-sent
 returns-clause-sent g c =
-    handed_parcels c.args.limit _ c.args.tx c.new-outbox.result c.read_loop_within-end.new.outbox _ _ c.read_loop_within-end.result c.new-outbox.ensures c.read_loop_within-end.ensures.handed c.finish.ensures.sent
+    handed_parcels c.args.limit _ c.args.tx c.new-outbox.result c.read_loop_within-end.new.outbox _ c.finish.result c.read_loop_within-end.result c.new-outbox.ensures c.read_loop_within-end.ensures.handed c.finish.ensures.sent c.finish.ensures.wakeable

@@ -5,7 +5,7 @@ use Rattle.lsp_message.specs.ReadingSteps.{Decodes}
 use Rattle.lsp_message.specs.View.{message_view}
 use Rattle.lsp_message.proofs.Contents.{body_means-text}
 use Rattle.lsp_message.proofs.Texts.{is_utf8-no_text}
-use Rattle.lsp_message.proofs.msg.read.message_in.Goals as goal
+use Rattle.lsp_message.proofs.msg.Message.from_content.Goals as goal
 
 pub returns-in-Ok : goal.returns-in-Ok
 returns-in-Ok c =

@@ -1,7 +1,7 @@
 use Rattle.std.proofs.Common.{ap}
 use Rattle.lsp_relay.specs.declared.account.Account.{Account}
 use Rattle.lsp_relay.proofs.Accounts.{takes}
-use Rattle.lsp_relay.proofs.ends.RelayRx.take_at_once.Goals as goal
+use Rattle.lsp_relay.proofs.ends.RelayRx.try_take.Goals as goal
 
 pub try_recv_as-requires-clause-rule : goal.try_recv_as-requires-clause-rule
 try_recv_as-requires-clause-rule g c = (takes _ _ (ap (λ (v : Account _). v.takes) c.self.invariant.1), λ held accounts h at. tt)
