@@ -2,11 +2,12 @@
 """What the crates' sources say: who stands on whom, a crate's code, and its interface, which is all that the crates above can see.
 
 The interface of a library is its specs/ and, of its src/, types, traits, constants, and the signatures and clauses of functions that
-another crate can call. A body, a comment, a private function and the tactic of a proof are no part of it.
+another crate can call. A body, a comment, a private function and the tactic of a proof are no part of it. The heads of a crate are what
+its own functions see of one another: all of src/ but bodies and comments.
 
     python3 tools/sources.py
 
-tries that: it changes each body and each clause of each library, one at a time, and looks whether the interface changed.
+tries that: it changes each body and each clause of each library, one at a time, and looks whether the interface and the heads changed.
 """
 import hashlib
 import re
@@ -170,6 +171,23 @@ def interface_of(text):
     return re.sub(r"\bimpl\b(?:(?! for )[^{};])*\{ \}", "", words)
 
 
+def heads_of(text):
+    """What the functions of the same crate see of a file of src/: all but bodies and comments."""
+    kept, found = functions(text)
+    for _, _, _, body, end in reversed(found):
+        kept = kept[:body] + ";" * (body < end) + kept[end:]
+    return " ".join(kept.split())
+
+
+def function_text(text, place):
+    """The text of the function that stands at a place of a file, without comments, or nothing where none does."""
+    kept, found = functions(MARKED.sub(lambda it: " " * len(it[0]) if it[0].startswith("//") else it[0], text))
+    for start, _, _, _, end in found:
+        if start <= place < end:
+            return " ".join(kept[start:end].split())
+    return ""
+
+
 def plain(path):
     """A file's text without comments and empty lines."""
     text = path.read_text()
@@ -207,14 +225,16 @@ class Sums:
 
         return self.kept((name, "interface"), make)
 
-    def code(self, name):
-        """The sum of a crate's own code and specs, and of the interfaces that it stands on."""
+    def around(self, name):
+        """The sum of all that the proof of one function of a crate sees besides its own text: the crate's types, the heads of its
+        functions with their clauses, its specs, and the interfaces that it stands on."""
 
         def make():
-            own = [self.texts(name, it, plain) for it in ("src", "specs")]
-            return sum_of([sorted(self.crates[name]), own, [self.interface(it) for it in sorted(below(self.crates, name))]])
+            heads = self.texts(name, "src", lambda it: heads_of(it.read_text()))
+            specs = self.texts(name, "specs", plain)
+            return sum_of([sorted(self.crates[name]), heads, specs, [self.interface(it) for it in sorted(below(self.crates, name))]])
 
-        return self.kept((name, "code"), make)
+        return self.kept((name, "around"), make)
 
 
 def sum_of(parts):
@@ -222,16 +242,16 @@ def sum_of(parts):
 
 
 def tries(text):
-    """Changed texts of a file: (what is changed, the text, whether the interface has to change)."""
+    """Changed texts of a file: (what is changed, the text, whether the interface has to change, and whether the heads have to)."""
     kept, found = functions(text)
     for start, is_seen, clauses, body, end in found:
         name = " ".join(kept[start : kept.index("(", start)].split())
         if body < end:
-            yield f"body of {name}", kept[: body + 1] + " let _tried = 0; " + kept[body + 1 :], False
+            yield f"body of {name}", kept[: body + 1] + " let _tried = 0; " + kept[body + 1 :], False, False
         for at, _ in clauses:
-            yield f"clause of {name}", kept[: at + 1] + " tried " + kept[at + 1 :], is_seen
-        yield f"signature of {name}", kept[:start] + kept[start:].replace("fn ", "fn tried_", 1), is_seen
-    yield "a comment", "// tried\n" + text.replace("\n\n", "\n\n// tried\n"), False
+            yield f"clause of {name}", kept[: at + 1] + " tried " + kept[at + 1 :], is_seen, True
+        yield f"signature of {name}", kept[:start] + kept[start:].replace("fn ", "fn tried_", 1), is_seen, True
+    yield "a comment", "// tried\n" + text.replace("\n\n", "\n\n// tried\n"), False, False
 
 
 def main():
@@ -239,12 +259,12 @@ def main():
     for path in sorted(ROOT.glob("crates/*/src/**/*.rt")):
         text = path.read_text()
         try:
-            whole = interface_of(text)
-            for what, changed, is_seen in tries(text):
-                is_well = (interface_of(changed) != whole) == is_seen
-                passed, failed = passed + is_well, failed + (not is_well)
-                if not is_well:
-                    print(f"{path.relative_to(ROOT)}: {what}: the interface {'stays' if is_seen else 'changes'}")
+            whole, heads = interface_of(text), heads_of(text)
+            for what, changed, is_seen, is_head in tries(text):
+                found = {"interface": (interface_of(changed) != whole) == is_seen, "heads": (heads_of(changed) != heads) == is_head}
+                passed, failed = passed + all(found.values()), failed + (not all(found.values()))
+                for part in (it for it in found if not found[it]):
+                    print(f"{path.relative_to(ROOT)}: {what}: it is wrong whether the {part} changes")
         except Unreadable as fault:
             failed += 1
             print(f"{path.relative_to(ROOT)}: {fault}")
