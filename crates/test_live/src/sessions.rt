@@ -1,13 +1,15 @@
 // The calls over the reader and the writer. Each call of the library that is generic stands in a function of its own, since what it
 // brings is proved where it is called.
 use crate::attempt::{Attempt, Stop};
-use crate::devices::{Pause, Sink, Source};
+use crate::devices::{Pause, Sink, Source, rest};
 use crate::escapes::escape;
 use crate::servers::{Echo, Talker};
-use crate::signals::{Signal, Signals, is_alone};
+use crate::signals::{LOOKS, Signal, Signals, is_alone};
 use crate::table::{Call, Device, Given};
+use crossbeam_channel::{Receiver, Sender};
 use lsp_jobs::{PoolSize, run_jobs_within};
-use lsp_server::Connection;
+use lsp_message::Message;
+use lsp_server::{Connection, IoFault, IoThreads, UNREAD_WEIGHT};
 use lsp_service::QueuedServer;
 use lsp_session::{SessionEnd, SessionFault};
 use lsp_threads::{
@@ -19,6 +21,7 @@ use std::alloc::{AllocError, Global};
 use std::fmt::Write as _;
 use std::io::{BufRead, Write};
 use std::sync::{Arc, Wait};
+use std::thread;
 use std::thread::{Builder, Threads};
 use std::time::Clock;
 
@@ -42,6 +45,14 @@ impl Run {
             _ => u64::MAX,
         }
     }
+
+    /// How much may be unread.
+    fn bound(self) -> u64 {
+        match self.device {
+            Device::Bounds => self.count as u64,
+            _ => UNREAD_WEIGHT,
+        }
+    }
 }
 
 /// What comes of a run.
@@ -57,9 +68,7 @@ where
         Call::Speaks => spoken(rt, alloc, run, reader, writer, &signals)?,
         Call::Jobs | Call::Many => worked(rt, alloc, run, reader, writer, &signals)?,
         Call::Pump | Call::Burst => pumped(rt, alloc, run, reader, writer, &signals)?,
-        Call::Over | Call::Joined | Call::Left => {
-            connected(rt, alloc, run, reader, writer, &signals)?
-        }
+        _ => connected(rt, alloc, run, reader, writer, &signals)?,
     };
     if signals.is_late() {
         return Err(Stop::Broken("a wait was given up"));
@@ -130,7 +139,7 @@ fn sink(alloc: Global, run: Run, signals: &Arc<Signals>) -> Result<Sink, AllocEr
         Device::Flushes => sink.bad_flush = run.count,
         Device::Slow => sink.is_slow = true,
         Device::Gated => sink.is_gated = true,
-        _ => {}
+        _ => sink.is_gated = matches!(run.call, Call::Stuck),
     }
     Ok(sink)
 }
@@ -377,17 +386,12 @@ fn connected<R>(
 where
     R: Threads + Wait + Clock + AllocGlobal + Copy + Drop + Send + 'static,
 {
-    let (connection, threads) = match Connection::over(rt, reader, writer, run.limit()) {
+    let opened = Connection::over_within(rt, reader, writer, run.limit(), run.bound());
+    let (connection, threads) = match opened {
         Ok(started) => started,
         Err(fault) => return Ok(Attempt::Refused(format!(in alloc; "{fault}; wrote ")?)),
     };
-    let ended = match run.call {
-        Call::Joined => threads.join(rt),
-        _ => {
-            part(rt, run, connection);
-            threads.flush(rt).join(rt)
-        }
-    };
+    let (most, ended) = parted(rt, run, connection, threads, signals);
     let end = match ended {
         Ok(()) => String::from_str(alloc, "fine")?,
         Err(fault) => format!(in alloc; "{fault}")?,
@@ -398,19 +402,94 @@ where
         _ => Signal::Written,
     };
     let written = signals.count(counted);
-    let said = format!(in alloc; "{end}; wrote {written} bytes")?;
+    let mut said = format!(in alloc; "{end}; wrote {written} bytes")?;
+    if matches!(run.call, Call::Held) {
+        write!(said, ", {most} waited")?;
+    }
     Ok(attempt(run, end.as_str(), said))
 }
 
-/// Sends each message back, up to the last one, or lets the receiver go at once. The connection is dropped then.
-fn part<R: Wait>(rt: &R, run: Run, connection: Connection) {
+/// Plays the part of the connection's owner: how many messages waited at most, where that is told, and what the threads answer.
+fn parted<R: Threads + Wait>(
+    rt: &R,
+    run: Run,
+    connection: Connection,
+    threads: IoThreads,
+    signals: &Signals,
+) -> (usize, Result<(), IoFault>) {
     let Connection { sender, receiver } = connection;
-    if matches!(run.call, Call::Left) {
-        drop(receiver);
-        drop(sender);
-        return;
+    let mut most = 0;
+    match run.call {
+        Call::Joined => return (most, threads.join(rt)),
+        Call::Over => send_back(rt, &sender, &receiver),
+        Call::Held => {
+            most = waiting(signals, &receiver, run.written);
+            send_back(rt, &sender, &receiver);
+        }
+        Call::Deaf => {
+            waiting(signals, &receiver, run.written);
+            drop(receiver);
+            return (most, threads.join(rt));
+        }
+        Call::Stuck => {
+            stick(rt, &sender, &receiver, signals);
+            waiting(signals, &receiver, run.written);
+            drop(receiver);
+            drop(sender);
+            let ended = threads.join(rt);
+            signals.tell(Signal::Requests);
+            let _ = signals.wait(Signal::Messages, 1);
+            return (most, ended);
+        }
+        Call::Dropped => {
+            waiting(signals, &receiver, run.written);
+        }
+        _ => {}
     }
+    drop(receiver);
+    drop(sender);
+    (most, threads.flush(rt).join(rt))
+}
+
+/// Sends each message back, up to the last one.
+fn send_back<R: Wait>(rt: &R, sender: &Sender<Message>, receiver: &Receiver<Message>) {
     for message in receiver.iter(rt) {
         let _ = sender.send(rt, message);
     }
+}
+
+/// Sends the first message back, and waits until the writer has begun to write it.
+fn stick<R: Wait>(
+    rt: &R,
+    sender: &Sender<Message>,
+    receiver: &Receiver<Message>,
+    signals: &Signals,
+) {
+    if let Ok(message) = receiver.recv(rt) {
+        let _ = sender.send(rt, message);
+        let _ = signals.wait(Signal::Writes, 1);
+    }
+}
+
+/// Lets a thread read on that should not.
+fn long_rest() {
+    for _ in 0..RESTS {
+        rest();
+    }
+}
+
+/// How long that is.
+const RESTS: u32 = 50;
+
+/// Waits until so many messages wait, and a while longer: how many wait then.
+fn waiting(signals: &Signals, receiver: &Receiver<Message>, wanted: u64) -> usize {
+    for _ in 0..LOOKS {
+        if receiver.len() as u64 >= wanted {
+            long_rest();
+            return receiver.len();
+        }
+        thread::yield_now();
+    }
+    signals.give_up();
+    receiver.len()
 }
