@@ -1,5 +1,5 @@
 // What a connection has read and nobody has taken, by weight.
-ghost use Rattle.std.specs.Prelude.{◌≡◌, ◌↔◌, ◌++◌, ◌∷◌, ◌==◌, [], count_by, sum, IfOk, IsTrue, OnErr, OnOk};
+ghost use Rattle.std.specs.Prelude.{◌≡◌, ◌↔◌, ◌++◌, ◌∷◌, ◌==◌, [], count_by, drop, sum, IfOk, IsTrue, OnErr, OnOk};
 ghost use Rattle.lsp_server.specs.Unread.{capped, content_weight, newest, HasRoom};
 
 use std::alloc::{AllocError, Global};
@@ -58,8 +58,14 @@ impl Unread {
     {
         let taken = self.weights.len().saturating_sub(len);
         for _ in 0..taken {
-            let _ = self.weights.pop_front();
+            self.oldest_taken();
         }
+    }
+
+    fn oldest_taken(&mut self)
+        ensures { self.new ≡ drop 1 self.old }
+    {
+        let _ = self.weights.pop_front();
     }
 
     /// What they weigh together.

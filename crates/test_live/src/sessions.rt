@@ -1,15 +1,14 @@
 // The calls over the reader and the writer. Each call of the library that is generic stands in a function of its own, since what it
 // brings is proved where it is called.
 use crate::attempt::{Attempt, Stop};
-use crate::devices::{Pause, Sink, Source, rest};
+use crate::devices::{Pause, Sink, Source};
 use crate::escapes::escape;
+use crate::owners::parted;
 use crate::servers::{Echo, Talker};
-use crate::signals::{LOOKS, Signal, Signals, is_alone};
+use crate::signals::{Signal, Signals, is_alone};
 use crate::table::{Call, Device, Given};
-use crossbeam_channel::{Receiver, Sender};
 use lsp_jobs::{PoolSize, run_jobs_within};
-use lsp_message::Message;
-use lsp_server::{Connection, IoFault, IoThreads, UNREAD_WEIGHT};
+use lsp_server::{Connection, UNREAD_WEIGHT};
 use lsp_service::QueuedServer;
 use lsp_session::{SessionEnd, SessionFault};
 use lsp_threads::{
@@ -21,7 +20,6 @@ use std::alloc::{AllocError, Global};
 use std::fmt::Write as _;
 use std::io::{BufRead, Write};
 use std::sync::{Arc, Wait};
-use std::thread;
 use std::thread::{Builder, Threads};
 use std::time::Clock;
 
@@ -407,89 +405,4 @@ where
         write!(said, ", {most} waited")?;
     }
     Ok(attempt(run, end.as_str(), said))
-}
-
-/// Plays the part of the connection's owner: how many messages waited at most, where that is told, and what the threads answer.
-fn parted<R: Threads + Wait>(
-    rt: &R,
-    run: Run,
-    connection: Connection,
-    threads: IoThreads,
-    signals: &Signals,
-) -> (usize, Result<(), IoFault>) {
-    let Connection { sender, receiver } = connection;
-    let mut most = 0;
-    match run.call {
-        Call::Joined => return (most, threads.join(rt)),
-        Call::Over => send_back(rt, &sender, &receiver),
-        Call::Held => {
-            most = waiting(signals, &receiver, run.written);
-            send_back(rt, &sender, &receiver);
-        }
-        Call::Deaf => {
-            waiting(signals, &receiver, run.written);
-            drop(receiver);
-            return (most, threads.join(rt));
-        }
-        Call::Stuck => {
-            stick(rt, &sender, &receiver, signals);
-            waiting(signals, &receiver, run.written);
-            drop(receiver);
-            drop(sender);
-            let ended = threads.join(rt);
-            signals.tell(Signal::Requests);
-            let _ = signals.wait(Signal::Messages, 1);
-            return (most, ended);
-        }
-        Call::Dropped => {
-            waiting(signals, &receiver, run.written);
-        }
-        _ => {}
-    }
-    drop(receiver);
-    drop(sender);
-    (most, threads.flush(rt).join(rt))
-}
-
-/// Sends each message back, up to the last one.
-fn send_back<R: Wait>(rt: &R, sender: &Sender<Message>, receiver: &Receiver<Message>) {
-    for message in receiver.iter(rt) {
-        let _ = sender.send(rt, message);
-    }
-}
-
-/// Sends the first message back, and waits until the writer has begun to write it.
-fn stick<R: Wait>(
-    rt: &R,
-    sender: &Sender<Message>,
-    receiver: &Receiver<Message>,
-    signals: &Signals,
-) {
-    if let Ok(message) = receiver.recv(rt) {
-        let _ = sender.send(rt, message);
-        let _ = signals.wait(Signal::Writes, 1);
-    }
-}
-
-/// Lets a thread read on that should not.
-fn long_rest() {
-    for _ in 0..RESTS {
-        rest();
-    }
-}
-
-/// How long that is.
-const RESTS: u32 = 50;
-
-/// Waits until so many messages wait, and a while longer: how many wait then.
-fn waiting(signals: &Signals, receiver: &Receiver<Message>, wanted: u64) -> usize {
-    for _ in 0..LOOKS {
-        if receiver.len() as u64 >= wanted {
-            long_rest();
-            return receiver.len();
-        }
-        thread::yield_now();
-    }
-    signals.give_up();
-    receiver.len()
 }

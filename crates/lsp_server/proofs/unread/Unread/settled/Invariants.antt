@@ -3,4 +3,4 @@ use Rattle.lsp_server.proofs.unread.Unread.settled.Given as goal
 
 -- the oldest are gone
 abbrev pub invariant-loop : goal.invariant-loop
-invariant-loop l = l.self-inside.weights.items ≡ drop l.counter l.fn.self
+invariant-loop l = l.self ≡ drop l.counter l.fn.self
