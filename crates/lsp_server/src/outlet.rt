@@ -115,7 +115,7 @@ impl<'a, R: Wait + Clock> Outlet<'a, R> {
 
     /// Whether the receiver is gone. It keeps each place that is free: a channel whose receiver is there has no more than its room.
     fn is_left(&mut self) -> Result<bool, AllocError> {
-        for _ in 0..=CHANNEL_ROOM {
+        for _ in self.places.len()..=CHANNEL_ROOM {
             match Place::take(self.rt, self.alloc, self.incoming)? {
                 Some(place) => self.places.push(place)?,
                 None => return Ok(false),

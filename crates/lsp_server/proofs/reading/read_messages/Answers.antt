@@ -18,3 +18,27 @@ returns-in-Err g c =
     let read = subst (λ r. IfSome (g.B.Read.remaining c.loop.reader) (λ at. Answers weighed_view r (g.B.Read.remaining c.read_weighed.new.reader) (reading_within c.args.limit at)))
     c.in-Err.is c.read_weighed.ensures in
     hands_fault c.args.limit sends_anything weighed_view _ tt tt c.in-Err.fault _ _ c.loop.invariant read
+
+pub returns-in-Err-send : goal.returns-in-Err-send
+returns-in-Err-send g c =
+    let read = subst (λ r. IfSome (g.B.Read.remaining c.loop.reader) (λ at. Answers weighed_view r (g.B.Read.remaining c.read_weighed.new.reader) (reading_within c.args.limit at)))
+    (c.in-Ok-Some.is ∙ ap Ok c.in-Ok-Some.field-0-is) c.read_weighed.ensures in
+    let refused = hands_refused c.args.limit sends_anything weighed_view _ _ _ tt tt tt c.in-Ok-Some.weighed c.loop.invariant read c.in-Err-send.fault tt in
+    subst (λ end. IfSome (g.B.Read.remaining c.args.reader.now) (λ text. HandsOn c.args.limit text (g.B.Read.remaining c.read_weighed.new.reader) end)) (sym c.end_at.ensures) refused
+
+pub returns-then-is_last : goal.returns-then-is_last
+returns-then-is_last g c =
+    let read = subst (λ r. IfSome (g.B.Read.remaining c.loop.reader) (λ at. Answers weighed_view r (g.B.Read.remaining c.read_weighed.new.reader) (reading_within c.args.limit at)))
+    (c.in-Ok-Some.is ∙ ap Ok c.in-Ok-Some.field-0-is) c.read_weighed.ensures in
+    let last : is_exit (message_view c.in-Ok-Some.weighed.message) ≡ true = sym c.is_exit-is_last.ensures ∙ c.if-is_last.true in
+    hands_exit c.args.limit sends_anything weighed_view _ _ _ tt tt tt c.in-Ok-Some.weighed c.loop.invariant read tt last
+
+pub loop-preserved : goal.loop-preserved
+loop-preserved g c =
+    let read = subst (λ r. IfSome (g.B.Read.remaining c.loop.reader) (λ at. Answers weighed_view r (g.B.Read.remaining c.read_weighed.new.reader) (reading_within c.args.limit at)))
+    (c.in-Ok-Some.is ∙ ap Ok c.in-Ok-Some.field-0-is) c.read_weighed.ensures in
+    let goes : is_exit (message_view c.in-Ok-Some.weighed.message) ≡ false = sym c.is_exit-is_last.ensures ∙ c.if-is_last.false in
+    Handed-more c.args.limit sends_anything weighed_view _ _ _ tt tt tt c.in-Ok-Some.weighed c.loop.invariant read tt goes
+
+pub returns : goal.returns
+returns g c = hands_on c.args.limit sends_anything tt tt _ _ c.loop.invariant
