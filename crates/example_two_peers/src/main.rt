@@ -13,9 +13,9 @@ use anyhow::Result;
 use exchange::run_through;
 use long::{Long, ask_often};
 use lsp_message::Message;
-use lsp_peers::{Outcome, Side, World, WorldFault};
+use lsp_peers::{Outcome, Side, Step, World, WorldFault};
 use script::{side_of, step_of};
-use std::alloc::Global;
+use std::alloc::{AllocError, Global};
 use std::io;
 use talk::talk;
 
@@ -24,56 +24,87 @@ fn main(rt: HostRuntime) -> Result<()> {
     let script = io::read_to_string(alloc, rt.reader())?;
     let mut lines = Vec::new(alloc);
     for line in script.as_str().lines() {
-        if line.starts_with("#") {
-            println!(rt; "{line}")?;
-        } else if line.is_empty() {
-            run_lines(&rt, alloc, lines.as_slice())?;
-            lines.clear();
-        } else if line == "talk" {
-            show_talk(&rt, alloc)?;
-        } else if let Some((_, requests)) = line.split_once("requests ") {
-            let requests = requests.parse()?;
-            show_long(&rt, alloc, requests)?;
-        } else {
-            lines.push(line)?;
-        }
+        take_line(&rt, alloc, &mut lines, line)?;
+    }
+    Ok(())
+}
+
+/// Does what a line asks for, or keeps it as a step.
+fn take_line<'a, R: Print>(
+    rt: &R,
+    alloc: Global,
+    lines: &mut Vec<&'a str>,
+    line: &'a str,
+) -> Result<()> {
+    if line.starts_with("#") {
+        println!(rt; "{line}")?;
+    } else if line.is_empty() {
+        run_lines(rt, alloc, lines.as_slice())?;
+        lines.clear();
+    } else if line == "talk" {
+        show_talk(rt, alloc)?;
+    } else if let Some((_, requests)) = line.split_once("requests ") {
+        show_long(rt, alloc, requests.parse()?)?;
+    } else {
+        lines.push(line)?;
     }
     Ok(())
 }
 
 /// Runs two new peers through the steps of these lines, and says what came of it.
 fn run_lines<R: Print>(rt: &R, alloc: Global, lines: &[&str]) -> Result<()> {
+    let ran = run_through(alloc, steps_of(alloc, lines)?);
+    let shown = match &ran {
+        Ok((world, outcomes, all)) => show_run(rt, alloc, lines, world, outcomes.as_slice(), *all),
+        Err(fault) => show_fault(rt, *fault),
+    };
+    drop(ran);
+    shown
+}
+
+/// The steps of these lines.
+fn steps_of(alloc: Global, lines: &[&str]) -> Result<Vec<Step>> {
     let mut steps = Vec::new(alloc);
     for line in lines {
         steps.push(step_of(alloc, line)?)?;
     }
-    match run_through(alloc, steps) {
-        Ok((world, outcomes, all)) => {
-            for (line, outcome) in lines.iter().zip(outcomes.iter()) {
-                let came = text_of(alloc, outcome)?;
-                println!(rt; "{line}: {came}")?;
-            }
-            show_taken(rt, alloc, "A", world.taken(Side::A))?;
-            show_taken(rt, alloc, "B", world.taken(Side::B))?;
-            show_pending(rt, lines, outcomes.as_slice(), &world)?;
-            show_end(rt, all)
-        }
-        Err(fault) => show_fault(rt, fault),
+    Ok(steps)
+}
+
+/// Shows what came of each line, what each side took, and what is left.
+fn show_run<R: Print>(
+    rt: &R,
+    alloc: Global,
+    lines: &[&str],
+    world: &World,
+    outcomes: &[Outcome],
+    all: bool,
+) -> Result<()> {
+    for (line, outcome) in lines.iter().zip(outcomes.iter()) {
+        let came = text_of(alloc, outcome)?;
+        println!(rt; "{line}: {came}")?;
     }
+    show_both(rt, alloc, world)?;
+    show_pending(rt, lines, outcomes, world)?;
+    show_end(rt, all)
 }
 
 /// Lets a client and a server talk, and shows what each of them took.
 fn show_talk<R: Print>(rt: &R, alloc: Global) -> Result<()> {
-    match talk(alloc) {
-        Ok((world, ended)) => {
-            show_taken(rt, alloc, "A", world.taken(Side::A))?;
-            show_taken(rt, alloc, "B", world.taken(Side::B))?;
-            let end = if ended { "came" } else { "did not come" };
-            println!(rt; "The talk {end} to its end.\n")?;
-            Ok(())
-        }
-        Err(fault) => show_fault(rt, fault),
-    }
+    let talked = talk(alloc);
+    let shown = match &talked {
+        Ok((world, ended)) => show_talked(rt, alloc, world, *ended),
+        Err(fault) => show_fault(rt, *fault),
+    };
+    drop(talked);
+    shown
+}
+
+fn show_talked<R: Print>(rt: &R, alloc: Global, world: &World, ended: bool) -> Result<()> {
+    show_both(rt, alloc, world)?;
+    let end = if ended { "came" } else { "did not come" };
+    println!(rt; "The talk {end} to its end.\n")?;
+    Ok(())
 }
 
 /// Lets A ask so often, and shows how many replies came back to their own request, and how many messages were handed out.
@@ -111,24 +142,28 @@ fn show_fault<R: Print>(rt: &R, fault: WorldFault) -> Result<()> {
     Ok(())
 }
 
-fn text_of(alloc: Global, outcome: &Outcome) -> Result<String> {
-    Ok(match outcome {
-        Outcome::Registered(id) => format!(in alloc; "registered {id}")?,
-        Outcome::Spent => format!(in alloc; "no id is left")?,
-        Outcome::Told => format!(in alloc; "told")?,
-        Outcome::Passed(count) => format!(in alloc; "passed {count}")?,
-        Outcome::Arrived(id) => format!(in alloc; "request {id} arrived")?,
-        Outcome::Returned(id, Some(payload)) => format!(in alloc;
-            "reply {id} gave back {payload}"
-        )?,
-        Outcome::Returned(id, None) => format!(in alloc; "reply {id} gave back nothing")?,
-        Outcome::Notified => format!(in alloc; "a notification arrived")?,
-        Outcome::Waiting => format!(in alloc; "waiting")?,
-        Outcome::Answered(label) => format!(in alloc; "answered, held as {label}")?,
-        Outcome::Cancelled => format!(in alloc; "cancelled")?,
-        Outcome::GaveUp(label) => format!(in alloc; "gave up, held as {label}")?,
-        Outcome::Absent => format!(in alloc; "absent")?,
-    })
+fn text_of(alloc: Global, outcome: &Outcome) -> std::result::Result<String, AllocError> {
+    match outcome {
+        Outcome::Registered(id) => format!(in alloc; "registered {id}"),
+        Outcome::Spent => String::from_str(alloc, "no id is left"),
+        Outcome::Told => String::from_str(alloc, "told"),
+        Outcome::Passed(count) => format!(in alloc; "passed {count}"),
+        Outcome::Arrived(id) => format!(in alloc; "request {id} arrived"),
+        Outcome::Returned(id, Some(payload)) => format!(in alloc; "reply {id} gave back {payload}"),
+        Outcome::Returned(id, None) => format!(in alloc; "reply {id} gave back nothing"),
+        Outcome::Notified => String::from_str(alloc, "a notification arrived"),
+        Outcome::Waiting => String::from_str(alloc, "waiting"),
+        Outcome::Answered(label) => format!(in alloc; "answered, held as {label}"),
+        Outcome::Cancelled => String::from_str(alloc, "cancelled"),
+        Outcome::GaveUp(label) => format!(in alloc; "gave up, held as {label}"),
+        Outcome::Absent => String::from_str(alloc, "absent"),
+    }
+}
+
+/// Shows the messages that each side took.
+fn show_both<R: Print>(rt: &R, alloc: Global, world: &World) -> Result<()> {
+    show_taken(rt, alloc, "A", world.taken(Side::A))?;
+    show_taken(rt, alloc, "B", world.taken(Side::B))
 }
 
 /// Shows the messages that a side took, in order.
@@ -148,12 +183,17 @@ fn show_pending<R: Print>(
     world: &World,
 ) -> Result<()> {
     for (line, outcome) in lines.iter().zip(outcomes.iter()) {
-        if let Outcome::Registered(id) = outcome {
-            let queue = world.queue(side_of(line));
-            if let Some(payload) = queue.outgoing.data(id) {
-                println!(rt; "{line}: {payload} is still pending")?;
-            }
+        if let Some(payload) = pending(world, side_of(line), outcome) {
+            println!(rt; "{line}: {payload} is still pending")?;
         }
     }
     Ok(())
+}
+
+/// The payload of the request that this outcome registered, if its side still waits for the reply.
+fn pending(world: &World, side: Side, outcome: &Outcome) -> Option<u64> {
+    let Outcome::Registered(id) = outcome else {
+        return None;
+    };
+    world.queue(side).outgoing.data(id).copied()
 }

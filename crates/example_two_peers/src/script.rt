@@ -47,11 +47,14 @@ pub fn step_of(alloc: Global, line: &str) -> Result<Step> {
 fn register(alloc: Global, side: Side, words: &str) -> Result<Step> {
     let (method, rest) = words.split_once(" ").context("no payload")?;
     let (payload, params) = rest.split_once(" ").unwrap_or((rest, "null"));
+    let payload = payload.parse()?;
+    let method = String::from_str(alloc, method)?;
+    let params = Value::from_str(alloc, params)?;
     Ok(Step::Register {
         side,
-        method: String::from_str(alloc, method)?,
-        params: Value::from_str(alloc, params)?,
-        payload: payload.parse()?,
+        method,
+        params,
+        payload,
     })
 }
 
@@ -76,21 +79,22 @@ fn take(side: Side, word: &str) -> Result<Step> {
 
 fn answer(alloc: Global, side: Side, words: &str) -> Result<Step> {
     let (id, result) = words.split_once(" ").context("no result")?;
-    Ok(Step::Answer {
-        side,
-        id: id_of(alloc, id)?,
-        result: Value::from_str(alloc, result)?,
-    })
+    let result = Value::from_str(alloc, result)?;
+    let id = id_of(alloc, id)?;
+    Ok(Step::Answer { side, id, result })
 }
 
 fn refuse(alloc: Global, side: Side, words: &str) -> Result<Step> {
     let (id, rest) = words.split_once(" ").context("no code")?;
     let (code, message) = rest.split_once(" ").context("no text")?;
+    let code = code.parse()?;
+    let message = String::from_str(alloc, message)?;
+    let id = id_of(alloc, id)?;
     Ok(Step::Refuse {
         side,
-        id: id_of(alloc, id)?,
-        code: code.parse()?,
-        message: String::from_str(alloc, message)?,
+        id,
+        code,
+        message,
     })
 }
 

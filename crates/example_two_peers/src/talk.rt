@@ -38,15 +38,32 @@ pub fn talk(alloc: Global) -> Result<(World, bool), WorldFault>
 {
     let params = json!(in alloc; { "capabilities": {} })?;
     let mut world = begin(alloc, params)?;
+    take_turns(alloc, &mut world)?;
+    let ended = has_come_to_end(&world);
+    Ok((world, ended))
+}
+
+/// Each side takes what the other one wrote, turn by turn.
+fn take_turns(alloc: Global, world: &mut World) -> Result<(), WorldFault>
+    requires { IsTalk world.old }
+    ensures { OnOk result (IsTalk world.new) }
+{
     for _ in 0..ROUNDS {
-        take_all(alloc, &mut world, Side::B)?;
-        take_all(alloc, &mut world, Side::A)?;
+        take_all(alloc, world, Side::B)?;
+        take_all(alloc, world, Side::A)?;
     }
-    if !has_ended(&world) {
-        return Ok((world, false));
+    Ok(())
+}
+
+/// Whether the talk has ended, and no byte is in a link.
+fn has_come_to_end(world: &World) -> bool
+    requires { IsTalk world.now }
+    ensures { result ≡ true → HasEnded world.now }
+{
+    if !has_ended(world) {
+        return false;
     }
-    let all = is_idle(&world, Side::A) && is_idle(&world, Side::B);
-    Ok((world, all))
+    is_idle(world, Side::A) && is_idle(world, Side::B)
 }
 
 /// Whether the client has its replies, and the server holds no request and took `exit` last.
@@ -70,7 +87,6 @@ fn begin(alloc: Global, params: Value) -> Result<World, WorldFault>
     ensures { IfOk result (λ world. IsTalk world) }
 {
     a_shallow_step_keeps_a_history_readable();
-    let mut world = World::new(alloc);
     let method = String::from_str(alloc, "initialize")?;
     let step = Step::Register {
         side: Side::A,
@@ -78,6 +94,7 @@ fn begin(alloc: Global, params: Value) -> Result<World, WorldFault>
         params,
         payload: INITIALIZE,
     };
+    let mut world = World::new(alloc);
     world.step(step)?;
     Ok(world)
 }
@@ -108,7 +125,7 @@ fn take_all(alloc: Global, world: &mut World, side: Side) -> Result<(), WorldFau
 {
     let bytes = world.on_way(side).len();
     for _ in 0..bytes {
-        act(world, Step::Pass { to: side, bytes: 1 })?;
+        drop(act(world, Step::Pass { to: side, bytes: 1 })?);
         let outcome = act(world, Step::Take { side, label: 0 })?;
         react(alloc, world, side, outcome)?;
     }
@@ -121,33 +138,49 @@ fn react(alloc: Global, world: &mut World, side: Side, outcome: Outcome) -> Resu
     ensures { OnOk result (IsTalk world.new) }
 {
     match side {
-        Side::A => client(alloc, world, outcome),
+        Side::A => client(alloc, world, payload_of(outcome)),
         Side::B => server(alloc, world, outcome),
     }
 }
 
+/// The payload that this outcome gave back, if it did.
+fn payload_of(outcome: Outcome) -> Option<u64> {
+    let payload = match &outcome {
+        Outcome::Returned(_, payload) => *payload,
+        _ => None,
+    };
+    drop(outcome);
+    payload
+}
+
 /// What the client does once it has a reply: it asks for something slow and cancels it, then for something that the server doesn't
 /// know, then it shuts the server down.
-fn client(alloc: Global, world: &mut World, outcome: Outcome) -> Result<(), WorldFault>
+fn client(alloc: Global, world: &mut World, payload: Option<u64>) -> Result<(), WorldFault>
     requires { IsTalk world.old }
     ensures { OnOk result (IsTalk world.new) }
 {
-    match outcome {
-        Outcome::Returned(_, Some(INITIALIZE)) => {
-            tell(alloc, world, "initialized", json!(in alloc; {})?)?;
-            ask(alloc, world, "test/slow", SLOW)?;
-            tell(
-                alloc,
-                world,
-                "$/cancelRequest",
-                json!(in alloc; { "id": 1 })?,
-            )
-        }
-        Outcome::Returned(_, Some(SLOW)) => ask(alloc, world, "test/unknown", UNKNOWN),
-        Outcome::Returned(_, Some(UNKNOWN)) => ask(alloc, world, "shutdown", SHUTDOWN),
-        Outcome::Returned(_, Some(SHUTDOWN)) => tell(alloc, world, "exit", Value::Null),
+    match payload {
+        Some(INITIALIZE) => ask_and_cancel(alloc, world),
+        Some(SLOW) => ask(alloc, world, "test/unknown", UNKNOWN),
+        Some(UNKNOWN) => ask(alloc, world, "shutdown", SHUTDOWN),
+        Some(SHUTDOWN) => tell(alloc, world, "exit", Value::Null),
         _ => Ok(()),
     }
+}
+
+/// The client says that it is initialized, asks for something slow, and cancels that.
+fn ask_and_cancel(alloc: Global, world: &mut World) -> Result<(), WorldFault>
+    requires { IsTalk world.old }
+    ensures { OnOk result (IsTalk world.new) }
+{
+    tell(alloc, world, "initialized", json!(in alloc; {})?)?;
+    ask(alloc, world, "test/slow", SLOW)?;
+    tell(
+        alloc,
+        world,
+        "$/cancelRequest",
+        json!(in alloc; { "id": 1 })?,
+    )
 }
 
 /// What the server does with a request or a notification. The message is the last that it took.
@@ -157,7 +190,7 @@ fn server(alloc: Global, world: &mut World, outcome: Outcome) -> Result<(), Worl
 {
     match step_for(alloc, outcome, world.taken(Side::B))? {
         Some(step) => {
-            act(world, step)?;
+            drop(act(world, step)?);
             Ok(())
         }
         None => Ok(()),
@@ -234,7 +267,7 @@ fn ask(alloc: Global, world: &mut World, method: &str, payload: u64) -> Result<(
         params: Value::Null,
         payload,
     };
-    act(world, step)?;
+    drop(act(world, step)?);
     Ok(())
 }
 
@@ -250,7 +283,7 @@ fn tell(alloc: Global, world: &mut World, method: &str, params: Value) -> Result
         method,
         params,
     };
-    act(world, step)?;
+    drop(act(world, step)?);
     Ok(())
 }
 
