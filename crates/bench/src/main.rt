@@ -12,7 +12,8 @@
 //!     bench all                                   each of these on the same input, under its name
 //!
 //! All but `queues` and `texts` read frames from standard input, and write frames to standard output. `speaking` is a server that speaks
-//! (`session_with`), which gives the same replies. `all` leaves out `jobs`, whose replies come in the order in which they are ready, and `drops`.
+//! (`session_with`), which gives the same replies. `all` leaves out `drops`, and `jobs`, whose replies come in the order in which they are
+//! ready.
 #![tactic(auto)]
 
 mod drops;
@@ -38,7 +39,7 @@ use std::{env, io};
 const READ_AHEAD: usize = 65536;
 
 const USAGE: &str =
-    "usage: bench json | session [speaking] [null] | threads pass|pump|run_threads|run_threads_with | drops session|run_threads|connection COUNT | jobs WORKERS | queues [N ..] | texts [N ..] | all";
+    "usage: bench json | session [speaking] [null] | threads WAY | drops WAY COUNT | jobs WORKERS | queues [N ..] | texts [N ..] | all";
 
 /// The measures that go over frames.
 const OVER_FRAMES: [&str; 8] = [
