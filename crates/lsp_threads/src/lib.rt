@@ -2,15 +2,18 @@
 //! over them, `pump` and `run_threads`. `lsp_server` gives the public items on under the same names.
 #![tactic(auto)]
 
+mod goes_on;
 pub mod laws;
 mod peeking_reader;
 mod pump_frames;
 mod pumping;
 mod relay_boxes;
 mod relay_texts;
+mod reply_outbox;
 mod run;
 mod serving;
 pub mod spent;
+mod unread;
 mod workers;
 
 pub use pumping::{PumpFault, pump, pump_by, pump_within};

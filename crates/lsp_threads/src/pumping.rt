@@ -108,7 +108,7 @@ where
         Ok(reading) => reading,
         Err(fault) => return Err(PumpFault::Start(fault)),
     };
-    let (rx, unwritten) = write_texts(rt, rx, writer);
+    let (rx, unwritten) = write_texts(rt, alloc, rx, writer);
     let (tx, read) = reading.join(rt);
     settle_all(rt, rx, tx);
     answer_of(read, unwritten)

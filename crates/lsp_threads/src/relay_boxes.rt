@@ -6,7 +6,6 @@ ghost use Rattle.lsp_session.specs.Event.{arrival_view, event_view};
 ghost use Rattle.lsp_threads.specs.RelayBoxes.{RelayGives};
 ghost use Rattle.lsp_relay.specs.Relay.{ended, has_end, IsOpen};
 
-use crate::spent::Spent;
 use lsp_message::Message;
 use lsp_relay::{Parcel, RelayRx, RelayTx, Taken};
 use lsp_session::{Arrival, Event, Inbox, Outbox, SendFault, is_exit};
@@ -107,55 +106,6 @@ impl<R: Wait + Drop> Outbox for RelayOutbox<R, Message> {
     fn send(&mut self, message: Message) -> Result<(), SendFault> {
         deliver(&self.rt, &mut self.tx, Parcel::Message(message));
         Ok(())
-    }
-}
-
-/// As `RelayOutbox`, for messages that come back when they were written. After each send it drops those.
-#[derive(Drop)]
-pub struct ReplyOutbox<R: Wait + Drop, M: Drop> {
-    rt: R,
-    outbox: RelayOutbox<R, M>,
-    spent: Spent<M>,
-}
-
-impl<R: Wait + Drop, M: Drop> Model for ReplyOutbox<R, M> {
-    ghost use Rattle.lsp_relay.specs.Relay.{Sending};
-
-    ghost Value = { Sending M };
-
-    ghost view = { λ b. b.outbox };
-}
-
-impl<R: Wait + Copy + Drop, M: Drop> ReplyOutbox<R, M> {
-    pub fn new(rt: R, tx: RelayTx<M>, spent: Spent<M>) -> ReplyOutbox<R, M>
-        requires { IsOpen tx.sent }
-        ensures { result ≡ tx }
-    {
-        ReplyOutbox {
-            rt,
-            outbox: RelayOutbox::new(rt, tx),
-            spent,
-        }
-    }
-
-    /// Sends End, and gives the relay's end back.
-    pub fn finish(self) -> RelayTx<M>
-        ensures relay { result.relay ≡ self.relay }
-        ensures sent { result.sent ≡ self.sent ++ Parcel.End ∷ [] }
-    {
-        self.outbox.finish()
-    }
-}
-
-impl<R: Wait + Drop> Outbox for ReplyOutbox<R, Message> {
-    ghost use Rattle.lsp_threads.specs.RelayBoxes.{RelaySends};
-
-    ghost sends = { RelaySends };
-
-    fn send(&mut self, message: Message) -> Result<(), SendFault> {
-        let sent = self.outbox.send(message);
-        self.spent.drop_waiting(&self.rt);
-        sent
     }
 }
 
