@@ -1,3 +1,6 @@
+pub mod ContentReads
+pub mod ContentStream
+pub mod ContentWaits
 pub mod Frames
 pub mod Handed
 pub mod RefusedWakes

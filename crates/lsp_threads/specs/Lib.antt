@@ -1,3 +1,4 @@
+pub mod Contents
 pub mod Framing
 pub mod Pump
 pub mod RelayBoxes

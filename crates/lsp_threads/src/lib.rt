@@ -2,6 +2,10 @@
 //! over them, `pump` and `run_threads`. `lsp_server` gives the public items on under the same names.
 #![tactic(auto)]
 
+mod content_inbox;
+mod content_outbox;
+mod content_reader;
+mod goes_on;
 pub mod laws;
 mod peeking_reader;
 mod pump_frames;
@@ -13,6 +17,7 @@ mod serving;
 pub mod spent;
 mod workers;
 
+pub use content_outbox::Contents;
 pub use pumping::{PumpFault, pump, pump_by, pump_within};
 pub use run::{
     Builders, Threaded, run_threads, run_threads_by, run_threads_of_service,

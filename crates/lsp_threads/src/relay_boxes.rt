@@ -45,7 +45,7 @@ pub fn collect<R: Wait, M: Drop>(rt: &R, rx: &mut RelayRx<M>) -> Parcel<M>
 }
 
 /// Takes a parcel, or a wake, which is `None`, however often it has to be tried.
-fn collect_or_wake<R: Wait, M: Drop>(rt: &R, rx: &mut RelayRx<M>) -> Option<Parcel<M>>
+pub fn collect_or_wake<R: Wait, M: Drop>(rt: &R, rx: &mut RelayRx<M>) -> Option<Parcel<M>>
     ensures relay { rx.new.relay ≡ rx.old.relay }
     ensures parcel { IfSome result (λ parcel. rx.new.taken ≡ rx.old.taken ++ parcel ∷ []) }
     ensures wake { IfNone result (rx.new.taken ≡ rx.old.taken) }
@@ -238,7 +238,7 @@ fn is_end<M: Drop>(parcel: Parcel<M>) -> bool
 }
 
 /// Takes the parcels up to End.
-fn take_to_end<R: Wait, M: Drop>(rt: &R, rx: &mut RelayRx<M>)
+pub fn take_to_end<R: Wait, M: Drop>(rt: &R, rx: &mut RelayRx<M>)
     ensures relay { rx.new.relay ≡ rx.old.relay }
     ensures taken { (more : List M) × (rx.new.taken ≡ rx.old.taken ++ ended more) }
     ensures wakes { rx.old.wakes ≤ rx.new.wakes }
