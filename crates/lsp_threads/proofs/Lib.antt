@@ -4,6 +4,6 @@ pub mod ContentWaits
 pub mod Frames
 pub mod Handed
 pub mod RefusedWakes
-pub mod RelayStream
+pub mod Replies
 pub mod Sessions
 pub mod Wakes

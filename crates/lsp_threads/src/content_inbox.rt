@@ -6,8 +6,9 @@ ghost use Rattle.lsp_relay.specs.Relay.{ended, has_end};
 ghost use Rattle.lsp_session.specs.Event.{arrival_view, event_view};
 ghost use Rattle.lsp_threads.specs.Contents.{ArrivesAs, bytes_of, Contents as Carried, ContentsGive, ContentsListen, NextIs};
 
-use crate::content_outbox::Contents;
+use crate::content_outbox::{Contents, weight};
 use crate::relay_boxes::{collect_or_wake, take_to_end};
+use crate::unread::Takes;
 use lsp_message::Message;
 use lsp_relay::{Parcel, RelayRx};
 use lsp_session::{Arrival, Event, Inbox, ReadEnd, is_exit};
@@ -35,6 +36,7 @@ pub struct ContentInbox<R: Wait + Drop> {
     rt: R,
     alloc: Global,
     rx: RelayRx<Contents>,
+    takes: Takes,
     /// Content parts that were taken, and not given yet.
     waiting: VecDeque<Vec<u8>>,
     drained: bool,
@@ -54,7 +56,7 @@ impl<R: Wait + Drop> Model for ContentInbox<R> {
 }
 
 impl<R: Wait + Copy + Drop> ContentInbox<R> {
-    pub fn new(rt: R, alloc: Global, rx: RelayRx<Contents>) -> ContentInbox<R>
+    pub fn new(rt: R, alloc: Global, rx: RelayRx<Contents>, takes: Takes) -> ContentInbox<R>
         requires { has_end rx.taken ≡ false }
         ensures { result ≡ record { relay = rx.relay; taken = rx.taken; waiting = []; end = None; wakes = rx.wakes } }
     {
@@ -62,6 +64,7 @@ impl<R: Wait + Copy + Drop> ContentInbox<R> {
             rt,
             alloc,
             rx,
+            takes,
             waiting: VecDeque::new(alloc),
             drained: false,
             end: None,
@@ -82,7 +85,8 @@ impl<R: Wait + Copy + Drop> ContentInbox<R> {
         self.drained
     }
 
-    /// Takes the parcels up to End, where End is not taken yet, and gives the relay's end back.
+    /// Takes the parcels up to End, where End is not taken yet, and gives the relay's end back. From the first on, the thread that reads
+    /// waits no more for what is unread.
     pub fn drain(self) -> RelayRx<Contents>
         ensures relay { result.relay ≡ self.relay }
         ensures taken { MatchBool (has_end self.taken) (result.taken ≡ self.taken) ((more : List Carried) × (result.taken ≡ self.taken ++ ended more)) }
@@ -92,10 +96,12 @@ impl<R: Wait + Copy + Drop> ContentInbox<R> {
             rt,
             alloc: _,
             mut rx,
+            takes,
             waiting: _,
             drained,
             end: _,
         } = self;
+        drop(takes);
         if !drained {
             take_to_end(&rt, &mut rx);
         }
@@ -110,7 +116,7 @@ impl<R: Wait + Copy + Drop> ContentInbox<R> {
         if self.drained || self.end.is_some() {
             return Arrival::Closed;
         }
-        match next_content(&self.rt, &mut self.rx, &mut self.waiting) {
+        match next_content(&self.rt, &mut self.rx, &self.takes, &mut self.waiting) {
             Next::Content(content) => {
                 let (arrival, end) = arrival_of(self.alloc, &content);
                 self.end = end;
@@ -144,6 +150,7 @@ impl<R: Wait + Copy + Drop> ContentInbox<R> {
 fn next_content<R: Wait>(
     rt: &R,
     rx: &mut RelayRx<Contents>,
+    takes: &Takes,
     waiting: &mut VecDeque<Vec<u8>>,
 ) -> Next
     requires { has_end rx.old.taken ≡ false }
@@ -154,7 +161,10 @@ fn next_content<R: Wait>(
         match waiting.pop_front() {
             Some(content) => return Next::Content(content),
             None => match collect_or_wake(rt, rx) {
-                Some(Parcel::Message(contents)) => *waiting = VecDeque::from_vec(contents),
+                Some(Parcel::Message(contents)) => {
+                    takes.took(rt, weight(&contents));
+                    *waiting = VecDeque::from_vec(contents);
+                }
                 Some(Parcel::End) => return Next::End,
                 None => return Next::Wake,
             },

@@ -4,6 +4,7 @@ ghost use Rattle.lsp_relay.specs.Relay.{ended, IsOpen};
 ghost use Rattle.lsp_threads.specs.Contents.{Contents as Carried, bytes_of, contents_of};
 
 use crate::relay_boxes::deliver;
+use crate::unread::Unread;
 use lsp_relay::{Parcel, RelayTx};
 use std::alloc::{AllocError, Global};
 use std::marker::Model;
@@ -22,6 +23,7 @@ pub struct ContentOutbox<R: Wait + Drop> {
     rt: R,
     alloc: Global,
     tx: RelayTx<Contents>,
+    unread: Option<Unread>,
     pending: Contents,
     /// How many bytes wait to be handed over.
     size: usize,
@@ -40,7 +42,12 @@ impl<R: Wait + Drop> Model for ContentOutbox<R> {
 }
 
 impl<R: Wait + Drop> ContentOutbox<R> {
-    pub fn new(rt: R, alloc: Global, tx: RelayTx<Contents>) -> ContentOutbox<R>
+    pub fn new(
+        rt: R,
+        alloc: Global,
+        tx: RelayTx<Contents>,
+        unread: Option<Unread>,
+    ) -> ContentOutbox<R>
         requires { tx.sent ≡ [] }
         ensures { result ≡ record { relay = tx.relay; contents = []; wakeable = tx.wakeable } }
     {
@@ -48,6 +55,7 @@ impl<R: Wait + Drop> ContentOutbox<R> {
             rt,
             alloc,
             tx,
+            unread,
             pending: Vec::new(alloc),
             size: 0,
         }
@@ -76,12 +84,13 @@ impl<R: Wait + Drop> ContentOutbox<R> {
         Ok(())
     }
 
-    /// Sends what waits, as one parcel.
+    /// Sends what waits, as one parcel. It waits while too many bytes are unread.
     fn hand_over(&mut self)
         ensures { self.new ≡ self.old }
     {
         self.size = 0;
         let contents = mem::replace(&mut self.pending, Vec::new(self.alloc));
+        wait_for_room(&self.rt, &mut self.unread, &contents);
         deliver_contents(&self.rt, &mut self.tx, contents);
     }
 
@@ -105,13 +114,31 @@ impl<R: Wait + Drop> ContentOutbox<R> {
             rt,
             alloc: _,
             mut tx,
+            mut unread,
             pending,
             size: _,
         } = self;
+        wait_for_room(&rt, &mut unread, &pending);
         deliver_contents(&rt, &mut tx, pending);
         deliver(&rt, &mut tx, Parcel::End);
         tx
     }
+}
+
+/// Counts content parts that will be sent as unread, and waits while there are too many.
+fn wait_for_room<R: Wait>(rt: &R, unread: &mut Option<Unread>, contents: &Contents) {
+    if let Some(unread) = unread {
+        unread.add(rt, weight(contents));
+    }
+}
+
+/// How many bytes the content parts have.
+pub fn weight(contents: &Contents) -> u64 {
+    let mut bytes: u64 = 0;
+    for content in contents {
+        bytes = bytes.wrapping_add(content.len() as u64);
+    }
+    bytes
 }
 
 /// Sends content parts as one parcel, unless there are none.

@@ -5,6 +5,7 @@ ghost use Rattle.lsp_threads.specs.Contents.{HandsContents, LooksAt, ReadsConten
 use crate::content_outbox::{ContentOutbox, Contents};
 use crate::goes_on::surely_goes_on;
 use crate::peeking_reader::PeekingReader;
+use crate::unread::Unread;
 use crate::workers::ReadsInto;
 use lsp_message::{Message, ReadFault, read_content_within};
 use lsp_relay::RelayTx;
@@ -71,13 +72,14 @@ impl ReadsInto for Vec<Vec<u8>> {
         reader: S,
         limit: u64,
         tx: RelayTx<Contents>,
+        unread: Option<Unread>,
     ) -> (RelayTx<Contents>, ReadEnd)
         requires { tx.sent ≡ [] }
         ensures relay { result.0.relay ≡ tx.relay }
         ensures sent { IfSome (S.remaining reader) (λ text. HandsContents limit text tx result.1 result.0) }
     {
         let mut reader = PeekingReader::new(reader);
-        let mut outbox = ContentOutbox::new(rt, alloc, tx);
+        let mut outbox = ContentOutbox::new(rt, alloc, tx, unread);
         let end = read_contents(alloc, &mut reader, &mut outbox, limit);
         (outbox.finish(), end)
     }

@@ -1,5 +1,5 @@
-//! Messages passed on, and sessions, with a reader and a writer in threads of their own: the ends of a relay as boxes, the threads
-//! over them, `pump` and `run_threads`. `lsp_server` gives the public items on under the same names.
+//! Messages passed on, and sessions, with a reader and a writer in threads of their own: the boxes over the ends of their relays,
+//! the threads, `pump` and `run_threads`. `lsp_server` gives the public items on under the same names.
 #![tactic(auto)]
 
 mod content_inbox;
@@ -12,9 +12,11 @@ mod pump_frames;
 mod pumping;
 mod relay_boxes;
 mod relay_texts;
+mod reply_outbox;
 mod run;
 mod serving;
 pub mod spent;
+mod unread;
 mod workers;
 
 pub use content_outbox::Contents;
