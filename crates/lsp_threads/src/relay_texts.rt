@@ -181,7 +181,7 @@ fn gather<W: Write>(
     if joins(&mut pending, &text) {
         return (pending, before);
     }
-    let fault = write_after(before, &pending, writer);
+    let fault = write_after(before, pending.as_str(), writer);
     (text, fault)
 }
 

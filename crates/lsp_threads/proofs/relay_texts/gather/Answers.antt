@@ -1,4 +1,4 @@
-use Rattle.std.proofs.Common.{string_bytes}
+use Rattle.std.proofs.Common.{◌++◌, sym, string_bytes}
 use Rattle.lsp_threads.proofs.Frames.{all_gathered, first_gathered}
 use Rattle.lsp_threads.proofs.relay_texts.gather.Goals as goal
 
@@ -8,4 +8,4 @@ returns-then-joins g c = all_gathered c.args.before _ _ (g.W.Write.contents c.ar
 pub returns : goal.returns
 returns g c =
     rw (sym c.if-joins.ensures) (first_gathered g.W.Write.contents c.args.writer.now c.write_after-fault.new.writer (string_bytes c.joins.new.pending) (string_bytes c.args.text) c.args.before c.write_after-fault.result
-    (rw c.deref-1.ensures at c.write_after-fault.ensures.none) c.write_after-fault.ensures.some)
+    (rw c.as_str.ensures.value at c.write_after-fault.ensures.none) c.write_after-fault.ensures.some)

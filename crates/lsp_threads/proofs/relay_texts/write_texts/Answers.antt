@@ -14,7 +14,7 @@ loop-preserved-in-Some-Message g c =
       relay = c.next_parcel.ensures.relay ∙ c.loop.invariant.relay;
       still_open = subst IsOpen (sym taken) (open_push c.loop.rx.taken text c.loop.invariant.still_open);
       unwritten = rw (ap parcel_bytes taken ∙ parcel_bytes-push c.loop.rx.taken text)
-          (more_unwritten (parcel_bytes c.loop.rx.taken) (string_bytes text) (string_bytes c.loop.pending) _ (g.W.Write.contents c.args.writer.now) _ _ c.loop.fault _ c.loop.invariant.unwritten c.gather.ensures);
+          (more_unwritten (parcel_bytes c.loop.rx.taken) (string_bytes text) (string_bytes c.loop.pending) _ (g.W.Write.contents c.args.writer.now) _ _ c.loop.fault _ c.loop.invariant.unwritten c.gather-left.ensures);
     }
 
 -- nothing more was there, so what had been gathered was written
@@ -39,5 +39,5 @@ returns-in-Some-End-clause-written g c =
       subst AreEnded (sym taken) (ended_after c.loop.rx.taken c.loop.invariant.still_open),
       rw (ap parcel_bytes taken ∙ parcel_bytes-end c.loop.rx.taken)
           (left_written g.W.Write.contents c.args.writer.now c.loop.writer c.write_after.new.writer bytes (string_bytes c.loop.pending) c.loop.fault c.write_after.result
-          c.loop.invariant.unwritten (rw c.deref-in-Some-End.ensures at c.write_after.ensures.none) c.write_after.ensures.some),
+          c.loop.invariant.unwritten (rw c.deref.ensures at c.write_after.ensures.none) c.write_after.ensures.some),
     )
