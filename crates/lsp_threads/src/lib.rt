@@ -1,7 +1,10 @@
-//! Messages passed on, and sessions, with a reader and a writer in threads of their own: the ends of a relay as boxes, the threads
-//! over them, `pump` and `run_threads`. `lsp_server` gives the public items on under the same names.
+//! Messages passed on, and sessions, with a reader and a writer in threads of their own: the boxes over the ends of their relays,
+//! the threads, `pump` and `run_threads`. `lsp_server` gives the public items on under the same names.
 #![tactic(auto)]
 
+mod content_inbox;
+mod content_outbox;
+mod content_reader;
 mod goes_on;
 pub mod laws;
 mod peeking_reader;
@@ -16,6 +19,7 @@ pub mod spent;
 mod unread;
 mod workers;
 
+pub use content_outbox::Contents;
 pub use pumping::{PumpFault, pump, pump_by, pump_within};
 pub use run::{
     Builders, Threaded, run_threads, run_threads_by, run_threads_of_service,

@@ -104,7 +104,7 @@ where
     let Ok((tx, rx)) = relay::<String>(alloc, PARCEL_ROOM) else {
         return Err(PumpFault::Start(StartFault::Memory));
     };
-    let reading = match start_reader::<String, T, R>(rt, builder, alloc, reader, limit, tx) {
+    let reading = match start_reader::<String, T, R>(rt, builder, alloc, reader, limit, tx, None) {
         Ok(reading) => reading,
         Err(fault) => return Err(PumpFault::Start(fault)),
     };

@@ -6,9 +6,9 @@ ghost use Rattle.lsp_session.specs.HandlerSession.{of_handler};
 ghost use Rattle.lsp_session.specs.Session.{SessionOut};
 ghost use Rattle.lsp_threads.specs.Threads.{ThreadsGive, ThreadsGiveOver};
 
+use crate::content_outbox::Contents;
 use crate::serving::{serve_between, start_both};
 use crate::workers::{ROOM, StartFault};
-use lsp_message::Message;
 use lsp_relay::{RelayRx, RelayTx, relay};
 use lsp_session::{Handler, HandlerService, Service, SessionEnd, SessionFault};
 use serde_json::Value;
@@ -189,13 +189,13 @@ where
         ThreadsGive limit (SessionOut S.behavior service.old service.new)
         text (W.contents writer) (W.contents done.writer) done.answer)) }
 {
-    let Ok(ends) = relay::<Message>(alloc, ROOM) else {
+    let Ok(ends) = relay::<Contents>(alloc, ROOM) else {
         return Err(StartFault::Memory);
     };
     run_threads_of_service_over(rt, builders, alloc, ends, reader, writer, service, limit)
 }
 
-/// As `run_threads_of_service_by`, over a relay that the caller made, which no message has passed. Wakers of the relay wake the
+/// As `run_threads_of_service_by`, over a relay that the caller made, which nothing has passed: `relay::<Contents>`. Wakers of the relay wake the
 /// service, from `initialized` up to `shutdown`; a wake before or after is passed over. If you made no waker, the service is never
 /// woken. That a wake arrives is tested, and no part of this contract.
 ///
@@ -205,7 +205,7 @@ pub fn run_threads_of_service_over<T, R, W, S>(
     rt: &T,
     builders: Builders,
     alloc: Global,
-    ends: (RelayTx<Message>, RelayRx<Message>),
+    ends: (RelayTx<Contents>, RelayRx<Contents>),
     reader: R,
     writer: W,
     service: &mut S,

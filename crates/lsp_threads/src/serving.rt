@@ -3,11 +3,14 @@ ghost use Rattle.std.specs.Prelude.{◌≡◌, [], IfOk, IfSome};
 ghost use Rattle.lsp_session.specs.Session.{SessionOut};
 ghost use Rattle.lsp_threads.specs.Threads.{ThreadsGiveOver, session_end as session_end_spec};
 
-use crate::relay_boxes::{RelayInbox, deliver};
+use crate::content_inbox::ContentInbox;
+use crate::content_outbox::Contents;
+use crate::relay_boxes::deliver;
 use crate::reply_outbox::{ReplyOutbox, reply_fault};
 use crate::run::{Builders, Threaded};
+use crate::unread::{Takes, bounded_unread};
 use crate::workers::{ROOM, Reader, StartFault, Writer, start_reader, start_writer};
-use lsp_message::{Message, WriteFault};
+use lsp_message::WriteFault;
 use lsp_relay::{Parcel, RelayRx, RelayTx, relay, settle_all};
 use lsp_session::{ReadEnd, Service, serve_service, session_answer};
 use std::alloc::Global;
@@ -15,12 +18,17 @@ use std::io::{BufRead, Write};
 use std::sync::Wait;
 use std::thread::{PromisedHandle, Threads};
 
+/// How many bytes of content parts may be read that the session did not take. A longer part waits until it is the only one. It changes
+/// speed and memory only, and no answer.
+const MOST_UNREAD: u64 = 1_048_576;
+
 /// The two threads, and the caller's ends of their relays.
 #[derive(Drop)]
 pub(crate) struct Workers<R: BufRead + Drop, W: Write + Drop> {
-    pub(crate) rx: RelayRx<Message>,
+    pub(crate) rx: RelayRx<Contents>,
+    pub(crate) takes: Takes,
     pub(crate) replies: RelayTx<String>,
-    pub(crate) reading: PromisedHandle<(RelayTx<Message>, ReadEnd), Reader<R, Message>>,
+    pub(crate) reading: PromisedHandle<(RelayTx<Contents>, ReadEnd), Reader<R, Contents>>,
     pub(crate) writing: PromisedHandle<(RelayRx<String>, W, Option<WriteFault>), Writer<W, String>>,
 }
 
@@ -29,7 +37,7 @@ pub(crate) fn start_both<T, R, W>(
     rt: &T,
     builders: Builders,
     alloc: Global,
-    ends: (RelayTx<Message>, RelayRx<Message>),
+    ends: (RelayTx<Contents>, RelayRx<Contents>),
     reader: R,
     limit: u64,
     writer: W,
@@ -49,6 +57,9 @@ where
     let Ok((replies, replies_rx)) = relay::<String>(alloc, ROOM) else {
         return Err(StartFault::Memory);
     };
+    let Ok((unread, takes)) = bounded_unread(alloc, MOST_UNREAD) else {
+        return Err(StartFault::Memory);
+    };
     let (tx, rx) = ends;
     let writing = match start_writer::<String, T, W>(
         rt,
@@ -60,9 +71,11 @@ where
         Ok(writing) => writing,
         Err(fault) => return Err(fault),
     };
-    match start_reader::<Message, T, R>(rt, builders.reader, alloc, reader, limit, tx) {
+    let unread = Some(unread);
+    match start_reader::<Contents, T, R>(rt, builders.reader, alloc, reader, limit, tx, unread) {
         Ok(reading) => Ok(Workers {
             rx,
+            takes,
             replies,
             reading,
             writing,
@@ -107,15 +120,16 @@ where
 {
     let Workers {
         rx,
+        takes,
         replies,
         reading,
         writing,
     } = workers;
-    let mut inbox = RelayInbox::new(*rt, rx);
+    let mut inbox = ContentInbox::new(*rt, alloc, rx, takes);
     let mut outbox = ReplyOutbox::new(*rt, alloc, replies);
     let answer = serve_service(alloc, &mut inbox, &mut outbox, service);
-    let closed = inbox.is_closed();
-    let exited = inbox.gave_exit();
+    let ended = inbox.end();
+    let drained = inbox.is_drained();
     let (replies, failed) = outbox.finish();
     // Nobody waits for ever for room in the relay: draining makes room for the thread that reads, and `settle_all` drops both ends, so
     // that a wake which waits gives up.
@@ -125,17 +139,17 @@ where
     settle_all(rt, rx, tx);
     settle_all(rt, replies_rx, replies);
     let fault = reply_fault(unwritten, failed);
-    let answer = session_answer(answer, session_end(closed, exited, read), fault);
+    let answer = session_answer(answer, session_end(ended, drained, read), fault);
     Threaded { writer, answer }
 }
 
 /// What ended the messages of a session.
-fn session_end(closed: bool, exited: bool, read: ReadEnd) -> Option<ReadEnd>
-    ensures { result ≡ session_end_spec closed exited read }
+fn session_end(ended: Option<ReadEnd>, drained: bool, read: ReadEnd) -> Option<ReadEnd>
+    ensures { result ≡ session_end_spec ended drained read }
 {
-    match (closed, exited) {
-        (true, _) => Some(read),
-        (false, true) => Some(ReadEnd::Exit),
-        (false, false) => None,
+    match (ended, drained) {
+        (Some(end), _) => Some(end),
+        (None, true) => Some(read),
+        (None, false) => None,
     }
 }

@@ -2,74 +2,70 @@
 
 use crossbeam_channel::{Receiver, Sender, bounded};
 use std::alloc::{AllocError, Global};
-use std::sync::Wait;
+use std::sync::atomic::{AtomicU64, Ordering};
+use std::sync::{Arc, Wait};
 
-/// Makes the two ends of an account of what is unread, which should not pass `bound`. The thread that reads passes parcels on by a relay
-/// with this `room`. The error means that an allocation failed.
-pub fn bounded_unread(
-    alloc: Global,
-    room: usize,
-    bound: u64,
-) -> Result<(Unread, Takes), AllocError> {
-    let (sender, receiver) = bounded(alloc, room.saturating_add(BETWEEN))?;
-    let unread = Unread {
-        receiver,
-        bound,
-        unread: 0,
+/// Makes the two ends of an account of what is unread, which should not pass `bound`. The error means that an allocation failed.
+pub fn bounded_unread(alloc: Global, bound: u64) -> Result<(Unread, Takes), AllocError> {
+    let (ring, bell) = bounded(alloc, 1)?;
+    let Ok(taken) = Arc::new(alloc, AtomicU64::new(0)) else {
+        return Err(AllocError);
     };
-    Ok((unread, Takes { sender }))
+    let theirs = Arc::try_clone(&taken)?;
+    let unread = Unread {
+        taken,
+        bell,
+        bound,
+        read: 0,
+    };
+    let takes = Takes {
+        taken: theirs,
+        ring,
+    };
+    Ok((unread, takes))
 }
-
-/// How many parcels can be between two calls of the ends, beside those in the relay: one that was counted and not sent yet, one that was
-/// taken and not told yet, and one that was told since the last count.
-const BETWEEN: usize = 3;
 
 /// The end of the thread that reads.
 #[derive(Drop)]
 pub struct Unread {
-    receiver: Receiver<u64>,
+    /// How many bytes were taken, in all.
+    taken: Arc<AtomicU64, Global>,
+    /// Rings after bytes were taken.
+    bell: Receiver<()>,
     bound: u64,
-    unread: u64,
+    /// How many bytes were read, in all.
+    read: u64,
 }
 
 impl Unread {
     /// Counts a parcel, before it is sent. While it would pass the bound together with what is unread, it waits, so that a parcel above
     /// the bound passes alone. If the other end is gone, it never waits.
     pub fn add<R: Wait>(&mut self, rt: &R, weight: u64) {
-        self.forget_taken(rt);
         for _ in rt.forever() {
-            if self.has_room(weight) {
+            if self.has_room(weight) || self.bell.recv(rt).is_err() {
                 break;
             }
-            match self.receiver.recv(rt) {
-                Ok(taken) => self.unread = self.unread.saturating_sub(taken),
-                Err(_) => self.unread = 0,
-            }
         }
-        self.unread = self.unread.saturating_add(weight);
+        self.read = self.read.wrapping_add(weight);
     }
 
     fn has_room(&self, weight: u64) -> bool {
-        self.unread == 0 || weight <= self.bound.saturating_sub(self.unread)
-    }
-
-    /// Takes off what was taken meanwhile. It doesn't wait.
-    fn forget_taken<R: Wait>(&mut self, rt: &R) {
-        for taken in self.receiver.try_iter(rt) {
-            self.unread = self.unread.saturating_sub(taken);
-        }
+        let unread = self.read.wrapping_sub(self.taken.load(Ordering::SeqCst));
+        unread == 0 || weight <= self.bound.saturating_sub(unread)
     }
 }
 
 /// The end of the thread that takes.
 #[derive(Drop)]
 pub struct Takes {
-    sender: Sender<u64>,
+    taken: Arc<AtomicU64, Global>,
+    ring: Sender<()>,
 }
 
 impl Takes {
-    /// Tells that a parcel of this weight was taken. It doesn't wait, since there is room for each parcel that can be on its way.
+    /// Tells that a parcel of this weight was taken. It doesn't wait: where the bell rings already, the other end will look anew.
     pub fn took<R: Wait>(&self, rt: &R, weight: u64) {
-        let _ = self.sender.send(rt, weight);
+        self.taken.fetch_add(weight, Ordering::SeqCst);
+        let _ = self.ring.try_send(rt, ());
     }
 }

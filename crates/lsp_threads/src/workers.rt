@@ -1,13 +1,12 @@
 //! The threads that read and write, each over an end of a relay.
 ghost use Rattle.std.specs.Prelude.{◌≡◌, [], IfOk, IfSome};
 ghost use Rattle.lsp_threads.specs.Framing.{WritesParcels};
-ghost use Rattle.lsp_threads.specs.RelayBoxes.{HandsOn};
 
-use crate::relay_boxes::RelayOutbox;
 use crate::relay_texts::write_texts;
-use lsp_message::{Message, WriteFault};
+use crate::unread::Unread;
+use lsp_message::WriteFault;
 use lsp_relay::{RelayRx, RelayTx};
-use lsp_session::{ReadEnd, read_loop_within};
+use lsp_session::ReadEnd;
 use std::alloc::Global;
 use std::error::Error;
 use std::fmt;
@@ -56,13 +55,15 @@ pub trait ReadsInto: Drop {
     /// end is this then.
     ghost hands_on: { ℕ → List ℕ → Sending Self → read_end → Sending Self → Type 0 };
 
-    /// Sends the messages of a reader, whose content parts have at most `limit` bytes, and then End.
+    /// Sends the messages of a reader, whose content parts have at most `limit` bytes, and then End. Where `unread` is there, it waits
+    /// as that says.
     fn read_into<R: Wait + Drop, S: BufRead + Drop>(
         rt: R,
         alloc: Global,
         reader: S,
         limit: u64,
         tx: RelayTx<Self>,
+        unread: Option<Unread>,
     ) -> (RelayTx<Self>, ReadEnd)
         requires { tx.sent ≡ [] }
         ensures relay { result.0.relay ≡ tx.relay }
@@ -128,6 +129,7 @@ pub fn start_reader<M, R, S>(
     reader: S,
     limit: u64,
     tx: RelayTx<M>,
+    unread: Option<Unread>,
 ) -> Result<PromisedHandle<(RelayTx<M>, ReadEnd), Reader<S, M>>, StartFault>
 where
     M: ReadsInto + Drop + Send + 'static,
@@ -145,7 +147,7 @@ where
     match builder.spawn_with(
         rt,
         promise,
-        move || M::read_into(theirs, alloc, reader, limit, tx),
+        move || M::read_into(theirs, alloc, reader, limit, tx, unread),
     ) {
         Ok(handle) => Ok(handle),
         Err(_) => Err(StartFault::Thread),
@@ -175,29 +177,6 @@ where
     match builder.spawn_with(rt, promise, move || M::write_out(theirs, alloc, rx, writer)) {
         Ok(handle) => Ok(handle),
         Err(_) => Err(StartFault::Thread),
-    }
-}
-
-impl ReadsInto for Message {
-    ghost use Rattle.lsp_threads.specs.RelayBoxes.{HandsOn};
-
-    ghost hands_on = { HandsOn };
-
-    fn read_into<R: Wait + Drop, S: BufRead + Drop>(
-        rt: R,
-        alloc: Global,
-        reader: S,
-        limit: u64,
-        tx: RelayTx<Message>,
-    ) -> (RelayTx<Message>, ReadEnd)
-        requires { tx.sent ≡ [] }
-        ensures relay { result.0.relay ≡ tx.relay }
-        ensures sent { IfSome (S.remaining reader) (λ text. HandsOn limit text tx result.1 result.0) }
-    {
-        let mut reader = reader;
-        let mut outbox = RelayOutbox::new(rt, tx);
-        let end = read_loop_within(alloc, &mut reader, &mut outbox, limit);
-        (outbox.finish(), end)
     }
 }
 

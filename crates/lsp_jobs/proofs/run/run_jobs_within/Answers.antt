@@ -1,9 +1,9 @@
 use denote.Exit.{yes}
 use denote.Param.Send.{param_send, arg_send}
 use Rattle.std.proofs.Common.{ap, ◌∙◌, true}
-use Rattle.lsp_message.proofs.Sendable.{message_send}
 use Rattle.lsp_session.specs.Session.{SessionOut}
 use Rattle.lsp_service.specs.QueuedServer.{at_woken_desk}
+use Rattle.lsp_threads.proofs.ContentsSend.{contents_send}
 use Rattle.lsp_threads.proofs.Sessions.{started_as}
 use Rattle.lsp_threads.specs.declared.run.Threaded.{Threaded}
 use Rattle.lsp_jobs.proofs.JobSessions.{job_session}
@@ -12,7 +12,7 @@ use Rattle.lsp_jobs.specs.declared.pooled_server.PooledServer.{PooledServer}
 use Rattle.lsp_jobs.proofs.run.run_jobs_within.Goals as goal
 
 pub start_pool-requires-send-M : goal.start_pool-requires-send-M
-start_pool-requires-send-M g c κs within = param_send _ _ (arg_send _ yes _ message_send)
+start_pool-requires-send-M g c κs within = param_send _ _ (arg_send _ yes _ contents_send)
 
 pub returns : goal.returns
 returns g c =
