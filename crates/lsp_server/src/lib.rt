@@ -44,7 +44,7 @@ pub use lsp_session::{
     session, session_on, session_within, shutdown, start_within, wait_within, write_loop,
 };
 pub use lsp_threads::{
-    Builders, PumpFault, StartFault, Threaded, pump, pump_within, run_threads,
+    PumpFault, StartFault, ThreadOptions, Threaded, UNREAD_BYTES, pump, pump_within, run_threads,
     run_threads_of_service, run_threads_of_service_within, run_threads_within,
 };
 pub use memory::keep_freed_memory;

@@ -22,7 +22,7 @@ mod workers;
 pub use content_outbox::Contents;
 pub use pumping::{PumpFault, pump, pump_by, pump_within};
 pub use run::{
-    Builders, Threaded, run_threads, run_threads_by, run_threads_of_service,
+    ThreadOptions, Threaded, UNREAD_BYTES, run_threads, run_threads_by, run_threads_of_service,
     run_threads_of_service_by, run_threads_of_service_over, run_threads_of_service_within,
     run_threads_within,
 };

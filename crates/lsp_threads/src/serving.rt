@@ -7,7 +7,7 @@ use crate::content_inbox::ContentInbox;
 use crate::content_outbox::Contents;
 use crate::relay_boxes::deliver;
 use crate::reply_outbox::{ReplyOutbox, reply_fault};
-use crate::run::{Builders, Threaded};
+use crate::run::{ThreadOptions, Threaded};
 use crate::unread::{Takes, bounded_unread};
 use crate::workers::{ROOM, Reader, StartFault, Writer, start_reader, start_writer};
 use lsp_message::WriteFault;
@@ -17,10 +17,6 @@ use std::alloc::Global;
 use std::io::{BufRead, Write};
 use std::sync::Wait;
 use std::thread::{PromisedHandle, Threads};
-
-/// How many bytes of content parts may be read that the session did not take. A longer part waits until it is the only one. It changes
-/// speed and memory only, and no answer.
-const MOST_UNREAD: u64 = 1_048_576;
 
 /// The two threads, and the caller's ends of their relays.
 #[derive(Drop)]
@@ -35,7 +31,7 @@ pub(crate) struct Workers<R: BufRead + Drop, W: Write + Drop> {
 /// Starts the thread that writes and then the one that reads. After a fault both ends of the relay, and the thread, are gone.
 pub(crate) fn start_both<T, R, W>(
     rt: &T,
-    builders: Builders,
+    options: ThreadOptions,
     alloc: Global,
     ends: (RelayTx<Contents>, RelayRx<Contents>),
     reader: R,
@@ -57,13 +53,13 @@ where
     let Ok((replies, replies_rx)) = relay::<String>(alloc, ROOM) else {
         return Err(StartFault::Memory);
     };
-    let Ok((unread, takes)) = bounded_unread(alloc, MOST_UNREAD) else {
+    let Ok((unread, takes)) = bounded_unread(alloc, options.unread) else {
         return Err(StartFault::Memory);
     };
     let (tx, rx) = ends;
     let writing = match start_writer::<String, T, W>(
         rt,
-        builders.writer,
+        options.writer,
         alloc,
         replies_rx,
         writer,
@@ -72,7 +68,7 @@ where
         Err(fault) => return Err(fault),
     };
     let unread = Some(unread);
-    match start_reader::<Contents, T, R>(rt, builders.reader, alloc, reader, limit, tx, unread) {
+    match start_reader::<Contents, T, R>(rt, options.reader, alloc, reader, limit, tx, unread) {
         Ok(reading) => Ok(Workers {
             rx,
             takes,

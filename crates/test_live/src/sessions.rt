@@ -12,7 +12,7 @@ use lsp_server::{Connection, UNREAD_WEIGHT};
 use lsp_service::QueuedServer;
 use lsp_session::{SessionEnd, SessionFault};
 use lsp_threads::{
-    Builders, PumpFault, StartFault, Threaded, pump_by, run_threads_by,
+    PumpFault, StartFault, ThreadOptions, Threaded, UNREAD_BYTES, pump_by, run_threads_by,
     run_threads_of_service_within,
 };
 use serde_json::{Map, Value};
@@ -163,7 +163,7 @@ where
     let limit = run.limit();
     let ran = run_threads_by(
         rt,
-        builders(run),
+        options(run),
         alloc,
         reader,
         writer,
@@ -240,11 +240,12 @@ where
     run_jobs_within(rt, alloc, reader, writer, size, talker, limit)
 }
 
-/// Builders of threads. No thread gets a stack of `usize::MAX` bytes.
-fn builders(run: Run) -> Builders {
-    Builders {
+/// How threads run. No thread gets a stack of `usize::MAX` bytes.
+fn options(run: Run) -> ThreadOptions {
+    ThreadOptions {
         writer: builder(matches!(run.device, Device::NoWriter)),
         reader: builder(matches!(run.device, Device::NoReader)),
+        unread: UNREAD_BYTES,
     }
 }
 

@@ -9,7 +9,7 @@ use Rattle.lsp_threads.specs.declared.run.Threaded.{Threaded}
 use Rattle.lsp_jobs.proofs.JobSessions.{job_session}
 use Rattle.lsp_jobs.specs.JobSession.{JobSession, seen_with_jobs}
 use Rattle.lsp_jobs.specs.declared.pooled_server.PooledServer.{PooledServer}
-use Rattle.lsp_jobs.proofs.run.run_jobs_within.Goals as goal
+use Rattle.lsp_jobs.proofs.run.run_jobs_by.Goals as goal
 
 pub start_pool-requires-send-M : goal.start_pool-requires-send-M
 start_pool-requires-send-M g c κs within = param_send _ _ (arg_send _ yes _ contents_send)
