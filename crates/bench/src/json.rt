@@ -37,20 +37,14 @@ pub fn write_again<R: BufRead, W: Write>(
         }
         body.resize(length, 0)?;
         reader.read_exact(body.as_mut_slice())?;
-        put_in_frame(alloc, body.as_slice(), &mut frame)?;
+        let value = Value::from_slice(alloc, body.as_slice())?;
+        let text = value.to_string(alloc)?;
+        frame.clear();
+        let text_length = text.len();
+        write!(frame, "Content-Length: {text_length}\r\n\r\n")?;
+        frame.push_str(text.as_str())?;
         writer.write_all(frame.as_bytes())?;
         writer.flush()?;
     }
-    Ok(())
-}
-
-/// Reads a body as a `Value`, and makes a frame of that value's text.
-fn put_in_frame(alloc: Global, body: &[u8], frame: &mut String) -> Result<()> {
-    let value = Value::from_slice(alloc, body)?;
-    let text = value.to_string(alloc)?;
-    frame.clear();
-    let text_length = text.len();
-    write!(frame, "Content-Length: {text_length}\r\n\r\n")?;
-    frame.push_str(text.as_str())?;
     Ok(())
 }

@@ -12,7 +12,9 @@ const FEW: u32 = 1000;
 /// many of a thousand were given back.
 pub fn measure<R: Clock + Print>(rt: &R, alloc: Global, words: &[String]) -> Result<()> {
     if words.is_empty() {
-        let found = given_back(alloc)?;
+        let mut queue: ReqQueue<u64, u64> = ReqQueue::default(alloc);
+        register_all(alloc, &mut queue.outgoing, FEW)?;
+        let found = complete_all(&mut queue.outgoing, FEW);
         println!(rt; "{FEW} registered, {found} given back")?;
         return Ok(());
     }
@@ -23,29 +25,13 @@ pub fn measure<R: Clock + Print>(rt: &R, alloc: Global, words: &[String]) -> Res
     Ok(())
 }
 
-/// How many of a few requests are given back.
-fn given_back(alloc: Global) -> Result<u32> {
-    let mut queue: ReqQueue<u64, u64> = ReqQueue::default(alloc);
-    register_all(alloc, &mut queue.outgoing, FEW)?;
-    Ok(complete_all(&mut queue.outgoing, FEW))
-}
-
 fn time_calls<R: Clock + Print>(rt: &R, alloc: Global, count: u32) -> Result<()> {
     let mut queue: ReqQueue<u64, u64> = ReqQueue::default(alloc);
-    time_calls_on(rt, alloc, &mut queue.outgoing, count)
-}
-
-fn time_calls_on<R: Clock + Print>(
-    rt: &R,
-    alloc: Global,
-    queue: &mut Outgoing<u64>,
-    count: u32,
-) -> Result<()> {
     let start = Instant::now(rt)?;
-    register_all(alloc, queue, count)?;
+    register_all(alloc, &mut queue.outgoing, count)?;
     let registered = start.elapsed(rt)?.as_nanos();
     let start = Instant::now(rt)?;
-    let found = complete_all(queue, count);
+    let found = complete_all(&mut queue.outgoing, count);
     let completed = start.elapsed(rt)?.as_nanos();
     let each = per_call(registered, count);
     let last = per_call(completed, count);

@@ -41,27 +41,18 @@ fn time_edits<R: Clock + Print>(rt: &R, alloc: Global, count: u32) -> Result<()>
     let mut text = large(alloc)?;
     let took = start.elapsed(rt)?.as_micros();
     println!(rt; "made and indexed: {took} us")?;
-    time_edits_of(rt, alloc, &mut text, count)
-}
-
-fn time_edits_of<R: Clock + Print>(
-    rt: &R,
-    alloc: Global,
-    text: &mut Text,
-    count: u32,
-) -> Result<()> {
     for line in [0u32, 12_500, LINES] {
         let start = Instant::now(rt)?;
-        typed(alloc, text, line, 0, "x", count)?;
+        typed(alloc, &mut text, line, 0, "x", count)?;
         let took = start.elapsed(rt)?.as_micros();
         println!(rt; "{count} keystrokes at line {line}: {took} us")?;
     }
     let start = Instant::now(rt)?;
-    typed(alloc, text, 12_500, 0, "y\n", count)?;
+    typed(alloc, &mut text, 12_500, 0, "y\n", count)?;
     let took = start.elapsed(rt)?.as_micros();
     println!(rt; "{count} new lines at line 12500: {took} us")?;
     let start = Instant::now(rt)?;
-    let sum = asked(text, count);
+    let sum = asked(&text, count);
     let took = start.elapsed(rt)?.as_micros();
     println!(rt; "{count} positions of offsets and back: {took} us, sum {sum}")?;
     Ok(())
@@ -70,36 +61,33 @@ fn time_edits_of<R: Clock + Print>(
 fn time_carets<R: Clock + Print>(rt: &R, alloc: Global, count: u32) -> Result<()> {
     let mut text = large(alloc)?;
     let start = Instant::now(rt)?;
-    typed_at_carets(alloc, &mut text, count)?;
+    for i in 0..count {
+        // From the last line up, as an editor sends them.
+        typed(
+            alloc,
+            &mut text,
+            LINES.saturating_sub(i.saturating_mul(2)),
+            0,
+            "x",
+            1,
+        )?;
+    }
     let took = start.elapsed(rt)?.as_micros();
     println!(rt; "{count} carets, each two lines above the last: {took} us")?;
     Ok(())
 }
 
-/// From the last line up, as an editor sends them.
-fn typed_at_carets(alloc: Global, text: &mut Text, count: u32) -> Result<()> {
-    for i in 0..count {
-        let line = LINES.saturating_sub(i.saturating_mul(2));
-        typed(alloc, text, line, 0, "x", 1)?;
-    }
-    Ok(())
-}
-
 fn time_long_line<R: Clock + Print>(rt: &R, alloc: Global, length: u32, count: u32) -> Result<()> {
-    let mut text = long_line(alloc, length)?;
+    let mut text = String::new(alloc);
+    for _ in 0..length {
+        text.push('x')?;
+    }
+    let mut text = Text::new(alloc, text.as_str())?;
     let start = Instant::now(rt)?;
     typed(alloc, &mut text, 0, length, "x", count)?;
     let took = start.elapsed(rt)?.as_micros();
     println!(rt; "{count} keystrokes at the end of a line of {length} bytes: {took} us")?;
     Ok(())
-}
-
-fn long_line(alloc: Global, length: u32) -> Result<Text> {
-    let mut text = String::new(alloc);
-    for _ in 0..length {
-        text.push('x')?;
-    }
-    Ok(Text::new(alloc, text.as_str())?)
 }
 
 fn large(alloc: Global) -> Result<Text> {

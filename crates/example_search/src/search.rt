@@ -44,17 +44,6 @@ impl Job for Search {
         token: &CancellationToken,
         progress: &mut P,
     ) -> Result<Result<Value, ResponseError>, AllocError> {
-        Ok(Ok(self.found(token, progress)?))
-    }
-}
-
-impl Search {
-    /// The headings of all texts, up to where the search is cancelled.
-    fn found<P: Progress>(
-        &self,
-        token: &CancellationToken,
-        progress: &mut P,
-    ) -> Result<Value, AllocError> {
         let mut found = Vec::new(self.alloc);
         self.tell(progress, "begin", "title", "Searching")?;
         let mut told = usize::MAX;
@@ -71,9 +60,11 @@ impl Search {
             self.find(source, token, &mut found)?;
         }
         self.tell(progress, "end", "message", "Searched")?;
-        Ok(Value::Array(found))
+        Ok(Ok(Value::Array(found)))
     }
+}
 
+impl Search {
     /// Tells how far the search is (LSP 3.17, "Work Done Progress").
     fn tell<P: Progress>(
         &self,
@@ -109,20 +100,16 @@ impl Search {
             if let Some(heading) = line_of(&text, number).strip_prefix("# ")
                 && heading.contains(self.query.as_str())
             {
-                found.push(symbol(self.alloc, source.uri.as_str(), number, heading)?)?;
+                let place = json!(in self.alloc; { "line": number, "character": 0 })?;
+                let end = place.clone()?;
+                let symbol = json!(in self.alloc; {
+                    "name": heading,
+                    "kind": 15,
+                    "location": { "uri": source.uri.as_str(), "range": { "start": place, "end": end } }
+                })?;
+                found.push(symbol)?;
             }
         }
         Ok(())
     }
-}
-
-/// A heading in a line of a text (LSP 3.17, "SymbolInformation").
-fn symbol(alloc: Global, uri: &str, line: u32, heading: &str) -> Result<Value, AllocError> {
-    let place = json!(in alloc; { "line": line, "character": 0 })?;
-    let end = place.clone()?;
-    Ok(json!(in alloc; {
-        "name": heading,
-        "kind": 15,
-        "location": { "uri": uri, "range": { "start": place, "end": end } }
-    })?)
 }

@@ -1,6 +1,6 @@
 // The server: the texts that are open, what the client is told, and what it asks.
 use crate::search::{Search, Silence, Source};
-use crate::sums::{Named, Problem, Span, Word, sheet_of, value_of, words_of};
+use crate::sums::{Named, Span, sheet_of, value_of, words_of};
 use lsp_documents::{DocumentFault, Made, NotMade, TextDocuments, position_encoding, position_in};
 use lsp_jobs::{CancellationToken, Job, JobServer, Start};
 use lsp_server::{Act, ErrorCode, Notification, Request, RequestId, ResponseError, Server};
@@ -59,13 +59,32 @@ impl Server for Sums {
     }
 
     fn request(&mut self, request: Request) -> Result<Acts, AllocError> {
+        let mut acts = Vec::new(self.alloc);
         match request.method.as_str() {
-            "textDocument/hover" => self.reply(request.id, self.hover(&request.params)),
-            "sums/text" => self.reply(request.id, self.text(&request.params)),
-            "sums/solved" => self.wait(request),
-            "workspace/symbol" => self.search(request),
-            _ => self.one(Act::method_not_found(self.alloc, request.id)?),
+            "textDocument/hover" => {
+                let shown = self.hover(&request.params)?;
+                acts.push(Act::Reply(request.id, Ok(shown)))?;
+            }
+            "sums/text" => {
+                let text = self.text(&request.params)?;
+                acts.push(Act::Reply(request.id, Ok(text)))?;
+            }
+            "sums/solved" => {
+                let Some(uri) = uri_in(&request.params) else {
+                    let code = ErrorCode::InvalidParams;
+                    acts.push(Act::refuse(self.alloc, request.id, code, "which text?")?)?;
+                    return Ok(acts);
+                };
+                let uri = String::from_str(self.alloc, uri)?;
+                self.waiting.push(Waiting {
+                    id: request.id,
+                    uri,
+                })?;
+            }
+            "workspace/symbol" => return self.search(request),
+            _ => acts.push(Act::method_not_found(self.alloc, request.id)?)?,
         }
+        Ok(acts)
     }
 
     fn notification(&mut self, notification: Notification) -> Result<Acts, AllocError> {
@@ -132,57 +151,25 @@ impl Sums {
         }
     }
 
-    /// One act.
-    fn one(&self, act: Act<Asked>) -> Result<Acts, AllocError> {
-        let mut acts = Vec::new(self.alloc);
-        acts.push(act)?;
-        Ok(acts)
-    }
-
-    /// Answers a request with what was found for it.
-    fn reply(&self, id: RequestId, found: Result<Value, AllocError>) -> Result<Acts, AllocError> {
-        self.one(Act::Reply(id, Ok(found?)))
-    }
-
-    /// Tells a client what its params lack.
-    fn refuse(&self, id: RequestId, question: &str) -> Result<Acts, AllocError> {
-        self.one(Act::refuse(self.alloc, id, ErrorCode::InvalidParams, question)?)
-    }
-
-    /// Keeps a request until nothing is wrong with its text.
-    fn wait(&mut self, request: Request) -> Result<Acts, AllocError> {
-        let Some(uri) = uri_in(&request.params) else {
-            return self.refuse(request.id, "which text?");
-        };
-        let uri = String::from_str(self.alloc, uri)?;
-        self.waiting.push(Waiting {
-            id: request.id,
-            uri,
-        })?;
-        Ok(Vec::new(self.alloc))
-    }
-
     /// Finds the headings of all texts that contain a word (LSP 3.17, "Workspace Symbols Request"). A job answers the request, if
     /// there is a pool.
     fn search(&mut self, request: Request) -> Result<Acts, AllocError> {
+        let mut acts = Vec::new(self.alloc);
         let Some(search) = self.search_in(&request.params)? else {
-            return self.refuse(request.id, "which word?");
+            let code = ErrorCode::InvalidParams;
+            acts.push(Act::refuse(self.alloc, request.id, code, "which word?")?)?;
+            return Ok(acts);
         };
-        if !self.has_pool {
-            return self.search_now(request.id, search);
+        if self.has_pool {
+            self.starting.push(Start {
+                id: request.id,
+                job: search,
+            })?;
+            return Ok(acts);
         }
-        self.starting.push(Start {
-            id: request.id,
-            job: search,
-        })?;
-        Ok(Vec::new(self.alloc))
-    }
-
-    /// Searches at once.
-    fn search_now(&self, id: RequestId, search: Search) -> Result<Acts, AllocError> {
-        let token = CancellationToken::new(self.alloc)?;
-        let outcome = search.run(&token, &mut Silence)?;
-        self.one(Act::Reply(id, outcome))
+        let outcome = search.run(&CancellationToken::new(self.alloc)?, &mut Silence)?;
+        acts.push(Act::Reply(request.id, outcome))?;
+        Ok(acts)
     }
 
     /// The search that a client asks for, over the texts as they are now.
@@ -190,30 +177,27 @@ impl Sums {
         let Some(query) = query_in(params) else {
             return Ok(None);
         };
-        Ok(Some(Search {
-            alloc: self.alloc,
-            query: String::from_str(self.alloc, query)?,
-            sources: self.sources()?,
-            progress: progress_in(params)?,
-        }))
-    }
-
-    /// The texts as they are now.
-    fn sources(&self) -> Result<Vec<Source>, AllocError> {
         let mut sources = Vec::new(self.alloc);
         for (uri, kept) in self.documents.iter() {
             if let Some(document) = kept.document() {
-                sources.push(self.source(uri.as_str(), document)?)?;
+                sources.push(Source {
+                    uri: uri.clone()?,
+                    text: String::from_str(self.alloc, document.text().as_str())?,
+                })?;
             }
         }
-        Ok(sources)
-    }
-
-    fn source(&self, uri: &str, document: &TextDocument) -> Result<Source, AllocError> {
-        Ok(Source {
-            uri: String::from_str(self.alloc, uri)?,
-            text: String::from_str(self.alloc, document.text().as_str())?,
-        })
+        let progress = match params.get("workDoneToken") {
+            Some(token) if token.as_str().is_some() || token.as_i64().is_some() => {
+                Some(token.clone()?)
+            }
+            _ => None,
+        };
+        Ok(Some(Search {
+            alloc: self.alloc,
+            query: String::from_str(self.alloc, query)?,
+            sources,
+            progress,
+        }))
     }
 
     /// Asks for the configuration, where the client can be asked.
@@ -237,14 +221,9 @@ impl Sums {
         };
         let (told, right) = self.marks(uri, document.text())?;
         acts.push(told)?;
-        if right {
-            self.answer_waiting(uri, &mut acts)?;
+        if !right {
+            return Ok(acts);
         }
-        Ok(acts)
-    }
-
-    /// Adds the replies that waited for a text to be right.
-    fn answer_waiting(&mut self, uri: &str, acts: &mut Acts) -> Result<(), AllocError> {
         for waiting in mem::replace(&mut self.waiting, Vec::new(self.alloc)) {
             if waiting.uri.as_str() == uri {
                 acts.push(Act::Reply(waiting.id, Ok(Value::Bool(true))))?;
@@ -252,7 +231,7 @@ impl Sums {
                 self.waiting.push(waiting)?;
             }
         }
-        Ok(())
+        Ok(acts)
     }
 
     /// What the client is told after a notification that was made: what there is to say of it, and what is wrong with the text.
@@ -314,18 +293,14 @@ impl Sums {
         let sheet = sheet_of(self.alloc, lines.as_slice(), self.largest)?;
         let right = sheet.problems.is_empty();
         let mut marks = Vec::new(self.alloc);
-        for problem in sheet.problems.iter() {
-            marks.push(self.mark(text, problem)?)?;
+        for problem in sheet.problems {
+            let range = self.range_value(text, problem.span)?;
+            let message = problem.message;
+            marks.push(
+                json!(in self.alloc; { "range": range, "severity": 1, "source": "sums", "message": message })?,
+            )?;
         }
         Ok((diagnostics(self.alloc, uri, marks)?, right))
-    }
-
-    fn mark(&self, text: &Text, problem: &Problem) -> Result<Value, AllocError> {
-        let range = self.range_value(text, problem.span)?;
-        let message = problem.message.as_str();
-        Ok(
-            json!(in self.alloc; { "range": range, "severity": 1, "source": "sums", "message": message })?,
-        )
     }
 
     /// A text as the server holds it, or null.
@@ -357,17 +332,21 @@ impl Sums {
     fn hover_in(&self, text: &Text, position: Position) -> Result<Value, AllocError> {
         let offset = text.offset_at(position, self.documents.encoding());
         let lines = words_of(self.alloc, text)?;
-        let Some(word) = word_at(lines.as_slice(), offset) else {
-            return Ok(Value::Null);
-        };
         let sheet = sheet_of(self.alloc, lines.as_slice(), i64::MAX)?;
-        let range = self.range_value(text, word.span)?;
-        shown(
-            self.alloc,
-            sheet.names.as_slice(),
-            word.text.as_str(),
-            range,
-        )
+        for line in lines.iter() {
+            for word in line.iter() {
+                if word.span.start <= offset && offset < word.span.end {
+                    let range = self.range_value(text, word.span)?;
+                    return shown(
+                        self.alloc,
+                        sheet.names.as_slice(),
+                        word.text.as_str(),
+                        range,
+                    );
+                }
+            }
+        }
+        Ok(Value::Null)
     }
 
     /// A part of a text, as the client counts it.
@@ -417,28 +396,6 @@ fn shown(alloc: Global, names: &[Named], name: &str, range: Value) -> Result<Val
     };
     let contents = format!(in alloc; "{name} = {value}")?;
     Ok(json!(in alloc; { "contents": contents, "range": range })?)
-}
-
-/// The word at a place.
-fn word_at(lines: &[Vec<Word>], offset: usize) -> Option<&Word> {
-    for line in lines {
-        for word in line.iter() {
-            if word.span.start <= offset && offset < word.span.end {
-                return Some(word);
-            }
-        }
-    }
-    None
-}
-
-/// Under which token the client wants to hear how far a search is.
-fn progress_in(params: &Value) -> Result<Option<Value>, AllocError> {
-    match params.get("workDoneToken") {
-        Some(token) if token.as_str().is_some() || token.as_i64().is_some() => {
-            Ok(Some(token.clone()?))
-        }
-        _ => Ok(None),
-    }
 }
 
 fn uri_in(params: &Value) -> Option<&str> {

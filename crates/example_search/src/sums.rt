@@ -141,29 +141,17 @@ pub fn sheet_of(alloc: Global, lines: &[Vec<Word>], largest: i64) -> Result<Shee
         let [word, rest @ ..] = line.as_slice() else {
             continue;
         };
-        add_line(alloc, &mut sheet, word, rest, largest)?;
+        match read_line(alloc, sheet.names.as_slice(), word, rest)? {
+            Ok(name) => {
+                if name.value > largest {
+                    sheet.problems.push(blame(alloc, word, "is too large")?)?;
+                }
+                sheet.names.push(name)?;
+            }
+            Err(problem) => sheet.problems.push(problem)?,
+        }
     }
     Ok(sheet)
-}
-
-/// Adds what a line says.
-fn add_line(
-    alloc: Global,
-    sheet: &mut Sheet,
-    word: &Word,
-    rest: &[Word],
-    largest: i64,
-) -> Result<(), AllocError> {
-    match read_line(alloc, sheet.names.as_slice(), word, rest)? {
-        Ok(name) => {
-            if name.value > largest {
-                sheet.problems.push(blame(alloc, word, "is too large")?)?;
-            }
-            sheet.names.push(name)?;
-        }
-        Err(problem) => sheet.problems.push(problem)?,
-    }
-    Ok(())
 }
 
 /// The value of a name, or of a number.
