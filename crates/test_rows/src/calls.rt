@@ -3,7 +3,7 @@ use crate::devices::{Sink, Source};
 use crate::escapes::escape;
 use crate::messages::text_or;
 use crate::servers::{Echo, Talker};
-use crate::stop::{Stop, plain};
+use crate::stop::Stop;
 use crate::table::{Case, Given};
 use lsp_message::{Front, Message, ReadFault, WriteFault, front, write_frames};
 use lsp_service::{QueuedServer, session_with_within};
@@ -146,27 +146,14 @@ fn inbox_answer(alloc: Global, reader: &mut Source<'_>) -> Result<Attempt, Stop>
     let mut inbox = StreamInbox::new(alloc, reader);
     let mut texts = String::new(alloc);
     for _ in 0..MOST {
-        let event = inbox.receive_for(1);
-        let is_message = add_event(alloc, &mut texts, &event);
-        drop(event);
-        if !is_message? {
+        let Event::Message(message) = inbox.receive_for(1) else {
             break;
-        }
+        };
+        texts.push_str(message.member_text(alloc)?.as_str())?;
     }
     let end = inbox.end();
-    let last = inbox.receive();
-    let is_closed = matches!(&last, Event::Closed);
-    drop(last);
+    let is_closed = matches!(inbox.receive(), Event::Closed);
     Ok(Attempt::Came(format!(in alloc; "{texts} {end:?}, closed {is_closed}")?))
-}
-
-/// Adds the member text of an event that is a message, and tells whether it is one.
-fn add_event(alloc: Global, texts: &mut String, event: &Event) -> Result<bool, AllocError> {
-    let Event::Message(message) = event else {
-        return Ok(false);
-    };
-    texts.push_str(message.member_text(alloc)?.as_str())?;
-    Ok(true)
 }
 
 /// What a loop hands on, how it ends, and how many bytes it leaves.
@@ -201,7 +188,6 @@ fn write_answer(
 ) -> Result<Attempt, Stop> {
     let message = next_message(alloc, reader)?.ok_or(Stop::Table)?;
     let written = message.write(alloc, writer);
-    drop(message);
     written_answer(alloc, run, written, writer)
 }
 
@@ -252,8 +238,10 @@ fn outbox_answer(
         let Some(message) = next_message(alloc, reader)? else {
             break;
         };
-        let sent = outbox.send(message);
-        texts.push_str(sent_text(alloc, sent)?.as_str())?;
+        match outbox.send(message) {
+            Ok(()) => texts.push_str("taken, ")?,
+            Err(fault) => texts.push_str(back_text(alloc, fault)?.as_str())?,
+        }
     }
     let fault = outbox.fault();
     let got = escape(alloc, writer.taken.as_slice())?;
@@ -261,20 +249,15 @@ fn outbox_answer(
     Ok(Attempt::Came(format!(in alloc; "{texts}{fault:?}; wrote {got}, {flushes} flushes")?))
 }
 
-/// That a message was taken, or the message that came back.
-fn sent_text(alloc: Global, sent: Result<(), SendFault>) -> Result<String, Stop> {
-    let text = match &sent {
-        Ok(()) => plain(alloc, "taken, "),
-        Err(SendFault::Closed(message)) => back_text(alloc, message),
-        Err(SendFault::Memory(_)) => Err(Stop::Memory),
-    };
-    drop(sent);
-    text
-}
-
-fn back_text(alloc: Global, message: &Message) -> Result<String, Stop> {
-    let text = message.member_text(alloc)?;
-    Ok(format!(in alloc; "{text} back, ")?)
+/// The message that came back.
+fn back_text(alloc: Global, fault: SendFault) -> Result<String, Stop> {
+    match fault {
+        SendFault::Closed(message) => {
+            let text = message.member_text(alloc)?;
+            Ok(format!(in alloc; "{text} back, ")?)
+        }
+        SendFault::Memory(_) => Err(Stop::Memory),
+    }
 }
 
 /// How a session of the echo ends, and what it wrote.
@@ -306,9 +289,7 @@ fn speaks_answer(
         let (_, end) = session_with_within(alloc, reader, writer, talker, limit);
         return ended_answer(alloc, run, end, writer, "");
     }
-    let mut service = QueuedServer::new(alloc, talker);
-    let end = session_of_service(alloc, reader, writer, &mut service);
-    drop(service);
+    let end = session_of_service(alloc, reader, writer, &mut QueuedServer::new(alloc, talker));
     ended_answer(alloc, run, end, writer, "")
 }
 
@@ -323,7 +304,6 @@ fn line_answer(
     let mut line = StreamLine::within(alloc, reader, writer, u64::MAX);
     let end = session_on(alloc, &mut line, &mut service);
     drop(line);
-    drop(service);
     ended_answer(alloc, run, end, writer, "")
 }
 
@@ -377,12 +357,10 @@ fn ended_text(
     alloc: Global,
     ended: Result<SessionEnd, SessionFault>,
 ) -> Result<String, AllocError> {
-    let text = match &ended {
-        Ok(end) => String::from_str(alloc, end_name(*end)),
+    match ended {
+        Ok(end) => String::from_str(alloc, end_name(end)),
         Err(fault) => format!(in alloc; "{fault}"),
-    };
-    drop(ended);
-    text
+    }
 }
 
 /// How a session ended, in words.

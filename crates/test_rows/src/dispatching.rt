@@ -8,42 +8,33 @@ use std::alloc::{AllocError, Global};
 /// What the steps give on a new dispatcher, one after another.
 pub fn dispatched(alloc: Global, steps: &str) -> Result<String, Stop> {
     let mut dispatcher = Dispatcher::default(alloc);
-    let answers = answers_to(alloc, &mut dispatcher, steps);
-    drop(dispatcher);
-    Ok(texts_of(alloc, answers?.as_slice())?)
-}
-
-fn answers_to(
-    alloc: Global,
-    dispatcher: &mut Dispatcher,
-    steps: &str,
-) -> Result<Vec<Answer>, Stop> {
     let mut answers = Vec::new(alloc);
     for step in steps.split("; ") {
-        answers.push(answer(dispatcher, call_in(alloc, step)?)?)?;
+        answers.push(answer(&mut dispatcher, call_in(alloc, step)?)?)?;
     }
-    Ok(answers)
+    Ok(texts_of(alloc, answers.as_slice())?)
 }
 
 fn answer(dispatcher: &mut Dispatcher, call: Call) -> Result<Answer, Stop> {
     match call {
-        Call::Deliver(message) => dispatcher.deliver(message).or(Err(Stop::Memory)),
+        Call::Deliver(message) => match dispatcher.deliver(message) {
+            Ok(answer) => Ok(answer),
+            Err(_) => Err(Stop::Memory),
+        },
         Call::Finish { id, ticket, result } => Ok(dispatcher.finish(id, ticket, result)),
     }
 }
 
 /// What all steps give on a new dispatcher.
 pub fn replayed(alloc: Global, steps: &str) -> Result<String, Stop> {
-    let answers = replay(alloc, calls_in(alloc, steps)?).or(Err(Stop::Memory))?;
-    Ok(texts_of(alloc, answers.as_slice())?)
-}
-
-fn calls_in(alloc: Global, steps: &str) -> Result<Vec<Call>, Stop> {
     let mut calls = Vec::new(alloc);
     for step in steps.split("; ") {
         calls.push(call_in(alloc, step)?)?;
     }
-    Ok(calls)
+    match replay(alloc, calls) {
+        Ok(answers) => Ok(texts_of(alloc, answers.as_slice())?),
+        Err(_) => Err(Stop::Memory),
+    }
 }
 
 fn texts_of(alloc: Global, answers: &[Answer]) -> Result<String, AllocError> {
@@ -65,7 +56,10 @@ fn finish_in(alloc: Global, words: &str) -> Result<Call, Stop> {
     let (id, rest) = cut(words, " ")?;
     let (ticket, result) = cut(rest, " ")?;
     let ticket = count_in(ticket)? as u64;
-    let result = Ok(value_in(alloc, result)?);
     let id = id_in(alloc, id)?;
-    Ok(Call::Finish { id, ticket, result })
+    Ok(Call::Finish {
+        id,
+        ticket,
+        result: Ok(value_in(alloc, result)?),
+    })
 }

@@ -4,7 +4,7 @@
 // of it, or what is wrong, and whether a text is lost by it, and then each document that was open once: its URI, its version, its
 // language, its text, and how many lines it has and the position of each place where a character begins. One that is closed shows
 // `-`, and one whose text is lost `?`. A body that is no message has `unread`: it may have told of any document, so each text is lost.
-use crate::stop::{Stop, plain};
+use crate::stop::Stop;
 use lsp_documents::{DocumentFault, Made, NotMade, TextDocuments, position_encoding};
 use lsp_text::{PositionEncoding, Text, TextDocument};
 use serde_json::Value;
@@ -46,32 +46,21 @@ impl Documents {
         };
         let none = Value::Null;
         let params = message.get("params").unwrap_or(&none);
-        match method_of(&message) {
-            "initialize" => self.begin(params),
-            method => self.told_of(text, method, params),
+        let method = method_of(&message);
+        if method == "initialize" {
+            self.documents = TextDocuments::new(self.alloc, position_encoding(params));
+            self.seen = Vec::new(self.alloc);
+            self.told = Vec::new(self.alloc);
+            return Ok(String::from_str(self.alloc, self.documents.encoding().name())?);
         }
-    }
-
-    /// Begins anew, in the encoding that these params agree on.
-    fn begin(&mut self, params: &Value) -> Result<String, Stop> {
-        self.documents = TextDocuments::new(self.alloc, position_encoding(params));
-        self.seen = Vec::new(self.alloc);
-        self.told = Vec::new(self.alloc);
-        plain(self.alloc, self.documents.encoding().name())
-    }
-
-    /// What comes of any other message.
-    fn told_of(&mut self, text: &str, method: &str, params: &Value) -> Result<String, Stop> {
         match hear(&mut self.documents, method, params) {
-            Ok(made) => self.made(text, made),
+            Ok(made) => {
+                self.see(made.uri)?;
+                let answer = self.made_text(made)?;
+                self.kept(text, answer.as_str())
+            }
             Err(missed) => self.missed(text, missed),
         }
-    }
-
-    fn made(&mut self, text: &str, made: Made<'_>) -> Result<String, Stop> {
-        self.see(made.uri)?;
-        let answer = self.made_text(made)?;
-        self.kept(text, answer.as_str())
     }
 
     /// What comes of a message that was not made.

@@ -15,15 +15,9 @@ use std::alloc::Global;
 /// What comes of these steps on a link without bytes.
 pub fn answers(alloc: Global, steps: &str) -> Result<String, Stop> {
     let mut link = Link::default(alloc);
-    let said = said_of(alloc, &mut link, steps);
-    drop(link);
-    said
-}
-
-fn said_of(alloc: Global, link: &mut Link, steps: &str) -> Result<String, Stop> {
     let mut said = String::new(alloc);
     for step in steps.split("; ") {
-        add_step(&mut said, call(alloc, link, step)?.as_str())?;
+        add_step(&mut said, call(alloc, &mut link, step)?.as_str())?;
     }
     Ok(said)
 }
@@ -41,16 +35,16 @@ fn call(alloc: Global, link: &mut Link, step: &str) -> Result<String, Stop> {
         "deep" => {
             let params = nested(alloc, count_in(word)?)?;
             let method = String::from_str(alloc, "deep")?;
-            write(alloc, link, Message::from(Notification { method, params }))
+            write(alloc, link, &Message::from(Notification { method, params }))
         }
-        _ => write(alloc, link, message_in(alloc, step)?),
+        _ => write(alloc, link, &message_in(alloc, step)?),
     }
 }
 
-fn write(alloc: Global, link: &mut Link, message: Message) -> Result<String, Stop> {
-    let written = link.write(&message);
-    drop(message);
-    written.or(Err(Stop::Memory))?;
+fn write(alloc: Global, link: &mut Link, message: &Message) -> Result<String, Stop> {
+    if link.write(message).is_err() {
+        return Err(Stop::Memory);
+    }
     Ok(format!(in alloc; "{} on the way", link.on_way().len())?)
 }
 

@@ -17,7 +17,7 @@ use crate::devices::Sink;
 use crate::escapes::escape;
 use crate::messages::message_in;
 use crate::servers::{Echo, Talker};
-use crate::stop::{Stop, count_in, cut, plain};
+use crate::stop::{Stop, count_in, cut};
 use lsp_message::{Request, RequestId, WriteFault};
 use lsp_service::{QueuedServer, serve_with_woken};
 use lsp_session::{
@@ -28,7 +28,6 @@ use serde_json::{Map, Value};
 use std::alloc::Global;
 use std::cell::Cell;
 use std::io::ErrorKind;
-use std::mem;
 
 fn inbox<'a>(
     alloc: Global,
@@ -36,30 +35,23 @@ fn inbox<'a>(
     habit: Habit,
     sent: &'a Cell<bool>,
 ) -> Result<Events<'a>, Stop> {
+    let mut list = ListInbox::new(alloc);
+    for event in events.split("; ") {
+        match event {
+            "" => {}
+            "timeout" => list.events.push_back(Event::Timeout)?,
+            text => list
+                .events
+                .push_back(Event::Message(message_in(alloc, text)?))?,
+        }
+    }
     Ok(Events {
-        list: list_in(alloc, events)?,
+        list,
         habit,
         sent,
         is_ready: true,
         seconds: 0,
     })
-}
-
-fn list_in(alloc: Global, events: &str) -> Result<ListInbox, Stop> {
-    let mut list = ListInbox::new(alloc);
-    for event in events.split("; ") {
-        if !event.is_empty() {
-            list.events.push_back(event_in(alloc, event)?)?;
-        }
-    }
-    Ok(list)
-}
-
-fn event_in(alloc: Global, event: &str) -> Result<Event, Stop> {
-    match event {
-        "timeout" => Ok(Event::Timeout),
-        text => Ok(Event::Message(message_in(alloc, text)?)),
-    }
 }
 
 /// How many messages an outbox takes, and how many bytes a writer, without a new allocation. Where that fails in a call, the null of
@@ -90,27 +82,17 @@ pub fn called(alloc: Global, row: &str) -> Result<String, Stop> {
     let (answers, row) = cut(row, " | ")?;
     let (room, events) = cut(row, " | ")?;
     let sent = Cell::new(false);
-    let mut boxes = Boxes {
-        inbox: inbox(alloc, events, Habit::Gives, &sent)?,
-        outbox: outbox(alloc, room, &sent)?,
-        gate: gate_in(alloc, answers)?,
-        id: RequestId::from(1),
-    };
-    let said = called_on(alloc, &mut boxes, names);
-    drop(boxes);
-    said
-}
-
-fn gate_in(alloc: Global, answers: &str) -> Result<ListGate, Stop> {
     let mut gate = ListGate::new(alloc);
     for answer in answers.chars() {
         gate.answers.push_back(answer == 'y')?;
     }
-    Ok(gate)
-}
-
-fn called_on(alloc: Global, boxes: &mut Boxes<'_>, names: &str) -> Result<String, Stop> {
-    let texts = called_texts(alloc, boxes, names)?;
+    let mut boxes = Boxes {
+        inbox: inbox(alloc, events, Habit::Gives, &sent)?,
+        outbox: outbox(alloc, room, &sent)?,
+        gate,
+        id: RequestId::from(1),
+    };
+    let texts = called_texts(alloc, &mut boxes, names)?;
     let sent = member_texts(alloc, boxes.outbox.list.sent.as_slice())?;
     let (events, answers) = (boxes.inbox.list.events.len(), boxes.gate.answers.len());
     let seconds = boxes.inbox.seconds;
@@ -149,31 +131,17 @@ fn call(alloc: Global, boxes: &mut Boxes<'_>, name: &str) -> Result<String, Stop
 fn done(alloc: Global, answer: Option<Result<(), ProtocolError>>) -> Result<String, Stop> {
     match answer {
         Some(answer) => said(alloc, answer, "done"),
-        None => plain(alloc, "undecided"),
+        None => Ok(String::from_str(alloc, "undecided")?),
     }
 }
 
-/// These words, or why not.
+/// These words, or why not. An allocation that failed is no answer.
 fn said(alloc: Global, answer: Result<(), ProtocolError>, words: &str) -> Result<String, Stop> {
     match answer {
-        Ok(()) => plain(alloc, words),
-        Err(error) => refused(alloc, error),
+        Ok(()) => Ok(String::from_str(alloc, words)?),
+        Err(error) if error.is_out_of_memory() => Err(Stop::Memory),
+        Err(error) => Ok(format!(in alloc; "{error}")?),
     }
-}
-
-/// Why a call failed. An allocation that failed is no answer.
-fn refused(alloc: Global, error: ProtocolError) -> Result<String, Stop> {
-    let text = if error.is_out_of_memory() {
-        Err(Stop::Memory)
-    } else {
-        shown(alloc, &error)
-    };
-    drop(error);
-    text
-}
-
-fn shown(alloc: Global, error: &ProtocolError) -> Result<String, Stop> {
-    Ok(format!(in alloc; "{error}")?)
 }
 
 /// The id and the params of a start.
@@ -184,14 +152,16 @@ fn started(alloc: Global, boxes: &mut Boxes<'_>, turns: u64) -> Result<String, S
         gate,
         id,
     } = boxes;
-    match start_within(alloc, inbox, outbox, gate, turns) {
-        Some(Ok((came, params))) => {
-            let words = format!(in alloc; "{came} {params}");
-            drop(mem::replace(id, came));
-            Ok(words?)
+    let Some(answer) = start_within(alloc, inbox, outbox, gate, turns) else {
+        return Ok(String::from_str(alloc, "undecided")?);
+    };
+    match answer {
+        Ok((came, params)) => {
+            let words = format!(in alloc; "{came} {params}")?;
+            *id = came;
+            Ok(words)
         }
-        Some(Err(error)) => refused(alloc, error),
-        None => plain(alloc, "undecided"),
+        Err(error) => said(alloc, Err(error), ""),
     }
 }
 
@@ -212,18 +182,15 @@ fn finished(alloc: Global, boxes: &mut Boxes<'_>, turns: u64) -> Result<String, 
 
 /// What `shutdown` answers to a request of this method.
 fn shut(alloc: Global, boxes: &mut Boxes<'_>, method: &str) -> Result<String, Stop> {
-    let method = String::from_str(alloc, method)?;
     let request = Request {
         id: RequestId::from(String::from_str(alloc, "last")?),
-        method,
+        method: String::from_str(alloc, method)?,
         params: Value::Null,
     };
-    let answer = shutdown(alloc, &mut boxes.inbox, &mut boxes.outbox, &request);
-    drop(request);
-    match answer {
-        Ok(true) => plain(alloc, "true"),
-        Ok(false) => plain(alloc, "false"),
-        Err(error) => refused(alloc, error),
+    match shutdown(alloc, &mut boxes.inbox, &mut boxes.outbox, &request) {
+        Ok(true) => Ok(String::from_str(alloc, "true")?),
+        Ok(false) => Ok(String::from_str(alloc, "false")?),
+        Err(error) => said(alloc, Err(error), ""),
     }
 }
 
@@ -237,20 +204,17 @@ pub fn session(alloc: Global, word: &str, row: &str) -> Result<String, Stop> {
     };
     let mut inbox = inbox(alloc, events, habit, &sent)?;
     let mut outbox = outbox(alloc, room, &sent)?;
-    session_on(alloc, word, &mut inbox, &mut outbox)
-}
-
-fn session_on(
-    alloc: Global,
-    word: &str,
-    inbox: &mut Events<'_>,
-    outbox: &mut Sent<'_>,
-) -> Result<String, Stop> {
     let mut echo = Echo::new(alloc);
     let ended = match word {
-        "serve" => serve_echo(alloc, inbox, outbox, &mut echo),
-        "woken" => serve_with_woken(alloc, inbox, outbox, Talker::new(alloc)).1,
-        "served" => serve_talker(alloc, inbox, outbox),
+        "serve" => {
+            let none = Value::Object(Map::new(alloc));
+            serve(alloc, &mut inbox, &mut outbox, none, &mut echo)
+        }
+        "woken" => serve_with_woken(alloc, &mut inbox, &mut outbox, Talker::new(alloc)).1,
+        "served" => {
+            let mut service = QueuedServer::new(alloc, Talker::new(alloc));
+            serve_service(alloc, &mut inbox, &mut outbox, &mut service)
+        }
         _ => return Err(Stop::Table),
     };
     let end = ended_text(alloc, ended)?;
@@ -259,29 +223,10 @@ fn session_on(
     Ok(format!(in alloc; "{end}; sent {texts}; {asked} asked, {told} told")?)
 }
 
-fn serve_echo(
-    alloc: Global,
-    inbox: &mut Events<'_>,
-    outbox: &mut Sent<'_>,
-    echo: &mut Echo,
-) -> Result<SessionEnd, ProtocolError> {
-    let none = Value::Object(Map::new(alloc));
-    serve(alloc, inbox, outbox, none, echo)
-}
-
-fn serve_talker(
-    alloc: Global,
-    inbox: &mut Events<'_>,
-    outbox: &mut Sent<'_>,
-) -> Result<SessionEnd, ProtocolError> {
-    let mut service = QueuedServer::new(alloc, Talker::new(alloc));
-    serve_service(alloc, inbox, outbox, &mut service)
-}
-
 fn ended_text(alloc: Global, ended: Result<SessionEnd, ProtocolError>) -> Result<String, Stop> {
     match ended {
-        Ok(end) => plain(alloc, end_name(end)),
-        Err(error) => refused(alloc, error),
+        Ok(end) => Ok(String::from_str(alloc, end_name(end))?),
+        Err(error) => said(alloc, Err(error), ""),
     }
 }
 
@@ -289,29 +234,19 @@ fn ended_text(alloc: Global, ended: Result<SessionEnd, ProtocolError>) -> Result
 pub fn written(alloc: Global, row: &str) -> Result<String, Stop> {
     let (counts, events) = cut(row, " | ")?;
     let (fills, room) = cut(counts, " ")?;
-    let fills = count_in(fills)?;
     let (sent, flushed) = (Cell::new(false), Cell::new(0));
+    let mut inbox = inbox(alloc, events, Habit::Gives, &sent)?;
+    let mut spent = outbox(alloc, room, &sent)?;
     let mut writer = Sink {
         taken: Vec::with_capacity(alloc, BYTES)?,
         written: &flushed,
         step: usize::MAX,
-        room: fills,
+        room: count_in(fills)?,
         kind: ErrorKind::BrokenPipe,
         bad_flush: 0,
         flushes: 0,
     };
-    let mut inbox = inbox(alloc, events, Habit::Gives, &sent)?;
-    let mut spent = outbox(alloc, room, &sent)?;
-    written_on(alloc, &mut inbox, &mut writer, &mut spent)
-}
-
-fn written_on(
-    alloc: Global,
-    inbox: &mut Events<'_>,
-    writer: &mut Sink<'_>,
-    spent: &mut Sent<'_>,
-) -> Result<String, Stop> {
-    let end = write_loop(alloc, inbox, writer, spent);
+    let end = write_loop(alloc, &mut inbox, &mut writer, &mut spent);
     if end == WriteEnd::Fault(WriteFault::Memory) {
         return Err(Stop::Memory);
     }

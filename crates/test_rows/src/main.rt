@@ -53,13 +53,8 @@ fn run<R: Input + Print + AllocGlobal>(rt: &R) -> Result<(), Stop> {
     let table = io::read_to_string(alloc, rt.reader())?;
     let mut rows = Rows::new(alloc)?;
     for line in table.as_str().lines() {
-        run_line(rt, &mut rows, line)?;
+        rt.println(line)?;
+        rt.print(rows.run(line)?.as_str())?;
     }
-    Ok(())
-}
-
-fn run_line<R: Print>(rt: &R, rows: &mut Rows, line: &str) -> Result<(), Stop> {
-    rt.println(line)?;
-    rt.print(rows.run(line)?.as_str())?;
     Ok(())
 }

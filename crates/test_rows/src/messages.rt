@@ -38,12 +38,10 @@ pub fn text_or(
     message: Option<Message>,
     otherwise: &str,
 ) -> Result<String, AllocError> {
-    let text = match &message {
+    match message {
         Some(message) => message.member_text(alloc),
         None => String::from_str(alloc, otherwise),
-    };
-    drop(message);
-    text
+    }
 }
 
 /// The id in a tree, as it prints.
@@ -57,53 +55,34 @@ pub fn id_text(alloc: Global, text: &str) -> Result<String, Stop> {
 /// What a content part means in a frame, and as a tree if that is something else.
 pub fn meaning(alloc: Global, escaped: &str) -> Result<String, Stop> {
     let body = unescape(alloc, escaped)?;
-    let by_frame = frame_text(alloc, body.as_slice())?;
-    let by_tree = tree_text(alloc, body.as_slice())?;
-    if by_frame == by_tree {
-        return Ok(by_frame);
-    }
-    Ok(format!(in alloc; "{by_frame}, {by_tree}")?)
-}
-
-fn frame_text(alloc: Global, body: &[u8]) -> Result<String, AllocError> {
-    let frame = framed(alloc, body)?;
-    match Message::read(alloc, &mut frame.as_slice()) {
-        Ok(message) => text_or(alloc, message, "the end"),
-        Err(fault) => format!(in alloc; "{fault}"),
-    }
-}
-
-fn framed(alloc: Global, body: &[u8]) -> Result<Vec<u8>, AllocError> {
+    let by_tree = text_or(alloc, parsed(alloc, body.as_slice())?, "no message")?;
     let header = format!(in alloc; "Content-Length: {}\r\n\r\n", body.len())?;
     let mut frame = Vec::from_slice(alloc, header.as_bytes())?;
-    frame.extend_from_slice(body)?;
-    Ok(frame)
+    frame.extend_from_slice(body.as_slice())?;
+    match Message::read(alloc, &mut frame.as_slice()) {
+        Ok(message) => meant(alloc, message, by_tree),
+        Err(fault) => Ok(format!(in alloc; "{fault}, {by_tree}")?),
+    }
 }
 
-fn tree_text(alloc: Global, body: &[u8]) -> Result<String, AllocError> {
-    let Some(tree) = Value::from_slice(alloc, body).ok() else {
-        return String::from_str(alloc, "no message");
-    };
-    let message = Message::from_value(alloc, &tree)?;
-    text_or(alloc, message, "no message")
+fn parsed(alloc: Global, body: &[u8]) -> Result<Option<Message>, AllocError> {
+    match Value::from_slice(alloc, body) {
+        Ok(tree) => Message::from_value(alloc, &tree),
+        Err(_) => Ok(None),
+    }
+}
+
+fn meant(alloc: Global, message: Option<Message>, by_tree: String) -> Result<String, Stop> {
+    let said = text_or(alloc, message, "the end")?;
+    if said == by_tree {
+        return Ok(said);
+    }
+    Ok(format!(in alloc; "{said}, {by_tree}")?)
 }
 
 /// Reads the message in a member text, clones it, and gives its texts, its tree and its frame.
 pub fn values(alloc: Global, text: &str) -> Result<String, Stop> {
-    let message = cloned(message_in(alloc, text)?)?;
-    let texts = texts_of(alloc, &message);
-    drop(message);
-    texts
-}
-
-/// A clone of a message that is dropped.
-fn cloned(message: Message) -> Result<Message, AllocError> {
-    let clone: Result<_, _> = message.clone();
-    drop(message);
-    clone
-}
-
-fn texts_of(alloc: Global, message: &Message) -> Result<String, Stop> {
+    let message = message_in(alloc, text)?.clone()?;
     let members = message.member_text(alloc)?;
     let tree = message.to_value(alloc)?;
     let body = message.body_text(alloc)?;
@@ -121,22 +100,16 @@ pub fn extracted(alloc: Global, row: &str) -> Result<String, Stop> {
     let said = match message_in(alloc, text)? {
         Message::Request(request) => of_request(alloc, request, method)?,
         Message::Notification(notification) => of_notification(alloc, notification, method)?,
-        Message::Response(response) => {
-            drop(response);
-            return Err(Stop::Table);
-        }
+        Message::Response(_) => return Err(Stop::Table),
     };
     Ok(escape(alloc, said.as_bytes())?)
 }
 
 fn of_request(alloc: Global, request: Request, method: &str) -> Result<String, AllocError> {
-    let extracted = request.extract::<i32>(alloc, method);
-    let text = match &extracted {
+    match request.extract::<i32>(alloc, method) {
         Ok((id, number)) => format!(in alloc; "{id}: {number}"),
         Err(error) => format!(in alloc; "{error}"),
-    };
-    drop(extracted);
-    text
+    }
 }
 
 fn of_notification(
@@ -144,11 +117,8 @@ fn of_notification(
     notification: Notification,
     method: &str,
 ) -> Result<String, AllocError> {
-    let extracted = notification.extract::<i32>(alloc, method);
-    let text = match &extracted {
+    match notification.extract::<i32>(alloc, method) {
         Ok(number) => format!(in alloc; "{number}"),
         Err(error) => format!(in alloc; "{error}"),
-    };
-    drop(extracted);
-    text
+    }
 }

@@ -9,8 +9,8 @@
 // | `shown` | how the queues print for a programmer |
 use crate::messages::{id_in, nested, text_or, value_in};
 use crate::stop::{Stop, add_step, count_in, cut};
-use lsp_message::{Message, Request};
-use lsp_queue::{RegisterFault, ReqQueue};
+use lsp_message::Message;
+use lsp_queue::ReqQueue;
 use std::alloc::Global;
 
 type Queue = ReqQueue<char, char>;
@@ -18,15 +18,9 @@ type Queue = ReqQueue<char, char>;
 /// What comes of these steps on new queues.
 pub fn answers(alloc: Global, steps: &str) -> Result<String, Stop> {
     let mut queue = ReqQueue::default(alloc);
-    let said = said_of(alloc, &mut queue, steps);
-    drop(queue);
-    said
-}
-
-fn said_of(alloc: Global, queue: &mut Queue, steps: &str) -> Result<String, Stop> {
     let mut said = String::new(alloc);
     for step in steps.split("; ") {
-        add_step(&mut said, call(alloc, queue, step)?.as_str())?;
+        add_step(&mut said, call(alloc, &mut queue, step)?.as_str())?;
     }
     Ok(said)
 }
@@ -47,49 +41,36 @@ fn data_in(word: &str) -> Result<char, Stop> {
     word.chars().next().ok_or(Stop::Table)
 }
 
+/// Params that nest too deep are refused, however often they come, and other params only for memory.
 fn register(alloc: Global, queue: &mut Queue, verb: &str, words: &str) -> Result<String, Stop> {
     let (method, rest) = cut(words, " ")?;
     let (params, data) = rest.rsplit_once(" ").ok_or(Stop::Table)?;
     let data = data_in(data)?;
+    let method = String::from_str(alloc, method)?;
     let params = match verb {
         "deep" => nested(alloc, count_in(params)?)?,
         _ => value_in(alloc, params)?,
     };
-    let method = String::from_str(alloc, method)?;
     let registered = match verb {
         "register_value" => queue.outgoing.register_value(method, params, data),
         _ => queue.outgoing.register(method, params, data),
     };
-    registered_text(alloc, verb, registered)
-}
-
-fn registered_text(
-    alloc: Global,
-    verb: &str,
-    registered: Result<Request, RegisterFault<char>>,
-) -> Result<String, Stop> {
     match registered {
         Ok(request) => {
             let text = text_or(alloc, Some(Message::from(request)), "")?;
             Ok(format!(in alloc; "sent {text}")?)
         }
-        Err(fault) => refused_text(alloc, verb, &fault),
-    }
-}
-
-/// Params that nest too deep are refused, however often they come, and other params only for memory.
-fn refused_text(alloc: Global, verb: &str, fault: &RegisterFault<char>) -> Result<String, Stop> {
-    match verb {
-        "deep" => Ok(format!(in alloc; "{fault:?}")?),
-        _ => Err(Stop::Memory),
+        Err(fault) if verb == "deep" => Ok(format!(in alloc; "{fault:?}")?),
+        Err(_) => Err(Stop::Memory),
     }
 }
 
 fn receive(alloc: Global, queue: &mut Queue, words: &str) -> Result<String, Stop> {
     let (id, data) = cut(words, " ")?;
-    let registered = queue.incoming.register(id_in(alloc, id)?, data_in(data)?);
-    registered.or(Err(Stop::Memory))?;
-    Ok(format!(in alloc; "received {id}")?)
+    match queue.incoming.register(id_in(alloc, id)?, data_in(data)?) {
+        Ok(()) => Ok(format!(in alloc; "received {id}")?),
+        Err(_) => Err(Stop::Memory),
+    }
 }
 
 fn cancel(alloc: Global, queue: &mut Queue, word: &str) -> Result<String, Stop> {

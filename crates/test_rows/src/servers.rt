@@ -95,17 +95,6 @@ impl Talker {
         Ok(Act::Ask(method, Value::Null, Asked::Configuration(self.questions)))
     }
 
-    /// Asks its client, to answer this request with the reply.
-    fn ask(&self, request: Request) -> Result<Acts, AllocError> {
-        let method = String::from_str(self.alloc, "demo/asked")?;
-        self.one(Act::Ask(method, request.params, Asked::For(request.id)))
-    }
-
-    fn hold(&mut self, id: RequestId) -> Result<Acts, AllocError> {
-        self.held.push(id)?;
-        Ok(Vec::new(self.alloc))
-    }
-
     /// Adds the answers to what it keeps.
     fn release(&mut self, mut acts: Acts) -> Result<Acts, AllocError> {
         for id in mem::replace(&mut self.held, Vec::new(self.alloc)) {
@@ -129,11 +118,18 @@ impl Server for Talker {
     }
 
     fn request(&mut self, request: Request) -> Result<Acts, AllocError> {
-        match request.method.as_str() {
-            "demo/echo" => self.one(Act::Reply(request.id, Ok(request.params))),
-            "demo/ask" => self.ask(request),
-            "demo/hold" => self.hold(request.id),
-            _ => self.one(Act::method_not_found(self.alloc, request.id)?),
+        let Request { id, method, params } = request;
+        match method.as_str() {
+            "demo/echo" => self.one(Act::Reply(id, Ok(params))),
+            "demo/ask" => {
+                let method = String::from_str(self.alloc, "demo/asked")?;
+                self.one(Act::Ask(method, params, Asked::For(id)))
+            }
+            "demo/hold" => {
+                self.held.push(id)?;
+                Ok(Vec::new(self.alloc))
+            }
+            _ => self.one(Act::method_not_found(self.alloc, id)?),
         }
     }
 
@@ -151,14 +147,12 @@ impl Server for Talker {
         match asked {
             Asked::For(id) => self.one(Act::Reply(id, outcome)),
             Asked::Configuration(number) => {
-                drop(outcome);
                 self.one(self.tell("demo/pushed", Value::from(number))?)
             }
         }
     }
 
-    fn unsent(&mut self, asked: Asked) -> Result<(), AllocError> {
-        drop(asked);
+    fn unsent(&mut self, _asked: Asked) -> Result<(), AllocError> {
         Ok(())
     }
 }

@@ -1,5 +1,5 @@
 // Why a row has no answer, and how a line is taken apart.
-use std::alloc::{AllocError, AllocFailed, Global};
+use std::alloc::{AllocError, AllocFailed};
 use std::io;
 use std::io::ErrorKind;
 
@@ -75,9 +75,4 @@ pub fn add_step(said: &mut String, came: &str) -> Result<(), AllocError> {
         said.push_str("\n  ")?;
     }
     said.push_str(came)
-}
-
-/// A text that is said as it is.
-pub fn plain(alloc: Global, text: &str) -> Result<String, Stop> {
-    Ok(String::from_str(alloc, text)?)
 }

@@ -21,24 +21,21 @@ pub fn answer(alloc: Global, text: &str) -> Result<String, Stop> {
         return Err(Stop::Table);
     };
     match method {
-        "initialize" => written(alloc, initialize(alloc, found)?),
-        methods::PUBLISH_DIAGNOSTICS => written(alloc, diagnostics(alloc, found)?),
-        methods::SHOW_MESSAGE => written(alloc, message_shown(alloc, found)?),
-        methods::CONFIGURATION => written(alloc, configuration(alloc, found)?),
-        "workspace/applyEdit" => written(alloc, workspace_edit(alloc, member(found, "edit")?)?),
-        methods::HOVER => written(alloc, hover(alloc, found)?),
-        methods::COMPLETION => written(alloc, completions(alloc, found)?),
-        methods::DEFINITION => written(alloc, locations(alloc, found)?),
-        "textDocument/documentSymbol" => written(alloc, symbols(alloc, found)?),
+        "initialize" => written(alloc, &initialize(alloc, found)?),
+        methods::PUBLISH_DIAGNOSTICS => written(alloc, &diagnostics(alloc, found)?),
+        methods::SHOW_MESSAGE => written(alloc, &message_shown(alloc, found)?),
+        methods::CONFIGURATION => written(alloc, &configuration(alloc, found)?),
+        "workspace/applyEdit" => written(alloc, &workspace_edit(alloc, member(found, "edit")?)?),
+        methods::HOVER => written(alloc, &hover(alloc, found)?),
+        methods::COMPLETION => written(alloc, &completions(alloc, found)?),
+        methods::DEFINITION => written(alloc, &locations(alloc, found)?),
+        "textDocument/documentSymbol" => written(alloc, &symbols(alloc, found)?),
         _ => Err(Stop::Table),
     }
 }
 
-/// The text of a value, which is let go.
-fn written<T: Serialize + Drop>(alloc: Global, value: T) -> Result<String, Stop> {
-    let tree = to_value(alloc, &value);
-    drop(value);
-    Ok(tree?.to_string(alloc)?)
+fn written<T: Serialize>(alloc: Global, value: &T) -> Result<String, Stop> {
+    Ok(to_value(alloc, value)?.to_string(alloc)?)
 }
 
 fn member<'v>(found: &'v Value, key: &str) -> Result<&'v Value, Stop> {
@@ -76,43 +73,36 @@ fn capabilities(alloc: Global, found: &Value) -> Result<ServerCapabilities, Stop
         Some(sync) => read(alloc, sync, "change")?,
         None => None,
     };
+    let completion = match found.get("completionProvider") {
+        Some(options) => Some(CompletionOptions {
+            trigger_characters: read(alloc, options, "triggerCharacters")?,
+            resolve_provider: read(alloc, options, "resolveProvider")?,
+        }),
+        None => None,
+    };
     Ok(ServerCapabilities {
+        position_encoding: read(alloc, found, "positionEncoding")?,
         text_document_sync: sync.map(TextDocumentSyncKind),
+        completion_provider: completion,
         hover_provider: read(alloc, found, "hoverProvider")?,
         definition_provider: read(alloc, found, "definitionProvider")?,
         references_provider: read(alloc, found, "referencesProvider")?,
         document_symbol_provider: read(alloc, found, "documentSymbolProvider")?,
         document_formatting_provider: read(alloc, found, "documentFormattingProvider")?,
         rename_provider: read(alloc, found, "renameProvider")?,
-        position_encoding: read(alloc, found, "positionEncoding")?,
-        completion_provider: completion_options(alloc, found)?,
     })
-}
-
-fn completion_options(alloc: Global, found: &Value) -> Result<Option<CompletionOptions>, Stop> {
-    let Some(options) = found.get("completionProvider") else {
-        return Ok(None);
-    };
-    Ok(Some(CompletionOptions {
-        resolve_provider: read(alloc, options, "resolveProvider")?,
-        trigger_characters: read(alloc, options, "triggerCharacters")?,
-    }))
 }
 
 fn diagnostics(alloc: Global, found: &Value) -> Result<PublishDiagnosticsParams, Stop> {
-    Ok(PublishDiagnosticsParams {
-        version: read(alloc, found, "version")?,
-        diagnostics: each_diagnostic(alloc, items(member(found, "diagnostics")?)?)?,
-        uri: read(alloc, found, "uri")?,
-    })
-}
-
-fn each_diagnostic(alloc: Global, found: &[Value]) -> Result<Vec<Diagnostic>, Stop> {
     let mut diagnostics = Vec::new(alloc);
-    for found in found {
+    for found in items(member(found, "diagnostics")?)? {
         diagnostics.push(diagnostic(alloc, found)?)?;
     }
-    Ok(diagnostics)
+    Ok(PublishDiagnosticsParams {
+        uri: read(alloc, found, "uri")?,
+        version: read(alloc, found, "version")?,
+        diagnostics,
+    })
 }
 
 fn diagnostic(alloc: Global, found: &Value) -> Result<Diagnostic, Stop> {
@@ -120,9 +110,9 @@ fn diagnostic(alloc: Global, found: &Value) -> Result<Diagnostic, Stop> {
     Ok(Diagnostic {
         range: read(alloc, found, "range")?,
         severity: severity.map(DiagnosticSeverity),
-        message: read(alloc, found, "message")?,
-        source: read(alloc, found, "source")?,
         code: code_in(alloc, found)?,
+        source: read(alloc, found, "source")?,
+        message: read(alloc, found, "message")?,
         data: read(alloc, found, "data")?,
     })
 }
@@ -137,8 +127,8 @@ fn code_in(alloc: Global, found: &Value) -> Result<Option<NumberOrString>, Stop>
 
 fn hover(alloc: Global, found: &Value) -> Result<Hover, Stop> {
     Ok(Hover {
-        range: read(alloc, found, "range")?,
         contents: markup(alloc, member(found, "contents")?)?,
+        range: read(alloc, found, "range")?,
     })
 }
 
@@ -154,13 +144,12 @@ fn markup(alloc: Global, found: &Value) -> Result<MarkupContent, Stop> {
 }
 
 fn completions(alloc: Global, found: &Value) -> Result<CompletionList, Stop> {
-    let is_incomplete = read(alloc, found, "isIncomplete")?;
     let mut list = Vec::new(alloc);
     for item in items(member(found, "items")?)? {
         list.push(completion(alloc, item)?)?;
     }
     Ok(CompletionList {
-        is_incomplete,
+        is_incomplete: read(alloc, found, "isIncomplete")?,
         items: list,
     })
 }
@@ -168,32 +157,26 @@ fn completions(alloc: Global, found: &Value) -> Result<CompletionList, Stop> {
 fn completion(alloc: Global, found: &Value) -> Result<CompletionItem, Stop> {
     let kind: Option<u32> = read(alloc, found, "kind")?;
     let format: Option<u32> = read(alloc, found, "insertTextFormat")?;
+    let documentation = match found.get("documentation") {
+        Some(shown) => Some(markup(alloc, shown)?),
+        None => None,
+    };
+    let text_edit = match found.get("textEdit") {
+        Some(edit) => Some(text_edit(alloc, edit)?),
+        None => None,
+    };
     Ok(CompletionItem {
-        kind: kind.map(CompletionItemKind),
-        insert_text_format: format.map(InsertTextFormat),
         label: read(alloc, found, "label")?,
+        kind: kind.map(CompletionItemKind),
         detail: read(alloc, found, "detail")?,
+        documentation,
         sort_text: read(alloc, found, "sortText")?,
         filter_text: read(alloc, found, "filterText")?,
         insert_text: read(alloc, found, "insertText")?,
-        documentation: documentation(alloc, found)?,
-        text_edit: own_edit(alloc, found)?,
+        insert_text_format: format.map(InsertTextFormat),
+        text_edit,
         data: read(alloc, found, "data")?,
     })
-}
-
-fn documentation(alloc: Global, found: &Value) -> Result<Option<MarkupContent>, Stop> {
-    match found.get("documentation") {
-        Some(shown) => Ok(Some(markup(alloc, shown)?)),
-        None => Ok(None),
-    }
-}
-
-fn own_edit(alloc: Global, found: &Value) -> Result<Option<TextEdit>, Stop> {
-    match found.get("textEdit") {
-        Some(edit) => Ok(Some(text_edit(alloc, edit)?)),
-        None => Ok(None),
-    }
 }
 
 fn text_edit(alloc: Global, found: &Value) -> Result<TextEdit, Stop> {
@@ -237,17 +220,13 @@ fn locations(alloc: Global, found: &Value) -> Result<Vec<Location>, Stop> {
 fn symbols(alloc: Global, found: &Value) -> Result<Vec<DocumentSymbol>, Stop> {
     let mut symbols = Vec::new(alloc);
     for found in items(found)? {
-        symbols.push(symbol(alloc, found, children(alloc, found)?)?)?;
+        let mut children = Vec::new(alloc);
+        for child in items(member(found, "children")?)? {
+            children.push(symbol(alloc, child, Vec::new(alloc))?)?;
+        }
+        symbols.push(symbol(alloc, found, children)?)?;
     }
     Ok(symbols)
-}
-
-fn children(alloc: Global, found: &Value) -> Result<Vec<DocumentSymbol>, Stop> {
-    let mut children = Vec::new(alloc);
-    for child in items(member(found, "children")?)? {
-        children.push(symbol(alloc, child, Vec::new(alloc))?)?;
-    }
-    Ok(children)
 }
 
 fn symbol(
@@ -256,11 +235,11 @@ fn symbol(
     children: Vec<DocumentSymbol>,
 ) -> Result<DocumentSymbol, Stop> {
     Ok(DocumentSymbol {
+        name: read(alloc, found, "name")?,
+        detail: read(alloc, found, "detail")?,
         kind: SymbolKind(read(alloc, found, "kind")?),
         range: read(alloc, found, "range")?,
         selection_range: read(alloc, found, "selectionRange")?,
-        name: read(alloc, found, "name")?,
-        detail: read(alloc, found, "detail")?,
         children,
     })
 }
