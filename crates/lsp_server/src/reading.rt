@@ -2,7 +2,7 @@
 ghost use Rattle.std.specs.Prelude.{◌≡◌, IfSome};
 ghost use Rattle.lsp_message.specs.Frame.{reading_within};
 ghost use Rattle.lsp_message.specs.Reading.{Answers};
-ghost use Rattle.lsp_server.specs.Reading.{HandsOn, weighed_view};
+ghost use Rattle.lsp_server.specs.Weighing.{HandsOn, weighed_view};
 ghost use Rattle.lsp_session.specs.ReadLoop.{refused_end};
 
 use crate::io_fault::IoFault;

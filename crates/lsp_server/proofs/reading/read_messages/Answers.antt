@@ -3,7 +3,7 @@ use Rattle.lsp_message.specs.Frame.{reading_within}
 use Rattle.lsp_message.specs.Letters.{is_exit}
 use Rattle.lsp_message.specs.Reading.{Answers}
 use Rattle.lsp_message.specs.View.{message_view}
-use Rattle.lsp_server.specs.Reading.{HandsOn, sends_anything, weighed_view}
+use Rattle.lsp_server.specs.Weighing.{HandsOn, sends_anything, weighed_view}
 use Rattle.lsp_session.proofs.Handing.{Handed-more, hands_exit, hands_refused, hands_end, hands_fault, hands_on}
 use Rattle.lsp_server.proofs.reading.read_messages.Goals as goal
 

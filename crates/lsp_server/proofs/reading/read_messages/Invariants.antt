@@ -1,4 +1,4 @@
-use Rattle.lsp_server.specs.Reading.{sends_anything}
+use Rattle.lsp_server.specs.Weighing.{sends_anything}
 use Rattle.lsp_session.proofs.Handing.{Handed}
 use Rattle.lsp_server.proofs.reading.read_messages.Given as goal
 
