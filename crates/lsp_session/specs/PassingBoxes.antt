@@ -1,16 +1,27 @@
--- An inbox over a reader that passes over what is no message, as contracts see it.
-use Rattle.std.specs.Prelude.{◌≡◌, ℕ, List, true, Option, Some, None, Result, Ok, Err}
+-- An inbox over a reader that may pass over what is no message, as contracts see it.
+use Rattle.std.specs.Prelude.{◌≡◌, ◌⊎◌, ℕ, List, true, Option, Some, None, Result, Ok, Err}
 use Rattle.lsp_message.specs.declared.frame.ReadFault.{ReadFault}
 use Rattle.lsp_message.specs.View.{message_view}
 use Rattle.lsp_message.specs.declared.msg.Message as msg
 use Rattle.lsp_session.specs.Event.{Event, message, closed}
 use Rattle.lsp_session.specs.Streams.{Stream, StreamGives, Reads}
-use Rattle.lsp_tolerant.specs.Passing.{ended_at_body, TolerantGives}
-use Rattle.lsp_tolerant.specs.declared.inbox.TolerantInbox.{TolerantInbox}
+use Rattle.lsp_session.specs.Passing.{ended_at_body, TolerantGives}
+use Rattle.lsp_session.specs.declared.loops.ReadEnd.{ReadEnd}
+use Rattle.lsp_session.specs.declared.loops.ReadEnd.TheVariants.{Fault}
+use Rattle.lsp_session.specs.declared.loops.tolerant_inbox.TolerantInbox.{TolerantInbox}
 
--- A call ended the messages at no content part that is no message.
-abbrev pub ReadsOnAtBody : {R L : Type 0} → TolerantInbox R L → TolerantInbox R L → Type 0
-ReadsOnAtBody old new = ended_at_body new.end ≡ true → new.end ≡ old.end
+-- A call ended the messages at no content part that is no message. For a private clause.
+abbrev pub NeverEndsAtBody : {R L : Type 0} → TolerantInbox R L → TolerantInbox R L → Type 0
+NeverEndsAtBody old new = ended_at_body new.end ≡ true → new.end ≡ old.end
+
+-- the listener may end the messages so
+abbrev pub MayEnd : {L : Type 0} → (L → ReadFault → Type 0) → L → Option ReadEnd → Type 0
+MayEnd ends l (Some (Fault fault)) = ends l fault
+MayEnd ends l end = ⊥
+
+-- A call ended the messages at a content part that is no message only where the listener may end them.
+abbrev pub EndsAtBody : {R L : Type 0} → (L → ReadFault → Type 0) → TolerantInbox R L → TolerantInbox R L → Type 0
+EndsAtBody ends old new = ended_at_body new.end ≡ true → (new.end ≡ old.end) ⊎ MayEnd ends old.listener.now new.end
 
 -- what a read gives that did not fail
 abbrev pub next_view : Option msg.Message → Event

@@ -1,12 +1,12 @@
-// An inbox that reads messages, and reads on after a content part that is none.
+// An inbox that reads messages, and asks a listener whether to read on after a content part that is none.
 ghost use Rattle.std.specs.Prelude.{◌≡◌, None};
 ghost use Rattle.lsp_session.specs.Event.{event_view};
-ghost use Rattle.lsp_tolerant.specs.Passing.{is_of_body as is_of_body_spec};
-ghost use Rattle.lsp_tolerant.specs.TolerantBoxes.{ReadsNext, ReadsOnAtBody, TolerantInboxGives};
+ghost use Rattle.lsp_session.specs.Passing.{is_of_body as is_of_body_spec};
+ghost use Rattle.lsp_session.specs.PassingBoxes.{EndsAtBody, NeverEndsAtBody, ReadsNext, TolerantInboxGives};
 
-use crate::listener::Listener;
+use crate::lifecycle::{Arrival, Event, Inbox, is_exit};
+use crate::loops::{Listener, ReadEnd};
 use lsp_message::{Message, ReadFault};
-use lsp_session::{Arrival, Event, Inbox, ReadEnd, is_exit};
 use std::alloc::Global;
 use std::io::BufRead;
 
@@ -21,9 +21,9 @@ pub fn is_of_body(fault: ReadFault) -> bool
     )
 }
 
-/// Gives a reader's messages (LSP 3.17, "Base Protocol"), as `StreamInbox` does, but passes over a content part that is no message
-/// (`is_of_body`) where a wake can tell it: `receive_or_woken` tells the listener, and gives `Arrival::Woken`. In the other
-/// calls there is no wake, and such a part ends the messages, as each other fault does everywhere.
+/// Gives a reader's messages (LSP 3.17, "Base Protocol"), as `StreamInbox` does, but asks a listener at a content part that is no message
+/// (`is_of_body`) where a wake can tell of it: `receive_or_woken` passes over it and gives `Arrival::Woken`, or ends the messages. In the
+/// other calls there is no wake, and such a part ends the messages, as each other fault does everywhere.
 #[derive(Debug, Drop)]
 pub struct TolerantInbox<'a, R, L> {
     alloc: Global,
@@ -63,7 +63,7 @@ impl<'a, R: BufRead, L: Listener> TolerantInbox<'a, R, L> {
     /// Reads on: a message, or none where no more come. A fault has not ended the messages yet.
     fn read_next(&mut self) -> Result<Option<Message>, ReadFault>
         ensures read { ReadsNext R.remaining self.old result self.new }
-        ensures reads_on { ReadsOnAtBody self.old self.new }
+        ensures reads_on { NeverEndsAtBody self.old self.new }
     {
         if self.end.is_some() {
             return Ok(None);
@@ -97,32 +97,31 @@ impl<'a, R: BufRead, L: Listener> TolerantInbox<'a, R, L> {
 }
 
 impl<'a, R: BufRead, L: Listener> Inbox for TolerantInbox<'a, R, L> {
-    ghost use Rattle.lsp_tolerant.specs.TolerantBoxes.{ReadsOnAtBody, TolerantInboxGives};
+    ghost use Rattle.lsp_session.specs.PassingBoxes.{EndsAtBody, TolerantInboxGives};
 
     ghost receives = { TolerantInboxGives R.remaining L.hears };
 
-    // Where a wake can tell of such a part, none ends the messages.
-    ghost listens = { λ old _ new. ReadsOnAtBody old new };
+    // Where a wake can tell of such a part, it ends the messages only if the listener says so.
+    ghost listens = { λ old _ new. EndsAtBody L.ends old new };
 
     fn receive_for(&mut self, _seconds: u64) -> Event {
         self.next_event()
     }
 
-    #[tactic(auto, using(lsp_session::proofs::Waiting::waits_none))]
+    #[tactic(auto, using(crate::proofs::Waiting::waits_none))]
     fn receive(&mut self) -> Event {
         self.next_event()
     }
 
-    #[tactic(auto, using(lsp_session::proofs::Waiting::waits_none))]
+    #[tactic(auto, using(crate::proofs::Waiting::waits_none))]
     fn receive_or_woken(&mut self) -> Arrival {
         match self.read_next() {
             Ok(Some(message)) => Arrival::Message(message),
             Ok(None) => Arrival::Closed,
-            Err(fault) if is_of_body(fault) => {
-                self.listener.passed_over(fault);
-                Arrival::Woken
-            }
             Err(fault) => {
+                if is_of_body(fault) && self.listener.passes_over(fault) {
+                    return Arrival::Woken;
+                }
                 self.end = Some(ReadEnd::Fault(fault));
                 Arrival::Closed
             }

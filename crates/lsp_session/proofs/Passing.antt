@@ -16,7 +16,7 @@ use Rattle.lsp_session.proofs.Waiting.{FoldsTo-split}
 use Rattle.lsp_session.specs.Event.{Event, closed, message, timeout, woken}
 use Rattle.lsp_session.specs.FrameBoxes.{FrameOutboxSends}
 use Rattle.lsp_session.specs.Session.{Exchange, came_of, letters_of, sends_of, SessionAnswer, SessionPart, Stop, decided, no_more, timed_out, refused, exhausted}
-use Rattle.lsp_session.specs.SessionBytes.{IsUnsent, LeftAfter, LeftWithin, Ends, Wrote}
+use Rattle.lsp_session.specs.SessionBytes.{ReadsMessage, IsUnsent, LeftAfter, LeftWithin, Ends, Wrote, Gives as SessionGives}
 use Rattle.lsp_session.specs.SessionFault.{ran_out, came_to_no_more, plain_answer, read_answer, session_answer}
 use Rattle.lsp_session.specs.SessionRun.{came_in, is_open, Brings, Runs}
 use Rattle.lsp_session.specs.Streams.{Stream, StreamGives, Reads}
@@ -26,10 +26,10 @@ use Rattle.lsp_session.specs.declared.loops.frame_outbox.FrameOutbox.{FrameOutbo
 use Rattle.lsp_session.specs.declared.loops.handler.SessionEnd.{SessionEnd}
 use Rattle.lsp_session.specs.declared.loops.stream_session.SessionFault.TheVariants.{Write, Memory}
 use Rattle.lsp_session.specs.declared.loops.stream_session.SessionFault.{SessionFault}
-use Rattle.lsp_tolerant.specs.Passing.{is_of_body, TolerantGives}
-use Rattle.lsp_tolerant.specs.TolerantBoxes.{stream_of, TolerantInboxGives}
-use Rattle.lsp_tolerant.specs.TolerantBytes.{PassesOver, ReadsFrame, HearsLast, GivesTolerantly}
-use Rattle.lsp_tolerant.specs.declared.inbox.TolerantInbox.{TolerantInbox}
+use Rattle.lsp_session.specs.Passing.{is_of_body, TolerantGives}
+use Rattle.lsp_session.specs.PassingBoxes.{stream_of, TolerantInboxGives}
+use Rattle.lsp_session.specs.PassingBytes.{PassesOver, ReadsFrame, HearsLast, GivesAndTells}
+use Rattle.lsp_session.specs.declared.loops.tolerant_inbox.TolerantInbox.{TolerantInbox}
 use Rattle.std.proofs.Common.{◌≡◌, refl, sym, ◌∙◌, ap, subst, inl, inr, ℕ, Bool, true, false, true≢false, List, [], ◌∷◌, ◌++◌, append-nil, Some, None, Option, IfSome}
 use Rattle.std.proofs.lemmas.List.Elements.{filter_map-append}
 use Rattle.std.specs.List.{FoldsTo, list_all, filter_map}
@@ -301,7 +301,7 @@ module _ {L : Type 0} (hears : L → ReadFault → L → Type 0) (limit : ℕ) w
 
     -- what a session over boxes comes to in bytes
     runs_give : (text : List ℕ) → remaining inbox.reader.now ≡ Some text
-        → GivesTolerantly hears limit P text (remaining inbox'.reader.now) inbox.listener.now inbox'.listener.now (contents outbox.writer.now)
+        → GivesAndTells hears limit P text (remaining inbox'.reader.now) inbox.listener.now inbox'.listener.now (contents outbox.writer.now)
         (contents outbox'.writer.now)
         (session_answer answer inbox'.end outbox'.fault)
     runs_give text known =
@@ -319,7 +319,7 @@ module _ {L : Type 0} (hears : L → ReadFault → L → Type 0) (limit : ℕ) w
             × HearsLast hears limit runs.stop at inbox'.listener.now
             × Ends limit (remaining inbox'.reader.now) result answer runs.stop runs.null at.0
             → Wrote old new result runs.stop runs.null (sends_of runs.exchanges)
-            → GivesTolerantly hears limit P text (remaining inbox'.reader.now) inbox.listener.now inbox'.listener.now old new result
+            → GivesAndTells hears limit P text (remaining inbox'.reader.now) inbox.listener.now inbox'.listener.now old new result
         gives result reached wrote = record {
           exchanges = runs.exchanges;
           at = reached.0;
@@ -335,7 +335,7 @@ module _ {L : Type 0} (hears : L → ReadFault → L → Type 0) (limit : ℕ) w
         at : (fault : Option WriteFault)
             → MatchOption fault (NotRefused runs.stop × GetsFrames (sends_of runs.exchanges) old new) (λ f. IsUnsent runs.stop runs.null
             × GetsPart f (sends_of runs.exchanges) old new)
-            → GivesTolerantly hears limit P text (remaining inbox'.reader.now) inbox.listener.now inbox'.listener.now old new
+            → GivesAndTells hears limit P text (remaining inbox'.reader.now) inbox.listener.now inbox'.listener.now old new
             (session_answer answer inbox'.end fault)
         at None written =
             let all = frames_end text before after unended known runs.events run (came_of runs.exchanges) runs.null answer
@@ -356,7 +356,7 @@ module _ {L : Type 0} (hears : L → ReadFault → L → Type 0) (limit : ℕ) w
         → (inbox'.reader.ghost_name ≡ inbox.reader.ghost_name → last ≡ inbox'.reader.now)
         → (inbox'.listener.ghost_name ≡ inbox.listener.ghost_name → heard' ≡ inbox'.listener.now)
         → (outbox'.writer.ghost_name ≡ outbox.writer.ghost_name → last' ≡ outbox'.writer.now)
-        → IfSome (remaining first) (λ text. GivesTolerantly hears limit P text (remaining last) heard heard' (contents first') (contents last')
+        → IfSome (remaining first) (λ text. GivesAndTells hears limit P text (remaining last) heard heard' (contents first') (contents last')
         (session_answer answer inbox'.end outbox'.fault))
     session_gives first last first' last' heard heard' same same' untold named hearing named' =
         let seen = seen_all remaining runs.events inbox inbox' limited runs.received in
@@ -364,8 +364,31 @@ module _ {L : Type 0} (hears : L → ReadFault → L → Type 0) (limit : ℕ) w
         (at (remaining inbox.reader.now) refl)
       where
         at : (known : Option (List ℕ)) → remaining inbox.reader.now ≡ known
-            → IfSome known (λ text. GivesTolerantly hears limit P text (remaining inbox'.reader.now) inbox.listener.now inbox'.listener.now
+            → IfSome known (λ text. GivesAndTells hears limit P text (remaining inbox'.reader.now) inbox.listener.now inbox'.listener.now
             (contents outbox.writer.now)
             (contents outbox'.writer.now) (session_answer answer inbox'.end outbox'.fault))
         at None is = tt
         at (Some text) is = runs_give text is
+
+-- A listener that never hears: each frame is a message.
+module _ {L : Type 0} (hears : L → ReadFault → L → Type 0) (never : (old : L) (fault : ReadFault) (new : L) → hears old fault new → ⊥) (limit : ℕ) where
+  reads_messages : (came : List (Option Message)) (from to : List ℕ × L) → ReadsFrames hears limit from came to → FoldsTo (ReadsMessage limit) from.0 came to.0
+  reads_messages [] from to run = ap (λ (at : List ℕ × L). at.0) run
+  reads_messages (Some m ∷ came) from to run = (run.0.0, run.1.0, reads_messages came run.0 to run.2)
+  reads_messages (None ∷ came) from to run = absurd (never from.1 run.1.0 run.0.1 run.1.3)
+
+  -- so the session passes over nothing
+  pub untold : (P : SessionPart) (known left : Option (List ℕ)) (first last : L) (before after : Option (List ℕ)) (result : Result SessionEnd SessionFault)
+      → IfSome known (λ text. GivesAndTells hears limit P text left first last before after result) → IfSome known (λ text. SessionGives limit P text left before after result)
+  untold P None left first last before after result gives = tt
+  untold P (Some text) left first last before after result g = record {
+    exchanges = g.exchanges;
+    at = g.at.0;
+    read = reads_messages (came_of g.exchanges) (text, first) g.at g.read;
+    stop = g.stop;
+    null = g.null;
+    answer = g.answer;
+    part = g.part;
+    ends = g.ends.0;
+    wrote = g.wrote;
+  }

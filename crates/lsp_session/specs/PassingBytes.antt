@@ -1,4 +1,4 @@
--- A session that passes over content parts which are no messages: bytes in to bytes out (LSP 3.17, "Base Protocol" and "Server
+-- A session that asks a listener at content parts which are no messages: bytes in to bytes out (LSP 3.17, "Base Protocol" and "Server
 -- lifecycle").
 use Rattle.std.specs.Prelude.{◌≡◌, ◌⊎◌, ℕ, true, List, Option, Some, None, Result, Err}
 use Rattle.lsp_message.specs.Frame.{Begins, reading_within}
@@ -8,7 +8,7 @@ use Rattle.lsp_session.specs.Session.{SessionPart, Stop, exhausted}
 use Rattle.lsp_session.specs.SessionBytes.{SessionOver, Ends, Wrote}
 use Rattle.lsp_session.specs.declared.loops.handler.SessionEnd.{SessionEnd}
 use Rattle.lsp_session.specs.declared.loops.stream_session.SessionFault.{SessionFault}
-use Rattle.lsp_tolerant.specs.Passing.{is_of_body}
+use Rattle.lsp_session.specs.Passing.{is_of_body}
 
 -- of a text and a listener, where content parts have at most so many bytes
 module _ {L : Type 0} (hears : L → ReadFault → L → Type 0) (limit : ℕ) where
@@ -29,6 +29,6 @@ module _ {L : Type 0} (hears : L → ReadFault → L → Type 0) (limit : ℕ) w
 
   -- A session whose messages and wakes are the first frames of a text. Of its end, of what is left of the text and of what was written
   -- the same is said as of a session that passes over nothing.
-  abbrev pub GivesTolerantly : SessionPart → List ℕ → Option (List ℕ) → L → L → Option (List ℕ) → Option (List ℕ) → Result SessionEnd SessionFault → Type 0
-  GivesTolerantly P text left first last before after result =
+  abbrev pub GivesAndTells : SessionPart → List ℕ → Option (List ℕ) → L → L → Option (List ℕ) → Option (List ℕ) → Result SessionEnd SessionFault → Type 0
+  GivesAndTells P text left first last before after result =
       SessionOver ReadsFrame P (text, first) (λ answer stop null at. Ends limit left result answer stop null at.0 × HearsLast stop at last) (Wrote before after result)

@@ -7,8 +7,8 @@ use Rattle.lsp_message.specs.Message.{Message}
 use Rattle.lsp_message.specs.Reading.{Reading}
 use Rattle.lsp_message.specs.declared.frame.ReadFault.{ReadFault}
 use Rattle.lsp_session.specs.Session.{no_more}
-use Rattle.lsp_tolerant.specs.Passing.{is_of_body}
-use Rattle.lsp_tolerant.specs.TolerantBytes.{PassesOver, ReadsFrame, HearsLast}
+use Rattle.lsp_session.specs.Passing.{is_of_body}
+use Rattle.lsp_session.specs.PassingBytes.{PassesOver, ReadsFrame, HearsLast}
 
 module _ {L : Type 0} (hears : L → ReadFault → L → Type 0) (limit : ℕ) where
   -- what a reading came to
