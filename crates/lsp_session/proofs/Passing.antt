@@ -10,6 +10,7 @@ use Rattle.lsp_message.specs.declared.frame.ReadFault.{ReadFault}
 use Rattle.lsp_message.specs.declared.frame.WriteFault.TheVariants.{Output, Memory as NoMemory}
 use Rattle.lsp_message.specs.declared.frame.WriteFault.{WriteFault}
 use Rattle.lsp_session.proofs.Handing.{begins}
+use Rattle.lsp_session.proofs.Lending.{over_as}
 use Rattle.lsp_session.proofs.Ran.{is_no_exit, Facts}
 use Rattle.lsp_session.proofs.SessionGives.{no_timeout as stream_no_timeout, left_within as stream_left_within, stop_ends as stream_stop_ends, NotRefused, GetsPart, gets_written, gets_keeps, ran_out_answer, ran_out_gives}
 use Rattle.lsp_session.proofs.Waiting.{FoldsTo-split}
@@ -28,13 +29,12 @@ use Rattle.lsp_session.specs.declared.loops.stream_session.SessionFault.TheVaria
 use Rattle.lsp_session.specs.declared.loops.stream_session.SessionFault.{SessionFault}
 use Rattle.lsp_session.specs.Passing.{is_of_body, TolerantGives}
 use Rattle.lsp_session.specs.PassingBoxes.{stream_of, TolerantInboxGives}
-use Rattle.lsp_session.specs.PassingBytes.{PassesOver, ReadsFrame, HearsLast, GivesAndTells}
+use Rattle.lsp_session.specs.PassingBytes.{PassesNothingOver, PassesOver, ReadsFrame, HearsLast, GivesAndTells}
 use Rattle.lsp_session.specs.declared.loops.tolerant_inbox.TolerantInbox.{TolerantInbox}
 use Rattle.std.proofs.Common.{◌≡◌, refl, sym, ◌∙◌, ap, subst, inl, inr, ℕ, Bool, true, false, true≢false, List, [], ◌∷◌, ◌++◌, append-nil, Some, None, Option, IfSome}
 use Rattle.std.proofs.lemmas.List.Elements.{filter_map-append}
 use Rattle.std.specs.List.{FoldsTo, list_all, filter_map}
 use Rattle.std.specs.Prelude.{Result, Ok, Err, MatchOption, if◌then◌else◌}
-use Rattle.std.specs.declared.io.ErrorKind.{ErrorKind}
 
 -- the first frames of a text, one after another
 abbrev ReadsFrames : {L : Type 0} (hears : L → ReadFault → L → Type 0) (limit : ℕ) → List ℕ × L → List (Option Message) → List ℕ × L → Type 0
@@ -370,18 +370,17 @@ module _ {L : Type 0} (hears : L → ReadFault → L → Type 0) (limit : ℕ) w
         at None is = tt
         at (Some text) is = runs_give text is
 
--- A listener that never hears: each frame is a message.
-module _ {L : Type 0} (hears : L → ReadFault → L → Type 0) (never : (old : L) (fault : ReadFault) (new : L) → hears old fault new → ⊥) (limit : ℕ) where
+-- A listener that passes over nothing: each frame is a message.
+module _ {L : Type 0} (hears : L → ReadFault → L → Type 0) (never : PassesNothingOver hears) (limit : ℕ) where
   reads_messages : (came : List (Option Message)) (from to : List ℕ × L) → ReadsFrames hears limit from came to → FoldsTo (ReadsMessage limit) from.0 came to.0
   reads_messages [] from to run = ap (λ (at : List ℕ × L). at.0) run
   reads_messages (Some m ∷ came) from to run = (run.0.0, run.1.0, reads_messages came run.0 to run.2)
   reads_messages (None ∷ came) from to run = absurd (never from.1 run.1.0 run.0.1 run.1.3)
 
   -- so the session passes over nothing
-  pub untold : (P : SessionPart) (known left : Option (List ℕ)) (first last : L) (before after : Option (List ℕ)) (result : Result SessionEnd SessionFault)
-      → IfSome known (λ text. GivesAndTells hears limit P text left first last before after result) → IfSome known (λ text. SessionGives limit P text left before after result)
-  untold P None left first last before after result gives = tt
-  untold P (Some text) left first last before after result g = record {
+  pub none_passed : (P : SessionPart) (text : List ℕ) (left : Option (List ℕ)) (first last : L) (before after : Option (List ℕ)) (result : Result SessionEnd SessionFault)
+      → GivesAndTells hears limit P text left first last before after result → SessionGives limit P text left before after result
+  none_passed P text left first last before after result g = record {
     exchanges = g.exchanges;
     at = g.at.0;
     read = reads_messages (came_of g.exchanges) (text, first) g.at g.read;
@@ -392,3 +391,17 @@ module _ {L : Type 0} (hears : L → ReadFault → L → Type 0) (never : (old :
     ends = g.ends.0;
     wrote = g.wrote;
   }
+
+  -- where the bytes are known
+  pub untold : (P : SessionPart) (known left : Option (List ℕ)) (first last : L) (before after : Option (List ℕ)) (result : Result SessionEnd SessionFault)
+      → IfSome known (λ text. GivesAndTells hears limit P text left first last before after result) → IfSome known (λ text. SessionGives limit P text left before after result)
+  untold P None left first last before after result gives = tt
+  untold P (Some text) left first last before after result g = none_passed P text left first last before after result g
+
+-- A session that is described otherwise, where the bytes are known.
+pub told_as : (P Q : SessionPart)
+    (to : (xs : List Exchange) (stop : Stop) (null : Option Message) (answer : SessionAnswer) → P xs stop null answer → Q xs stop null answer)
+    {L : Type 0} (hears : L → ReadFault → L → Type 0) (limit : ℕ) (known left : Option (List ℕ)) (first last : L) (before after : Option (List ℕ)) (result : Result SessionEnd SessionFault)
+    → IfSome known (λ text. GivesAndTells hears limit P text left first last before after result) → IfSome known (λ text. GivesAndTells hears limit Q text left first last before after result)
+told_as P Q to hears limit None left first last before after result gives = tt
+told_as P Q to hears limit (Some text) left first last before after result gives = over_as P Q to (ReadsFrame hears limit) (text, first) _ _ gives

@@ -1,5 +1,5 @@
 -- Readings that no session has which passes over content parts that are no messages, whatever its listener hears.
-use Rattle.std.proofs.Common.{◌≡◌, refl, sym, ◌∙◌, ap, inl, inr, ◌⊎◌, ℕ, true, false, List, [], ◌∷◌, Option, Some, None}
+use Rattle.std.proofs.Common.{◌≡◌, sym, ◌∙◌, ap, ℕ, true, false, List, ◌∷◌, Option, Some, None}
 use Rattle.std.specs.List.{FoldsTo}
 use Rattle.std.specs.Prelude.{Result, Ok, Err}
 use Rattle.lsp_message.specs.Frame.{Begins, reading_within}

@@ -10,6 +10,10 @@ use Rattle.lsp_session.specs.declared.loops.handler.SessionEnd.{SessionEnd}
 use Rattle.lsp_session.specs.declared.loops.stream_session.SessionFault.{SessionFault}
 use Rattle.lsp_session.specs.Passing.{is_of_body}
 
+-- a listener with this clause never passes over anything
+abbrev pub PassesNothingOver : {L : Type 0} → (L → ReadFault → L → Type 0) → Type 0
+PassesNothingOver {L} hears = (old : L) (fault : ReadFault) (new : L) → hears old fault new → ⊥
+
 -- of a text and a listener, where content parts have at most so many bytes
 module _ {L : Type 0} (hears : L → ReadFault → L → Type 0) (limit : ℕ) where
   -- The text begins with a content part that is no message. The listener hears its fault, and what follows it is left.

@@ -16,5 +16,5 @@ pub use loops::{
     EndSession, FaultCounts, FrameOutbox, Handler, HandlerService, Ignore, Listener, Output,
     ReadEnd, Service, SessionEnd, SessionFault, StreamInbox, StreamLine, TolerantInbox, WriteEnd,
     initialize_result, is_of_body, read_loop, read_loop_within, serve, serve_line, serve_service,
-    session, session_answer, session_of_service, session_on, session_within, write_loop,
+    session, session_answer, session_of_service, session_within, write_loop,
 };

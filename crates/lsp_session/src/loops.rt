@@ -34,7 +34,7 @@ pub use service::{Output, Service};
 pub use stream_inbox::StreamInbox;
 pub use stream_line::StreamLine;
 pub use stream_session::{
-    SessionFault, session, session_answer, session_of_service, session_on, session_within,
+    SessionFault, session, session_answer, session_of_service, session_within,
 };
 pub use tolerant_inbox::{TolerantInbox, is_of_body};
 pub use write::{WriteEnd, write_loop};

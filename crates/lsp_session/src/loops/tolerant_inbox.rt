@@ -1,6 +1,6 @@
 // An inbox that reads messages, and asks a listener whether to read on after a content part that is none.
 ghost use Rattle.std.specs.Prelude.{◌≡◌, None};
-ghost use Rattle.lsp_session.specs.Event.{event_view};
+ghost use Rattle.lsp_session.specs.Event.{arrival_view, event_view};
 ghost use Rattle.lsp_session.specs.Passing.{is_of_body as is_of_body_spec};
 ghost use Rattle.lsp_session.specs.PassingBoxes.{EndsAtBody, NeverEndsAtBody, ReadsNext, TolerantInboxGives};
 
@@ -82,6 +82,24 @@ impl<'a, R: BufRead, L: Listener> TolerantInbox<'a, R, L> {
         }
     }
 
+    /// What one wait gives that also gives wakes. At a content part that is no message the listener is asked whether to read on.
+    pub(crate) fn next_arrival(&mut self) -> Arrival
+        ensures gives { TolerantInboxGives R.remaining L.hears self.old (arrival_view result) self.new }
+        ensures reads_on { EndsAtBody L.ends self.old self.new }
+    {
+        match self.read_next() {
+            Ok(Some(message)) => Arrival::Message(message),
+            Ok(None) => Arrival::Closed,
+            Err(fault) => {
+                if is_of_body(fault) && self.listener.passes_over(fault) {
+                    return Arrival::Woken;
+                }
+                self.end = Some(ReadEnd::Fault(fault));
+                Arrival::Closed
+            }
+        }
+    }
+
     fn next_event(&mut self) -> Event
         ensures { TolerantInboxGives R.remaining L.hears self.old (event_view result) self.new }
     {
@@ -115,16 +133,6 @@ impl<'a, R: BufRead, L: Listener> Inbox for TolerantInbox<'a, R, L> {
 
     #[tactic(auto, using(crate::proofs::Waiting::waits_none))]
     fn receive_or_woken(&mut self) -> Arrival {
-        match self.read_next() {
-            Ok(Some(message)) => Arrival::Message(message),
-            Ok(None) => Arrival::Closed,
-            Err(fault) => {
-                if is_of_body(fault) && self.listener.passes_over(fault) {
-                    return Arrival::Woken;
-                }
-                self.end = Some(ReadEnd::Fault(fault));
-                Arrival::Closed
-            }
-        }
+        self.next_arrival()
     }
 }
