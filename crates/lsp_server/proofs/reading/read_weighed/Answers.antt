@@ -33,5 +33,5 @@ returns-in_err-message g c =
 pub returns : goal.returns
 returns g c =
     let read = rw (c.in_ok-content.was, c.in-Some.is) at c.read_content_within.ensures.exact in
-    decoded body_means c.args.limit message_view items _ _ c.in-Some.content (Ok c.in_ok-message.field-0) read
-    (subst (λ body. Decodes message_view (Ok c.in_ok-message.field-0) (body_means body)) c.deref-2.ensures.value c.in_ok-message.ensures)
+    decoded body_means c.args.limit message_view items _ _ c.in-Some.content (Ok c.in_ok-message.message) read
+    (subst (λ body. Decodes message_view (Ok c.in_ok-message.message) (body_means body)) c.deref-2.ensures.value c.in_ok-message.ensures)
