@@ -157,7 +157,8 @@ impl Write for Sink {
     }
 }
 
-fn rest() {
+/// Lets other threads go on.
+pub fn rest() {
     for _ in 0..REST {
         thread::yield_now();
     }

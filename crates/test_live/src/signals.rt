@@ -50,7 +50,7 @@ pub struct Signals {
 }
 
 /// How often a wait looks for its signal, before it is given up: for a minute or so, and longer where the machine is busy.
-const LOOKS: u64 = 100_000_000;
+pub const LOOKS: u64 = 100_000_000;
 
 impl Signals {
     /// Nothing happened yet.
