@@ -9,12 +9,12 @@ use Rattle.lsp_message.specs.Reading.{Answers, Reading, found}
 use Rattle.lsp_message.specs.declared.frame.ReadFault.{ReadFault}
 use Rattle.lsp_message.specs.declared.frame.ReadFault.TheVariants.{Input, Memory as NoMemory}
 use Rattle.lsp_message.specs.Message.{Message}
-use Rattle.lsp_relay.specs.Relay.{ended, IsOpen, Sending}
+use Rattle.lsp_relay.specs.Relay.{ended, IsOpen}
 use Rattle.lsp_relay.specs.declared.ends.Parcel.{Parcel}
 use Rattle.lsp_relay.specs.declared.ends.Parcel.TheVariants as parcel
 use Rattle.lsp_session.specs.declared.loops.ReadEnd.{ReadEnd}
 use Rattle.lsp_session.specs.declared.loops.ReadEnd.TheVariants.{Exit, End, Fault}
-use Rattle.lsp_threads.specs.Contents.{BeginsWithContent, bytes_of, Contents, contents_of, HandsContents, IsExit, LooksAt, ReadsContents, StopsAt}
+use Rattle.lsp_threads.specs.Contents.{BeginsWithContent, bytes_of, Contents, contents_of, IsExit, LooksAt, ReadsContents, StopsAt}
 
 -- ---- content parts in parcels
 pub contents_of-append : (a b : List (Parcel Contents)) → contents_of (a ++ b) ≡ contents_of a ++ contents_of b
@@ -125,9 +125,3 @@ module _ (limit : ℕ) where
         pub passed_more : Passed a c (contents ++ x.items ∷ [])
         passed_more = known a b contents passed read (λ text at run answers.
             rw answers.1 (FoldsTo-push (BeginsWithContent limit) text contents at x.items (content_within limit at).rest run (content_is at x.items answers.0)))
-
-  -- what was read, and sent up to End
-  pub handed_contents : (known : Option (List ℕ)) (tx back : Sending Contents) (contents : List (List ℕ)) (end : ReadEnd) → IfSome known (λ text. ReadsContents limit text end contents)
-      → contents_of back.sent ≡ contents → ((parcels : List Contents) × (back.sent ≡ ended parcels)) → back.wakeable ≡ tx.wakeable → IfSome known (λ text. HandsContents limit text tx end back)
-  handed_contents None tx back contents end reads all finished kept = tt
-  handed_contents (Some text) tx back contents end reads all finished kept = (finished, rw all reads, kept)
