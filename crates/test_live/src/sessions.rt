@@ -129,6 +129,7 @@ fn sink(alloc: Global, run: Run, signals: &Arc<Signals>) -> Result<Sink, AllocEr
         bad_flush: 0,
         flushes: 0,
         writes: 0,
+        lines: 0,
         is_slow: false,
         is_gated: false,
     };

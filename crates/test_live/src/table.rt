@@ -50,8 +50,9 @@ fn pause_of(word: &str) -> Option<Pause> {
     Some(Pause { at, signal, wanted })
 }
 
-static SIGNALS: [(&str, Signal); 6] = [
+static SIGNALS: [(&str, Signal); 7] = [
     ("written", Signal::Written),
+    ("taken", Signal::Taken),
     ("messages", Signal::Messages),
     ("writes", Signal::Writes),
     ("requests", Signal::Requests),
