@@ -102,12 +102,7 @@ where
     bail!("the client left without a shutdown")
 }
 
-fn answer<T: Wait>(
-    rt: &T,
-    connection: &Connection,
-    request: Request,
-    reply: &Value,
-) -> Result<()> {
+fn answer<T: Wait>(rt: &T, connection: &Connection, request: Request, reply: &Value) -> Result<()> {
     let response = Response {
         id: request.id,
         response_result: Ok(reply.clone()?),
