@@ -8,16 +8,15 @@ use crate::job::Job;
 use crate::job_server::JobServer;
 use crate::pool::{PoolSize, start_pool};
 use crate::pooled_server::PooledServer;
-use lsp_message::Message;
 use lsp_relay::relay;
 use lsp_service::WokenQueuedServer;
-use lsp_threads::{Builders, StartFault, Threaded, run_threads_of_service_over};
+use lsp_threads::{Contents, StartFault, ThreadOptions, Threaded, run_threads_of_service_over};
 use std::alloc::Global;
 use std::io::{BufRead, Write};
 use std::sync::Wait;
-use std::thread::{Builder, Threads};
+use std::thread::Threads;
 
-/// How many messages that were read, and wakes, may wait for the session. It changes speed and memory only, and no answer.
+/// How many parcels of messages that were read, and wakes, may wait for the session. It changes speed and memory only, and no answer.
 const ROOM: usize = 32;
 
 /// Runs a session of a server whose long requests are jobs, and gives the server back: threads of a pool run jobs, one thread reads, one
@@ -73,7 +72,32 @@ where
         ThreadsGiveOver true limit (JobSession T S.Server S.starts S.finishes J.answers server result.0)
         text (W.contents writer) (W.contents done.writer) done.answer)) }
 {
-    let Ok((mut tx, rx)) = relay::<Message>(alloc, ROOM) else {
+    let options = ThreadOptions::new();
+    run_jobs_by(rt, options, alloc, reader, writer, size, server, limit)
+}
+
+/// As `run_jobs_within`, with options for the two threads that read and write.
+pub fn run_jobs_by<T, R, W, S, J>(
+    rt: &T,
+    options: ThreadOptions,
+    alloc: Global,
+    reader: R,
+    writer: W,
+    size: PoolSize,
+    server: S,
+    limit: u64,
+) -> (S, Result<Threaded<W>, StartFault>)
+where
+    T: Threads + Wait + Copy + Drop + Send + 'static,
+    R: BufRead + Drop + Send + 'static,
+    W: Write + Drop + Send + 'static,
+    S: JobServer<J> + Drop,
+    J: Job + Send + 'static,
+    ensures { IfSome (R.remaining reader) (λ text. IfOk result.1 (λ done.
+        ThreadsGiveOver true limit (JobSession T S.Server S.starts S.finishes J.answers server result.0)
+        text (W.contents writer) (W.contents done.writer) done.answer)) }
+{
+    let Ok((mut tx, rx)) = relay::<Contents>(alloc, ROOM) else {
         return (server, Err(StartFault::Memory));
     };
     let Ok(waker) = tx.waker() else {
@@ -85,14 +109,10 @@ where
     };
     let pooled = PooledServer::new(*rt, alloc, server, pool, news);
     let mut queued = WokenQueuedServer::new(alloc, pooled);
-    let builders = Builders {
-        writer: Builder::new(),
-        reader: Builder::new(),
-    };
     let ends = (tx, rx);
     let done = run_threads_of_service_over(
         rt,
-        builders,
+        options,
         alloc,
         ends,
         reader,

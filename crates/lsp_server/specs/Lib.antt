@@ -76,4 +76,6 @@ pub use Rattle.lsp_session.specs.WriteLoop
 pub use Rattle.lsp_threads.specs.Pump
 pub use Rattle.lsp_threads.specs.Threads
 pub mod IoFault
+pub mod Unread
+pub mod Weighing
 pub mod Writing

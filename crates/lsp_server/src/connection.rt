@@ -3,8 +3,10 @@ ghost use Rattle.std.specs.Prelude.{◌≡◌, true, IfErr};
 ghost use Rattle.lsp_server.specs.IoFault.{is_start_fault};
 
 use crate::io_fault::IoFault;
-use crate::io_threads::{IoThreads, read_all, start_threads};
+use crate::io_threads::{CHANNEL_ROOM, IoThreads, start_threads};
+use crate::reading::{Bounds, read_all};
 use crate::transport::{ChannelInbox, ChannelOutbox};
+use crate::unread::{UNREAD_WEIGHT, Unread};
 use crate::writing::write_all;
 use crossbeam_channel::{Receiver, Sender, unbounded};
 use lsp_message::{Message, Request, RequestId};
@@ -55,7 +57,7 @@ impl Connection {
     }
 
     /// Makes a connection over any reader and writer, such as the pipes of a child process. A content part may have at most
-    /// `limit` bytes; with `u64::MAX` any number.
+    /// `limit` bytes; with `u64::MAX` any number. Of messages that nobody received `UNREAD_WEIGHT` may be in memory.
     ///
     /// The reader gets a buffer here. The writer needs none: frames of messages that wait together are one write. The faults are
     /// those of `stdio`.
@@ -71,15 +73,41 @@ impl Connection {
         W: Write + Drop + Send + 'static,
         ensures { IfErr result (λ fault. is_start_fault fault ≡ true) }
     {
+        Connection::over_within(rt, reader, writer, limit, UNREAD_WEIGHT)
+    }
+
+    /// As `over`, with a bound on what may be unread: what was read and not taken from `receiver` weighs at most `unread`, as
+    /// `UNREAD_WEIGHT` has it, or it is one message. With `u64::MAX` it may weigh anything, and 16 messages wait at most.
+    ///
+    /// The thread that reads does not read on meanwhile, so the client has to wait. It looks again after a millisecond, and later
+    /// after ten. It goes on once enough was taken, and ends if the connection's receiver is gone.
+    pub fn over_within<R, S, W>(
+        rt: &R,
+        reader: S,
+        writer: W,
+        limit: u64,
+        unread: u64,
+    ) -> Result<(Connection, IoThreads), IoFault>
+    where
+        R: Threads + Wait + Clock + AllocGlobal + Copy + Drop + Send + 'static,
+        S: Read + Drop + Send + 'static,
+        W: Write + Drop + Send + 'static,
+        ensures { IfErr result (λ fault. is_start_fault fault ≡ true) }
+    {
         let alloc = rt.alloc();
         let Ok(reader) = BufReader::with_capacity(alloc, READ_AHEAD, reader) else {
             return Err(IoFault::Memory);
+        };
+        let bounds = Bounds {
+            limit,
+            bound: unread,
+            unread: Unread::new(alloc, CHANNEL_ROOM + 1)?,
         };
         let theirs = *rt;
         let (sender, receiver, threads) = start_threads(
             rt,
             alloc,
-            move |incoming, spent| read_all(theirs, alloc, reader, limit, incoming, spent),
+            move |incoming, spent| read_all(theirs, alloc, reader, bounds, incoming, spent),
             move |outgoing, written| write_all(theirs, alloc, outgoing, writer, written),
         )?;
         Ok((Connection { sender, receiver }, threads))

@@ -3,14 +3,11 @@ ghost use Rattle.std.specs.Prelude.{◌≡◌, true, IfErr, IfSome, IsSome};
 ghost use Rattle.lsp_server.specs.IoFault.{is_start_fault, reader_answer, ended_answer};
 
 use crate::io_fault::IoFault;
-use crate::transport::ForwardingOutbox;
 use crate::written::{Written, channels_of_written, drop_all};
 use crossbeam_channel::{Receiver, Sender, bounded};
-use lsp_message::Message;
-use lsp_session::{ReadEnd, read_loop_within};
+use lsp_session::ReadEnd;
 use lsp_threads::spent::Spent;
 use std::alloc::Global;
-use std::io::BufRead;
 use std::sync::Wait;
 use std::thread;
 use std::thread::{JoinHandle, Threads};
@@ -144,25 +141,8 @@ where
     }
 }
 
-/// The thread that reads.
-pub(crate) fn read_all<R: Wait + Drop, B: BufRead + Drop>(
-    rt: R,
-    alloc: Global,
-    mut reader: B,
-    limit: u64,
-    incoming: Sender<Message>,
-    spent: Spent<Message>,
-) -> Result<(), IoFault> {
-    let mut outbox = ForwardingOutbox {
-        rt: &rt,
-        incoming: &incoming,
-        spent: &spent,
-    };
-    reader_end(read_loop_within(alloc, &mut reader, &mut outbox, limit))
-}
-
 /// What the thread that reads answers.
-fn reader_end(end: ReadEnd) -> Result<(), IoFault>
+pub(crate) fn reader_end(end: ReadEnd) -> Result<(), IoFault>
     ensures { result ≡ reader_answer end }
 {
     match end {

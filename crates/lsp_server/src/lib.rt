@@ -11,12 +11,16 @@ mod io_fault;
 mod io_threads;
 pub mod laws;
 mod memory;
+mod outlet;
+mod places;
+mod reading;
 mod relays;
 mod servers;
 mod serving_thread;
 mod socket;
 mod stdio;
 mod transport;
+mod unread;
 mod writing;
 mod written;
 
@@ -40,10 +44,11 @@ pub use lsp_session::{
     session, session_on, session_within, shutdown, start_within, wait_within, write_loop,
 };
 pub use lsp_threads::{
-    Builders, PumpFault, StartFault, Threaded, pump, pump_within, run_threads,
+    PumpFault, StartFault, ThreadOptions, Threaded, UNREAD_BYTES, pump, pump_within, run_threads,
     run_threads_of_service, run_threads_of_service_within, run_threads_within,
 };
 pub use memory::keep_freed_memory;
 pub use relays::{Parcel, RelayRx, RelayTx, relay};
 pub use servers::{run_threads_with, run_threads_with_by, run_threads_with_within};
 pub use serving_thread::{spawn, spawn_with};
+pub use unread::UNREAD_WEIGHT;

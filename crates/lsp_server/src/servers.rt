@@ -6,11 +6,11 @@ ghost use Rattle.lsp_service.specs.Stated.{unwoken};
 ghost use Rattle.lsp_threads.specs.Threads.{ThreadsGive};
 
 use lsp_service::{QueuedServer, Server};
-use lsp_threads::{Builders, StartFault, Threaded, run_threads_of_service_by};
+use lsp_threads::{StartFault, ThreadOptions, Threaded, run_threads_of_service_by};
 use std::alloc::Global;
 use std::io::{BufRead, Write};
 use std::sync::Wait;
-use std::thread::{Builder, Threads};
+use std::thread::Threads;
 
 /// Runs a session of a server that speaks, as `session_with` does, with a thread that reads, a thread that writes and the server on
 /// the caller's thread, and gives the server back. In every schedule its answer and the bytes that it writes are such as a session
@@ -54,17 +54,14 @@ where
     ensures { IfSome (R.remaining reader) (λ text. IfOk result.1 (λ done.
         ThreadsGive limit (ServerSession (unwoken S.Server) server result.0) text (W.contents writer) (W.contents done.writer) done.answer)) }
 {
-    let builders = Builders {
-        writer: Builder::new(),
-        reader: Builder::new(),
-    };
-    run_threads_with_by(rt, builders, alloc, reader, writer, server, limit)
+    let options = ThreadOptions::new();
+    run_threads_with_by(rt, options, alloc, reader, writer, server, limit)
 }
 
-/// As `run_threads_with_within`, with builders for the two threads, which can set the sizes of their stacks.
+/// As `run_threads_with_within`, with options for the two threads.
 pub fn run_threads_with_by<T, R, W, S>(
     rt: &T,
-    builders: Builders,
+    options: ThreadOptions,
     alloc: Global,
     reader: R,
     writer: W,
@@ -80,6 +77,6 @@ where
         ThreadsGive limit (ServerSession (unwoken S.Server) server result.0) text (W.contents writer) (W.contents done.writer) done.answer)) }
 {
     let mut queued = QueuedServer::new(alloc, server);
-    let done = run_threads_of_service_by(rt, builders, alloc, reader, writer, &mut queued, limit);
+    let done = run_threads_of_service_by(rt, options, alloc, reader, writer, &mut queued, limit);
     (queued.into_server(), done)
 }

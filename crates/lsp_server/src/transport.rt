@@ -5,7 +5,6 @@ ghost use Rattle.lsp_session.specs.Boxes.{handed_back};
 use crossbeam_channel::{Receiver, RecvTimeoutError, SendError, Sender};
 use lsp_message::Message;
 use lsp_session::{Arrival, Event, Inbox, Outbox, SendFault};
-use lsp_threads::spent::Spent;
 use std::sync::Wait;
 use std::time::{Clock, Duration};
 
@@ -58,26 +57,6 @@ impl<'a, R: Wait> Outbox for ChannelOutbox<'a, R> {
 
     fn send(&mut self, message: Message) -> Result<(), SendFault> {
         forward(self.rt, self.sender, message)
-    }
-}
-
-/// Sends what was read on a channel, and drops what was written meanwhile.
-#[derive(Drop)]
-pub(crate) struct ForwardingOutbox<'a, R> {
-    pub(crate) rt: &'a R,
-    pub(crate) incoming: &'a Sender<Message>,
-    pub(crate) spent: &'a Spent<Message>,
-}
-
-impl<'a, R: Wait> Outbox for ForwardingOutbox<'a, R> {
-    ghost use Rattle.std.specs.Prelude.{⊤};
-
-    ghost sends = { λ _ _ _ _. ⊤ };
-
-    fn send(&mut self, message: Message) -> Result<(), SendFault> {
-        let sent = forward(self.rt, self.incoming, message);
-        self.spent.drop_waiting(self.rt);
-        sent
     }
 }
 

@@ -1,6 +1,6 @@
 -- Frames gathered in texts, sent, taken and written, and what a reader's thread read and the caller wrote, as `pump` says it.
 use Rattle.std.proofs.Common.{◌≡◌, ◌⊎◌, inl, inr, ℕ, ◌<◌, arith, List, [], ◌∷◌, ◌++◌, ◌∙◌, ap, sym, refl, map, length, length-append, append_assoc, append-nil, Option, Some, None, IfSome, OnSome, Result, Ok, Err, OnOk, String, string_bytes, subst, Global}
-use Rattle.std.proofs.KnownBytes.{Appends-trans}
+use Rattle.std.proofs.KnownBytes.{Appends-nil, Appends-trans}
 use Rattle.std.specs.Io.KnownBytes.{Keeps}
 use Rattle.std.specs.List.{FoldsTo}
 use mathlib.Core.List.{IsPrefix}
@@ -17,7 +17,7 @@ use Rattle.lsp_session.specs.ReadLoop.{Hands}
 use Rattle.lsp_session.specs.declared.loops.ReadEnd.{ReadEnd}
 use Rattle.lsp_session.specs.declared.loops.ReadEnd.TheVariants.{Exit, End, Fault, Closed, Memory}
 use Rattle.lsp_threads.proofs.Handed.{After, HandedOn, handed_on, Told, ReadsTo, reads_split}
-use Rattle.lsp_threads.specs.Framing.{parcel_bytes, AreEnded, Framing, FramingSends, HandsFrames, WritesBytes, WritesParcels}
+use Rattle.lsp_threads.specs.Framing.{parcel_bytes, AreEnded, Framing, FramingSends, Gathers, HandsFrames, WritesBytes, WritesParcels, WritesUnlessFailed}
 use Rattle.lsp_message.specs.declared.frame.ReadFault.TheVariants.{Input, Memory as NoMemoryToRead}
 use Rattle.lsp_message.specs.declared.frame.WriteFault.TheVariants.{Output, Memory as NoMemory}
 use Rattle.lsp_threads.specs.Pump.{Pumps, pump_answer}
@@ -122,6 +122,46 @@ module _ {V : Type 0} (contents : V → Option (List ℕ)) (first mid last : V) 
   text_taken None after so_far next same = writes_more bytes text (contents first) (contents mid) (contents last) after so_far (next refl)
   text_taken (Some fault) after so_far next same =
       rw (same.0, same.1) (writes_no_more bytes text (contents first) (contents mid) fault so_far)
+
+-- Of all these bytes the first were written, or a beginning of them and then a write failed so. The last ones are left.
+abbrev pub Unwritten : List ℕ → List ℕ → Option WriteFault → Option (List ℕ) → Option (List ℕ) → Type 0
+Unwritten bytes left fault a b = (done : List ℕ) × (bytes ≡ done ++ left) × WritesBytes done fault a b
+
+-- all were written
+pub none_left : (bytes : List ℕ) (fault : Option WriteFault) (a b : Option (List ℕ)) → WritesBytes bytes fault a b → Unwritten bytes [] fault a b
+none_left bytes fault a b written = (bytes, sym (append-nil bytes), written)
+
+-- nothing was written yet
+pub all_gathered : (before : Option WriteFault) (bytes left : List ℕ) (a : Option (List ℕ)) → left ≡ bytes → Gathers before bytes left before a a
+all_gathered None bytes left a same = ([], sym same, Appends-nil a)
+all_gathered (Some fault) bytes left a same = ([], sym same, (refl, refl))
+
+-- a write of the first ones, unless one had failed
+pub first_gathered : {V : Type 0} (contents : V → Option (List ℕ)) (old new : V) (first last : List ℕ) (before after : Option WriteFault)
+    → (before ≡ None → WritesBytes first after (contents old) (contents new)) → OnSome before ((after ≡ before) × (new ≡ old))
+    → Gathers before (first ++ last) last after (contents old) (contents new)
+first_gathered contents old new first last None after next same = (first, refl, next refl)
+first_gathered contents old new first last (Some fault) after next same = (first, refl, (same.0, ap contents same.1))
+
+-- a text more was taken
+module _ (bytes text left more : List ℕ) (a b c : Option (List ℕ)) where
+  both_written : (done later : List ℕ) (before after : Option WriteFault) → WritesBytes done before a b → WritesUnlessFailed before later after b c → WritesBytes (done ++ later) after a c
+  both_written done later None after written next = writes_more done later a b c after written next
+  both_written done later (Some fault) after written (same, kept) = rw (same, kept) (writes_no_more done later a b fault written)
+
+  pub more_unwritten : (before after : Option WriteFault) → Unwritten bytes left before a b → Gathers before (left ++ text) more after b c → Unwritten (bytes ++ text) more after a c
+  more_unwritten before after (done, split, written) (later, cut, next) = (
+    done ++ later,
+    ap (λ l. l ++ text) split ∙ append_assoc done left text ∙ ap (λ l. done ++ l) cut ∙ sym (append_assoc done later more),
+    both_written done later before after written next,
+  )
+
+-- what was left was written, unless a write had failed
+module _ {V : Type 0} (contents : V → Option (List ℕ)) (first mid last : V) (bytes left : List ℕ) where
+  pub left_written : (before after : Option WriteFault) → Unwritten bytes left before (contents first) (contents mid)
+      → (before ≡ None → WritesBytes left after (contents mid) (contents last)) → OnSome before ((after ≡ before) × (last ≡ mid))
+      → WritesBytes bytes after (contents first) (contents last)
+  left_written before after (done, split, written) next same = rw split (text_taken contents first mid last done left before after written next same)
 
 -- ---- what a failed write left
 -- a beginning of two lists ends in the first, or in the second after at least one element

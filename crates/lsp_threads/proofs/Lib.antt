@@ -1,6 +1,11 @@
+pub mod ContentReads
+pub mod ContentStream
+pub mod ContentWaits
+pub mod ContentsSend
 pub mod Frames
 pub mod Handed
+pub mod RefusedReplies
 pub mod RefusedWakes
-pub mod RelayStream
+pub mod Replies
 pub mod Sessions
 pub mod Wakes

@@ -44,6 +44,15 @@ abbrev pub WritesBytes : List ℕ → Option WriteFault → Option (List ℕ) �
 WritesBytes bytes None old new = Appends old new bytes
 WritesBytes bytes (Some fault) old new = IsOutput fault × (0 < length bytes) × AppendsBeginning old new bytes
 
+-- the bytes were written, unless a write had failed before
+abbrev pub WritesUnlessFailed : Option WriteFault → List ℕ → Option WriteFault → Option (List ℕ) → Option (List ℕ) → Type 0
+WritesUnlessFailed None bytes fault old new = WritesBytes bytes fault old new
+WritesUnlessFailed (Some before) bytes fault old new = (fault ≡ Some before) × (new ≡ old)
+
+-- For private clauses: the first of these bytes were written, unless a write had failed before, and the last ones are left.
+abbrev pub Gathers : Option WriteFault → List ℕ → List ℕ → Option WriteFault → Option (List ℕ) → Option (List ℕ) → Type 0
+Gathers before bytes left fault old new = (done : List ℕ) × (bytes ≡ done ++ left) × WritesUnlessFailed before done fault old new
+
 -- texts and then End were taken, and written
 abbrev pub WritesParcels : List (Parcel (String Global)) → Option WriteFault → Option (List ℕ) → Option (List ℕ) → Type 0
 WritesParcels taken fault old new = AreEnded taken × WritesBytes (parcel_bytes taken) fault old new

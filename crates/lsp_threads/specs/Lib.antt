@@ -1,5 +1,6 @@
+pub mod Contents
 pub mod Framing
 pub mod Pump
-pub mod RelayBoxes
+pub mod Replies
 pub mod Threads
 pub use Rattle.lsp_relay.specs.Relay

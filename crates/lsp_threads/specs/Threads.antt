@@ -6,7 +6,6 @@ use Rattle.lsp_message.specs.Written.{GetsFrames, GetsFramesAndPart, IsOutput}
 use Rattle.lsp_session.specs.Session.{SessionAnswer, SessionPart, Stop}
 use Rattle.lsp_session.specs.SessionBytes.{Ends, SessionOver}
 use Rattle.lsp_session.specs.declared.loops.ReadEnd.{ReadEnd}
-use Rattle.lsp_session.specs.declared.loops.ReadEnd.TheVariants.{Exit}
 use Rattle.lsp_session.specs.declared.loops.handler.SessionEnd.{SessionEnd}
 use Rattle.lsp_session.specs.declared.loops.stream_session.SessionFault.{SessionFault}
 use Rattle.lsp_session.specs.declared.loops.stream_session.SessionFault.TheVariants.{Write, Memory}
@@ -48,9 +47,9 @@ ThreadsGiveOver wakeable limit P text old new result =
 abbrev pub ThreadsGive : ℕ → SessionPart → List ℕ → Option (List ℕ) → Option (List ℕ) → Result SessionEnd SessionFault → Type 0
 ThreadsGive = ThreadsGiveOver false
 
--- What ended the messages of a session whose inbox was closed so, and gave an `exit` so: a reader's end counts where the
--- session came to it. For private clauses.
-abbrev pub session_end : Bool → Bool → ReadEnd → Option ReadEnd
-session_end true exited read = Some read
-session_end false true read = Some Exit
-session_end false false read = None
+-- What ended the messages of a session whose inbox ended so, or took End so: a reader's end counts where the session came to it.
+-- For private clauses.
+abbrev pub session_end : Option ReadEnd → Bool → ReadEnd → Option ReadEnd
+session_end (Some end) drained read = Some end
+session_end None true read = Some read
+session_end None false read = None

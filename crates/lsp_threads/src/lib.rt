@@ -1,21 +1,28 @@
-//! Messages passed on, and sessions, with a reader and a writer in threads of their own: the ends of a relay as boxes, the threads
-//! over them, `pump` and `run_threads`. `lsp_server` gives the public items on under the same names.
+//! Messages passed on, and sessions, with a reader and a writer in threads of their own: the boxes over the ends of their relays,
+//! the threads, `pump` and `run_threads`. `lsp_server` gives the public items on under the same names.
 #![tactic(auto)]
 
+mod content_inbox;
+mod content_outbox;
+mod content_reader;
+mod goes_on;
 pub mod laws;
 mod peeking_reader;
 mod pump_frames;
 mod pumping;
 mod relay_boxes;
 mod relay_texts;
+mod reply_outbox;
 mod run;
 mod serving;
 pub mod spent;
+mod unread;
 mod workers;
 
+pub use content_outbox::Contents;
 pub use pumping::{PumpFault, pump, pump_by, pump_within};
 pub use run::{
-    Builders, Threaded, run_threads, run_threads_by, run_threads_of_service,
+    ThreadOptions, Threaded, UNREAD_BYTES, run_threads, run_threads_by, run_threads_of_service,
     run_threads_of_service_by, run_threads_of_service_over, run_threads_of_service_within,
     run_threads_within,
 };

@@ -5,6 +5,7 @@ ghost use Rattle.lsp_threads.specs.Framing.{FramingSends, HandsFrames};
 
 use crate::peeking_reader::PeekingReader;
 use crate::relay_texts::FramingOutbox;
+use crate::unread::Unread;
 use crate::workers::ReadsInto;
 use lsp_message::{Message, ReadFault};
 use lsp_relay::RelayTx;
@@ -55,6 +56,7 @@ impl ReadsInto for String {
         reader: S,
         limit: u64,
         tx: RelayTx<String>,
+        _unread: Option<Unread>,
     ) -> (RelayTx<String>, ReadEnd)
         requires { tx.sent ≡ [] }
         ensures relay { result.0.relay ≡ tx.relay }

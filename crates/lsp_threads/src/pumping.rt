@@ -104,11 +104,11 @@ where
     let Ok((tx, rx)) = relay::<String>(alloc, PARCEL_ROOM) else {
         return Err(PumpFault::Start(StartFault::Memory));
     };
-    let reading = match start_reader::<String, T, R>(rt, builder, alloc, reader, limit, tx) {
+    let reading = match start_reader::<String, T, R>(rt, builder, alloc, reader, limit, tx, None) {
         Ok(reading) => reading,
         Err(fault) => return Err(PumpFault::Start(fault)),
     };
-    let (rx, unwritten) = write_texts(rt, rx, writer);
+    let (rx, unwritten) = write_texts(rt, alloc, rx, writer);
     let (tx, read) = reading.join(rt);
     settle_all(rt, rx, tx);
     answer_of(read, unwritten)

@@ -1,19 +1,21 @@
 //! The ends of a relay of texts: frames that are made and gathered, and a loop that writes them.
-ghost use Rattle.std.specs.Prelude.{◌≡◌, ◌++◌, [], None, Ok, OnErr, OnOk, OnSome, string_bytes};
+ghost use Rattle.std.specs.Bool.{MatchBool};
+ghost use Rattle.std.specs.Prelude.{◌≡◌, ◌∷◌, ◌++◌, [], None, Ok, IfNone, IfSome, OnErr, OnOk, OnSome, string_bytes};
 ghost use Rattle.lsp_message.specs.View.{message_view};
 ghost use Rattle.lsp_relay.specs.Relay.{IsOpen};
-ghost use Rattle.lsp_threads.specs.Framing.{parcel_bytes, AreEnded, FramingSends, WritesBytes, WritesParcels};
+ghost use Rattle.lsp_threads.specs.Framing.{parcel_bytes, AreEnded, FramingSends, Gathers, WritesBytes, WritesParcels};
 
 use crate::relay_boxes::{collect, deliver};
 use lsp_message::{Message, WriteFault, write_frames};
-use lsp_relay::{Parcel, RelayRx, RelayTx};
+use lsp_relay::{Parcel, RelayRx, RelayTx, Taken};
 use std::alloc::{AllocError, Global};
 use std::io::Write;
 use std::marker::Model;
 use std::mem;
 use std::sync::Wait;
 
-/// From how many bytes on a text of frames is sent, though more frames could join it. It changes speed and memory only.
+/// From how many bytes on a text of frames is sent, though more frames could join it, and how many bytes of texts are written together.
+/// It changes speed and memory only.
 const FULL_PARCEL: usize = 65536;
 
 /// The sender's end of a relay of texts. It makes the frame of each message, and gathers frames until they are handed over.
@@ -107,7 +109,7 @@ impl<R: Wait + Drop> FramingOutbox<R> {
 }
 
 /// Sends a text as one parcel, unless it is empty.
-fn deliver_text<R: Wait>(rt: &R, tx: &mut RelayTx<String>, text: String)
+pub fn deliver_text<R: Wait>(rt: &R, tx: &mut RelayTx<String>, text: String)
     requires { IsOpen tx.old.sent }
     ensures relay { tx.new.relay ≡ tx.old.relay }
     ensures bytes { parcel_bytes tx.new.sent ≡ parcel_bytes tx.old.sent ++ string_bytes text }
@@ -118,9 +120,11 @@ fn deliver_text<R: Wait>(rt: &R, tx: &mut RelayTx<String>, text: String)
     }
 }
 
-/// Writes each text up to End. After a fault it writes nothing more, and drops the texts.
+/// Writes each text up to End, and those that wait together as one: it waits for a text only where it has written all that it took. After
+/// a fault it writes nothing more, and drops the texts.
 pub fn write_texts<R: Wait, W: Write>(
     rt: &R,
+    alloc: Global,
     rx: RelayRx<String>,
     writer: &mut W,
 ) -> (RelayRx<String>, Option<WriteFault>)
@@ -130,13 +134,69 @@ pub fn write_texts<R: Wait, W: Write>(
 {
     let mut rx = rx;
     let mut fault = None;
+    let mut pending = String::new(alloc);
     for _ in rt.forever() {
-        match collect(rt, &mut rx) {
-            Parcel::Message(text) => fault = write_after(fault, &text, writer),
-            Parcel::End => return (rx, fault),
+        match next_parcel(rt, &mut rx, pending.is_empty()) {
+            Some(Parcel::Message(text)) => {
+                let (left, first_fault) = gather(fault, pending, text, writer);
+                pending = left;
+                fault = first_fault;
+            }
+            Some(Parcel::End) => return (rx, write_after(fault, &pending, writer)),
+            None => {
+                fault = write_after(fault, &pending, writer);
+                pending = String::new(alloc);
+            }
         }
     }
     unreachable!()
+}
+
+/// Takes the next parcel. If none is there, it waits for one or gives `None`, as you ask. Wakes are passed over.
+fn next_parcel<R: Wait, M: Drop>(rt: &R, rx: &mut RelayRx<M>, waits: bool) -> Option<Parcel<M>>
+    ensures relay { rx.new.relay ≡ rx.old.relay }
+    ensures some { IfSome result (λ parcel. rx.new.taken ≡ rx.old.taken ++ parcel ∷ []) }
+    ensures none { IfNone result (rx.new.taken ≡ rx.old.taken) }
+{
+    if waits {
+        return Some(collect(rt, rx));
+    }
+    match rx.try_take(rt) {
+        Taken::Parcel(parcel) => Some(parcel),
+        Taken::Wake | Taken::Nothing => None,
+    }
+}
+
+/// Puts a text behind those that are not written. Where it can't join them, the others are written first, unless a write failed before.
+/// Gives what is left, and the first fault.
+fn gather<W: Write>(
+    before: Option<WriteFault>,
+    pending: String,
+    text: String,
+    writer: &mut W,
+) -> (String, Option<WriteFault>)
+    ensures { Gathers before (string_bytes pending ++ string_bytes text) (string_bytes result.0) result.1 (W.contents writer.old) (W.contents writer.new) }
+{
+    let mut pending = pending;
+    if joins(&mut pending, &text) {
+        return (pending, before);
+    }
+    let fault = write_after(before, pending.as_str(), writer);
+    (text, fault)
+}
+
+/// Adds a text to those that are not written. False means that it was not added: there are none, they have no room together, or an
+/// allocation failed.
+fn joins(pending: &mut String, text: &str) -> bool
+    ensures { MatchBool result (string_bytes pending.new ≡ string_bytes pending.old ++ text.now) (string_bytes pending.new ≡ string_bytes pending.old) }
+{
+    if pending.is_empty() || text.len() > FULL_PARCEL.saturating_sub(pending.len()) {
+        return false;
+    }
+    match pending.push_str(text) {
+        Ok(()) => true,
+        Err(_) => false,
+    }
 }
 
 /// Writes a text, unless a write failed before. The answer is the first fault.

@@ -6,9 +6,9 @@ ghost use Rattle.lsp_session.specs.HandlerSession.{of_handler};
 ghost use Rattle.lsp_session.specs.Session.{SessionOut};
 ghost use Rattle.lsp_threads.specs.Threads.{ThreadsGive, ThreadsGiveOver};
 
+use crate::content_outbox::Contents;
 use crate::serving::{serve_between, start_both};
 use crate::workers::{ROOM, StartFault};
-use lsp_message::Message;
 use lsp_relay::{RelayRx, RelayTx, relay};
 use lsp_session::{Handler, HandlerService, Service, SessionEnd, SessionFault};
 use serde_json::Value;
@@ -72,13 +72,9 @@ where
     ensures { IfSome (R.remaining reader) (λ text. IfOk result (λ done.
         ThreadsGive limit (SessionOut (of_handler H.answers H.notes (view capabilities)) handler.old handler.new) text (W.contents writer) (W.contents done.writer) done.answer)) }
 {
-    let builders = Builders {
-        writer: Builder::new(),
-        reader: Builder::new(),
-    };
     run_threads_by(
         rt,
-        builders,
+        ThreadOptions::new(),
         alloc,
         reader,
         writer,
@@ -88,19 +84,38 @@ where
     )
 }
 
-/// How the two threads of a session are started.
+/// How many bytes of content parts a session in threads reads ahead, if its options say nothing else: 1 MiB.
+pub const UNREAD_BYTES: u64 = 1_048_576;
+
+/// How the two threads of a session run. It changes speed and memory only, and no answer.
 #[derive(Drop)]
-pub struct Builders {
-    /// The thread that writes.
+pub struct ThreadOptions {
+    /// Starts the thread that writes. It can set the size of its stack.
     pub writer: Builder,
-    /// The thread that reads.
+    /// Starts the thread that reads. It can set the size of its stack.
     pub reader: Builder,
+    /// How many bytes of content parts may be read that the session did not take yet. Above that the client waits. A longer content
+    /// part is read once nothing else is unread.
+    pub unread: u64,
 }
 
-/// As `run_threads_within`, with builders for the two threads, which can set the sizes of their stacks.
+impl ThreadOptions {
+    /// Builders that set nothing, and `UNREAD_BYTES`.
+    pub fn new() -> ThreadOptions
+        ensures { result.unread ≡ 1048576 }
+    {
+        ThreadOptions {
+            writer: Builder::new(),
+            reader: Builder::new(),
+            unread: UNREAD_BYTES,
+        }
+    }
+}
+
+/// As `run_threads_within`, with options for the two threads.
 pub fn run_threads_by<T, R, W, H>(
     rt: &T,
-    builders: Builders,
+    options: ThreadOptions,
     alloc: Global,
     reader: R,
     writer: W,
@@ -118,7 +133,7 @@ where
 {
     let mut capabilities = capabilities;
     let mut service = HandlerService::new(alloc, &mut capabilities, handler);
-    run_threads_of_service_by(rt, builders, alloc, reader, writer, &mut service, limit)
+    run_threads_of_service_by(rt, options, alloc, reader, writer, &mut service, limit)
 }
 
 /// Runs a session of a service (LSP 3.17, "Server lifecycle") with a thread that reads, a thread that writes and the
@@ -163,17 +178,14 @@ where
         ThreadsGive limit (SessionOut S.behavior service.old service.new)
         text (W.contents writer) (W.contents done.writer) done.answer)) }
 {
-    let builders = Builders {
-        writer: Builder::new(),
-        reader: Builder::new(),
-    };
-    run_threads_of_service_by(rt, builders, alloc, reader, writer, service, limit)
+    let options = ThreadOptions::new();
+    run_threads_of_service_by(rt, options, alloc, reader, writer, service, limit)
 }
 
-/// As `run_threads_of_service_within`, with builders for the two threads, which can set the sizes of their stacks.
+/// As `run_threads_of_service_within`, with options for the two threads.
 pub fn run_threads_of_service_by<T, R, W, S>(
     rt: &T,
-    builders: Builders,
+    options: ThreadOptions,
     alloc: Global,
     reader: R,
     writer: W,
@@ -189,13 +201,13 @@ where
         ThreadsGive limit (SessionOut S.behavior service.old service.new)
         text (W.contents writer) (W.contents done.writer) done.answer)) }
 {
-    let Ok(ends) = relay::<Message>(alloc, ROOM) else {
+    let Ok(ends) = relay::<Contents>(alloc, ROOM) else {
         return Err(StartFault::Memory);
     };
-    run_threads_of_service_over(rt, builders, alloc, ends, reader, writer, service, limit)
+    run_threads_of_service_over(rt, options, alloc, ends, reader, writer, service, limit)
 }
 
-/// As `run_threads_of_service_by`, over a relay that the caller made, which no message has passed. Wakers of the relay wake the
+/// As `run_threads_of_service_by`, over a relay that the caller made, which nothing has passed: `relay::<Contents>`. Wakers of the relay wake the
 /// service, from `initialized` up to `shutdown`; a wake before or after is passed over. If you made no waker, the service is never
 /// woken. That a wake arrives is tested, and no part of this contract.
 ///
@@ -203,9 +215,9 @@ where
 /// room gives up (tested as well). `service` runs on the caller's thread, and should not wake itself: the relay may be full.
 pub fn run_threads_of_service_over<T, R, W, S>(
     rt: &T,
-    builders: Builders,
+    options: ThreadOptions,
     alloc: Global,
-    ends: (RelayTx<Message>, RelayRx<Message>),
+    ends: (RelayTx<Contents>, RelayRx<Contents>),
     reader: R,
     writer: W,
     service: &mut S,
@@ -222,7 +234,7 @@ where
         ThreadsGiveOver ends.0.wakeable limit (SessionOut S.behavior service.old service.new)
         text (W.contents writer) (W.contents done.writer) done.answer)) }
 {
-    match start_both(rt, builders, alloc, ends, reader, limit, writer) {
+    match start_both(rt, options, alloc, ends, reader, limit, writer) {
         Ok(workers) => Ok(serve_between(rt, alloc, workers, service)),
         Err(fault) => Err(fault),
     }

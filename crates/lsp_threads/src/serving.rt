@@ -3,11 +3,14 @@ ghost use Rattle.std.specs.Prelude.{◌≡◌, [], IfOk, IfSome};
 ghost use Rattle.lsp_session.specs.Session.{SessionOut};
 ghost use Rattle.lsp_threads.specs.Threads.{ThreadsGiveOver, session_end as session_end_spec};
 
-use crate::relay_boxes::{RelayInbox, ReplyOutbox, deliver};
-use crate::run::{Builders, Threaded};
-use crate::spent::{Spent, way_back};
+use crate::content_inbox::ContentInbox;
+use crate::content_outbox::Contents;
+use crate::relay_boxes::deliver;
+use crate::reply_outbox::{ReplyOutbox, reply_fault};
+use crate::run::{ThreadOptions, Threaded};
+use crate::unread::{Takes, bounded_unread};
 use crate::workers::{ROOM, Reader, StartFault, Writer, start_reader, start_writer};
-use lsp_message::{Message, WriteFault};
+use lsp_message::WriteFault;
 use lsp_relay::{Parcel, RelayRx, RelayTx, relay, settle_all};
 use lsp_session::{ReadEnd, Service, serve_service, session_answer};
 use std::alloc::Global;
@@ -15,29 +18,22 @@ use std::io::{BufRead, Write};
 use std::sync::Wait;
 use std::thread::{PromisedHandle, Threads};
 
-/// How many messages that were written may wait for the caller to drop them. It changes speed and memory only, and no answer.
-const SPENT_ROOM: usize = 8;
-
 /// The two threads, and the caller's ends of their relays.
 #[derive(Drop)]
 pub(crate) struct Workers<R: BufRead + Drop, W: Write + Drop> {
-    pub(crate) rx: RelayRx<Message>,
-    pub(crate) replies: RelayTx<Message>,
-    /// The replies that were written.
-    pub(crate) spent: Spent<Message>,
-    pub(crate) reading: PromisedHandle<(RelayTx<Message>, ReadEnd), Reader<R, Message>>,
-    pub(crate) writing: PromisedHandle<
-        (RelayRx<Message>, W, Option<WriteFault>),
-        Writer<W, Message>,
-    >,
+    pub(crate) rx: RelayRx<Contents>,
+    pub(crate) takes: Takes,
+    pub(crate) replies: RelayTx<String>,
+    pub(crate) reading: PromisedHandle<(RelayTx<Contents>, ReadEnd), Reader<R, Contents>>,
+    pub(crate) writing: PromisedHandle<(RelayRx<String>, W, Option<WriteFault>), Writer<W, String>>,
 }
 
 /// Starts the thread that writes and then the one that reads. After a fault both ends of the relay, and the thread, are gone.
 pub(crate) fn start_both<T, R, W>(
     rt: &T,
-    builders: Builders,
+    options: ThreadOptions,
     alloc: Global,
-    ends: (RelayTx<Message>, RelayRx<Message>),
+    ends: (RelayTx<Contents>, RelayRx<Contents>),
     reader: R,
     limit: u64,
     writer: W,
@@ -54,29 +50,29 @@ where
     ensures writing { IfOk result (λ workers. (workers.replies.sent ≡ []) × (workers.writing.promise.rx.value.relay ≡ workers.replies.relay)
         × (workers.writing.promise.writer.value ≡ writer)) }
 {
-    let Ok((replies, replies_rx)) = relay::<Message>(alloc, ROOM) else {
+    let Ok((replies, replies_rx)) = relay::<String>(alloc, ROOM) else {
+        return Err(StartFault::Memory);
+    };
+    let Ok((unread, takes)) = bounded_unread(alloc, options.unread) else {
         return Err(StartFault::Memory);
     };
     let (tx, rx) = ends;
-    let Ok((back, spent)) = way_back::<Message>(alloc, SPENT_ROOM) else {
-        return Err(StartFault::Memory);
-    };
-    let writing = match start_writer::<Message, T, W>(
+    let writing = match start_writer::<String, T, W>(
         rt,
-        builders.writer,
+        options.writer,
         alloc,
         replies_rx,
         writer,
-        back,
     ) {
         Ok(writing) => writing,
         Err(fault) => return Err(fault),
     };
-    match start_reader::<Message, T, R>(rt, builders.reader, alloc, reader, limit, tx) {
+    let unread = Some(unread);
+    match start_reader::<Contents, T, R>(rt, options.reader, alloc, reader, limit, tx, unread) {
         Ok(reading) => Ok(Workers {
             rx,
+            takes,
             replies,
-            spent,
             reading,
             writing,
         }),
@@ -90,8 +86,8 @@ where
 /// Ends the thread that writes, which has nothing to write.
 fn end_writing<T: Threads + Wait, W: Write + Drop>(
     rt: &T,
-    replies: RelayTx<Message>,
-    writing: PromisedHandle<(RelayRx<Message>, W, Option<WriteFault>), Writer<W, Message>>,
+    replies: RelayTx<String>,
+    writing: PromisedHandle<(RelayRx<String>, W, Option<WriteFault>), Writer<W, String>>,
 )
     requires { replies.sent ≡ [] }
 {
@@ -120,17 +116,17 @@ where
 {
     let Workers {
         rx,
+        takes,
         replies,
-        spent,
         reading,
         writing,
     } = workers;
-    let mut inbox = RelayInbox::new(*rt, rx);
-    let mut outbox = ReplyOutbox::new(*rt, replies, spent);
+    let mut inbox = ContentInbox::new(*rt, alloc, rx, takes);
+    let mut outbox = ReplyOutbox::new(*rt, alloc, replies);
     let answer = serve_service(alloc, &mut inbox, &mut outbox, service);
-    let closed = inbox.is_closed();
-    let exited = inbox.gave_exit();
-    let replies = outbox.finish();
+    let ended = inbox.end();
+    let drained = inbox.is_drained();
+    let (replies, failed) = outbox.finish();
     // Nobody waits for ever for room in the relay: draining makes room for the thread that reads, and `settle_all` drops both ends, so
     // that a wake which waits gives up.
     let rx = inbox.drain();
@@ -138,17 +134,18 @@ where
     let (replies_rx, writer, unwritten) = writing.join(rt);
     settle_all(rt, rx, tx);
     settle_all(rt, replies_rx, replies);
-    let answer = session_answer(answer, session_end(closed, exited, read), unwritten);
+    let fault = reply_fault(unwritten, failed);
+    let answer = session_answer(answer, session_end(ended, drained, read), fault);
     Threaded { writer, answer }
 }
 
 /// What ended the messages of a session.
-fn session_end(closed: bool, exited: bool, read: ReadEnd) -> Option<ReadEnd>
-    ensures { result ≡ session_end_spec closed exited read }
+fn session_end(ended: Option<ReadEnd>, drained: bool, read: ReadEnd) -> Option<ReadEnd>
+    ensures { result ≡ session_end_spec ended drained read }
 {
-    match (closed, exited) {
-        (true, _) => Some(read),
-        (false, true) => Some(ReadEnd::Exit),
-        (false, false) => None,
+    match (ended, drained) {
+        (Some(end), _) => Some(end),
+        (None, true) => Some(read),
+        (None, false) => None,
     }
 }

@@ -1,15 +1,12 @@
 //! The threads that read and write, each over an end of a relay.
-ghost use Rattle.std.specs.Prelude.{◌≡◌, [], None, IfOk, IfSome, OnSome};
-ghost use Rattle.lsp_message.specs.View.{message_view};
-ghost use Rattle.lsp_message.specs.Written.{Writes};
-ghost use Rattle.lsp_session.specs.FrameBoxes.{kept_write};
-ghost use Rattle.lsp_threads.specs.RelayBoxes.{HandsOn, WritesTaken};
+ghost use Rattle.std.specs.Prelude.{◌≡◌, [], IfOk, IfSome};
+ghost use Rattle.lsp_threads.specs.Framing.{WritesParcels};
 
-use crate::relay_boxes::{RelayOutbox, collect};
-use crate::spent::GiveBack;
-use lsp_message::{Message, WriteFault};
-use lsp_relay::{Parcel, RelayRx, RelayTx};
-use lsp_session::{ReadEnd, read_loop_within};
+use crate::relay_texts::write_texts;
+use crate::unread::Unread;
+use lsp_message::WriteFault;
+use lsp_relay::{RelayRx, RelayTx};
+use lsp_session::ReadEnd;
 use std::alloc::Global;
 use std::error::Error;
 use std::fmt;
@@ -58,13 +55,15 @@ pub trait ReadsInto: Drop {
     /// end is this then.
     ghost hands_on: { ℕ → List ℕ → Sending Self → read_end → Sending Self → Type 0 };
 
-    /// Sends the messages of a reader, whose content parts have at most `limit` bytes, and then End.
+    /// Sends the messages of a reader, whose content parts have at most `limit` bytes, and then End. Where `unread` is there, it waits
+    /// as that says.
     fn read_into<R: Wait + Drop, S: BufRead + Drop>(
         rt: R,
         alloc: Global,
         reader: S,
         limit: u64,
         tx: RelayTx<Self>,
+        unread: Option<Unread>,
     ) -> (RelayTx<Self>, ReadEnd)
         requires { tx.sent ≡ [] }
         ensures relay { result.0.relay ≡ tx.relay }
@@ -80,13 +79,12 @@ pub trait WritesFrom: Drop {
     /// These parcels were taken and written, but if there is a fault, not from the failed write on.
     ghost writes: { List (parcel Self) → Option fault → Option (List ℕ) → Option (List ℕ) → Type 0 };
 
-    /// Writes each message up to End, and gives it back. After a fault, the answer, it writes nothing more.
+    /// Writes what it takes up to End. After a fault, the answer, it writes nothing more.
     fn write_out<R: Wait + Drop, W: Write + Drop>(
         rt: R,
         alloc: Global,
         rx: RelayRx<Self>,
         writer: W,
-        back: GiveBack<Self>,
     ) -> (RelayRx<Self>, W, Option<WriteFault>)
         requires { rx.taken ≡ [] }
         ensures relay { result.0.relay ≡ rx.relay }
@@ -131,6 +129,7 @@ pub fn start_reader<M, R, S>(
     reader: S,
     limit: u64,
     tx: RelayTx<M>,
+    unread: Option<Unread>,
 ) -> Result<PromisedHandle<(RelayTx<M>, ReadEnd), Reader<S, M>>, StartFault>
 where
     M: ReadsInto + Drop + Send + 'static,
@@ -148,7 +147,7 @@ where
     match builder.spawn_with(
         rt,
         promise,
-        move || M::read_into(theirs, alloc, reader, limit, tx),
+        move || M::read_into(theirs, alloc, reader, limit, tx, unread),
     ) {
         Ok(handle) => Ok(handle),
         Err(_) => Err(StartFault::Thread),
@@ -162,7 +161,6 @@ pub fn start_writer<M, R, W>(
     alloc: Global,
     rx: RelayRx<M>,
     writer: W,
-    back: GiveBack<M>,
 ) -> Result<PromisedHandle<(RelayRx<M>, W, Option<WriteFault>), Writer<W, M>>, StartFault>
 where
     M: WritesFrom + Drop + Send + 'static,
@@ -176,102 +174,29 @@ where
         rx: Snapshot::of(&rx),
     };
     let theirs = *rt;
-    match builder.spawn_with(
-        rt,
-        promise,
-        move || M::write_out(theirs, alloc, rx, writer, back),
-    ) {
+    match builder.spawn_with(rt, promise, move || M::write_out(theirs, alloc, rx, writer)) {
         Ok(handle) => Ok(handle),
         Err(_) => Err(StartFault::Thread),
     }
 }
 
-impl ReadsInto for Message {
-    ghost use Rattle.lsp_threads.specs.RelayBoxes.{HandsOn};
+impl WritesFrom for String {
+    ghost use Rattle.lsp_threads.specs.Framing.{WritesParcels};
 
-    ghost hands_on = { HandsOn };
-
-    fn read_into<R: Wait + Drop, S: BufRead + Drop>(
-        rt: R,
-        alloc: Global,
-        reader: S,
-        limit: u64,
-        tx: RelayTx<Message>,
-    ) -> (RelayTx<Message>, ReadEnd)
-        requires { tx.sent ≡ [] }
-        ensures relay { result.0.relay ≡ tx.relay }
-        ensures sent { IfSome (S.remaining reader) (λ text. HandsOn limit text tx result.1 result.0) }
-    {
-        let mut reader = reader;
-        let mut outbox = RelayOutbox::new(rt, tx);
-        let end = read_loop_within(alloc, &mut reader, &mut outbox, limit);
-        (outbox.finish(), end)
-    }
-}
-
-impl WritesFrom for Message {
-    ghost use Rattle.lsp_threads.specs.RelayBoxes.{WritesTaken};
-
-    ghost writes = { WritesTaken };
+    ghost writes = { WritesParcels };
 
     fn write_out<R: Wait + Drop, W: Write + Drop>(
         rt: R,
         alloc: Global,
-        rx: RelayRx<Message>,
+        rx: RelayRx<String>,
         writer: W,
-        back: GiveBack<Message>,
-    ) -> (RelayRx<Message>, W, Option<WriteFault>)
+    ) -> (RelayRx<String>, W, Option<WriteFault>)
         requires { rx.taken ≡ [] }
         ensures relay { result.0.relay ≡ rx.relay }
-        ensures written { WritesTaken result.0.taken result.2 (W.contents writer) (W.contents result.1) }
+        ensures written { WritesParcels result.0.taken result.2 (W.contents writer) (W.contents result.1) }
     {
         let mut writer = writer;
-        let (rx, fault) = write_messages(&rt, alloc, rx, &mut writer, &back);
+        let (rx, fault) = write_texts(&rt, alloc, rx, &mut writer);
         (rx, writer, fault)
-    }
-}
-
-/// Writes each message up to End, and gives it back. After a fault, the answer, it writes nothing more.
-fn write_messages<R: Wait, W: Write>(
-    rt: &R,
-    alloc: Global,
-    rx: RelayRx<Message>,
-    writer: &mut W,
-    back: &GiveBack<Message>,
-) -> (RelayRx<Message>, Option<WriteFault>)
-    requires { rx.taken ≡ [] }
-    ensures relay { result.0.relay ≡ rx.relay }
-    ensures written { WritesTaken result.0.taken result.1 (W.contents writer.old) (W.contents writer.new) }
-{
-    let mut rx = rx;
-    let mut fault = None;
-    for _ in rt.forever() {
-        match collect(rt, &mut rx) {
-            Parcel::Message(message) => {
-                fault = write_after(alloc, fault, &message, writer);
-                back.give_or_drop(rt, message);
-            }
-            Parcel::End => return (rx, fault),
-        }
-    }
-    unreachable!()
-}
-
-/// Writes a message, unless a write failed before. The answer is the first fault.
-fn write_after<W: Write>(
-    alloc: Global,
-    before: Option<WriteFault>,
-    message: &Message,
-    writer: &mut W,
-) -> Option<WriteFault>
-    ensures none { before ≡ None → Writes (message_view message.now) (W.contents writer.old) (kept_write result) (W.contents writer.new) }
-    ensures some { OnSome before ((result ≡ before) × (writer.new ≡ writer.old)) }
-{
-    if before.is_some() {
-        return before;
-    }
-    match message.write(alloc, writer) {
-        Ok(()) => None,
-        Err(fault) => Some(fault),
     }
 }

@@ -121,6 +121,8 @@ pub struct Sink {
     pub bad_flush: usize,
     pub flushes: usize,
     pub writes: usize,
+    /// How many lines of headers were taken: two of each frame, and no content part has the end of one.
+    pub lines: u64,
     /// Whether it lets other threads go on before each write.
     pub is_slow: bool,
     /// Whether each write waits until a request came to the handler.
@@ -142,7 +144,10 @@ impl Write for Sink {
             self.room = usize::MAX;
             return Err(io::Error::from(ErrorKind::BrokenPipe));
         }
-        self.taken.extend_from_slice(&buf[..count])?;
+        let taken = &buf[..count];
+        self.taken.extend_from_slice(taken)?;
+        let ends = taken.iter().filter(|it| **it == b'\r').count();
+        self.lines = self.lines.saturating_add(ends as u64);
         self.signals.taken(self.taken.len());
         Ok(count)
     }
@@ -152,12 +157,13 @@ impl Write for Sink {
         if self.flushes == self.bad_flush {
             return Err(io::Error::from(ErrorKind::BrokenPipe));
         }
-        self.signals.flushed(self.taken.len());
+        self.signals.flushed(self.taken.len(), self.lines / 2);
         Ok(())
     }
 }
 
-fn rest() {
+/// Lets other threads go on.
+pub fn rest() {
     for _ in 0..REST {
         thread::yield_now();
     }

@@ -20,6 +20,7 @@ mod connections;
 mod devices;
 mod escapes;
 mod jobs;
+mod owners;
 mod pools;
 mod relays;
 mod servers;

@@ -3,15 +3,16 @@
 use crate::attempt::{Attempt, Stop};
 use crate::devices::{Pause, Sink, Source};
 use crate::escapes::escape;
+use crate::owners::parted;
 use crate::servers::{Echo, Talker};
 use crate::signals::{Signal, Signals, is_alone};
 use crate::table::{Call, Device, Given};
 use lsp_jobs::{PoolSize, run_jobs_within};
-use lsp_server::Connection;
+use lsp_server::{Connection, UNREAD_WEIGHT};
 use lsp_service::QueuedServer;
 use lsp_session::{SessionEnd, SessionFault};
 use lsp_threads::{
-    Builders, PumpFault, StartFault, Threaded, pump_by, run_threads_by,
+    PumpFault, StartFault, ThreadOptions, Threaded, UNREAD_BYTES, pump_by, run_threads_by,
     run_threads_of_service_within,
 };
 use serde_json::{Map, Value};
@@ -42,6 +43,14 @@ impl Run {
             _ => u64::MAX,
         }
     }
+
+    /// How much may be unread.
+    fn bound(self) -> u64 {
+        match self.device {
+            Device::Bounds => self.count as u64,
+            _ => UNREAD_WEIGHT,
+        }
+    }
 }
 
 /// What comes of a run.
@@ -57,9 +66,7 @@ where
         Call::Speaks => spoken(rt, alloc, run, reader, writer, &signals)?,
         Call::Jobs | Call::Many => worked(rt, alloc, run, reader, writer, &signals)?,
         Call::Pump | Call::Burst => pumped(rt, alloc, run, reader, writer, &signals)?,
-        Call::Over | Call::Joined | Call::Left => {
-            connected(rt, alloc, run, reader, writer, &signals)?
-        }
+        _ => connected(rt, alloc, run, reader, writer, &signals)?,
     };
     if signals.is_late() {
         return Err(Stop::Broken("a wait was given up"));
@@ -122,6 +129,7 @@ fn sink(alloc: Global, run: Run, signals: &Arc<Signals>) -> Result<Sink, AllocEr
         bad_flush: 0,
         flushes: 0,
         writes: 0,
+        lines: 0,
         is_slow: false,
         is_gated: false,
     };
@@ -130,7 +138,7 @@ fn sink(alloc: Global, run: Run, signals: &Arc<Signals>) -> Result<Sink, AllocEr
         Device::Flushes => sink.bad_flush = run.count,
         Device::Slow => sink.is_slow = true,
         Device::Gated => sink.is_gated = true,
-        _ => {}
+        _ => sink.is_gated = matches!(run.call, Call::Stuck),
     }
     Ok(sink)
 }
@@ -156,7 +164,7 @@ where
     let limit = run.limit();
     let ran = run_threads_by(
         rt,
-        builders(run),
+        options(run),
         alloc,
         reader,
         writer,
@@ -233,11 +241,12 @@ where
     run_jobs_within(rt, alloc, reader, writer, size, talker, limit)
 }
 
-/// Builders of threads. No thread gets a stack of `usize::MAX` bytes.
-fn builders(run: Run) -> Builders {
-    Builders {
+/// How threads run. No thread gets a stack of `usize::MAX` bytes.
+fn options(run: Run) -> ThreadOptions {
+    ThreadOptions {
         writer: builder(matches!(run.device, Device::NoWriter)),
         reader: builder(matches!(run.device, Device::NoReader)),
+        unread: UNREAD_BYTES,
     }
 }
 
@@ -377,17 +386,12 @@ fn connected<R>(
 where
     R: Threads + Wait + Clock + AllocGlobal + Copy + Drop + Send + 'static,
 {
-    let (connection, threads) = match Connection::over(rt, reader, writer, run.limit()) {
+    let opened = Connection::over_within(rt, reader, writer, run.limit(), run.bound());
+    let (connection, threads) = match opened {
         Ok(started) => started,
         Err(fault) => return Ok(Attempt::Refused(format!(in alloc; "{fault}; wrote ")?)),
     };
-    let ended = match run.call {
-        Call::Joined => threads.join(rt),
-        _ => {
-            part(rt, run, connection);
-            threads.flush(rt).join(rt)
-        }
-    };
+    let (most, ended) = parted(rt, run, connection, threads, signals);
     let end = match ended {
         Ok(()) => String::from_str(alloc, "fine")?,
         Err(fault) => format!(in alloc; "{fault}")?,
@@ -398,19 +402,9 @@ where
         _ => Signal::Written,
     };
     let written = signals.count(counted);
-    let said = format!(in alloc; "{end}; wrote {written} bytes")?;
+    let mut said = format!(in alloc; "{end}; wrote {written} bytes")?;
+    if matches!(run.call, Call::Held) {
+        write!(said, ", {most} waited")?;
+    }
     Ok(attempt(run, end.as_str(), said))
-}
-
-/// Sends each message back, up to the last one, or lets the receiver go at once. The connection is dropped then.
-fn part<R: Wait>(rt: &R, run: Run, connection: Connection) {
-    let Connection { sender, receiver } = connection;
-    if matches!(run.call, Call::Left) {
-        drop(receiver);
-        drop(sender);
-        return;
-    }
-    for message in receiver.iter(rt) {
-        let _ = sender.send(rt, message);
-    }
 }

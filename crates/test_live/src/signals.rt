@@ -50,7 +50,7 @@ pub struct Signals {
 }
 
 /// How often a wait looks for its signal, before it is given up: for a minute or so, and longer where the machine is busy.
-const LOOKS: u64 = 100_000_000;
+pub const LOOKS: u64 = 100_000_000;
 
 impl Signals {
     /// Nothing happened yet.
@@ -102,10 +102,10 @@ impl Signals {
         self.taken.store(count as u64, Ordering::SeqCst);
     }
 
-    /// So many bytes are written and flushed.
-    pub fn flushed(&self, count: usize) {
+    /// So many bytes, of so many messages, are written and flushed.
+    pub fn flushed(&self, count: usize, messages: u64) {
         self.written.store(count as u64, Ordering::SeqCst);
-        self.tell(Signal::Messages);
+        self.messages.store(messages, Ordering::SeqCst);
     }
 
     /// Waits until the signal has come so often. The error means that the wait was given up.

@@ -50,8 +50,9 @@ fn pause_of(word: &str) -> Option<Pause> {
     Some(Pause { at, signal, wanted })
 }
 
-static SIGNALS: [(&str, Signal); 6] = [
+static SIGNALS: [(&str, Signal); 7] = [
     ("written", Signal::Written),
+    ("taken", Signal::Taken),
     ("messages", Signal::Messages),
     ("writes", Signal::Writes),
     ("requests", Signal::Requests),
@@ -69,8 +70,8 @@ fn named<T: Copy>(table: &[(&str, T)], word: &str) -> Option<T> {
     None
 }
 
-/// A case: `CALL HOW PIECES DEVICE FROM TO`, and with the device `waits` how many bytes have to be written. The call is made with each
-/// size of pieces, for each count of the device, from the first to the last.
+/// A case: `CALL HOW PIECES DEVICE FROM TO`, and with the device `waits` how many bytes have to be written, with `bounds` how many
+/// messages have to wait. The call is made with each size of pieces, for each count of the device, from the first to the last.
 #[derive(Clone, Copy)]
 pub struct Case<'a> {
     pub call: Call,
@@ -99,12 +100,20 @@ pub enum Call {
     Pump,
     /// The same. It says how many writes there were, too.
     Burst,
-    /// `Connection::over`: each message that comes is sent back.
+    /// `Connection::over_within`: each message that comes is sent back.
     Over,
     /// The same, but nothing is received, and the threads are joined at once.
     Joined,
     /// The same, but the receiver is dropped at once.
     Left,
+    /// The same, but nothing is received before so many messages wait. It says how many waited at most.
+    Held,
+    /// The same, but the connection is dropped then.
+    Dropped,
+    /// The same, but only the receiver is dropped then, and the sender once the thread that reads has ended.
+    Deaf,
+    /// The connection is dropped then, while the writer waits, until the thread that reads has ended.
+    Stuck,
 }
 
 /// What happens after a count of bytes or calls.
@@ -124,6 +133,8 @@ pub enum Device {
     Flushes,
     /// The call has a limit: a content part has at most so many bytes.
     Limits,
+    /// The connection has a bound: what is unread weighs at most so much.
+    Bounds,
     /// No memory holds the content part, so the refusal is the answer. The count is the limit, or 0 where there is none.
     Huge,
     /// The reader waits after so many bytes until the bytes that the case names were written and flushed.
@@ -173,7 +184,7 @@ pub fn pool_of(word: &str) -> Option<PoolSize> {
     }
 }
 
-static CALLS: [(&str, Call); 9] = [
+static CALLS: [(&str, Call); 13] = [
     ("session", Call::Session),
     ("speaks", Call::Speaks),
     ("jobs", Call::Jobs),
@@ -183,9 +194,13 @@ static CALLS: [(&str, Call); 9] = [
     ("over", Call::Over),
     ("joined", Call::Joined),
     ("left", Call::Left),
+    ("held", Call::Held),
+    ("dropped", Call::Dropped),
+    ("deaf", Call::Deaf),
+    ("stuck", Call::Stuck),
 ];
 
-static DEVICES: [(&str, Device); 13] = [
+static DEVICES: [(&str, Device); 14] = [
     ("whole", Device::Whole),
     ("ends", Device::Ends),
     ("breaks", Device::Breaks),
@@ -193,6 +208,7 @@ static DEVICES: [(&str, Device); 13] = [
     ("fills", Device::Fills),
     ("flushes", Device::Flushes),
     ("limits", Device::Limits),
+    ("bounds", Device::Bounds),
     ("huge", Device::Huge),
     ("waits", Device::Waits),
     ("slow", Device::Slow),

@@ -2,23 +2,42 @@ use Rattle.std.proofs.Common.{◌∷◌, [], ◌++◌, ◌∙◌, ap, sym, subst
 use Rattle.lsp_relay.specs.Relay.{IsOpen}
 use Rattle.lsp_relay.proofs.Parcels.{open_push}
 use Rattle.lsp_threads.specs.Framing.{parcel_bytes, AreEnded}
-use Rattle.lsp_threads.proofs.Frames.{parcel_bytes-push, parcel_bytes-end, ended_after, text_taken}
+use Rattle.lsp_threads.proofs.Frames.{parcel_bytes-push, parcel_bytes-end, ended_after, left_written, more_unwritten, none_left}
 use Rattle.lsp_threads.proofs.relay_texts.write_texts.Goals as goal
 
-pub loop-preserved : goal.loop-preserved
-loop-preserved g c =
-    let text = c.in-Message.text in
-    let taken = c.collect.ensures.taken ∙ ap (λ p. c.loop.rx.taken ++ p ∷ []) c.in-Message.is in
-    let all = ap parcel_bytes taken ∙ parcel_bytes-push c.loop.rx.taken text in
+-- a text more was taken
+pub loop-preserved-in-Some-Message : goal.loop-preserved-in-Some-Message
+loop-preserved-in-Some-Message g c =
+    let text = c.in-Some-Message.text in
+    let taken = c.in-Some-Message.ensures.some ∙ ap (λ p. c.loop.rx.taken ++ p ∷ []) c.in-Some-Message.field-0-is in
     record {
-      relay = c.collect.ensures.relay ∙ c.loop.invariant.relay;
+      relay = c.next_parcel.ensures.relay ∙ c.loop.invariant.relay;
       still_open = subst IsOpen (sym taken) (open_push c.loop.rx.taken text c.loop.invariant.still_open);
-      written = rw all (text_taken g.W.Write.contents c.args.writer.now c.loop.writer c.write_after-fault.new.writer (parcel_bytes c.loop.rx.taken) (string_bytes text) c.loop.fault c.write_after-fault.result c.loop.invariant.written
-          (rw c.deref.ensures at c.write_after-fault.ensures.none) c.write_after-fault.ensures.some);
+      unwritten = rw (ap parcel_bytes taken ∙ parcel_bytes-push c.loop.rx.taken text)
+          (more_unwritten (parcel_bytes c.loop.rx.taken) (string_bytes text) (string_bytes c.loop.pending) _ (g.W.Write.contents c.args.writer.now) _ _ c.loop.fault _ c.loop.invariant.unwritten c.gather-left.ensures);
     }
 
-pub returns-in-End-clause-written : goal.returns-in-End-clause-written
-returns-in-End-clause-written g c =
-    let taken = c.collect.ensures.taken ∙ ap (λ p. c.loop.rx.taken ++ p ∷ []) c.in-End.is in
-    let all = ap parcel_bytes taken ∙ parcel_bytes-end c.loop.rx.taken in
-    (subst AreEnded (sym taken) (ended_after c.loop.rx.taken c.loop.invariant.still_open), rw all c.loop.invariant.written)
+-- nothing more was there, so what had been gathered was written
+pub loop-preserved : goal.loop-preserved
+loop-preserved g c =
+    let bytes = parcel_bytes c.loop.rx.taken in
+    let taken = c.in-None-next_parcel.ensures.none in
+    let fault = c.write_after-fault in
+    record {
+      relay = c.next_parcel.ensures.relay ∙ c.loop.invariant.relay;
+      still_open = subst IsOpen (sym taken) c.loop.invariant.still_open;
+      unwritten = rw (ap parcel_bytes taken, c.new-pending-in-None-next_parcel.ensures.bytes)
+          (none_left bytes fault.result (g.W.Write.contents c.args.writer.now) (g.W.Write.contents fault.new.writer)
+          (left_written g.W.Write.contents c.args.writer.now c.loop.writer fault.new.writer bytes (string_bytes c.loop.pending) c.loop.fault fault.result
+          c.loop.invariant.unwritten (rw c.deref-in-None-next_parcel.ensures at fault.ensures.none) fault.ensures.some));
+    }
+
+pub returns-in-Some-End-clause-written : goal.returns-in-Some-End-clause-written
+returns-in-Some-End-clause-written g c =
+    let bytes = parcel_bytes c.loop.rx.taken in
+    let taken = c.in-Some-End.ensures.some ∙ ap (λ p. c.loop.rx.taken ++ p ∷ []) c.in-Some-End.field-0-is in (
+      subst AreEnded (sym taken) (ended_after c.loop.rx.taken c.loop.invariant.still_open),
+      rw (ap parcel_bytes taken ∙ parcel_bytes-end c.loop.rx.taken)
+          (left_written g.W.Write.contents c.args.writer.now c.loop.writer c.write_after.new.writer bytes (string_bytes c.loop.pending) c.loop.fault c.write_after.result
+          c.loop.invariant.unwritten (rw c.deref.ensures at c.write_after.ensures.none) c.write_after.ensures.some),
+    )

@@ -1,12 +1,13 @@
-use Rattle.std.specs.Prelude.{◌≡◌}
+use Rattle.std.specs.Prelude.{◌≡◌, string_bytes}
 use Rattle.lsp_relay.specs.Relay.{IsOpen}
-use Rattle.lsp_threads.specs.Framing.{parcel_bytes, WritesBytes}
+use Rattle.lsp_threads.proofs.Frames.{Unwritten}
+use Rattle.lsp_threads.specs.Framing.{parcel_bytes}
 use Rattle.lsp_threads.proofs.relay_texts.write_texts.Given as goal
 
--- texts were taken and written so far
+-- texts were taken, and written so far but for the last ones
 abbrev pub invariant-loop : goal.invariant-loop
 invariant-loop g l = record {
   relay : l.rx.relay ≡ l.fn.rx.relay;
   still_open : IsOpen l.rx.taken;
-  written : WritesBytes (parcel_bytes l.rx.taken) l.fault (g.W.Write.contents l.fn.writer) (g.W.Write.contents l.writer);
+  unwritten : Unwritten (parcel_bytes l.rx.taken) (string_bytes l.pending) l.fault (g.W.Write.contents l.fn.writer) (g.W.Write.contents l.writer);
 }

@@ -1,40 +1,42 @@
 use Rattle.std.proofs.Common.{arith, ◌∙◌, ap, refl, sym}
-use Rattle.lsp_message.specs.declared.msg.Message.{Message}
 use Rattle.lsp_session.proofs.Ran.{session_facts}
 use Rattle.lsp_session.specs.Session.{starting, SessionOut}
 use Rattle.lsp_session.specs.SessionFault.{session_answer}
-use Rattle.lsp_relay.specs.Relay.{Sending}
-use Rattle.lsp_threads.specs.RelayBoxes.{Receiving}
+use Rattle.lsp_threads.specs.Contents.{Receiving}
+use Rattle.lsp_threads.specs.Replies.{Replying, reply_fault}
 use Rattle.lsp_threads.specs.Threads.{session_end}
-use Rattle.lsp_threads.proofs.RelayStream.{gives_relay, all_posted}
+use Rattle.lsp_threads.proofs.ContentStream.{gives_relay}
+use Rattle.lsp_threads.proofs.Replies.{all_replied}
 use Rattle.lsp_threads.proofs.Sessions.{threads_give}
 use Rattle.lsp_threads.proofs.serving.serve_between.Goals as goal
 
 pub settle_all-requires : goal.settle_all-requires
 settle_all-requires g c =
     let runs = c.serve_service-answer.ensures in
-    c.drain-rx.ensures.relay ∙ gives_relay runs.events _ _ runs.received ∙ ap (λ (t : Receiving Message). t.relay) c.new-inbox.ensures
+    c.drain-rx.ensures.relay ∙ gives_relay runs.events _ _ runs.received ∙ ap (λ (t : Receiving). t.relay) c.new-inbox.ensures
     ∙ sym (c.join-tx.ensures.0 ∙ c.requires.reading.1)
 
 pub settle_all-requires-2 : goal.settle_all-requires-2
 settle_all-requires-2 g c =
     let runs = c.serve_service-answer.ensures in
-    let posts = all_posted _ _ runs.output runs.null runs.stop runs.got in
+    let replied = all_replied _ _ runs.output runs.null runs.stop runs.got in
     c.join-replies_rx.ensures.0 ∙ c.requires.writing.1
-    ∙ sym (c.finish-replies.ensures.relay ∙ posts.1.same_relay ∙ ap (λ (s : Sending Message). s.relay) c.new-outbox.ensures)
+    ∙ sym (c.finish-replies.ensures.relay ∙ replied.same_relay ∙ ap (λ (r : Replying). r.relay) c.new-outbox.ensures)
 
 pub returns : goal.returns
 returns g c =
     let old = c.args.service.now in
     let new = c.serve_service-answer.new.service in
-    let ended = c.session_end.ensures ∙ (λ i. session_end (c.is_closed-closed.ensures i) (c.gave_exit-exited.ensures i) c.join-tx.result.1) in
-    let answer = c.session_answer-answer.ensures ∙ (λ i. session_answer c.serve_service-answer.result (ended i) c.join-replies_rx.result.2) in
+    let ended = c.session_end.ensures ∙ (λ i. session_end (c.end-ended.ensures i) (c.is_drained-drained.ensures i) c.join-tx.result.1) in
+    let fault = c.reply_fault-fault.ensures ∙ (λ i. reply_fault c.join-replies_rx.result.2 (c.finish-replies.ensures.failed i)) in
+    let answer = c.session_answer-answer.ensures ∙ (λ i. session_answer c.serve_service-answer.result (ended i) (fault i)) in
     rw answer (threads_give c.args.workers.reading.promise.limit (SessionOut g.S.Service.behavior old new)
     (session_facts g.S.Service.behavior starting old new refl)
     _ _ c.new-inbox.result c.serve_service-answer.new.inbox c.new-outbox.result c.serve_service-answer.new.outbox c.serve_service-answer.result c.serve_service-answer.ensures
-    (ap (λ (t : Receiving Message). t.taken) c.new-inbox.ensures ∙ c.requires.reading.0) (ap (λ (t : Receiving Message). t.exited) c.new-inbox.ensures)
-    (ap (λ (s : Sending Message). s.sent) c.new-outbox.ensures ∙ c.requires.writing.0)
+    (ap (λ (t : Receiving). t.taken) c.new-inbox.ensures ∙ c.requires.reading.0) (ap (λ (t : Receiving). t.waiting) c.new-inbox.ensures) (ap (λ (t : Receiving). t.end) c.new-inbox.ensures)
+    (ap (λ (r : Replying). r.bytes) c.new-outbox.ensures)
     c.drain-rx.result.taken c.join-tx.result.0 c.drain-rx.ensures.taken c.settle_all.ensures.settled
-    (λ e. omega (arith, c.settle_all.ensures.unwoken e, c.drain-rx.ensures.wakes)) c.args.workers.reading.promise.tx.value c.requires.reading.2 c.join-tx.result.1
-    c.join-replies_rx.result.0.taken c.finish-replies.result.sent c.finish-replies.ensures.sent c.join-replies_rx.result.2 c.join-replies_rx.ensures.1 c.settle_all-2.ensures.settled
+    (λ e. omega (arith, c.settle_all.ensures.unwoken e, c.drain-rx.ensures.wakes)) c.args.workers.reading.promise.tx.value c.join-tx.result.1
+    c.join-replies_rx.result.0.taken c.finish-replies.result.0.sent c.finish-replies.ensures.bytes c.finish-replies.ensures.ended
+    c.join-replies_rx.result.2 c.join-replies_rx.ensures.1 c.settle_all-2.ensures.settled
     _ c.join-tx.ensures.1)

@@ -1,0 +1,126 @@
+// Where the thread that reads sends its messages: the channel of the connection's receiver, and what of it is unread.
+ghost use Rattle.std.specs.Prelude.{◌≡◌, IfErr};
+ghost use Rattle.lsp_session.specs.Boxes.{handed_back};
+
+use crate::io_threads::CHANNEL_ROOM;
+use crate::places::Place;
+use crate::unread::Unread;
+use crossbeam_channel::{SendError, Sender, TrySendError};
+use lsp_message::Message;
+use lsp_session::SendFault;
+use lsp_threads::spent::Spent;
+use std::alloc::{AllocError, Global};
+use std::sync::Wait;
+use std::thread;
+use std::time::{Clock, Duration};
+
+/// How many milliseconds the reader rests at first before it looks again whether a message was taken, and how many at most.
+const SHORT_REST: u64 = 1;
+
+const LONG_REST: u64 = 10;
+
+/// Sends what was read on a channel, and drops what was written meanwhile. It lets nothing in that is too much.
+#[derive(Drop)]
+pub(crate) struct Outlet<'a, R: Wait> {
+    rt: &'a R,
+    alloc: Global,
+    incoming: &'a Sender<Message>,
+    spent: &'a Spent<Message>,
+    /// The weights of what was sent. It is as long as the channel, or longer.
+    unread: Unread,
+    /// How much may be unread.
+    bound: u64,
+    /// Places of the channel to which nothing was sent.
+    places: Vec<Place<'a, R>>,
+}
+
+impl<'a, R: Wait> Outlet<'a, R> {
+    /// Nothing was sent on the channel.
+    pub(crate) fn new(
+        rt: &'a R,
+        alloc: Global,
+        incoming: &'a Sender<Message>,
+        spent: &'a Spent<Message>,
+        unread: Unread,
+        bound: u64,
+    ) -> Outlet<'a, R> {
+        Outlet {
+            rt,
+            alloc,
+            incoming,
+            spent,
+            unread,
+            bound,
+            places: Vec::new(alloc),
+        }
+    }
+
+    /// Sends a message of this weight. It waits while the channel is full.
+    pub(crate) fn send(&mut self, message: Message, weight: u64) -> Result<(), SendFault>
+        ensures { IfErr result (λ fault. handed_back fault ≡ message) }
+    {
+        if self.unread.sent(weight).is_err() {
+            return Err(SendFault::Memory(message));
+        }
+        let sent = self.forward(message);
+        self.spent.drop_waiting(self.rt);
+        sent
+    }
+
+    /// Sends a message to a place that is free, or to one that was kept, or to the next that is free. A receiver that is gone is told
+    /// of first, since a place that was kept would take the message all the same.
+    fn forward(&mut self, message: Message) -> Result<(), SendFault>
+        ensures { IfErr result (λ fault. handed_back fault ≡ message) }
+    {
+        match self.incoming.try_send(self.rt, message) {
+            Ok(()) => Ok(()),
+            Err(TrySendError::Full(message)) => self.forward_full(message),
+            Err(TrySendError::Disconnected(message)) => Err(SendFault::Closed(message)),
+            Err(TrySendError::OutOfMemory(message)) => Err(SendFault::Memory(message)),
+        }
+    }
+
+    fn forward_full(&mut self, message: Message) -> Result<(), SendFault>
+        ensures { IfErr result (λ fault. handed_back fault ≡ message) }
+    {
+        let sent = match self.places.pop() {
+            Some(place) => place.send(self.incoming, message),
+            None => self.incoming.send(self.rt, message),
+        };
+        match sent {
+            Ok(()) => Ok(()),
+            Err(SendError::Disconnected(message)) => Err(SendFault::Closed(message)),
+            Err(SendError::OutOfMemory(message)) => Err(SendFault::Memory(message)),
+        }
+    }
+}
+
+impl<'a, R: Wait + Clock> Outlet<'a, R> {
+    /// Waits until a message of this weight may be sent, too: until so much was taken, or all. It ends at once where the receiver is
+    /// gone, which the next `send` tells. Meanwhile it drops what was written. The error means that an allocation failed.
+    pub(crate) fn make_room(&mut self, weight: u64) -> Result<(), AllocError> {
+        let rt = self.rt;
+        let mut rest = SHORT_REST;
+        for _ in rt.forever() {
+            self.unread.settled(self.incoming.len());
+            if self.unread.has_room(weight, self.bound) || self.is_left()? {
+                return Ok(());
+            }
+            self.spent.drop_waiting(rt);
+            thread::sleep(rt, Duration::from_millis(rest));
+            rest = rest.saturating_mul(2).min(LONG_REST);
+        }
+        unreachable!()
+    }
+
+    /// Whether the receiver is gone. It keeps each place that is free: a channel whose receiver is there has no more than its room.
+    fn is_left(&mut self) -> Result<bool, AllocError> {
+        for _ in self.places.len()..=CHANNEL_ROOM {
+            match Place::take(self.rt, self.alloc, self.incoming)? {
+                Some(place) => self.places.push(place)?,
+                None => return Ok(false),
+            }
+        }
+        Ok(true)
+    }
+}

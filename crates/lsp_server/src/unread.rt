@@ -1,0 +1,106 @@
+// What a connection has read and nobody has taken, by weight.
+ghost use Rattle.std.specs.Prelude.{◌≡◌, ◌↔◌, ◌++◌, ◌∷◌, ◌==◌, [], count_by, drop, sum, IfOk, IsTrue, OnErr, OnOk};
+ghost use Rattle.lsp_server.specs.Unread.{capped, content_weight, newest, HasRoom};
+
+use std::alloc::{AllocError, Global};
+use std::collections::VecDeque;
+use std::marker::Model;
+
+/// How much may be unread in a connection that says nothing else: 64 MB of weight. What the receiver has not taken weighs no more,
+/// unless it is one message alone.
+///
+/// A message weighs what its memory takes at most, by an estimate: a byte for each byte of its content part, 208 more for each comma
+/// and each `[` of it, and 900 more for each `{`. Those in strings count too.
+pub const UNREAD_WEIGHT: u64 = 67_108_864;
+
+/// What an item of a list takes at most, or a member of an object, but for the bytes of its text.
+const ITEM_WEIGHT: u64 = 208;
+
+/// What an object takes at most that has a member.
+const OBJECT_WEIGHT: u64 = 900;
+
+/// The weights of the messages that were sent into a channel and may still be there, oldest first.
+#[derive(Drop)]
+pub(crate) struct Unread {
+    weights: VecDeque<u64>,
+}
+
+impl Model for Unread {
+    ghost use Rattle.std.specs.Prelude.{ℕ, List};
+
+    ghost Value = { List ℕ };
+
+    ghost view = { λ unread. unread.weights.items };
+}
+
+impl Unread {
+    /// Nothing was sent. Memory for so many weights is there from the start. The error means that an allocation failed.
+    pub(crate) fn new(alloc: Global, room: usize) -> Result<Unread, AllocError>
+        ensures { IfOk result (λ unread. unread ≡ []) }
+    {
+        Ok(Unread {
+            weights: VecDeque::with_capacity(alloc, room)?,
+        })
+    }
+
+    /// A message of this weight is sent. The error means that an allocation failed.
+    pub(crate) fn sent(&mut self, weight: u64) -> Result<(), AllocError>
+        ensures ok { OnOk result (self.new ≡ self.old ++ weight ∷ []) }
+        ensures err { OnErr result (self.new ≡ self.old) }
+    {
+        self.weights.push_back(weight)?;
+        Ok(())
+    }
+
+    /// The channel has so many messages. So the older ones were taken.
+    pub(crate) fn settled(&mut self, len: usize)
+        ensures { self.new ≡ newest len self.old }
+    {
+        let taken = self.weights.len().saturating_sub(len);
+        for _ in 0..taken {
+            self.oldest_taken();
+        }
+    }
+
+    fn oldest_taken(&mut self)
+        ensures { self.new ≡ drop 1 self.old }
+    {
+        let _ = self.weights.pop_front();
+    }
+
+    /// What they weigh together.
+    pub(crate) fn weight(&self) -> u64
+        ensures { result ≡ capped (sum self.now) }
+    {
+        let mut all: u64 = 0;
+        for weight in self.weights.iter() {
+            all = all.saturating_add(*weight);
+        }
+        all
+    }
+
+    /// Whether a message of this weight may be sent, too.
+    pub(crate) fn has_room(&self, weight: u64, bound: u64) -> bool
+        ensures { IsTrue result ↔ HasRoom self.now weight bound }
+    {
+        self.weights.is_empty() || self.weight().saturating_add(weight) <= bound
+    }
+}
+
+/// What the message of a content part weighs.
+pub(crate) fn weight_of(content: &[u8]) -> u64
+    ensures { result ≡ capped (content_weight content.now) }
+{
+    let items = count_of(content, b',').saturating_add(count_of(content, b'['));
+    let objects = count_of(content, b'{');
+    (content.len() as u64)
+        .saturating_add(items.saturating_mul(ITEM_WEIGHT))
+        .saturating_add(objects.saturating_mul(OBJECT_WEIGHT))
+}
+
+/// How often a byte stands in a content part.
+fn count_of(content: &[u8], byte: u8) -> u64
+    ensures { result ≡ count_by (λ it. it == byte) content.now }
+{
+    content.iter().filter(|it| **it == byte).count() as u64
+}

@@ -1,0 +1,205 @@
+-- Replies that an outbox made frames of, and what is written of all that it was offered. A session over such an outbox, as its contract says it.
+use Rattle.std.proofs.Common.{◌≡◌, refl, sym, ◌∙◌, ap, subst, inl, inr, append-nil, append_assoc, ℕ, Bool, true, false, true≢false, List, [], ◌∷◌, ◌++◌, Some, None, Option, Result, Ok, Err, String, Global}
+use Rattle.std.specs.List.{FoldsTo}
+use mathlib.Core.List.{IsPrefix}
+use Rattle.lsp_message.specs.Message.{Message}
+use Rattle.lsp_message.specs.Written.{AreFramesOf, GetsFrames}
+use Rattle.lsp_message.specs.declared.frame.WriteFault.{WriteFault}
+use Rattle.lsp_message.specs.declared.frame.WriteFault.TheVariants.{Output, Memory as NoMemory}
+use Rattle.lsp_relay.specs.declared.ends.Parcel.{Parcel}
+use Rattle.lsp_session.proofs.Handing.{AreFramesOf-push}
+use Rattle.lsp_session.proofs.Ran.{Facts}
+use Rattle.lsp_session.proofs.SessionGives.{BeginsWith, left_after, stop_ends, NotRefused, WakingGives}
+use Rattle.lsp_session.specs.Boxes.{Sends, Receives, Takes}
+use Rattle.lsp_session.specs.Session.{came_of, letters_of, sends_of, Exchange, SessionAnswer, SessionPart, Stop, refused}
+use Rattle.lsp_session.specs.SessionBytes.{LeftWithin, Wrote}
+use Rattle.lsp_session.specs.SessionFault.{read_answer, session_answer}
+use Rattle.lsp_session.specs.SessionRun.{all_of, Gets, OffersLast, RefusesLast, Runs}
+use Rattle.lsp_session.specs.Streams.{Stream}
+use Rattle.lsp_session.specs.declared.lifecycle.SendFault.{SendFault}
+use Rattle.lsp_session.specs.declared.lifecycle.SendFault.TheVariants.{Closed as Shut, Memory as IsFull}
+use Rattle.lsp_session.specs.declared.loops.handler.SessionEnd.{SessionEnd}
+use Rattle.lsp_session.specs.declared.loops.stream_session.SessionFault.{SessionFault}
+use Rattle.lsp_session.specs.declared.loops.stream_session.SessionFault.TheVariants.{Write, Memory}
+use Rattle.lsp_threads.proofs.Frames.{breaks, same_parcels}
+use Rattle.lsp_threads.proofs.Wakes.{reads_all, Unwoken}
+use Rattle.lsp_threads.specs.Framing.{parcel_bytes, AreEnded, WritesBytes, WritesParcels}
+use Rattle.lsp_threads.specs.Replies.{Replying, RepliesSend, reply_fault, IsWhole, WritesReplies}
+use Rattle.lsp_threads.specs.Threads.{BreaksOffWithin, EndsInThreads, GetsFirst, ThreadsGiveOver, WroteInThreads}
+
+-- ---- what was sent
+-- messages that an outbox took added their frames
+taken_frames : (old new : Replying) (ms : List Message) → FoldsTo (Takes RepliesSend) old ms new
+    → (new.relay ≡ old.relay) × ((text : List ℕ) × AreFramesOf ms text × (new.bytes ≡ old.bytes ++ text))
+taken_frames old new [] run =
+    (sym (ap (λ (r : Replying). r.relay) run), ([], refl, sym (ap (λ (r : Replying). r.bytes) run) ∙ sym (append-nil old.bytes)))
+taken_frames old new (m ∷ ms) run =
+    let later = taken_frames run.0 new ms run.2 in
+    let frame = run.1.3 in
+    let frames = later.1 in (
+      later.0 ∙ run.1.0,
+      (
+        frame.0 ++ frames.0,
+        (frame.0, frames.0, frame.1, frames.1, refl),
+        frames.2 ∙ ap (λ l. l ++ frames.0) frame.2 ∙ append_assoc old.bytes frame.0 frames.0,
+      ),
+    )
+
+-- Of these messages the first ones were sent as frames: all of them, and no message was refused, unless the outbox says that one was.
+pub record Replied (old new : Replying) (stop : Stop) (ms : List Message) : Type 0 where
+  pub same_relay : new.relay ≡ old.relay
+  pub sent : List Message
+  pub unsent : List Message
+  pub cut : ms ≡ sent ++ unsent
+  pub text : List ℕ
+  pub frames : AreFramesOf sent text
+  pub bytes : new.bytes ≡ old.bytes ++ text
+  pub whole : new.failed ≡ false → (unsent ≡ []) × IsWhole stop
+
+module _ (old mid new : Replying) (ms : List Message) (run : FoldsTo (Takes RepliesSend) old ms mid) where
+  -- one message more was refused
+  one_refused : (m : Message) (stop : Stop) (fault : SendFault) → RepliesSend mid m (Err fault) new → Replied old new stop (ms ++ m ∷ [])
+  one_refused m stop (Shut back) refuses = absurd refuses
+  one_refused m stop (IsFull back) refuses =
+      let first = taken_frames old mid ms run in
+      record {
+        same_relay = ap (λ (r : Replying). r.relay) refuses ∙ first.0;
+        sent = ms;
+        unsent = m ∷ [];
+        cut = refl;
+        text = first.1.0;
+        frames = first.1.1;
+        bytes = ap (λ (r : Replying). r.bytes) refuses ∙ first.1.2;
+        whole = λ none. absurd (true≢false (sym (ap (λ (r : Replying). r.failed) refuses) ∙ none));
+      }
+
+  -- no message follows
+  all_taken : (stop : Stop) → IsWhole stop → new ≡ mid → Replied old new stop ms
+  all_taken stop whole same =
+      let first = taken_frames old mid ms run in
+      record {
+        same_relay = ap (λ (r : Replying). r.relay) same ∙ first.0;
+        sent = ms;
+        unsent = [];
+        cut = sym (append-nil ms);
+        text = first.1.0;
+        frames = first.1.1;
+        bytes = ap (λ (r : Replying). r.bytes) same ∙ first.1.2;
+        whole = λ none. (refl, whole);
+      }
+
+  -- one message more was offered
+  one_offered : (m : Message) (stop : Stop) → IsWhole stop → (outcome : Result (Unit {0}) SendFault) → RepliesSend mid m outcome new → Replied old new stop (ms ++ m ∷ [])
+  one_offered m stop whole (Err fault) sent = one_refused m stop fault sent
+  one_offered m stop whole (Ok done) (same, before, after, (frame, is, more)) =
+      let first = taken_frames old mid ms run in
+      record {
+        same_relay = same ∙ first.0;
+        sent = ms ++ m ∷ [];
+        unsent = [];
+        cut = sym (append-nil (ms ++ m ∷ []));
+        text = first.1.0 ++ frame;
+        frames = AreFramesOf-push ms first.1.0 m frame first.1.1 is;
+        bytes = more ∙ ap (λ l. l ++ frame) first.1.2 ∙ append_assoc old.bytes first.1.0 frame;
+        whole = λ none. (refl, whole);
+      }
+
+  last_replied : (stop : Stop) → IsWhole stop → (null : Option Message) → OffersLast RepliesSend mid null new → Replied old new stop (all_of ms null)
+  last_replied stop whole None same = all_taken stop whole same
+  last_replied stop whole (Some null) offers = one_offered null stop whole offers.outcome offers.sent
+
+refused_replied : (old new : Replying) (output : List Message) (fault : SendFault) (null : Option Message) → RefusesLast RepliesSend old output fault new → null ≡ None
+    → Replied old new (refused fault) (all_of output null)
+refused_replied old new output fault null last none = rw (none, last.3) (one_refused old last.2 new last.0 last.4 last.1 (refused fault) fault last.5)
+
+pub all_replied : (old new : Replying) (output : List Message) (null : Option Message) (stop : Stop) → Gets RepliesSend old output null stop new
+    → Replied old new stop (all_of output null)
+all_replied old new output null (refused fault) got = refused_replied old new output fault null got.0 got.1
+all_replied old new output null stop got = last_replied old got.0 new output got.1 stop tt null got.2
+
+-- ---- what was written
+module _ (stop : Stop) (ms : List Message) (a b : Option (List ℕ)) where
+  module _ (sent unsent : List Message) (cut : ms ≡ sent ++ unsent) (text : List ℕ) (frames : AreFramesOf sent text) where
+    -- the thread that writes had no fault
+    all_written : (failed : Bool) → (failed ≡ false → (unsent ≡ []) × IsWhole stop) → WritesBytes text None a b → WritesReplies stop ms (reply_fault None failed) a b
+    all_written true whole written = (sent, unsent, cut, (text, frames, written))
+    all_written false whole written =
+        let all : ms ≡ sent = cut ∙ ap (λ l. sent ++ l) (whole refl).0 ∙ append-nil sent in
+        ((whole refl).1, rw all (text, frames, written))
+
+    -- or it had one
+    some_written : (fault : WriteFault) → WritesBytes text (Some fault) a b → WritesReplies stop ms (Some fault) a b
+    some_written (Output kind) (output, some, begun) =
+        let broken = breaks sent text a b frames some begun in
+        record {
+          whole = broken.0;
+          next = broken.1;
+          unwritten = broken.2 ++ unsent;
+          cut = cut ∙ ap (λ l. l ++ unsent) broken.3 ∙ append_assoc broken.0 (broken.1 ∷ broken.2) unsent;
+          got = broken.4;
+        }
+    some_written NoMemory (output, some, begun) = absurd output
+
+    bytes_written : (fault : Option WriteFault) (failed : Bool) → (failed ≡ false → (unsent ≡ []) × IsWhole stop) → WritesBytes text fault a b
+        → WritesReplies stop ms (reply_fault fault failed) a b
+    bytes_written None failed whole written = all_written failed whole written
+    bytes_written (Some fault) failed whole written = some_written fault written
+
+  module _ (old new : Replying) (unsent : old.bytes ≡ []) (replied : Replied old new stop ms) (taken sent : List (Parcel (String Global)))
+      (all : parcel_bytes sent ≡ new.bytes) (ended : AreEnded sent) (settled : IsPrefix taken sent) where
+    -- the output was written: the first fault is that of the thread that writes, or of the outbox
+    pub replies_written : (fault : Option WriteFault) → WritesParcels taken fault a b → WritesReplies stop ms (reply_fault fault new.failed) a b
+    replies_written fault written =
+        let same : parcel_bytes taken ≡ replied.text =
+        ap parcel_bytes (sym (same_parcels taken sent written.0 ended settled)) ∙ all ∙ replied.bytes ∙ ap (λ l. l ++ replied.text) unsent in
+        bytes_written replied.sent replied.unsent replied.cut replied.text replied.frames fault new.failed replied.whole (rw same at written.1)
+
+-- ---- a session over such an outbox
+-- what was written of a session over bytes, as one in threads says it
+wrote_so : (a b : Option (List ℕ)) (result : Result SessionEnd SessionFault) (stop : Stop) (null : Option Message) (sends : List Message) → Wrote a b result stop null sends
+    → WroteInThreads a b result stop null sends
+wrote_so a b (Err (Write fault)) stop null sends (output, unsent, whole, last, cut, got) =
+    (output, record { whole = whole; next = last; unwritten = []; cut = cut; got = got })
+wrote_so a b (Err Memory) stop null sends (inl wrote) = (sends, [], sym (append-nil sends), wrote)
+wrote_so a b (Err Memory) stop null sends (inr most) = (most.1.0, most.1.1 ∷ [], most.1.2, most.1.3)
+wrote_so a b result stop null sends wrote = wrote
+
+not_refused : (stop : Stop) → IsWhole stop → NotRefused stop
+not_refused (refused fault) whole = absurd whole
+not_refused stop whole = tt
+
+module _ {I O : Type 0} (receives : Receives I) (sends : Sends O) (limit : ℕ) (P : SessionPart)
+    (knows : (xs : List Exchange) (stop : Stop) (null : Option Message) (answer : SessionAnswer) → P xs stop null answer → Facts stop (letters_of xs) answer)
+    (a b : Option (List ℕ)) (old new : I × O) (answer : SessionAnswer) (runs : Runs receives sends P old answer new) where
+  facts : Facts runs.stop (letters_of runs.exchanges) answer
+  facts = knows runs.exchanges runs.stop runs.null answer runs.part
+
+  -- what came in, as an inbox over the text brings it; no wake, where nobody can wake the session
+  module _ (wakeable : Bool) (unwoken : wakeable ≡ false → Unwoken (came_of runs.exchanges)) (text : List ℕ) (s : Stream)
+      (run : FoldsTo (WakingGives limit) (record { remaining = Some text; end = None }) runs.events s) where
+    over : (result : Result SessionEnd SessionFault) (at : List ℕ) → BeginsWith limit text (letters_of runs.exchanges) at
+        → EndsInThreads limit result answer runs.stop runs.null at → WroteInThreads a b result runs.stop runs.null (sends_of runs.exchanges)
+        → ThreadsGiveOver wakeable limit P text a b result
+    over result at read ends wrote = record {
+      exchanges = runs.exchanges;
+      at = at;
+      read = reads_all wakeable limit (came_of runs.exchanges) text at unwoken read;
+      stop = runs.stop;
+      null = runs.null;
+      answer = answer;
+      part = runs.part;
+      ends = ends;
+      wrote = wrote;
+    }
+
+    read : (at : List ℕ) × BeginsWith limit text (letters_of runs.exchanges) at × LeftWithin limit runs.stop at s.remaining
+    read = left_after limit text _ s refl refl runs.events run (came_of runs.exchanges) runs.null answer runs.stop runs.brought facts
+
+    pub session_gives : (fault : Option WriteFault) → WritesReplies runs.stop (sends_of runs.exchanges) fault a b
+        → ThreadsGiveOver wakeable limit P text a b (session_answer answer s.end fault)
+    session_gives None (whole, written) =
+        let all = stop_ends limit text _ s refl refl runs.events run (came_of runs.exchanges) runs.null answer (sends_of runs.exchanges) a b written
+        runs.stop runs.brought (not_refused runs.stop whole) facts in
+        over (read_answer answer s.end) all.0 all.1 (s.remaining, all.2.0) (wrote_so a b (read_answer answer s.end) runs.stop runs.null (sends_of runs.exchanges) all.2.1)
+    session_gives (Some (Output kind)) broken = over (Err (Write (Output kind))) read.0 read.1 (s.remaining, read.2) (tt, broken)
+    session_gives (Some NoMemory) first = over (Err Memory) read.0 read.1 (s.remaining, read.2) first

@@ -1,0 +1,43 @@
+-- Replies as texts of frames on a relay: the outbox that makes them, and what is written of all that it was offered.
+use Rattle.std.specs.Prelude.{◌≡◌, ℕ, Bool, true, false, List, ◌++◌, Option, Some, None, Result, Ok, Err, String}
+use Rattle.std.specs.declared.alloc.Global.{Global}
+use Rattle.lsp_message.specs.Message as plain
+use Rattle.lsp_message.specs.Written.{GetsFrames, IsFrameOf}
+use Rattle.lsp_message.specs.declared.frame.WriteFault.{WriteFault}
+use Rattle.lsp_message.specs.declared.frame.WriteFault.TheVariants.{Output, Memory as NoMemory}
+use Rattle.lsp_relay.specs.Relay.{Relay}
+use Rattle.lsp_session.specs.Session.{Stop, refused}
+use Rattle.lsp_session.specs.declared.lifecycle.SendFault.{SendFault}
+use Rattle.lsp_session.specs.declared.lifecycle.SendFault.TheVariants.{Closed, Memory}
+use Rattle.lsp_threads.specs.Threads.{BreaksOffWithin, GetsFirst}
+
+-- an outbox that makes frames, as callers see it: the bytes that were sent, and whether a message was refused
+pub record Replying : Type 0 where
+  pub relay : Relay (String Global)
+  pub bytes : List ℕ
+  pub failed : Bool
+
+-- The outbox sends a frame of each message, up to the first that it finds no memory for. That one and all after it are refused. It is
+-- never closed.
+abbrev pub RepliesSend : Replying → plain.Message → Result (Unit {0}) SendFault → Replying → Type 0
+RepliesSend old m (Ok done) new =
+    (new.relay ≡ old.relay) × (old.failed ≡ false) × (new.failed ≡ false) × ((frame : List ℕ) × IsFrameOf m frame × (new.bytes ≡ old.bytes ++ frame))
+RepliesSend old m (Err (Closed back)) new = ⊥
+RepliesSend old m (Err (Memory back)) new = new ≡ record old { failed = true }
+
+-- For private clauses: the first fault of the output, of the thread that writes or of the outbox.
+abbrev pub reply_fault : Option WriteFault → Bool → Option WriteFault
+reply_fault (Some fault) failed = Some fault
+reply_fault None true = Some NoMemory
+reply_fault None false = None
+
+-- no message was refused
+abbrev pub IsWhole : Stop → Type 0
+IsWhole (refused fault) = ⊥
+IsWhole stop = Unit {0}
+
+-- For private clauses: what the writer got of all that was sent, by the first fault. Where there is none, no message was refused.
+abbrev pub WritesReplies : Stop → List plain.Message → Option WriteFault → Option (List ℕ) → Option (List ℕ) → Type 0
+WritesReplies stop sends None old new = IsWhole stop × GetsFrames sends old new
+WritesReplies stop sends (Some (Output kind)) old new = BreaksOffWithin sends old new
+WritesReplies stop sends (Some NoMemory) old new = GetsFirst sends old new

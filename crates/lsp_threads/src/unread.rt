@@ -1,0 +1,71 @@
+//! How many bytes a thread may have read that nobody took yet. It bounds memory, and changes no answer.
+
+use crossbeam_channel::{Receiver, Sender, bounded};
+use std::alloc::{AllocError, Global};
+use std::sync::atomic::{AtomicU64, Ordering};
+use std::sync::{Arc, Wait};
+
+/// Makes the two ends of an account of what is unread, which should not pass `bound`. The error means that an allocation failed.
+pub fn bounded_unread(alloc: Global, bound: u64) -> Result<(Unread, Takes), AllocError> {
+    let (ring, bell) = bounded(alloc, 1)?;
+    let Ok(taken) = Arc::new(alloc, AtomicU64::new(0)) else {
+        return Err(AllocError);
+    };
+    let theirs = Arc::try_clone(&taken)?;
+    let unread = Unread {
+        taken,
+        bell,
+        bound,
+        read: 0,
+    };
+    let takes = Takes {
+        taken: theirs,
+        ring,
+    };
+    Ok((unread, takes))
+}
+
+/// The end of the thread that reads.
+#[derive(Drop)]
+pub struct Unread {
+    /// How many bytes were taken, in all.
+    taken: Arc<AtomicU64, Global>,
+    /// Rings after bytes were taken.
+    bell: Receiver<()>,
+    bound: u64,
+    /// How many bytes were read, in all.
+    read: u64,
+}
+
+impl Unread {
+    /// Counts a parcel, before it is sent. While it would pass the bound together with what is unread, it waits, so that a parcel above
+    /// the bound passes alone. If the other end is gone, it never waits.
+    pub fn add<R: Wait>(&mut self, rt: &R, weight: u64) {
+        for _ in rt.forever() {
+            if self.has_room(weight) || self.bell.recv(rt).is_err() {
+                break;
+            }
+        }
+        self.read = self.read.wrapping_add(weight);
+    }
+
+    fn has_room(&self, weight: u64) -> bool {
+        let unread = self.read.wrapping_sub(self.taken.load(Ordering::SeqCst));
+        unread == 0 || weight <= self.bound.saturating_sub(unread)
+    }
+}
+
+/// The end of the thread that takes.
+#[derive(Drop)]
+pub struct Takes {
+    taken: Arc<AtomicU64, Global>,
+    ring: Sender<()>,
+}
+
+impl Takes {
+    /// Tells that a parcel of this weight was taken. It doesn't wait: where the bell rings already, the other end will look anew.
+    pub fn took<R: Wait>(&self, rt: &R, weight: u64) {
+        self.taken.fetch_add(weight, Ordering::SeqCst);
+        let _ = self.ring.try_send(rt, ());
+    }
+}

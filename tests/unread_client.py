@@ -1,0 +1,119 @@
+#!/usr/bin/env python3
+"""A client that sends and never reads: how much memory that costs each way to run a session.
+
+It sends 60 requests of 256 KB, which get their params back, and takes no reply. When nothing moves any more it notes the peak of the
+program's resident memory (Linux, `VmHWM`), and ends the program. `{"":0}` lists and lists of lists are what takes the most memory for a
+byte, and one string what takes the least.
+"""
+import argparse
+import os
+import sys
+import time
+from pathlib import Path
+
+sys.dont_write_bytecode = True
+
+from client import INITIALIZE, INITIALIZED, SERVE, Difference, Server, frame
+
+BENCH = SERVE.parent.parent.parent / "bench" / "out" / "bench"
+LENGTH = 256_000
+COUNT = 60
+FIRST_ID = 100_000
+# For how many seconds nothing moves before the peak is noted, and for how many in all it is waited at most.
+STILL = 2
+LONGEST = 120
+WAYS = ["session", "run_threads", "Connection"]
+
+
+def filled(start, item, end):
+    """About LENGTH bytes: the item as often as it fits, with commas between."""
+    return start + b",".join([item] * (LENGTH // (len(item) + 1))) + end
+
+
+PARAMS = {
+    '`{"":0}`': filled(b"[", b'{"":0}', b"]"),
+    "lists": filled(b"[", b"[]", b"]"),
+    "numbers": filled(b"[", b"1", b"]"),
+    "one string": b'["' + b"x" * LENGTH + b'"]',
+}
+
+
+def status_bytes(process, name):
+    """A figure of the process, in bytes: none where it has ended."""
+    for line in Path(f"/proc/{process.pid}/status").read_text().splitlines():
+        if line.startswith(name + ":"):
+            return int(line.split()[1]) * 1024
+    raise Difference("it has ended, though it was not asked to")
+
+
+def processor_ticks(process):
+    """How long all its threads have run."""
+    words = Path(f"/proc/{process.pid}/stat").read_text().rsplit(")", 1)[1].split()
+    return int(words[11]) + int(words[12])
+
+
+def write_some(server, rest):
+    """What is left to send, once as much was sent as goes without waiting."""
+    try:
+        return rest[os.write(server.input(), rest[: 1 << 16]) :]
+    except BlockingIOError:
+        return rest
+
+
+def peak(command, params):
+    """The peak memory, and how many of the bytes were sent."""
+    bodies = [b'{"jsonrpc":"2.0","id":%d,"method":"demo/echo","params":%s}' % (FIRST_ID + number, params) for number in range(COUNT)]
+    rest = memoryview(b"".join(frame(body) for body in [INITIALIZE, INITIALIZED, *bodies]))
+    whole = len(rest)
+    with Server(command) as server:
+        os.set_blocking(server.input(), False)
+        end = time.monotonic() + LONGEST
+        seen, since = None, time.monotonic()
+        while time.monotonic() < min(end, since + STILL):
+            rest = write_some(server, rest) if rest else rest
+            now = (len(rest), processor_ticks(server.process))
+            if now != seen:
+                seen, since = now, time.monotonic()
+            else:
+                time.sleep(0.01)
+        return status_bytes(server.process, "VmHWM"), whole - len(rest)
+
+
+def command(way, arguments):
+    """How this way is run: `lsp_demo serve` is a loop over a connection."""
+    words = {"session": ["session"], "run_threads": ["threads", "run_threads"]}
+    return [arguments.sessions, *words[way]] if way in words else [arguments.program, "serve"]
+
+
+def parse_arguments():
+    parser = argparse.ArgumentParser(description=__doc__, formatter_class=argparse.RawDescriptionHelpFormatter)
+    parser.add_argument("--ways", nargs="+", default=WAYS, choices=WAYS)
+    parser.add_argument("--program", type=Path, default=SERVE, help="the program with a loop over a connection")
+    parser.add_argument("--sessions", type=Path, default=BENCH, help="the program with the sessions")
+    parser.add_argument("--most", type=float, help="fail where a way takes more MB than this")
+    return parser.parse_args()
+
+
+def main():
+    arguments = parse_arguments()
+    failed = False
+    print(f"{COUNT} requests of {LENGTH} bytes, and no reply is read: peak MB (MB sent)")
+    print("| params | " + " | ".join(arguments.ways) + " |\n" + "|---" * (len(arguments.ways) + 1) + "|", flush=True)
+    for name, params in PARAMS.items():
+        cells = [name]
+        for way in arguments.ways:
+            try:
+                most, sent = peak(command(way, arguments), params)
+            except (Difference, OSError) as fault:
+                print(f"unread_client.py: FAILED: {way}, {name}: {fault}", file=sys.stderr)
+                return 1
+            failed = failed or (arguments.most is not None and most > arguments.most * 1e6)
+            cells.append(f"{most / 1e6:.1f} ({sent / 1e6:.1f})")
+        print("| " + " | ".join(cells) + " |", flush=True)
+    if failed:
+        print(f"unread_client.py: FAILED: more than {arguments.most} MB", file=sys.stderr)
+    return 1 if failed else 0
+
+
+if __name__ == "__main__":
+    sys.exit(main())
