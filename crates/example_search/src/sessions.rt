@@ -13,7 +13,8 @@ use lsp_jobs::laws::session_with_jobs_keeps_laws;
 use lsp_jobs::{Job, JobServer, PoolSize, run_jobs};
 use lsp_server::laws::server_keeps_laws;
 use lsp_server::{
-    Server, SessionEnd, SessionFault, StartFault, Threaded, run_threads_with, session_with,
+    EndSession, Server, SessionEnd, SessionFault, StartFault, Threaded, run_threads_with,
+    session_with,
 };
 use std::alloc::Global;
 use std::io::{BufRead, Write};
@@ -37,7 +38,7 @@ pub fn serve<R: BufRead, W: Write>(
         text (R.remaining reader.new) (W.contents writer.old) (W.contents writer.new) result.1) }
 {
     server_keeps_laws::<Sums>();
-    session_with(alloc, reader, writer, sums)
+    session_with(alloc, reader, writer, sums, &mut EndSession, u64::MAX)
 }
 
 /// `serve` with a thread that reads and one that writes. Its author knows the same of it.

@@ -17,10 +17,11 @@ pub use lsp_peers::laws as peers;
 pub use lsp_queue::laws::pending_is_last_registered;
 use lsp_service::Server;
 pub use lsp_service::laws::{
-    lost_client_is_owed_what_is_held, server_keeps_laws, server_over_boxes_keeps_laws,
-    turn_sends_its_acts, woken_server_keeps_laws, woken_turn_sends_its_acts,
+    desk_runs_its_server, lost_client_is_owed_what_is_held, server_keeps_laws,
+    server_over_boxes_keeps_laws, server_that_asks_keeps_laws, turn_sends_its_acts,
+    woken_desk_runs_its_server, woken_server_keeps_laws, woken_turn_sends_its_acts,
 };
-pub use lsp_session::laws::{sessions, streams, turns};
+pub use lsp_session::laws::{dialogs, listeners, sessions, streams, turns};
 pub use lsp_threads::laws::{threads_answer_requests, threads_keep_order};
 
 /// A session of a server in threads keeps the laws, as `server_keeps_laws` says it of one on one thread: a fact of each session that
