@@ -4,15 +4,19 @@
 //!     bench session [speaking] [null]             a session on one thread: each request gets its params back, or null
 //!     bench threads pass | pump | run_threads | run_threads_with
 //!                                                 messages passed on by one thread and by two; the sessions on three threads
+//!     bench drops session | run_threads | connection COUNT
+//!                                                 a server that drops its params, and answers with a list of COUNT places, or for 0 null
 //!     bench jobs WORKERS                          a session on three threads, whose requests are jobs of so many workers
 //!     bench queues [N ..]                         a call on the request queues, with N requests pending
 //!     bench texts [N ..]                          N edits at the start, in the middle and at the end of a large text
 //!     bench all                                   each of these on the same input, under its name
 //!
 //! All but `queues` and `texts` read frames from standard input, and write frames to standard output. `speaking` is a server that speaks
-//! (`session_with`), which gives the same replies. `all` leaves out `jobs`, whose replies come in the order in which they are ready.
+//! (`session_with`), which gives the same replies. `all` leaves out `drops`, and `jobs`, whose replies come in the order in which they are
+//! ready.
 #![tactic(auto)]
 
+mod drops;
 mod jobs;
 mod json;
 mod queues;
@@ -23,6 +27,7 @@ mod threads;
 
 use anyhow::{Context, Result, bail};
 use lsp_server::keep_freed_memory;
+use serde_json::Value;
 use std::alloc::Global;
 use std::io::{BufRead, BufReader, Cursor, Read};
 use std::sync::Wait;
@@ -34,7 +39,7 @@ use std::{env, io};
 const READ_AHEAD: usize = 65536;
 
 const USAGE: &str =
-    "usage: bench json | session [speaking] [null] | threads pass|pump|run_threads|run_threads_with | jobs WORKERS | queues [N ..] | texts [N ..] | all";
+    "usage: bench json | session [speaking] [null] | threads WAY | drops WAY COUNT | jobs WORKERS | queues [N ..] | texts [N ..] | all";
 
 /// The measures that go over frames.
 const OVER_FRAMES: [&str; 8] = [
@@ -60,6 +65,10 @@ fn main(rt: HostRuntime) -> Result<()> {
             let workers = workers.parse::<usize>().context("how many workers")?;
             jobs::serve(&rt, alloc, reader, workers)
         }
+        [word, way, count] if word.as_str() == "drops" => {
+            let reply = drops::places(alloc, count.parse::<u64>().context("how many places")?)?;
+            run_drops(&rt, alloc, way.as_str(), reader, reply)
+        }
         [word] if word.as_str() == "all" => {
             let mut text = Vec::new(alloc);
             reader.read_to_end(&mut text)?;
@@ -79,6 +88,21 @@ fn joined(alloc: Global, words: &[String]) -> Result<String> {
         text.push_str(word.as_str())?;
     }
     Ok(text)
+}
+
+/// The session of this name of a server that drops its params.
+fn run_drops<T, R>(rt: &T, alloc: Global, way: &str, reader: R, reply: Value) -> Result<()>
+where
+    T: Threads + Wait + Print + Clock + AllocGlobal + Copy + Drop + Send + 'static,
+    R: BufRead + Drop + Send + 'static,
+{
+    let mut reader = reader;
+    match way {
+        "session" => drops::serve(alloc, &mut reader, &mut io::writer(rt), reply),
+        "run_threads" => drops::serve_in_threads(rt, alloc, reader, reply),
+        "connection" => drops::serve_connection(rt, reader, reply),
+        _ => bail!("{USAGE}"),
+    }
 }
 
 /// Each measure over these bytes, and after them those of the queues and of texts.

@@ -1,0 +1,114 @@
+//! A server that drops all that it is given, on one thread and on three: it answers each request with a value of its own. What that costs
+//! tells whether one thread frees what another one allocated.
+use crate::threads::{Output, ended};
+use anyhow::{Result, bail};
+use lsp_server::{
+    Connection, Handler, Message, Notification, Request, Response, ResponseError, run_threads,
+    session,
+};
+use serde_json::{Map, Value, json};
+use std::alloc::{AllocError, Global};
+use std::io::{BufRead, Write};
+use std::sync::Wait;
+use std::thread::Threads;
+use std::time::Clock;
+
+/// Answers each request with a copy of one value.
+#[derive(Drop)]
+struct Fixed {
+    reply: Value,
+}
+
+impl Handler for Fixed {
+    ghost use Rattle.serde_json.specs.View.{view};
+    ghost use Rattle.std.specs.Prelude.{◌≡◌, Ok};
+
+    ghost answers = { λ old _ _ _ outcome new. (new ≡ old) × (outcome ≡ Ok (view old.reply)) };
+
+    ghost notes = { λ old _ _ new. new ≡ old };
+
+    fn answer(&mut self, _request: &Request) -> Result<Result<Value, ResponseError>, AllocError> {
+        Ok(Ok(self.reply.clone()?))
+    }
+
+    fn note(&mut self, _notification: &Notification) -> Result<(), AllocError> {
+        Ok(())
+    }
+}
+
+/// A list of so many places, or null for none.
+pub fn places(alloc: Global, count: u64) -> Result<Value> {
+    if count == 0 {
+        return Ok(Value::Null);
+    }
+    let mut list = Vec::new(alloc);
+    for line in 0..count {
+        list.push(json!(in alloc; { "character": 7, "line": line })?)?;
+    }
+    Ok(Value::Array(list))
+}
+
+/// The session on one thread.
+pub fn serve<R: BufRead, W: Write>(
+    alloc: Global,
+    reader: &mut R,
+    writer: &mut W,
+    reply: Value,
+) -> Result<()> {
+    let capabilities = Value::Object(Map::new(alloc));
+    match session(alloc, reader, writer, capabilities, &mut Fixed { reply }) {
+        Ok(_) => Ok(()),
+        Err(fault) => bail!("{fault}"),
+    }
+}
+
+/// The session on three threads.
+pub fn serve_in_threads<T, R>(rt: &T, alloc: Global, reader: R, reply: Value) -> Result<()>
+where
+    T: Threads + Wait + Print + Copy + Drop + Send + 'static,
+    R: BufRead + Drop + Send + 'static,
+{
+    let capabilities = Value::Object(Map::new(alloc));
+    let mut fixed = Fixed { reply };
+    ended(run_threads(rt, alloc, reader, Output(*rt), capabilities, &mut fixed))
+}
+
+/// A loop over a connection.
+pub fn serve_connection<T, R>(rt: &T, reader: R, reply: Value) -> Result<()>
+where
+    T: Threads + Wait + Print + Clock + AllocGlobal + Copy + Drop + Send + 'static,
+    R: BufRead + Drop + Send + 'static,
+{
+    let (connection, threads) = Connection::over(rt, reader, Output(*rt), u64::MAX)?;
+    answer_all(rt, connection, &reply)?;
+    threads.join(rt)?;
+    Ok(())
+}
+
+/// From `initialize` to `exit`. The connection is dropped at the end, so that its threads end too.
+fn answer_all<T>(rt: &T, connection: Connection, reply: &Value) -> Result<()>
+where
+    T: Wait + Clock + AllocGlobal,
+{
+    connection.initialize(rt, Value::Object(Map::new(rt.alloc())))?;
+    for message in connection.receiver.iter(rt) {
+        if let Message::Request(request) = message {
+            if connection.handle_shutdown(rt, &request)? {
+                return Ok(());
+            }
+            answer(rt, &connection, request, reply)?;
+        }
+    }
+    bail!("the client left without a shutdown")
+}
+
+fn answer<T: Wait>(rt: &T, connection: &Connection, request: Request, reply: &Value) -> Result<()> {
+    let response = Response {
+        id: request.id,
+        response_result: Ok(reply.clone()?),
+    };
+    if connection.sender.send(rt, Message::from(response)).is_err() {
+        bail!("the other side is gone");
+    }
+    Ok(())
+}
