@@ -1,11 +1,11 @@
 #!/usr/bin/env python3
 """Measures a server that drops all that it is given, on one thread and on three: the processor time of a request.
 
-    drops.py [--quick]
+    drops.py [--quick] [--crate FOLDER]
 
 Large requests are answered with null, and small ones with a long list. The ways take turns over the same streams from a file, and
-each has to write the same bytes. The time is the processor's, of all threads, at best; in brackets what it is to `session`'s. Build the
-program first: README.md beside this file says how.
+each has to write the same bytes. The time is the processor's, of all threads, at best; in brackets what it is to `session`'s. With the
+folder of the Rust crate's sources that one is measured too. Build the program first: README.md beside this file says how.
 """
 import argparse
 import os
@@ -17,6 +17,7 @@ from pathlib import Path
 
 sys.dont_write_bytecode = True
 
+from peers import Missing, build_crate
 from pump import BENCH, Failure, Program, best_timings, machine, run_to_file
 from session import write_stream
 from threads import request_of
@@ -34,8 +35,9 @@ def rows(divisor):
     return [("100 bytes", "null", 100, 0, 200_000 // divisor), *to_small, *to_large]
 
 
-def programs_of(program, places):
-    return [Program(way, [program, "drops", way, str(places)]) for way in WAYS]
+def programs_of(program, crate, places):
+    programs = [Program(way, [program, "drops", way, str(places)]) for way in WAYS]
+    return [*programs, Program("crate", [crate, "drops", str(places)])] if crate else programs
 
 
 def check_same(programs, stream, folder):
@@ -53,7 +55,7 @@ def check_same(programs, stream, folder):
 def print_row(names, stream, best):
     alone = best[WAYS[0]].processor_seconds
     cells = [*names]
-    for way in WAYS:
+    for way in best:
         spent = best[way].processor_seconds
         cells.append(f"{spent / stream.requests * 1e6:,.1f}" + ("" if way == WAYS[0] else f" ({spent / alone:.2f})"))
     print("| " + " | ".join(cells) + " |", flush=True)
@@ -63,6 +65,7 @@ def parse_arguments():
     parser = argparse.ArgumentParser(description=__doc__, formatter_class=argparse.RawDescriptionHelpFormatter)
     parser.add_argument("--quick", action="store_true", help="a twentieth of the requests")
     parser.add_argument("--repetitions", type=int, default=5, help="how many times each way is timed")
+    parser.add_argument("--crate", type=Path, help="the folder of the Rust crate's sources")
     parser.add_argument("--program", type=Path, default=BENCH, help="the program with the three ways")
     return parser.parse_args()
 
@@ -73,16 +76,18 @@ def main():
         print(f"drops.py: no program {arguments.program}: README.md says how it is built", file=sys.stderr)
         return 2
     print(f"{time.strftime('%Y-%m-%d %H:%M')}; {machine()}; best of {arguments.repetitions} runs; microseconds a request")
-    print("| request | result | " + " | ".join(WAYS) + " |\n" + "|---" * (len(WAYS) + 2) + "|", flush=True)
     try:
+        crate = build_crate(arguments.crate).path if arguments.crate else None
+        names = ["request", "result", *WAYS, *(["crate"] if crate else [])]
+        print("| " + " | ".join(names) + " |\n" + "|---" * len(names) + "|", flush=True)
         with tempfile.TemporaryDirectory() as folder:
             for sent, given, length, places, count in rows(20 if arguments.quick else 1):
                 stream = write_stream(folder, f"{sent} {given}", count, partial(request_of, length=length))
-                programs = programs_of(arguments.program, places)
+                programs = programs_of(arguments.program, crate, places)
                 check_same(programs, stream, folder)
                 print_row([sent, given], stream, best_timings(programs, stream, arguments.repetitions))
                 os.remove(stream.path)
-    except Failure as failure:
+    except (Failure, Missing) as failure:
         print(f"drops.py: FAILED: {failure}", file=sys.stderr)
         return 1
     return 0

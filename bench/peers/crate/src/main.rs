@@ -1,5 +1,7 @@
-//! The Rust crate: `pump` writes each message again, `serve` and `tcp ADDR` answer `demo/echo` with its params, as `lsp_demo`.
+//! The Rust crate: `pump` writes each message again, `serve` and `tcp ADDR` answer `demo/echo` with its params, as `lsp_demo`. `drops COUNT`
+//! drops them, and answers with a list of COUNT places, or for 0 with null.
 use lsp_server::{Connection, ErrorCode, IoThreads, Message, Response};
+use serde_json::{Value, json};
 use std::error::Error;
 use std::io::{self, BufReader};
 
@@ -10,13 +12,17 @@ fn main() -> Result<(), Box<dyn Error + Send + Sync>> {
         ["pump"] => pump(),
         ["serve"] => {
             let (connection, threads) = Connection::stdio();
-            serve(connection, threads)
+            serve(connection, threads, None)
+        }
+        ["drops", count] => {
+            let (connection, threads) = Connection::stdio();
+            serve(connection, threads, Some(places(count.parse()?)))
         }
         ["tcp", address] => {
             let (connection, threads) = Connection::listen(address)?;
-            serve(connection, threads)
+            serve(connection, threads, None)
         }
-        _ => Err("usage: crate_peer pump | serve | tcp ADDR".into()),
+        _ => Err("usage: crate_peer pump | serve | drops COUNT | tcp ADDR".into()),
     }
 }
 
@@ -32,14 +38,24 @@ fn pump() -> Result<(), Box<dyn Error + Send + Sync>> {
     Ok(())
 }
 
-fn serve(connection: Connection, threads: IoThreads) -> Result<(), Box<dyn Error + Send + Sync>> {
-    connection.initialize(serde_json::json!({}))?;
+fn places(count: u64) -> Value {
+    match count {
+        0 => Value::Null,
+        _ => (0..count).map(|line| json!({"character": 7, "line": line})).collect(),
+    }
+}
+
+/// Answers with the value, or where there is none as `lsp_demo`.
+fn serve(connection: Connection, threads: IoThreads, fixed: Option<Value>) -> Result<(), Box<dyn Error + Send + Sync>> {
+    connection.initialize(json!({}))?;
     for message in &connection.receiver {
         let Message::Request(request) = message else { continue };
         if connection.handle_shutdown(&request)? {
             break;
         }
-        let reply = if request.method == "demo/echo" {
+        let reply = if let Some(value) = &fixed {
+            Response { id: request.id, response_result: Ok(value.clone()) }
+        } else if request.method == "demo/echo" {
             Response { id: request.id, response_result: Ok(request.params) }
         } else {
             Response::new_err(request.id, ErrorCode::MethodNotFound as i32, "method not found".to_owned())
