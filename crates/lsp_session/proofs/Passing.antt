@@ -31,22 +31,37 @@ use Rattle.lsp_session.specs.Passing.{is_of_body, TolerantGives}
 use Rattle.lsp_session.specs.PassingBoxes.{stream_of, TolerantInboxGives}
 use Rattle.lsp_session.specs.PassingBytes.{PassesNothingOver, PassesOver, ReadsFrame, HearsLast, GivesAndTells}
 use Rattle.lsp_session.specs.declared.loops.tolerant_inbox.TolerantInbox.{TolerantInbox}
-use Rattle.std.proofs.Common.{◌≡◌, refl, sym, ◌∙◌, ap, subst, inl, inr, ℕ, Bool, true, false, true≢false, List, [], ◌∷◌, ◌++◌, append-nil, Some, None, Option, IfSome}
+use Rattle.std.proofs.Common.{◌≡◌, refl, sym, ◌∙◌, ap, subst, inl, inr, ◌⊎◌, ℕ, Bool, true, false, true≢false, List, [], ◌∷◌, ◌++◌, append-nil, Some, None, Option, IfSome}
 use Rattle.std.proofs.lemmas.List.Elements.{filter_map-append}
 use Rattle.std.specs.List.{FoldsTo, list_all, filter_map}
 use Rattle.std.specs.Prelude.{Result, Ok, Err, MatchOption, if◌then◌else◌}
 
+-- the first frame of a text is a message, or is passed over; or others woke the session, where they can, and nothing was read
+abbrev pub ReadsFrameOr : (others : Type 0) {L : Type 0} (hears : L → ReadFault → L → Type 0) (limit : ℕ) → List ℕ × L → Option Message → List ℕ × L → Type 0
+ReadsFrameOr others hears limit old (Some m) new = ReadsFrame hears limit old (Some m) new
+ReadsFrameOr others hears limit old None new = (others × (new ≡ old)) ⊎ PassesOver hears limit old new
+
+-- what an inbox gives that passes over content parts, and that others wake, where they can
+abbrev pub GivesOr : (others : Type 0) {L : Type 0} (hears : L → ReadFault → L → Type 0) (limit : ℕ) → Stream × L → Event → Stream × L → Type 0
+GivesOr others hears limit old woken new = (others × (old.0.end ≡ None) × (new ≡ old)) ⊎ TolerantGives hears limit old woken new
+GivesOr others hears limit old event new = TolerantGives hears limit old event new
+
 -- the first frames of a text, one after another
-abbrev ReadsFrames : {L : Type 0} (hears : L → ReadFault → L → Type 0) (limit : ℕ) → List ℕ × L → List (Option Message) → List ℕ × L → Type 0
-ReadsFrames hears limit = FoldsTo (ReadsFrame hears limit)
+abbrev pub ReadsFrames : (others : Type 0) {L : Type 0} (hears : L → ReadFault → L → Type 0) (limit : ℕ) → List ℕ × L → List (Option Message) → List ℕ × L → Type 0
+ReadsFrames others hears limit = FoldsTo (ReadsFrameOr others hears limit)
 
 -- the messages of what came
 abbrev letters_in : List (Option Message) → List Message
 letters_in came = filter_map (λ (c : Option Message). c) came
 
-module _ {L : Type 0} (hears : L → ReadFault → L → Type 0) (limit : ℕ) where
+module _ (others : Type 0) {L : Type 0} (hears : L → ReadFault → L → Type 0) (limit : ℕ) where
   abbrev Gives : Stream × L → Event → Stream × L → Type 0
-  Gives = TolerantGives hears limit
+  Gives = GivesOr others hears limit
+
+  -- what one that nobody wakes gives
+  given : (event : Event) (old new : Stream × L) → TolerantGives hears limit old event new → Gives old event new
+  given woken old new gives = inr gives
+  given event old new gives = gives
 
   -- receives from an inbox, as they are seen, and the reader that it was lent
   seen_all : {R : Type 0} (remaining : R → Option (List ℕ)) (events : List Event) (old new : TolerantInbox R L) → old.limit ≡ limit
@@ -56,8 +71,9 @@ module _ {L : Type 0} (hears : L → ReadFault → L → Type 0) (limit : ℕ) w
   seen_all remaining [] old new limited run = (ap (λ (s : TolerantInbox _ L). (stream_of remaining s, s.listener.now)) run, rw run refl, rw run refl)
   seen_all remaining (event ∷ events) old new limited run =
       let rest = seen_all remaining events run.0 new (run.1.1.2 ∙ limited) run.2 in
-      let first = rw limited at run.1.0 in
-      (((stream_of remaining run.0, run.0.listener.now), first, rest.0), rest.1 ∙ run.1.1.0, rest.2 ∙ run.1.1.1)
+      let mid : Stream × L = (stream_of remaining run.0, run.0.listener.now) in
+      let first = given event (stream_of remaining old, old.listener.now) mid (rw limited at run.1.0) in
+      ((mid, first, rest.0), rest.1 ∙ run.1.1.0, rest.2 ∙ run.1.1.1)
 
   unread : (fault : ReadFault) (text : List ℕ) → (reading_within limit text).outcome ≡ Err fault
       → reading_within limit text ≡ record { outcome = Err fault; rest = (reading_within limit text).rest }
@@ -82,14 +98,20 @@ module _ {L : Type 0} (hears : L → ReadFault → L → Type 0) (limit : ℕ) w
       → list_all is_open events ≡ true
       → (events ≡ []) × (old ≡ new)
   ended_stays [] end old new is run still_open = (refl, run)
-  ended_stays (woken ∷ events) end old new is run still_open = let never : ◌≡◌ {A = Option ReadEnd} (Some end) None = sym is ∙ run.1.4 in absurd (cc (never))
+  ended_stays (woken ∷ events) end old new is run still_open = elim run.1 [
+    | inl others ↦ absurd (going_on others.1)
+    | inr passes ↦ absurd (going_on passes.4)
+  ]
+    where
+      going_on : old.0.end ≡ None → ⊥
+      going_on none = let never : ◌≡◌ {A = Option ReadEnd} (Some end) None = sym is ∙ none in cc (never)
   ended_stays (closed ∷ events) end old new is run still_open = absurd (cc (still_open))
   ended_stays (event ∷ events) end old new is run still_open = let step = rw is at run.1.0 in absurd (cc (step.0))
 
   -- what an inbox brought that may bring more, what it has left, and whether an `exit` came
   record Brought (text : List ℕ) (first : L) (came : List (Option Message)) (new : Stream × L) : Type 0 where
     at : List ℕ
-    read : ReadsFrames hears limit (text, first) came (at, new.1)
+    read : ReadsFrames others hears limit (text, first) came (at, new.1)
     left : new.0.remaining ≡ Some at
     end : new.0.end ≡ (if list_all is_no_exit (letters_in came) then None else Some Exit)
 
@@ -129,10 +151,20 @@ module _ {L : Type 0} (hears : L → ReadFault → L → Type 0) (limit : ℕ) w
       let step = rw (unended, known) at run.1.0 in
       open_then m text old.1 run.0 new events run.2 still_open (is_exit m) refl step.0 step.1 run.1.1
       (λ rest still left. brought_open events rest run.0 new still left run.2 still_open)
-  brought_open (woken ∷ events) text old new unended known run still_open =
-      let step = passed run.1.0 text old.1 run.0.1 run.0.0.remaining run.1.1 (rw known at run.1.2) run.1.3 in
-      let more = brought_open events (reading_within limit text).rest run.0 new run.1.5 step.1 run.2 still_open in
-      record { at = more.at; read = (((reading_within limit text).rest, run.0.1), step.0, more.read); left = more.left; end = more.end }
+  brought_open (woken ∷ events) text old new unended known run still_open = elim run.1 [
+    | inl others ↦
+        let more = brought_open events text run.0 new (rw others.2 unended) (rw others.2 known) run.2 still_open in
+        record {
+          at = more.at;
+          read = ((text, run.0.1), inl (others.0, ap (λ (s : Stream × L). (text, s.1)) others.2), more.read);
+          left = more.left;
+          end = more.end;
+        }
+    | inr passes ↦
+        let step = passed passes.0 text old.1 run.0.1 run.0.0.remaining passes.1 (rw known at passes.2) passes.3 in
+        let more = brought_open events (reading_within limit text).rest run.0 new passes.5 step.1 run.2 still_open in
+        record { at = more.at; read = (((reading_within limit text).rest, run.0.1), inr step.0, more.read); left = more.left; end = more.end }
+  ]
   brought_open (event ∷ events) text old new unended known run still_open = absurd (rw unended at run.1.0)
 
   -- the last of several events
@@ -160,7 +192,7 @@ module _ {L : Type 0} (hears : L → ReadFault → L → Type 0) (limit : ℕ) w
     -- what was left when the inbox told that no more come
     record ClosedAt (came : List (Option Message)) : Type 0 where
       at : List ℕ
-      read : ReadsFrames hears limit (text, old.1) came (at, new.1)
+      read : ReadsFrames others hears limit (text, old.1) came (at, new.1)
       before : Stream
       open_before : before.end ≡ None
       left_before : before.remaining ≡ Some at
@@ -175,7 +207,7 @@ module _ {L : Type 0} (hears : L → ReadFault → L → Type 0) (limit : ℕ) w
         let brought = rw same at (brought_open earlier text old last.0 unended known last.1 still_open) in
         record {
           at = brought.at;
-          read = subst (λ heard. ReadsFrames hears limit (text, old.1) came (brought.at, heard)) (sym last.2.1) brought.read;
+          read = subst (λ heard. ReadsFrames others hears limit (text, old.1) came (brought.at, heard)) (sym last.2.1) brought.read;
           before = last.0.0;
           open_before = rw (brought.end, no_exit) refl;
           left_before = brought.left;
@@ -183,10 +215,10 @@ module _ {L : Type 0} (hears : L → ReadFault → L → Type 0) (limit : ℕ) w
         }
 
     -- what a session read, what was left of it, and what the listener heard
-    abbrev Reached : List (Option Message) → Stop → (List ℕ × L → Type 0) → Type 0
-    Reached came stop Left = (at : List ℕ × L) × ReadsFrames hears limit (text, old.1) came at × HearsLast hears limit stop at new.1 × Left at
+    abbrev pub Reached : List (Option Message) → Stop → (List ℕ × L → Type 0) → Type 0
+    Reached came stop Left = (at : List ℕ × L) × ReadsFrames others hears limit (text, old.1) came at × HearsLast hears limit stop at new.1 × Left at
 
-    abbrev Within : List ℕ × L → Type 0
+    abbrev pub Within : List ℕ × L → Type 0
     Within at = StopsWithin new.0.remaining (reading_within limit at.0)
 
     -- where it told so, no byte after the next frame was taken
@@ -199,6 +231,15 @@ module _ {L : Type 0} (hears : L → ReadFault → L → Type 0) (limit : ℕ) w
 
     open_within : (came : List (Option Message)) (b : Brought text old.1 came new) → Within (b.at, new.1)
     open_within came b = rw b.left (frame_unread body_means limit b.at)
+
+    -- an allocation failed at a wake
+    last_woken : (came : List (Option Message)) (before : List ℕ × L) (at : List ℕ) → ReadsFrames others hears limit (text, old.1) came before → new.0.remaining ≡ Some at
+        → ReadsFrameOr others hears limit before None (at, new.1) → Reached came exhausted Within
+    last_woken came before at read left (inl same) =
+        let rest : at ≡ before.0 = ap (λ (a : List ℕ × L). a.0) same.1 in
+        (before, read, inl (ap (λ (a : List ℕ × L). a.1) same.1), rw (left, rest) (frame_unread body_means limit before.0))
+    last_woken came before at read left (inr passes) =
+        (before, read, inr (at, passes), ([], left ∙ ap (λ (r : Reading Message). Some r.rest) (sym passes.2)))
 
     -- the frames that were used, and what is left after them
     left_within : (came : List (Option Message)) (stop : Stop) (answer : SessionAnswer) → Brings events came stop → Facts stop (letters_in came) answer
@@ -216,18 +257,17 @@ module _ {L : Type 0} (hears : L → ReadFault → L → Type 0) (limit : ℕ) w
     left_within came timed_out answer brought facts = absurd (no_timeout brought.1.0 old new (rw brought.1.1 at run))
     left_within came exhausted answer (None, brought, still_open) facts =
         let all = open_brought (came ++ None ∷ []) brought still_open in
-        let parts = FoldsTo-split (ReadsFrame hears limit) came (None ∷ []) (text, old.1) (all.at, new.1) all.read in
-        let step = rw parts.2.2 at parts.2.1 in
-        (parts.0, parts.1, inr (all.at, step), ([], all.left ∙ ap (λ (r : Reading Message). Some r.rest) (sym step.2)))
+        let parts = FoldsTo-split (ReadsFrameOr others hears limit) came (None ∷ []) (text, old.1) (all.at, new.1) all.read in
+        last_woken came parts.0 all.at parts.1 all.left (rw parts.2.2 at parts.2.1)
     left_within came exhausted answer (Some next, brought, still_open) facts =
         let all = open_brought (came ++ Some next ∷ []) brought still_open in
-        let parts = FoldsTo-split (ReadsFrame hears limit) came (Some next ∷ []) (text, old.1) (all.at, new.1) all.read in
+        let parts = FoldsTo-split (ReadsFrameOr others hears limit) came (Some next ∷ []) (text, old.1) (all.at, new.1) all.read in
         let step = rw parts.2.2 at parts.2.1 in
         (parts.0, parts.1, inl step.1, ([], all.left ∙ ap (λ (r : Reading Message). Some r.rest) (sym step.0)))
     left_within came stop answer brought facts = let all = open_brought came brought.0 brought.1 in ((all.at, new.1), all.read, refl, open_within came all)
 
     -- what is left where a write or an allocation failed
-    left_after : (came : List (Option Message)) (answer : SessionAnswer) (stop : Stop) → Brings events came stop → Facts stop (letters_in came) answer
+    pub left_after : (came : List (Option Message)) (answer : SessionAnswer) (stop : Stop) → Brings events came stop → Facts stop (letters_in came) answer
         → Reached came stop (λ at. LeftWithin limit stop at.0 new.0.remaining)
     left_after came answer decided brought facts = let all = open_brought came brought.0 brought.1 in ((all.at, new.1), all.read, refl, all.left)
     left_after came answer (refused fault) brought facts = let all = open_brought came brought.0 brought.1 in ((all.at, new.1), all.read, refl, all.left)
@@ -237,7 +277,7 @@ module _ {L : Type 0} (hears : L → ReadFault → L → Type 0) (limit : ℕ) w
 
     module _ (came : List (Option Message)) (null : Option Message) (answer : SessionAnswer) (sends : List Message) (a b : Option (List ℕ))
         (wrote : GetsFrames sends a b) where
-      abbrev Ended : Stop → List ℕ → Type 0
+      abbrev pub Ended : Stop → List ℕ → Type 0
       Ended stop at = Ends limit new.0.remaining (read_answer answer new.0.end) answer stop null at × Wrote a b (read_answer answer new.0.end) stop null sends
 
       -- a message decided
@@ -267,7 +307,7 @@ module _ {L : Type 0} (hears : L → ReadFault → L → Type 0) (limit : ℕ) w
       exhausted_ends ran at stops = rw (ran_out_answer answer ran, ran_out_gives new.0.end) (stops, inl wrote)
 
       -- no write failed
-      frames_end : (stop : Stop) → Brings events came stop → NotRefused stop → Facts stop (letters_in came) answer → Reached came stop (λ at. Ended stop at.0)
+      pub frames_end : (stop : Stop) → Brings events came stop → NotRefused stop → Facts stop (letters_in came) answer → Reached came stop (λ at. Ended stop at.0)
       frames_end decided brought taken facts =
           let all = open_brought came brought.0 brought.1 in
           ((all.at, new.1), all.read, refl, decided_ends all facts (list_all is_no_exit (letters_in came)) refl)
@@ -281,6 +321,17 @@ module _ {L : Type 0} (hears : L → ReadFault → L → Type 0) (limit : ℕ) w
       frames_end exhausted brought taken facts =
           let left = left_within came exhausted answer brought facts in
           (left.0, left.1, left.2, exhausted_ends facts left.0 left.3)
+
+-- A session that nobody wakes.
+module _ {L : Type 0} (hears : L → ReadFault → L → Type 0) (limit : ℕ) where
+  -- so each wake is of a frame that was passed over
+  alone : (came : List (Option Message)) (from to : List ℕ × L) → ReadsFrames ⊥ hears limit from came to → FoldsTo (ReadsFrame hears limit) from came to
+  alone [] from to run = run
+  alone (Some m ∷ came) from to run = (run.0, run.1, alone came run.0 to run.2)
+  alone (None ∷ came) from to run = elim run.1 [
+    | inl others ↦ absurd others.0
+    | inr passes ↦ (run.0, passes, alone came run.0 to run.2)
+  ]
 
   module _ {R W : Type 0} (remaining : R → Option (List ℕ)) (contents : W → Option (List ℕ)) (P : SessionPart)
       (knows : (xs : List Exchange) (stop : Stop) (null : Option Message) (answer : SessionAnswer) → P xs stop null answer → Facts stop (letters_of xs) answer)
@@ -308,14 +359,14 @@ module _ {L : Type 0} (hears : L → ReadFault → L → Type 0) (limit : ℕ) w
         at outbox'.fault (subst (λ sends. MatchOption outbox'.fault (NotRefused runs.stop × GetsFrames sends old new)
         (λ f. IsUnsent runs.stop runs.null × GetsPart f sends old new)) runs.all (gets_written contents outbox outbox' runs.output runs.null unfailed runs.stop runs.got))
       where
-        run : FoldsTo Gives before runs.events after
-        run = (seen_all remaining runs.events inbox inbox' limited runs.received).0
+        run : FoldsTo (GivesOr ⊥ hears limit) before runs.events after
+        run = (seen_all ⊥ hears limit remaining runs.events inbox inbox' limited runs.received).0
 
         facts : Facts runs.stop (letters_of runs.exchanges) answer
         facts = knows runs.exchanges runs.stop runs.null answer runs.part
 
         gives : (result : Result SessionEnd SessionFault)
-            → (at : List ℕ × L) × ReadsFrames hears limit (text, inbox.listener.now) (came_of runs.exchanges) at
+            → (at : List ℕ × L) × ReadsFrames ⊥ hears limit (text, inbox.listener.now) (came_of runs.exchanges) at
             × HearsLast hears limit runs.stop at inbox'.listener.now
             × Ends limit (remaining inbox'.reader.now) result answer runs.stop runs.null at.0
             → Wrote old new result runs.stop runs.null (sends_of runs.exchanges)
@@ -323,7 +374,7 @@ module _ {L : Type 0} (hears : L → ReadFault → L → Type 0) (limit : ℕ) w
         gives result reached wrote = record {
           exchanges = runs.exchanges;
           at = reached.0;
-          read = reached.1;
+          read = alone (came_of runs.exchanges) (text, inbox.listener.now) reached.0 reached.1;
           stop = runs.stop;
           null = runs.null;
           answer = answer;
@@ -338,16 +389,16 @@ module _ {L : Type 0} (hears : L → ReadFault → L → Type 0) (limit : ℕ) w
             → GivesAndTells hears limit P text (remaining inbox'.reader.now) inbox.listener.now inbox'.listener.now old new
             (session_answer answer inbox'.end fault)
         at None written =
-            let all = frames_end text before after unended known runs.events run (came_of runs.exchanges) runs.null answer
+            let all = frames_end ⊥ hears limit text before after unended known runs.events run (came_of runs.exchanges) runs.null answer
             (sends_of runs.exchanges) old new written.1
             runs.stop runs.brought written.0 facts in
             gives (read_answer answer inbox'.end) (all.0, all.1, all.2, all.3.0) all.3.1
         at (Some (Output kind)) unwritten =
             gives (Err (Write (Output kind)))
-            (left_after text before after unended known runs.events run (came_of runs.exchanges) answer runs.stop runs.brought facts)
+            (left_after ⊥ hears limit text before after unended known runs.events run (came_of runs.exchanges) answer runs.stop runs.brought facts)
             (tt, unwritten.0, unwritten.1.0, unwritten.1.1, unwritten.1.2, unwritten.1.3)
         at (Some NoMemory) unwritten =
-            gives (Err Memory) (left_after text before after unended known runs.events run (came_of runs.exchanges) answer runs.stop runs.brought facts)
+            gives (Err Memory) (left_after ⊥ hears limit text before after unended known runs.events run (came_of runs.exchanges) answer runs.stop runs.brought facts)
             (inr (unwritten.0, unwritten.1))
 
     -- the same of the reader and the writer that were lent, and of the listener
@@ -359,7 +410,7 @@ module _ {L : Type 0} (hears : L → ReadFault → L → Type 0) (limit : ℕ) w
         → IfSome (remaining first) (λ text. GivesAndTells hears limit P text (remaining last) heard heard' (contents first') (contents last')
         (session_answer answer inbox'.end outbox'.fault))
     session_gives first last first' last' heard heard' same same' untold named hearing named' =
-        let seen = seen_all remaining runs.events inbox inbox' limited runs.received in
+        let seen = seen_all ⊥ hears limit remaining runs.events inbox inbox' limited runs.received in
         rw (named seen.1, hearing seen.2, named' (gets_keeps contents outbox outbox' runs.output runs.null runs.stop runs.got), sym same, sym same', sym untold)
         (at (remaining inbox.reader.now) refl)
       where
@@ -372,7 +423,7 @@ module _ {L : Type 0} (hears : L → ReadFault → L → Type 0) (limit : ℕ) w
 
 -- A listener that passes over nothing: each frame is a message.
 module _ {L : Type 0} (hears : L → ReadFault → L → Type 0) (never : PassesNothingOver hears) (limit : ℕ) where
-  reads_messages : (came : List (Option Message)) (from to : List ℕ × L) → ReadsFrames hears limit from came to → FoldsTo (ReadsMessage limit) from.0 came to.0
+  reads_messages : (came : List (Option Message)) (from to : List ℕ × L) → FoldsTo (ReadsFrame hears limit) from came to → FoldsTo (ReadsMessage limit) from.0 came to.0
   reads_messages [] from to run = ap (λ (at : List ℕ × L). at.0) run
   reads_messages (Some m ∷ came) from to run = (run.0.0, run.1.0, reads_messages came run.0 to run.2)
   reads_messages (None ∷ came) from to run = absurd (never from.1 run.1.0 run.0.1 run.1.3)
