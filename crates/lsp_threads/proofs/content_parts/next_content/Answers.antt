@@ -3,7 +3,7 @@ use Rattle.lsp_relay.specs.Relay.{has_end}
 use Rattle.lsp_relay.proofs.Parcels.{has_end_push, has_end_closed}
 use Rattle.lsp_threads.specs.Contents.{bytes_of}
 use Rattle.lsp_threads.proofs.ContentWaits.{collects_then, collects_parcel, collects_end, empty_list}
-use Rattle.lsp_threads.proofs.content_inbox.next_content.Goals as goal
+use Rattle.lsp_threads.proofs.content_parts.next_content.Goals as goal
 
 pub loop-preserved : goal.loop-preserved
 loop-preserved g c =

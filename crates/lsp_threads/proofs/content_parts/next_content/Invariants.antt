@@ -1,7 +1,7 @@
 use Rattle.std.specs.Prelude.{◌≡◌, false}
 use Rattle.lsp_relay.specs.Relay.{has_end}
 use Rattle.lsp_threads.specs.Contents.{bytes_of, Collects}
-use Rattle.lsp_threads.proofs.content_inbox.next_content.Given as goal
+use Rattle.lsp_threads.proofs.content_parts.next_content.Given as goal
 
 abbrev pub invariant-loop : goal.invariant-loop
 invariant-loop g l = record {
