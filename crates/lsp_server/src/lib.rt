@@ -46,10 +46,10 @@ pub use lsp_session::{
 };
 pub use lsp_threads::{
     PumpFault, StartFault, ThreadOptions, Threaded, UNREAD_BYTES, pump, pump_within, run_threads,
-    run_threads_of_service, run_threads_of_service_within, run_threads_within,
+    run_threads_of_service, run_threads_within,
 };
 pub use memory::keep_freed_memory;
 pub use relays::{Parcel, RelayRx, RelayTx, relay};
-pub use servers::{run_threads_with, run_threads_with_by, run_threads_with_within};
+pub use servers::run_threads_with;
 pub use serving_thread::{spawn, spawn_with};
 pub use unread::UNREAD_WEIGHT;
