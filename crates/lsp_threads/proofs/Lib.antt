@@ -5,6 +5,7 @@ pub mod ContentsSend
 pub mod Frames
 pub mod Handed
 pub mod HeaderFaults
+pub mod RefusedParts
 pub mod RefusedReplies
 pub mod RefusedWakes
 pub mod Replies
