@@ -33,7 +33,12 @@ pub fn session_with_jobs_keeps_laws<T: Wait + Drop, S: JobServer<J>, J: Job>()
 /// `session_with_jobs_keeps_laws` of a session with a listener: a fact of each session that was run by `run_jobs`. At a wake for a content
 /// part that was passed over the laws say what they say of each wake. With a listener that passes over nothing, such as `EndSession`, each
 /// frame is a message (`nothing_passed`).
-pub fn session_with_jobs_that_asks_keeps_laws<T: Wait + Drop, S: JobServer<J>, J: Job, L: Listener>()
+pub fn session_with_jobs_that_asks_keeps_laws<
+    T: Wait + Drop,
+    S: JobServer<J>,
+    J: Job,
+    L: Listener,
+>()
     ensures bytes { (limit : ℕ) (first last : S) (text : List ℕ) (heard heard_last : L) (before after : Option (List ℕ)) (answer : Result EndOfSession FaultOfSession)
         → ThreadsTellOver true L.hears limit (JobSession T S.Server S.starts S.finishes J.answers first last) text heard heard_last before after answer
         → ThreadsTellOver true L.hears limit (LawfulJobSession T S.Server S.starts S.finishes J.answers first last) text heard heard_last before after answer }

@@ -40,7 +40,6 @@ where
         bad_bodies.old bad_bodies.new (W.contents writer) (W.contents done.writer) done.answer)) }
 {
     let mut queued = QueuedServer::new(alloc, server);
-    let done =
-        run_threads_of_service(rt, alloc, reader, writer, &mut queued, bad_bodies, options);
+    let done = run_threads_of_service(rt, alloc, reader, writer, &mut queued, bad_bodies, options);
     (queued.into_server(), done)
 }
