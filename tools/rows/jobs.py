@@ -6,7 +6,7 @@ library of this repository."""
 import json
 import random
 
-from rules import AT_END, AT_WRONG_TIME, CANCELED, GREATEST, Talker, debug_message, frame, is_note, is_request, ordered, read, shown
+from rules import AT_END, AT_WRONG_TIME, CANCELED, GREATEST, OF_BODY, Talker, debug_message, frame, is_note, is_request, ordered, read, shown
 
 # In how many orders the parts of a row with jobs take their steps.
 ORDERS = 50
@@ -140,7 +140,9 @@ class Working(Talker):
 class JobSession:
     """A client, a server with jobs, a thread that writes and the workers, each of which takes steps."""
 
-    def __init__(self, data, pauses, pool, room, limit):
+    def __init__(self, data, pauses, pool, room, limit, passes):
+        # How many content parts of each kind are passed over, if that is asked.
+        self.passed = dict.fromkeys(OF_BODY, 0) if passes else {}
         self.data, self.pauses, self.at, self.limit, self.room = data, list(pauses), 0, limit, room
         self.pool = Pool(*pool, self.rung)
         self.server, self.state, self.end = Working(), "new", None
@@ -171,7 +173,11 @@ class JobSession:
         came, left = read(self.data[self.at :], self.limit)
         self.at = len(self.data) - len(left)
         self.queue.append(came)
-        self.is_read = not isinstance(came, dict) or is_note(came, "exit")
+        self.is_read = is_note(came, "exit") if isinstance(came, dict) else not self.may_pass(came)
+
+    def may_pass(self, came):
+        """Whether this is a content part that is no message, and those are passed over where a session can."""
+        return not isinstance(came, dict) and came in self.passed
 
     def write_next(self):
         data = self.outbox.pop(0)
@@ -208,6 +214,9 @@ class JobSession:
             name = self.news.pop(0) if self.state == "open" else None
             said = self.pool.news(name)
             return self.hear(name, *said) if said else None
+        if self.state == "open" and self.may_pass(came):
+            self.passed[came] += 1
+            return None
         if isinstance(came, int) or came == "end":
             self.end = AT_END[self.state] if came == "end" else f"read fault {came}"
             return None
@@ -258,7 +267,8 @@ class JobSession:
             parts = sorted(self.written.split(b"Content-Length: "))
             return f"{end}; wrote {shown(b''.join(parts))}; {counts['begun']} begun"
         said = f"{counts['begun']} begun, {counts['stopped']} stopped; finished{self.finished}"
-        return f"{end}; wrote {shown(self.written)}; {said}"
+        passed = "; passed " + " ".join(map(str, self.passed.values())) if self.passed else ""
+        return f"{end}; wrote {shown(self.written)}; {said}{passed}"
 
 
 class HandPool:
@@ -343,7 +353,7 @@ def job_answer(words, data, pauses):
             raise SystemExit(f"tools/rows/jobs.py: the session does not end: {words}, {data}")
         return session.answer(call == "many")
 
-    return in_all_orders(lambda: JobSession(data, pauses, pool_size(pool), room, limit), ended)
+    return in_all_orders(lambda: JobSession(data, pauses, pool_size(pool), room, limit, device == "passes"), ended)
 
 
 def pool_answer(rest):

@@ -339,6 +339,9 @@ class Echo:
             return [{"id": came["id"], "error": NOT_FOUND}]
         return []
 
+    def woken(self):
+        return []
+
 
 class Talker:
     """The server that pushes, asks and answers late."""

@@ -2,7 +2,9 @@
 use crate::threads::{Output, ended};
 use anyhow::Result;
 use lsp_jobs::{CancellationToken, Job, JobServer, PoolSize, Progress, Start, run_jobs};
-use lsp_server::{Act, Notification, Request, RequestId, ResponseError, Server};
+use lsp_server::{
+    Act, EndSession, Notification, Request, RequestId, ResponseError, Server, ThreadOptions,
+};
 use serde_json::{Map, Value, put};
 use std::alloc::{AllocError, Global};
 use std::io::BufRead;
@@ -121,5 +123,17 @@ where
         starting: Vec::new(alloc),
     };
     let size = PoolSize::from(workers);
-    ended(run_jobs(rt, alloc, reader, Output(*rt), size, jobs).1)
+    let options = ThreadOptions::new();
+    let writer = Output(*rt);
+    let done = run_jobs(
+        rt,
+        alloc,
+        reader,
+        writer,
+        size,
+        jobs,
+        &mut EndSession,
+        options,
+    );
+    ended(done.1)
 }

@@ -1,6 +1,6 @@
 //! The same session of a server that speaks, though it says nothing of its own.
 use anyhow::{Result, bail};
-use lsp_server::{Act, Notification, Request, ResponseError, Server, session_with};
+use lsp_server::{Act, EndSession, Notification, Request, ResponseError, Server, session_with};
 use serde_json::{Map, Value, put};
 use std::alloc::{AllocError, Global};
 use std::io::{BufRead, Write};
@@ -82,7 +82,8 @@ pub fn serve<R: BufRead, W: Write>(
     writer: &mut W,
     is_null: bool,
 ) -> Result<()> {
-    let (_, answer) = session_with(alloc, reader, writer, Speaking { alloc, is_null });
+    let server = Speaking { alloc, is_null };
+    let (_, answer) = session_with(alloc, reader, writer, server, &mut EndSession, u64::MAX);
     match answer {
         Ok(_) => Ok(()),
         Err(fault) => bail!("{fault}"),

@@ -3,7 +3,8 @@ use crate::session::Echo;
 use crate::speaking::Speaking;
 use anyhow::{Result, bail};
 use lsp_server::{
-    FrameOutbox, ReadEnd, StartFault, Threaded, pump, read_loop, run_threads, run_threads_with,
+    EndSession, FrameOutbox, ReadEnd, StartFault, ThreadOptions, Threaded, pump, read_loop,
+    run_threads, run_threads_with,
 };
 use serde_json::{Map, Value};
 use std::alloc::Global;
@@ -69,7 +70,17 @@ where
         alloc,
         is_null: false,
     };
-    ended(run_threads_with(rt, alloc, reader, Output(*rt), speaking).1)
+    let options = ThreadOptions::new();
+    let done = run_threads_with(
+        rt,
+        alloc,
+        reader,
+        Output(*rt),
+        speaking,
+        &mut EndSession,
+        options,
+    );
+    ended(done.1)
 }
 
 /// How a session in threads ended.

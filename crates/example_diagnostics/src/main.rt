@@ -8,8 +8,8 @@
 
 use anyhow::{Result as Answer, bail};
 use lsp_server::{
-    Act, Notification, Request, RequestId, ResponseError, Server, SessionEnd, SessionFault,
-    read_as, session_with, write_as,
+    Act, EndSession, Notification, Request, RequestId, ResponseError, Server, SessionEnd,
+    SessionFault, read_as, session_with, write_as,
 };
 use lsp_types::{
     ConfigurationParams, Diagnostic, DiagnosticSeverity, DidChangeTextDocumentParams,
@@ -362,7 +362,16 @@ fn main(rt: HostRuntime) -> Answer<()> {
         None => {
             let mut reader = BufReader::with_capacity(alloc, 65536, rt.reader())?;
             let mut writer = io::writer(&rt);
-            session_with(alloc, &mut reader, &mut writer, Checker::new(alloc)).1
+            let server = Checker::new(alloc);
+            session_with(
+                alloc,
+                &mut reader,
+                &mut writer,
+                server,
+                &mut EndSession,
+                u64::MAX,
+            )
+            .1
         }
     };
     match answer? {
@@ -381,6 +390,16 @@ where
     let (stream, _) = listener.accept()?;
     let mut writer = stream.try_clone()?;
     let mut reader = BufReader::with_capacity(alloc, 65536, stream)?;
-    let (_, answer) = session_with(alloc, &mut reader, &mut writer, Checker::new(alloc));
-    Ok(answer)
+    let server = Checker::new(alloc);
+    Ok(
+        session_with(
+            alloc,
+            &mut reader,
+            &mut writer,
+            server,
+            &mut EndSession,
+            u64::MAX,
+        )
+        .1,
+    )
 }

@@ -13,7 +13,8 @@ use lsp_jobs::laws::session_with_jobs_keeps_laws;
 use lsp_jobs::{Job, JobServer, PoolSize, run_jobs};
 use lsp_server::laws::server_keeps_laws;
 use lsp_server::{
-    Server, SessionEnd, SessionFault, StartFault, Threaded, run_threads_with, session_with,
+    EndSession, Server, SessionEnd, SessionFault, StartFault, ThreadOptions, Threaded,
+    run_threads_with, session_with,
 };
 use std::alloc::Global;
 use std::io::{BufRead, Write};
@@ -37,7 +38,7 @@ pub fn serve<R: BufRead, W: Write>(
         text (R.remaining reader.new) (W.contents writer.old) (W.contents writer.new) result.1) }
 {
     server_keeps_laws::<Sums>();
-    session_with(alloc, reader, writer, sums)
+    session_with(alloc, reader, writer, sums, &mut EndSession, u64::MAX)
 }
 
 /// `serve` with a thread that reads and one that writes. Its author knows the same of it.
@@ -57,7 +58,8 @@ where
         text (W.contents writer) (W.contents done.writer) done.answer)) }
 {
     server_keeps_laws::<Sums>();
-    run_threads_with(rt, alloc, reader, writer, sums)
+    let options = ThreadOptions::new();
+    run_threads_with(rt, alloc, reader, writer, sums, &mut EndSession, options)
 }
 
 /// Two searches run at a time, and 16 more may wait. The next gets an error.
@@ -85,5 +87,15 @@ where
         text (W.contents writer) (W.contents done.writer) done.answer)) }
 {
     session_with_jobs_keeps_laws::<T, Sums, Search>();
-    run_jobs(rt, alloc, reader, writer, SIZE, sums)
+    let options = ThreadOptions::new();
+    run_jobs(
+        rt,
+        alloc,
+        reader,
+        writer,
+        SIZE,
+        sums,
+        &mut EndSession,
+        options,
+    )
 }

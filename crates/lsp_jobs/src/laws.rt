@@ -1,11 +1,12 @@
 //! What a session of a server with jobs does, in its user's words.
 ghost use Rattle.std.specs.Prelude.{◌≡◌, true, ℕ, List, Option, Result};
 ghost use Rattle.lsp_message.specs.Message.{Message};
+ghost use Rattle.lsp_session.specs.PassingBytes.{PassesNothingOver};
 ghost use Rattle.lsp_session.specs.Session.{Exchange, SessionAnswer, Stop};
 ghost use Rattle.lsp_session.specs.declared.loops.handler.SessionEnd.{SessionEnd as EndOfSession};
 ghost use Rattle.lsp_session.specs.declared.loops.stream_session.SessionFault.{SessionFault as FaultOfSession};
 ghost use Rattle.lsp_service.specs.Law.{AnswersInitialize, TakesPart};
-ghost use Rattle.lsp_threads.specs.Threads.{ThreadsGiveOver};
+ghost use Rattle.lsp_threads.specs.Threads.{ThreadsGiveOver, ThreadsTellOver};
 ghost use Rattle.lsp_jobs.specs.JobLaw.{LawfulJobSession, PartActsByJobs};
 ghost use Rattle.lsp_jobs.specs.JobSession.{JobSession, seen_with_jobs};
 ghost use Rattle.lsp_jobs.specs.PoolView.{table_of};
@@ -14,9 +15,10 @@ ghost use Rattle.lsp_jobs.specs.declared.pooled_server.PooledServer.{PooledServe
 
 use crate::job::Job;
 use crate::job_server::JobServer;
+use lsp_session::Listener;
 use std::sync::Wait;
 
-/// A session that was run by `run_jobs`, with a limit or without one, keeps the laws of `lsp_service::laws::server_keeps_laws`: under no
+/// A session that was run by `run_jobs`, with a limit or without one, and that passes over nothing, keeps the laws of `lsp_service::laws::server_keeps_laws`: under no
 /// id more replies than requests, whatever jobs come to and when; one reply for a request whose id was used once, unless it is still held
 /// or the session ended at it; and before `initialized` nothing but errors and the result of `initialize`, nothing after the null of `shutdown`.
 pub fn session_with_jobs_keeps_laws<T: Wait + Drop, S: JobServer<J>, J: Job>()
@@ -26,6 +28,23 @@ pub fn session_with_jobs_keeps_laws<T: Wait + Drop, S: JobServer<J>, J: Job>()
     ensures bytes { (limit : ℕ) (first last : S) (text : List ℕ) (before after : Option (List ℕ)) (answer : Result EndOfSession FaultOfSession)
         → ThreadsGiveOver true limit (JobSession T S.Server S.starts S.finishes J.answers first last) text before after answer
         → ThreadsGiveOver true limit (LawfulJobSession T S.Server S.starts S.finishes J.answers first last) text before after answer }
+{}
+
+/// `session_with_jobs_keeps_laws` of a session with a listener: a fact of each session that was run by `run_jobs`. At a wake for a content
+/// part that was passed over the laws say what they say of each wake. With a listener that passes over nothing, such as `EndSession`, each
+/// frame is a message (`nothing_passed`).
+pub fn session_with_jobs_that_asks_keeps_laws<
+    T: Wait + Drop,
+    S: JobServer<J>,
+    J: Job,
+    L: Listener,
+>()
+    ensures bytes { (limit : ℕ) (first last : S) (text : List ℕ) (heard heard_last : L) (before after : Option (List ℕ)) (answer : Result EndOfSession FaultOfSession)
+        → ThreadsTellOver true L.hears limit (JobSession T S.Server S.starts S.finishes J.answers first last) text heard heard_last before after answer
+        → ThreadsTellOver true L.hears limit (LawfulJobSession T S.Server S.starts S.finishes J.answers first last) text heard heard_last before after answer }
+    ensures nothing_passed { (limit : ℕ) (first last : S) (text : List ℕ) (heard heard_last : L) (before after : Option (List ℕ)) (answer : Result EndOfSession FaultOfSession)
+        → PassesNothingOver L.hears → ThreadsTellOver true L.hears limit (JobSession T S.Server S.starts S.finishes J.answers first last) text heard heard_last before after answer
+        → ThreadsGiveOver true limit (JobSession T S.Server S.starts S.finishes J.answers first last) text before after answer }
 {}
 
 /// At each wake nothing is done, or one notification is sent, or a request is answered: with an outcome to which the job may come that the

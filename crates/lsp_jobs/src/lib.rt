@@ -18,4 +18,4 @@ pub use job::{Job, Progress};
 pub use job_server::{JobServer, Start};
 pub use pool::{JobNews, JobPool, PoolSize, TakeFault};
 pub use pooled_server::PooledServer;
-pub use run::{run_jobs, run_jobs_by, run_jobs_within};
+pub use run::run_jobs;

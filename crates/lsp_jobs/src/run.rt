@@ -1,7 +1,6 @@
 // A session of a server whose long requests are jobs, in threads.
 ghost use Rattle.std.specs.Prelude.{true, IfOk, IfSome};
-ghost use Rattle.lsp_message.specs.Frame.{no_limit};
-ghost use Rattle.lsp_threads.specs.Threads.{ThreadsGiveOver};
+ghost use Rattle.lsp_threads.specs.Threads.{ThreadsTellOver};
 ghost use Rattle.lsp_jobs.specs.JobSession.{JobSession};
 
 use crate::job::Job;
@@ -10,6 +9,7 @@ use crate::pool::{PoolSize, start_pool};
 use crate::pooled_server::PooledServer;
 use lsp_relay::relay;
 use lsp_service::WokenQueuedServer;
+use lsp_session::Listener;
 use lsp_threads::{Contents, StartFault, ThreadOptions, Threaded, run_threads_of_service_over};
 use std::alloc::Global;
 use std::io::{BufRead, Write};
@@ -22,70 +22,26 @@ const ROOM: usize = 32;
 /// Runs a session of a server whose long requests are jobs, and gives the server back: threads of a pool run jobs, one thread reads, one
 /// writes, and the server is on the caller's thread, which goes on while jobs run.
 ///
-/// Starts, faults and the end are those of `run_threads`: the outer fault means that a thread was not started, or that an allocation
-/// failed, and nothing was read or written then.
+/// Starts, faults and the end are those of `run_threads_of_service`: the outer fault means that a thread was not started, or that an
+/// allocation failed, and nothing was read or written then.
 ///
 /// - A `$/cancelRequest` for a request that waits for its job is answered at once, with what the server does at it or else with the
 ///   error -32800. The job's token is cancelled, and what it comes to is dropped (LSP 3.17, "Cancellation Support").
 /// - A job that finds no room is dropped, and its request gets the error -32803, `too many requests are waiting`.
 /// - Reports and outcomes are sent up to `shutdown`. What a job says later is dropped.
+/// - At a content part that is no message (see `lsp_session::is_of_body`) the listener `bad_bodies` is asked, at once and on your thread,
+///   from `initialized` up to `shutdown`. Where it reads on, nothing is answered, the server is not told, and the next frame follows. Where
+///   it ends the session, and before and after in any case, such a part is `SessionFault::Read`.
 /// - At the end all tokens are cancelled and all threads joined: it returns only when the jobs that run do.
-pub fn run_jobs<T, R, W, S, J>(
+pub fn run_jobs<T, R, W, S, J, L>(
     rt: &T,
     alloc: Global,
     reader: R,
     writer: W,
     size: PoolSize,
     server: S,
-) -> (S, Result<Threaded<W>, StartFault>)
-where
-    T: Threads + Wait + Copy + Drop + Send + 'static,
-    R: BufRead + Drop + Send + 'static,
-    W: Write + Drop + Send + 'static,
-    S: JobServer<J> + Drop,
-    J: Job + Send + 'static,
-    ensures { IfSome (R.remaining reader) (λ text. IfOk result.1 (λ done.
-        ThreadsGiveOver true no_limit (JobSession T S.Server S.starts S.finishes J.answers server result.0)
-        text (W.contents writer) (W.contents done.writer) done.answer)) }
-{
-    run_jobs_within(rt, alloc, reader, writer, size, server, u64::MAX)
-}
-
-/// `run_jobs` over messages whose content part has at most `limit` bytes. A longer one is `SessionFault::Read` of
-/// `ReadFault::TooLong`, where the session came to it.
-pub fn run_jobs_within<T, R, W, S, J>(
-    rt: &T,
-    alloc: Global,
-    reader: R,
-    writer: W,
-    size: PoolSize,
-    server: S,
-    limit: u64,
-) -> (S, Result<Threaded<W>, StartFault>)
-where
-    T: Threads + Wait + Copy + Drop + Send + 'static,
-    R: BufRead + Drop + Send + 'static,
-    W: Write + Drop + Send + 'static,
-    S: JobServer<J> + Drop,
-    J: Job + Send + 'static,
-    ensures { IfSome (R.remaining reader) (λ text. IfOk result.1 (λ done.
-        ThreadsGiveOver true limit (JobSession T S.Server S.starts S.finishes J.answers server result.0)
-        text (W.contents writer) (W.contents done.writer) done.answer)) }
-{
-    let options = ThreadOptions::new();
-    run_jobs_by(rt, options, alloc, reader, writer, size, server, limit)
-}
-
-/// As `run_jobs_within`, with options for the two threads that read and write.
-pub fn run_jobs_by<T, R, W, S, J>(
-    rt: &T,
+    bad_bodies: &mut L,
     options: ThreadOptions,
-    alloc: Global,
-    reader: R,
-    writer: W,
-    size: PoolSize,
-    server: S,
-    limit: u64,
 ) -> (S, Result<Threaded<W>, StartFault>)
 where
     T: Threads + Wait + Copy + Drop + Send + 'static,
@@ -93,9 +49,10 @@ where
     W: Write + Drop + Send + 'static,
     S: JobServer<J> + Drop,
     J: Job + Send + 'static,
+    L: Listener,
     ensures { IfSome (R.remaining reader) (λ text. IfOk result.1 (λ done.
-        ThreadsGiveOver true limit (JobSession T S.Server S.starts S.finishes J.answers server result.0)
-        text (W.contents writer) (W.contents done.writer) done.answer)) }
+        ThreadsTellOver true L.hears options.limit (JobSession T S.Server S.starts S.finishes J.answers server result.0) text
+        bad_bodies.old bad_bodies.new (W.contents writer) (W.contents done.writer) done.answer)) }
 {
     let Ok((mut tx, rx)) = relay::<Contents>(alloc, ROOM) else {
         return (server, Err(StartFault::Memory));
@@ -112,13 +69,13 @@ where
     let ends = (tx, rx);
     let done = run_threads_of_service_over(
         rt,
-        options,
         alloc,
         ends,
         reader,
         writer,
         &mut queued,
-        limit,
+        bad_bodies,
+        options,
     );
     let (server, pool) = queued.into_server().into_parts();
     pool.end();

@@ -53,11 +53,15 @@ pub use Rattle.lsp_service.specs.QueuedServer
 pub use Rattle.lsp_session.specs.Answered
 pub use Rattle.lsp_session.specs.Boxes
 pub use Rattle.lsp_session.specs.Event
+pub use Rattle.lsp_session.specs.FaultCounts
 pub use Rattle.lsp_session.specs.Finish
 pub use Rattle.lsp_session.specs.FrameBoxes
 pub use Rattle.lsp_session.specs.HandlerSession
 pub use Rattle.lsp_session.specs.Lists
 pub use Rattle.lsp_session.specs.OutputView
+pub use Rattle.lsp_session.specs.Passing
+pub use Rattle.lsp_session.specs.PassingBoxes
+pub use Rattle.lsp_session.specs.PassingBytes
 pub use Rattle.lsp_session.specs.ProtocolError
 pub use Rattle.lsp_session.specs.ProtocolErrorLaws
 pub use Rattle.lsp_session.specs.ReadLoop

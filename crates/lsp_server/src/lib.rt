@@ -34,21 +34,22 @@ pub use lsp_message::{
 pub use lsp_peers::{Link, Outcome, Side, Step, World, WorldFault};
 pub use lsp_queue::{Incoming, Outgoing, RegisterFault, ReqQueue};
 pub use lsp_service::{
-    Act, Output, Server, Service, WokenServer, serve_service, serve_with, serve_with_woken,
-    session_of_service, session_of_service_within, session_with, session_with_within,
+    Act, Output, QueuedServer, Server, Service, WokenQueuedServer, WokenServer, serve_service,
+    session_of_service, session_with,
 };
 pub use lsp_session::{
-    Arrival, CallGate, Event, FrameOutbox, Gate, Handler, Inbox, ListGate, ListInbox, ListOutbox,
-    OpenGate, Outbox, ProtocolError, ReadEnd, SendFault, SessionEnd, SessionFault, StreamInbox,
-    StreamLine, WriteEnd, finish, finish_within, read_loop, read_loop_within, serve, serve_line,
-    session, session_on, session_within, shutdown, start_within, wait_within, write_loop,
+    Arrival, CallGate, EndSession, Event, FaultCounts, FrameOutbox, Gate, Handler, HandlerService,
+    Ignore, Inbox, ListGate, ListInbox, ListOutbox, Listener, OpenGate, Outbox, ProtocolError,
+    ReadEnd, SendFault, SessionEnd, SessionFault, StreamInbox, StreamLine, TolerantInbox, WriteEnd,
+    finish, finish_within, is_of_body, read_loop, read_loop_within, serve, serve_line, session,
+    session_within, shutdown, start_within, wait_within, write_loop,
 };
 pub use lsp_threads::{
     PumpFault, StartFault, ThreadOptions, Threaded, UNREAD_BYTES, pump, pump_within, run_threads,
-    run_threads_of_service, run_threads_of_service_within, run_threads_within,
+    run_threads_of_service, run_threads_within,
 };
 pub use memory::keep_freed_memory;
 pub use relays::{Parcel, RelayRx, RelayTx, relay};
-pub use servers::{run_threads_with, run_threads_with_by, run_threads_with_within};
+pub use servers::run_threads_with;
 pub use serving_thread::{spawn, spawn_with};
 pub use unread::UNREAD_WEIGHT;

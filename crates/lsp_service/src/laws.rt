@@ -3,24 +3,28 @@ ghost use Rattle.std.specs.Prelude.{◌≡◌, ◌⊎◌, ℕ, true, List, Optio
 ghost use Rattle.lsp_message.specs.Id.{Id};
 ghost use Rattle.lsp_message.specs.Message.{Message};
 ghost use Rattle.lsp_queue.specs.Queue.{Pending};
+ghost use Rattle.lsp_session.specs.PassingBytes.{GivesAndTells, PassesNothingOver};
 ghost use Rattle.lsp_session.specs.ProtocolError.{ProtocolFault, is_disconnected};
-ghost use Rattle.lsp_session.specs.Session.{Exchange, SessionAnswer, Stop, sends_of};
+ghost use Rattle.lsp_session.specs.Session.{Exchange, SessionAnswer, SessionOut, Stop, sends_of};
 ghost use Rattle.lsp_session.specs.SessionBytes.{Gives};
 ghost use Rattle.lsp_session.specs.SessionRun.{Runs};
 ghost use Rattle.lsp_session.specs.declared.loops.handler.SessionEnd.{SessionEnd as EndOfSession};
 ghost use Rattle.lsp_session.specs.declared.loops.stream_session.SessionFault.{SessionFault as FaultOfSession};
-ghost use Rattle.lsp_service.specs.Desk.{Desk};
+ghost use Rattle.lsp_service.specs.Desk.{Desk, empty_desk};
 ghost use Rattle.lsp_service.specs.Law.{is_reply_under, how_many, held_under, OnceOrEnded, KeepsLaws, LawfulSession};
 ghost use Rattle.lsp_service.specs.Turning.{ActsAt};
 ghost use Rattle.lsp_service.specs.Stated.{unwoken, with_wakes};
-ghost use Rattle.lsp_service.specs.QueuedServer.{ServerSession, WorksGiving, held_by};
+ghost use Rattle.lsp_service.specs.QueuedServer.{at_desk, at_woken_desk, ServerSession, WorksGiving, held_by};
+ghost use Rattle.lsp_service.specs.View.{seen};
+ghost use Rattle.lsp_service.specs.declared.desk.QueuedServer.{QueuedServer as DeskOf};
+ghost use Rattle.lsp_service.specs.declared.desk.WokenQueuedServer.{WokenQueuedServer as WokenDeskOf};
 
 use crate::server::{Server, WokenServer};
-use lsp_session::{Inbox, Outbox};
+use lsp_session::{Inbox, Listener, Outbox};
 
 /// What a session of a server says of its exchanges implies the laws: a fact of each session that was run by `session_with`, with a
-/// limit or without one. `server_over_boxes_keeps_laws` has the same over boxes, `woken_server_keeps_laws` of a server that is woken, and
-/// `lsp_server::laws` in threads.
+/// limit or without one. `server_that_asks_keeps_laws` has it in bytes with a listener, `server_over_boxes_keeps_laws` over boxes,
+/// `woken_server_keeps_laws` of a server that is woken, and `lsp_server::laws` in threads.
 ///
 /// In each beginning of the session the replies under an id are no more than the client's requests under it: no reply goes to
 /// anything else, and none comes twice. A request whose id the client used once has exactly one reply. Or it has none: it is still
@@ -40,15 +44,27 @@ pub fn server_keeps_laws<S: Server>()
         → Gives limit (LawfulSession (unwoken S.Server) first last) text left before after answer }
 {}
 
-/// `server_keeps_laws` of a session over boxes: a fact of each session that was run by `serve_with`.
+/// `server_keeps_laws` of a session with a listener: a fact of each session that was run by `session_with`. With a listener that passes
+/// over nothing, such as `EndSession`, it is one in which each frame is a message (`nothing_passed`).
+pub fn server_that_asks_keeps_laws<S: Server, L: Listener>()
+    ensures bytes { (limit : ℕ) (first last : S) (text : List ℕ) (left : Option (List ℕ)) (heard heard_last : L) (before after : Option (List ℕ)) (answer : Result EndOfSession FaultOfSession)
+        → GivesAndTells L.hears limit (ServerSession (unwoken S.Server) first last) text left heard heard_last before after answer
+        → GivesAndTells L.hears limit (LawfulSession (unwoken S.Server) first last) text left heard heard_last before after answer }
+    ensures nothing_passed { (limit : ℕ) (first last : S) (text : List ℕ) (left : Option (List ℕ)) (heard heard_last : L) (before after : Option (List ℕ)) (answer : Result EndOfSession FaultOfSession)
+        → PassesNothingOver L.hears → GivesAndTells L.hears limit (ServerSession (unwoken S.Server) first last) text left heard heard_last before after answer
+        → Gives limit (ServerSession (unwoken S.Server) first last) text left before after answer }
+{}
+
+/// `server_keeps_laws` of a session over boxes: a fact of each session of a `QueuedServer` (`desk_runs_its_server`) that was run by
+/// `serve_service`.
 pub fn server_over_boxes_keeps_laws<I: Inbox, O: Outbox, S: Server>()
     ensures { (first last : S) (before after : I × O) (answer : SessionAnswer)
         → Runs I.receives O.sends (ServerSession (unwoken S.Server) first last) before answer after
         → Runs I.receives O.sends (LawfulSession (unwoken S.Server) first last) before answer after }
 {}
 
-/// `server_keeps_laws` of a server that is woken: a fact of each session that was run by `serve_with_woken`. At each wake that was told to it
-/// the server did what it states of one.
+/// `server_keeps_laws` of a server that is woken: a fact of each session of a `WokenQueuedServer` (`woken_desk_runs_its_server`). At each
+/// wake that was told to it the server did what it states of one.
 pub fn woken_server_keeps_laws<I: Inbox, O: Outbox, S: WokenServer>()
     ensures exchanges { (first last : S) (exchanges : List Exchange) (stop : Stop) (null : Option Message) (answer : SessionAnswer)
         → (session : ServerSession (with_wakes S.Server S.wakes) first last exchanges stop null answer)
@@ -56,6 +72,37 @@ pub fn woken_server_keeps_laws<I: Inbox, O: Outbox, S: WokenServer>()
     ensures boxes { (first last : S) (before after : I × O) (answer : SessionAnswer)
         → Runs I.receives O.sends (ServerSession (with_wakes S.Server S.wakes) first last) before answer after
         → Runs I.receives O.sends (LawfulSession (with_wakes S.Server S.wakes) first last) before answer after }
+{}
+
+/// A session of a server at its desk is one of the server: a fact of each session of a `QueuedServer`, which `serve_service` and
+/// `serve_line` run over boxes and `session_of_service` over bytes. The desk is empty at first (`QueuedServer::new`), and
+/// `QueuedServer::into_server` gives the server back.
+pub fn desk_runs_its_server<I: Inbox, O: Outbox, S: Server, L: Listener>()
+    ensures exchanges { (old new : DeskOf S S.Payload) (server : S) (exchanges : List Exchange) (stop : Stop) (null : Option Message) (answer : SessionAnswer)
+        → seen old ≡ (server, empty_desk) → SessionOut (at_desk (unwoken S.Server)) old new exchanges stop null answer
+        → ServerSession (unwoken S.Server) server new.server exchanges stop null answer }
+    ensures boxes { (old new : DeskOf S S.Payload) (server : S) (before after : I × O) (answer : SessionAnswer)
+        → seen old ≡ (server, empty_desk) → Runs I.receives O.sends (SessionOut (at_desk (unwoken S.Server)) old new) before answer after
+        → Runs I.receives O.sends (ServerSession (unwoken S.Server) server new.server) before answer after }
+    ensures bytes { (old new : DeskOf S S.Payload) (server : S) (limit : ℕ) (text : List ℕ) (left : Option (List ℕ)) (heard heard_last : L) (before after : Option (List ℕ)) (answer : Result EndOfSession FaultOfSession)
+        → seen old ≡ (server, empty_desk)
+        → GivesAndTells L.hears limit (SessionOut (at_desk (unwoken S.Server)) old new) text left heard heard_last before after answer
+        → GivesAndTells L.hears limit (ServerSession (unwoken S.Server) server new.server) text left heard heard_last before after answer }
+{}
+
+/// `desk_runs_its_server` of a server that is woken: a fact of each session of a `WokenQueuedServer`. At a content part that the listener
+/// passes over the server is woken, and what it does then is what it states of a wake. In bytes the session keeps the laws too.
+pub fn woken_desk_runs_its_server<I: Inbox, O: Outbox, S: WokenServer, L: Listener>()
+    ensures exchanges { (old new : WokenDeskOf S S.Payload) (server : S) (exchanges : List Exchange) (stop : Stop) (null : Option Message) (answer : SessionAnswer)
+        → seen old.queued ≡ (server, empty_desk) → SessionOut (at_woken_desk (with_wakes S.Server S.wakes)) old new exchanges stop null answer
+        → ServerSession (with_wakes S.Server S.wakes) server new.queued.server exchanges stop null answer }
+    ensures boxes { (old new : WokenDeskOf S S.Payload) (server : S) (before after : I × O) (answer : SessionAnswer)
+        → seen old.queued ≡ (server, empty_desk) → Runs I.receives O.sends (SessionOut (at_woken_desk (with_wakes S.Server S.wakes)) old new) before answer after
+        → Runs I.receives O.sends (ServerSession (with_wakes S.Server S.wakes) server new.queued.server) before answer after }
+    ensures bytes { (old new : WokenDeskOf S S.Payload) (server : S) (limit : ℕ) (text : List ℕ) (left : Option (List ℕ)) (heard heard_last : L) (before after : Option (List ℕ)) (answer : Result EndOfSession FaultOfSession)
+        → seen old.queued ≡ (server, empty_desk)
+        → GivesAndTells L.hears limit (SessionOut (at_woken_desk (with_wakes S.Server S.wakes)) old new) text left heard heard_last before after answer
+        → GivesAndTells L.hears limit (LawfulSession (with_wakes S.Server S.wakes) server new.queued.server) text left heard heard_last before after answer }
 {}
 
 /// What a server stated of a message is what it did, and what its acts send is all that is sent, in their order: each

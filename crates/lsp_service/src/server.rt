@@ -91,7 +91,7 @@ pub trait Server {
         ensures { IfOk result (λ _. takes_back self.old «payload» self.new) };
 }
 
-/// A server that is woken: it waits for more than the messages of its client. `serve_with_woken` and `WokenQueuedServer` wake it. Each
+/// A server that is woken: it waits for more than the messages of its client. At its desk, a `WokenQueuedServer`, it is woken. Each
 /// one says what it does at a wake: `wakes` has no default.
 pub trait WokenServer: Server {
     ghost use Rattle.std.specs.Prelude.{List};

@@ -7,10 +7,12 @@ pub mod Lending
 pub mod Line
 pub mod LineRuns
 pub mod Ordering
+pub mod Passing
 pub mod Phases
 pub mod Ran
 pub mod Refused
 pub mod RefusedDialogs
+pub mod RefusedPassing
 pub mod RefusedReplies
 pub mod RefusedRuns
 pub mod RefusedWakes

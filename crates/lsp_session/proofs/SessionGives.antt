@@ -11,16 +11,16 @@ use Rattle.lsp_message.specs.declared.frame.WriteFault.TheVariants.{Output, Memo
 use Rattle.lsp_message.specs.declared.frame.WriteFault.{WriteFault}
 use Rattle.lsp_session.proofs.Handing.{begins, AreFramesOf-push, breaks_off, taken_frames, taken_keeps, Appends-Keeps}
 use Rattle.lsp_session.proofs.Ran.{is_no_exit, Facts}
-use Rattle.lsp_session.proofs.Waiting.{FoldsTo-split, and-true}
+use Rattle.lsp_session.proofs.Waiting.{FoldsTo-split}
 use Rattle.lsp_session.specs.Boxes.{Sends, Takes}
 use Rattle.lsp_session.specs.Event.{Event, closed, message, timeout, woken}
 use Rattle.lsp_session.specs.Finish.{FinishAnswer, FinishesAt}
 use Rattle.lsp_session.specs.FrameBoxes.{FrameOutboxSends, Told, kept_write}
 use Rattle.lsp_session.specs.ProtocolError.{out_of_memory}
-use Rattle.lsp_session.specs.Session.{Exchange, came_of, letters_of, sends_of, SessionAnswer, SessionPart, Stop, decided, no_more, timed_out, refused, exhausted}
-use Rattle.lsp_session.specs.SessionBytes.{ReadsMessage, IsUnsent, LeftAfter, Ends, Wrote, Gives, GetsAllButLast, LeftWithin}
-use Rattle.lsp_session.specs.SessionFault.{ran_out, came_to_no_more, plain_answer, read_fault, read_answer, session_answer}
-use Rattle.lsp_session.specs.SessionRun.{came_in, is_open, Brings, Runs, all_of, OffersLast, RefusesLast, Gets}
+use Rattle.lsp_session.specs.Session.{SessionAnswer, Stop, decided, no_more, timed_out, refused, exhausted}
+use Rattle.lsp_session.specs.SessionBytes.{IsUnsent, LeftAfter, Ends, Wrote, GetsAllButLast, LeftWithin}
+use Rattle.lsp_session.specs.SessionFault.{ran_out, came_to_no_more, plain_answer, read_fault, read_answer}
+use Rattle.lsp_session.specs.SessionRun.{came_in, is_open, Brings, all_of, OffersLast, RefusesLast, Gets}
 use Rattle.lsp_session.specs.StreamBoxes.{stream_of, StreamInboxGives}
 use Rattle.lsp_session.specs.Streams.{Stream, StreamGives, StreamReads, Reads}
 use Rattle.lsp_session.specs.declared.lifecycle.SendFault.TheVariants.{Closed as Shut, Memory as Full}
@@ -30,15 +30,14 @@ use Rattle.lsp_session.specs.declared.loops.ReadEnd.{ReadEnd}
 use Rattle.lsp_session.specs.declared.loops.frame_outbox.FrameOutbox.{FrameOutbox}
 use Rattle.lsp_session.specs.declared.loops.handler.SessionEnd.{SessionEnd}
 use Rattle.lsp_session.specs.declared.loops.stream_inbox.StreamInbox.{StreamInbox}
-use Rattle.lsp_session.specs.declared.loops.stream_session.SessionFault.TheVariants.{Write, Memory}
+use Rattle.lsp_session.specs.declared.loops.stream_session.SessionFault.TheVariants.{Memory}
 use Rattle.lsp_session.specs.declared.loops.stream_session.SessionFault.{SessionFault}
-use Rattle.std.proofs.Common.{◌≡◌, refl, sym, ◌∙◌, ap, subst, inl, inr, ℕ, Bool, true, false, true≢false, List, [], ◌∷◌, ◌++◌, append-nil, Some, None, Option, IfSome}
+use Rattle.std.proofs.Common.{◌≡◌, refl, sym, ◌∙◌, ap, subst, inl, inr, ℕ, Bool, true, false, true≢false, List, [], ◌∷◌, ◌++◌, append-nil, Some, None, Option}
 use Rattle.std.proofs.KnownBytes.{Appends-trans}
 use Rattle.std.proofs.lemmas.List.Elements.{filter_map-append}
-use Rattle.std.proofs.lemmas.List.Folds.{list_all-append}
 use Rattle.std.specs.Io.KnownBytes.{Keeps}
 use Rattle.std.specs.List.{FoldsTo, list_all, filter_map}
-use Rattle.std.specs.Prelude.{Result, Ok, Err, MatchOption, if◌then◌else◌, is_some, ◌&&◌}
+use Rattle.std.specs.Prelude.{Result, Ok, Err, MatchOption, if◌then◌else◌}
 
 module _ {R : Type 0} (remaining : R → Option (List ℕ)) (limit : ℕ) where
   -- receives from an inbox over a reader, as they are seen, and the reader that it was lent
@@ -70,42 +69,11 @@ letters_in came = filter_map (λ (c : Option Message). c) came
 abbrev pub BeginsWith : ℕ → List ℕ → List Message → List ℕ → Type 0
 BeginsWith limit = FoldsTo (Begins limit)
 
--- no wake came
-abbrev Unwoken : List (Option Message) → Type 0
-Unwoken came = list_all (λ (c : Option Message). is_some c) came ≡ true
-
 module _ (limit : ℕ) where
   -- what an inbox over a reader gives where others may wake it
   abbrev pub WakingGives : Stream → Event → Stream → Type 0
   WakingGives old woken new = new ≡ old
   WakingGives old event new = StreamGives limit old event new
-
-  unwoken : (old new : Stream) → StreamGives limit old woken new → ⊥
-  unwoken old new gives = at old.end gives
-    where
-      at : (end : Option ReadEnd) → MatchOption end (StreamReads limit old.remaining woken new.end new.remaining) (λ end. (woken ≡ closed) × (new.end ≡ Some end) × Keeps old.remaining new.remaining) → ⊥
-      at None reads = reads
-      at (Some end) ended = cc (ended.0)
-
-  -- an inbox that nobody wakes is one of these
-  waking : (events : List Event) (old new : Stream) → FoldsTo (StreamGives limit) old events new → FoldsTo WakingGives old events new
-  waking [] old new run = run
-  waking (woken ∷ events) old new run = absurd (unwoken old run.0 run.1)
-  waking (event ∷ events) old new run = (run.0, run.1, waking events run.0 new run.2)
-
-  -- nor does it bring a wake
-  never_woken : (events : List Event) (old new : Stream) → FoldsTo (StreamGives limit) old events new → Unwoken (filter_map came_in events)
-  never_woken [] old new run = refl
-  never_woken (woken ∷ events) old new run = absurd (unwoken old run.0 run.1)
-  never_woken (message m ∷ events) old new run = never_woken events run.0 new run.2
-  never_woken (closed ∷ events) old new run = never_woken events run.0 new run.2
-  never_woken (timeout ∷ events) old new run = never_woken events run.0 new run.2
-
-  -- the messages of a text are what was read of it, where no wake came
-  reads_all : (came : List (Option Message)) (text at : List ℕ) → Unwoken came → BeginsWith limit text (letters_in came) at → FoldsTo (ReadsMessage limit) text came at
-  reads_all [] text at none begins = begins
-  reads_all (Some m ∷ came) text at none begins = (begins.0, begins.1, reads_all came begins.0 at none begins.2)
-  reads_all (None ∷ came) text at none begins = let e : false ≡ true = none in absurd (cc (e))
 
   -- an inbox that has ended brings no message more
   ended_brings : (events : List Event) (end : ReadEnd) (old new : Stream) → old.end ≡ Some end → FoldsTo WakingGives old events new → letters_in (filter_map came_in events) ≡ []
@@ -162,17 +130,6 @@ module _ (limit : ℕ) where
       at None gives = gives
       at (Some end) gives = cc (gives.0)
   no_timeout (event ∷ earlier) old new run = no_timeout earlier run.0 new run.2
-
--- what the events brought, but for what came at a failed allocation
-came_unwoken : (events : List Event) (came : List (Option Message)) (stop : Stop) → Brings events came stop → Unwoken (filter_map came_in events) → Unwoken came
-came_unwoken events came decided brought none = rw brought.0 at none
-came_unwoken events came no_more brought none = rw brought.0 at none
-came_unwoken events came timed_out brought none = rw brought.0 at none
-came_unwoken events came (refused fault) brought none = rw brought.0 at none
-came_unwoken events came exhausted brought none =
-    let both : (list_all (λ (c : Option Message). is_some c) came && list_all (λ (c : Option Message). is_some c) (brought.0 ∷ [])) ≡ true =
-    sym (list_all-append (λ (c : Option Message). is_some c) came (brought.0 ∷ [])) ∙ (rw brought.1 at none) in
-    (and-true _ _ both).0
 
 -- what is written of messages where the write of the last one failed
 abbrev pub GetsPart : WriteFault → List Message → Option (List ℕ) → Option (List ℕ) → Type 0
@@ -403,75 +360,3 @@ module _ (limit : ℕ) where
       stop_ends sends a b wrote exhausted brought taken facts =
           let left = left_within came exhausted answer brought facts in
           (left.0, left.1, exhausted_ends null sends a b wrote answer facts new.end new.remaining left.0 left.2)
-
-  module _ {R W : Type 0} (remaining : R → Option (List ℕ)) (contents : W → Option (List ℕ))
-      (P : SessionPart)
-      (knows : (xs : List Exchange) (stop : Stop) (null : Option Message) (answer : SessionAnswer) → P xs stop null answer → Facts stop (letters_of xs) answer)
-      (inbox inbox' : StreamInbox R) (outbox outbox' : FrameOutbox W) (unended : inbox.end ≡ None) (limited : inbox.limit ≡ limit) (unfailed : outbox.fault ≡ None)
-      (answer : SessionAnswer) (runs : Runs (StreamInboxGives remaining) (FrameOutboxSends contents) P (inbox, outbox) answer (inbox', outbox')) where
-    -- what a session over boxes comes to in bytes
-    runs_give : (text : List ℕ) → remaining inbox.reader.now ≡ Some text
-        → Gives limit P text (remaining inbox'.reader.now) (contents outbox.writer.now) (contents outbox'.writer.now) (session_answer answer inbox'.end outbox'.fault)
-    runs_give text known =
-        at outbox'.fault (subst (λ sends. MatchOption outbox'.fault (NotRefused runs.stop × GetsFrames sends (contents outbox.writer.now) (contents outbox'.writer.now))
-        (λ f. IsUnsent runs.stop runs.null × GetsPart f sends (contents outbox.writer.now) (contents outbox'.writer.now))) runs.all (gets_written contents outbox outbox' runs.output runs.null unfailed runs.stop runs.got))
-      where
-        run : FoldsTo (WakingGives limit) (stream_of remaining inbox) runs.events (stream_of remaining inbox')
-        run = waking limit runs.events _ _ (streams_of remaining limit runs.events inbox inbox' limited runs.received).0
-
-        facts : Facts runs.stop (letters_of runs.exchanges) answer
-        facts = knows runs.exchanges runs.stop runs.null answer runs.part
-
-        none_woken : Unwoken (came_of runs.exchanges)
-        none_woken = came_unwoken runs.events (came_of runs.exchanges) runs.stop runs.brought
-            (never_woken limit runs.events _ _ (streams_of remaining limit runs.events inbox inbox' limited runs.received).0)
-
-        gives : (result : Result SessionEnd SessionFault) (at : List ℕ) → BeginsWith limit text (letters_of runs.exchanges) at
-            → Ended runs.null (sends_of runs.exchanges) (contents outbox.writer.now) (contents outbox'.writer.now)
-            (remaining inbox'.reader.now) result answer runs.stop at
-            → Gives limit P text (remaining inbox'.reader.now) (contents outbox.writer.now) (contents outbox'.writer.now) result
-        gives result at read ended = record {
-          exchanges = runs.exchanges;
-          at = at;
-          read = reads_all limit (came_of runs.exchanges) text at none_woken read;
-          stop = runs.stop;
-          null = runs.null;
-          answer = answer;
-          part = runs.part;
-          ends = ended.0;
-          wrote = ended.1;
-        }
-
-        at : (fault : Option WriteFault)
-            → MatchOption fault (NotRefused runs.stop × GetsFrames (sends_of runs.exchanges) (contents outbox.writer.now) (contents outbox'.writer.now))
-            (λ f. IsUnsent runs.stop runs.null × GetsPart f (sends_of runs.exchanges) (contents outbox.writer.now) (contents outbox'.writer.now))
-            → Gives limit P text (remaining inbox'.reader.now) (contents outbox.writer.now) (contents outbox'.writer.now) (session_answer answer inbox'.end fault)
-        at None written =
-            let all = stop_ends text (stream_of remaining inbox) (stream_of remaining inbox') unended known runs.events run
-            (came_of runs.exchanges) runs.null answer
-            (sends_of runs.exchanges) (contents outbox.writer.now) (contents outbox'.writer.now) written.1 runs.stop runs.brought written.0 facts in
-            gives (read_answer answer inbox'.end) all.0 all.1 all.2
-        at (Some (Output kind)) unwritten =
-            let all = left_after text (stream_of remaining inbox) (stream_of remaining inbox') unended known runs.events run
-            (came_of runs.exchanges) runs.null answer
-            runs.stop runs.brought facts in
-            gives (Err (Write (Output kind))) all.0 all.1 (all.2, (tt, unwritten.0, unwritten.1.0, unwritten.1.1, unwritten.1.2, unwritten.1.3))
-        at (Some NoMemory) unwritten =
-            let all = left_after text (stream_of remaining inbox) (stream_of remaining inbox') unended known runs.events run
-            (came_of runs.exchanges) runs.null answer
-            runs.stop runs.brought facts in
-            gives (Err Memory) all.0 all.1 (all.2, inr (unwritten.0, unwritten.1))
-
-    -- the same of the reader and the writer that were lent
-    pub session_gives : (first last : R) (first' last' : W) → inbox.reader.now ≡ first → outbox.writer.now ≡ first'
-        → (inbox'.reader.ghost_name ≡ inbox.reader.ghost_name → last ≡ inbox'.reader.now)
-        → (outbox'.writer.ghost_name ≡ outbox.writer.ghost_name → last' ≡ outbox'.writer.now)
-        → IfSome (remaining first) (λ text. Gives limit P text (remaining last) (contents first') (contents last') (session_answer answer inbox'.end outbox'.fault))
-    session_gives first last first' last' same same' named named' =
-        rw (named (streams_of remaining limit runs.events inbox inbox' limited runs.received).1, named' (gets_keeps contents outbox outbox' runs.output runs.null runs.stop runs.got), sym same, sym same')
-        (at (remaining inbox.reader.now) refl)
-      where
-        at : (known : Option (List ℕ)) → remaining inbox.reader.now ≡ known
-            → IfSome known (λ text. Gives limit P text (remaining inbox'.reader.now) (contents outbox.writer.now) (contents outbox'.writer.now) (session_answer answer inbox'.end outbox'.fault))
-        at None is = tt
-        at (Some text) is = runs_give text is

@@ -5,6 +5,7 @@ pub mod BothEnds
 pub mod Boxes
 pub mod Dialog
 pub mod Event
+pub mod FaultCounts
 pub mod Finish
 pub mod FrameBoxes
 pub mod HandlerService
@@ -13,6 +14,9 @@ pub mod LineParts
 pub mod Lists
 pub mod OutputView
 pub mod Outputs
+pub mod Passing
+pub mod PassingBoxes
+pub mod PassingBytes
 pub mod Prompt
 pub mod ProtocolError
 pub mod ProtocolErrorLaws

@@ -13,8 +13,8 @@ pub use lifecycle::{
     SendFault, finish, finish_within, is_exit, shutdown, start_within, wait_within,
 };
 pub use loops::{
-    FrameOutbox, Handler, HandlerService, Output, ReadEnd, Service, SessionEnd, SessionFault,
-    StreamInbox, StreamLine, WriteEnd, initialize_result, read_loop, read_loop_within, serve,
-    serve_line, serve_service, session, session_answer, session_of_service,
-    session_of_service_within, session_on, session_within, write_loop,
+    EndSession, FaultCounts, FrameOutbox, Handler, HandlerService, Ignore, Listener, Output,
+    ReadEnd, Service, SessionEnd, SessionFault, StreamInbox, StreamLine, TolerantInbox, WriteEnd,
+    initialize_result, is_of_body, read_loop, read_loop_within, serve, serve_line, serve_service,
+    session, session_answer, session_of_service, session_within, write_loop,
 };

@@ -16,10 +16,12 @@ mod frame_outbox;
 mod handler;
 mod handler_service;
 mod line;
+mod listener;
 mod service;
 mod stream_inbox;
 mod stream_line;
 mod stream_session;
+mod tolerant_inbox;
 mod write;
 
 pub use both_ends::serve_service;
@@ -27,13 +29,14 @@ pub use frame_outbox::FrameOutbox;
 pub use handler::{Handler, SessionEnd, initialize_result, serve};
 pub use handler_service::HandlerService;
 pub use line::serve_line;
+pub use listener::{EndSession, FaultCounts, Ignore, Listener};
 pub use service::{Output, Service};
 pub use stream_inbox::StreamInbox;
 pub use stream_line::StreamLine;
 pub use stream_session::{
-    SessionFault, session, session_answer, session_of_service, session_of_service_within,
-    session_on, session_within,
+    SessionFault, session, session_answer, session_of_service, session_within,
 };
+pub use tolerant_inbox::{TolerantInbox, is_of_body};
 pub use write::{WriteEnd, write_loop};
 
 /// How a loop over a reader's messages ended.

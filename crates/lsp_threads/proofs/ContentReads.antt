@@ -12,8 +12,10 @@ use Rattle.lsp_message.specs.Message.{Message}
 use Rattle.lsp_relay.specs.Relay.{ended, IsOpen}
 use Rattle.lsp_relay.specs.declared.ends.Parcel.{Parcel}
 use Rattle.lsp_relay.specs.declared.ends.Parcel.TheVariants as parcel
+use Rattle.lsp_session.specs.Passing.{is_of_body}
 use Rattle.lsp_session.specs.declared.loops.ReadEnd.{ReadEnd}
 use Rattle.lsp_session.specs.declared.loops.ReadEnd.TheVariants.{Exit, End, Fault}
+use Rattle.lsp_threads.proofs.HeaderFaults.{is_of_no_body}
 use Rattle.lsp_threads.specs.Contents.{BeginsWithContent, bytes_of, Contents, contents_of, IsExit, LooksAt, ReadsContents, StopsAt}
 
 -- ---- content parts in parcels
@@ -67,13 +69,14 @@ module _ (limit : ℕ) where
       → StopsAt limit at (Fault fault)
   stops_fault (Input kind) at left answers = tt
   stops_fault NoMemory at left answers = tt
-  stops_fault fault at left answers = ((reading_within limit at).rest, reading_is at (Err fault) (fault_outcome body_means limit at fault answers.0))
+  stops_fault fault at left answers =
+      (is_of_no_body limit at fault answers.0, (reading_within limit at).rest, reading_is at (Err fault) (fault_outcome body_means limit at fault answers.0))
 
   stops_bad : (fault : ReadFault) (at content : List ℕ) → (content_within limit at).outcome ≡ Ok (Some content) → LooksAt content (Err fault) → StopsAt limit at (Fault fault)
   stops_bad (Input kind) at content is bad = tt
   stops_bad NoMemory at content is bad = tt
   stops_bad fault at content is bad =
-      ((reading_within limit at).rest, reading_is at (Err fault) (content_outcome body_means limit at content is ∙ ap found bad))
+      (bad.0, (reading_within limit at).rest, reading_is at (Err fault) (content_outcome body_means limit at content is ∙ ap found bad.1))
 
   -- the first bytes begin with these content parts, and the second follow them
   abbrev pub Passed : Option (List ℕ) → Option (List ℕ) → List (List ℕ) → Type 0

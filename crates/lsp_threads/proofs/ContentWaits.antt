@@ -1,12 +1,22 @@
--- An inbox over content parts that waits: what it collects, and wakes that it passes over.
-use Rattle.std.proofs.Common.{arith, ◌≡◌, ◌≤◌, ◌+◌, List, [], ◌∷◌, ◌++◌, ◌∙◌, ℕ, ap, sym, refl, append_assoc, append-nil, inl, inr, map, Option, Some, None, subst, Bool, true, false, true≢false, Vec, Global, length}
+-- An inbox over content parts that waits: what it collects, wakes that it passes over, and content parts that are no messages.
+use Rattle.std.proofs.Common.{arith, ◌≡◌, ◌≤◌, ◌+◌, ◌||◌, List, [], ◌∷◌, ◌++◌, ◌∙◌, ℕ, ap, sym, refl, append_assoc, append-nil, inl, inr, map, Option, Some, None, is_some, Result, Ok, Err, subst, Bool, true, false, true≢false, Vec, Global, length, if◌then◌else◌}
 use Rattle.std.specs.Bool.{MatchBool}
+use Rattle.lsp_message.specs.Frame.{body_means}
 use Rattle.lsp_message.specs.Message.{Message}
+use Rattle.lsp_message.specs.Methods.{is_exit}
+use Rattle.lsp_message.specs.ReadingSteps.{Decodes}
+use Rattle.lsp_message.specs.declared.frame.ReadFault.{ReadFault}
+use Rattle.lsp_message.specs.declared.frame.ReadFault.TheVariants.{BodyNotText, NoJson, NoMessage, Batch}
+use Rattle.lsp_relay.specs.Relay.{has_end}
 use Rattle.lsp_relay.specs.declared.ends.Parcel.{Parcel}
 use Rattle.lsp_relay.specs.declared.ends.Parcel.TheVariants as parcel
 use Rattle.lsp_session.specs.Event.{Event, message, closed, woken}
+use Rattle.lsp_session.specs.Passing.{ended_at_body, is_of_body}
+use Rattle.lsp_session.specs.declared.loops.ReadEnd.{ReadEnd}
+use Rattle.lsp_session.specs.declared.loops.ReadEnd.TheVariants.{Exit, Fault}
 use Rattle.lsp_threads.proofs.ContentReads.{contents_of-append}
-use Rattle.lsp_threads.specs.Contents.{bytes_of, Collects, Contents, contents_of, ContentsGive, is_over, OpenGives, Receiving}
+use Rattle.lsp_threads.specs.Contents.{bytes_of, Collects, ComesNext, Contents, contents_of, ContentsGive, ContentsListen, HearsNothing, is_over, NextIs, OpenGives, PassesPart, Receiving, Taking}
+use Rattle.lsp_threads.specs.declared.content_parts.Next.TheVariants as next
 
 pub empty_list : {A : Type 0} (xs : List A) → length xs ≡ 0 → xs ≡ []
 empty_list [] none = refl
@@ -29,50 +39,81 @@ collects_parcel taken new waiting items contents none grown same =
 pub collects_end : (taken new : List (Parcel Contents)) (waiting : List (Vec ℕ Global)) → waiting ≡ [] → new ≡ taken ++ parcel.End ∷ [] → Collects taken (bytes_of waiting) new []
 collects_end taken new waiting none grown = (parcel.End ∷ [], grown, rw none refl)
 
--- an inbox passed over wakes
-abbrev pub PassesOver : Receiving → Receiving → Type 0
-PassesOver old new =
-    (new.relay ≡ old.relay) × (old.wakes ≤ new.wakes) × MatchBool (is_over old) (new ≡ old) (Collects old.taken old.waiting new.taken new.waiting × (is_over new ≡ false))
+-- an inbox passed over wakes of the relay
+abbrev pub PassesWakes : {L : Type 0} → Receiving × L → Receiving × L → Type 0
+PassesWakes old new =
+    (new.0.relay ≡ old.0.relay) × (old.0.wakes ≤ new.0.wakes)
+    × MatchBool (is_over old.0) (new ≡ old) (Collects old.0.taken old.0.waiting new.0.taken new.0.waiting × (is_over new.0 ≡ false) × (new.1 ≡ old.1))
 
-pub passes_none : (old : Receiving) → PassesOver old old
-passes_none old = (refl, omega arith, at (is_over old) refl)
+pub passes_none : {L : Type 0} (old : Receiving × L) → PassesWakes old old
+passes_none {L} old = (refl, omega arith, at (is_over old.0) refl)
   where
-    at : (b : Bool) → is_over old ≡ b → MatchBool b (old ≡ old) (Collects old.taken old.waiting old.taken old.waiting × (is_over old ≡ false))
+    at : (b : Bool) → is_over old.0 ≡ b → MatchBool b (old ≡ old) (Collects old.0.taken old.0.waiting old.0.taken old.0.waiting × (is_over old.0 ≡ false) × (old.1 ≡ old.1))
     at true over = refl
-    at false over = (([], sym (append-nil old.taken), append-nil old.waiting), over)
+    at false over = (([], sym (append-nil old.0.taken), append-nil old.0.waiting), over, refl)
 
-module _ (old mid new : Receiving) (passed : PassesOver old mid) where
+module _ {L : Type 0} (old mid new : Receiving × L) (passed : PassesWakes old mid) where
+  -- what was passed over
+  abbrev Passed : Bool → Type 0
+  Passed b = MatchBool b (mid ≡ old) (Collects old.0.taken old.0.waiting mid.0.taken mid.0.waiting × (is_over mid.0 ≡ false) × (mid.1 ≡ old.1))
+
   -- a wake more
-  pub passes_wake : ContentsGive mid woken new → PassesOver old new
-  passes_wake gives = (gives.0 ∙ passed.0, omega (arith, passed.1, gives.1), at (is_over old) refl passed.2)
+  pub passes_wake : ComesNext mid (Ok woken) new → PassesWakes old new
+  passes_wake comes =
+      let gives = comes.0 in
+      (gives.0 ∙ passed.0, omega (arith, passed.1, gives.1), at (is_over old.0) refl passed.2)
     where
-      at : (b : Bool) → is_over old ≡ b → MatchBool b (mid ≡ old) (Collects old.taken old.waiting mid.taken mid.waiting × (is_over mid ≡ false))
-          → MatchBool b (new ≡ old) (Collects old.taken old.waiting new.taken new.waiting × (is_over new ≡ false))
-      at true over same = let step = rw (same, over) at gives.2 in absurd (cc (step.0))
-      at false going (collects, still_open) =
-          let step : OpenGives mid woken new = rw still_open at gives.2 in
-          (collects_then old.taken mid.taken new.taken old.waiting mid.waiting new.waiting collects step.0, rw (step.1, step.2) refl)
+      more : Collects old.0.taken old.0.waiting mid.0.taken mid.0.waiting → mid.1 ≡ old.1 → OpenGives HearsNothing mid woken new
+          → Collects old.0.taken old.0.waiting new.0.taken new.0.waiting × (is_over new.0 ≡ false) × (new.1 ≡ old.1)
+      more collects told (inl (wakes, same)) =
+          (collects_then old.0.taken mid.0.taken new.0.taken old.0.waiting mid.0.waiting new.0.waiting collects wakes.0, rw (wakes.1, wakes.2) refl, same ∙ told)
+      more collects told (inr passes) = absurd passes.7
 
-  -- what comes after them
-  pub message_after : (m : Message) → ContentsGive mid (message m) new → ContentsGive old (message m) new
-  message_after m gives = (gives.0 ∙ passed.0, omega (arith, passed.1, gives.1), at (is_over old) refl passed.2)
-    where
-      at : (b : Bool) → is_over old ≡ b → MatchBool b (mid ≡ old) (Collects old.taken old.waiting mid.taken mid.waiting × (is_over mid ≡ false))
-          → MatchBool b ((message m ≡ closed) × (new ≡ old)) (OpenGives old (message m) new)
-      at true over same = let step = rw (same, over) at gives.2 in step
-      at false going (collects, still_open) =
-          let step : OpenGives mid (message m) new = rw still_open at gives.2 in
-          (step.0, collects_then old.taken mid.taken new.taken old.waiting mid.waiting (step.0 ∷ new.waiting) collects step.1, step.2, step.3)
+      at : (b : Bool) → is_over old.0 ≡ b → Passed b
+          → MatchBool b (new ≡ old) (Collects old.0.taken old.0.waiting new.0.taken new.0.waiting × (is_over new.0 ≡ false) × (new.1 ≡ old.1))
+      at true over same = let step = rw (same, over) at comes.0.2 in absurd (cc (step.0))
+      at false going (collects, still_open, told) = more collects told (rw still_open at comes.0.2)
 
-  pub closed_after : ContentsGive mid closed new → ContentsGive old closed new
-  closed_after gives = (gives.0 ∙ passed.0, omega (arith, passed.1, gives.1), at (is_over old) refl passed.2)
-    where
-      then : Collects old.taken old.waiting mid.taken mid.waiting → OpenGives mid closed new → OpenGives old closed new
-      then collects (inl drains) = inl (collects_then old.taken mid.taken new.taken old.waiting mid.waiting [] collects drains.0, drains.1, drains.2)
-      then collects (inr step) =
-          inr (step.0, collects_then old.taken mid.taken new.taken old.waiting mid.waiting (step.0 ∷ new.waiting) collects step.1, step.2, step.3)
+  module _ (hears : L → ReadFault → L → Type 0) where
+    -- what comes after them
+    pub message_after : (m : Message) → ComesNext mid (Ok (message m)) new → ContentsGive hears old (message m) new
+    message_after m comes =
+        let gives = comes.0 in
+        (gives.0 ∙ passed.0, omega (arith, passed.1, gives.1), at (is_over old.0) refl passed.2)
+      where
+        at : (b : Bool) → is_over old.0 ≡ b → Passed b → MatchBool b ((message m ≡ closed) × (new ≡ old)) (OpenGives hears old (message m) new)
+        at true over same = let step = rw (same, over) at comes.0.2 in absurd (cc (step.0))
+        at false going (collects, still_open, told) =
+            let step : OpenGives HearsNothing mid (message m) new = rw still_open at comes.0.2 in
+            let content = step.0.0 in
+            let all = collects_then old.0.taken mid.0.taken new.0.taken old.0.waiting mid.0.waiting (content ∷ new.0.waiting) collects step.0.1.0 in
+            ((content, (all, step.0.1.1), step.0.2), step.1 ∙ told)
 
-      at : (b : Bool) → is_over old ≡ b → MatchBool b (mid ≡ old) (Collects old.taken old.waiting mid.taken mid.waiting × (is_over mid ≡ false))
-          → MatchBool b ((closed ≡ closed) × (new ≡ old)) (OpenGives old closed new)
-      at true over same = let step = rw (same, over) at gives.2 in step
-      at false going (collects, still_open) = then collects (rw still_open at gives.2)
+    pub closed_after : ComesNext mid (Ok closed) new → ContentsGive hears old closed new
+    closed_after comes =
+        let gives = comes.0 in
+        (gives.0 ∙ passed.0, omega (arith, passed.1, gives.1), at (is_over old.0) refl passed.2)
+      where
+        more : Collects old.0.taken old.0.waiting mid.0.taken mid.0.waiting → mid.1 ≡ old.1 → OpenGives HearsNothing mid closed new → OpenGives hears old closed new
+        more collects told (inl drains, same) =
+            (inl (collects_then old.0.taken mid.0.taken new.0.taken old.0.waiting mid.0.waiting [] collects drains.0, drains.1, drains.2), same ∙ told)
+        more collects told (inr step, same) =
+            let content = step.0 in
+            let all = collects_then old.0.taken mid.0.taken new.0.taken old.0.waiting mid.0.waiting (content ∷ new.0.waiting) collects step.1.0 in
+            (inr (content, (all, step.1.1), step.2), same ∙ told)
+
+        at : (b : Bool) → is_over old.0 ≡ b → Passed b → MatchBool b ((closed ≡ closed) × (new ≡ old)) (OpenGives hears old closed new)
+        at true over same = let step = rw (same, over) at comes.0.2 in step
+        at false going (collects, still_open, told) = more collects told (rw still_open at comes.0.2)
+
+    -- what is no message ends the messages, or an allocation that failed
+    pub fault_after : (fault : ReadFault) → ComesNext mid (Err fault) new → ContentsGive hears old closed (record new.0 { end = Some (Fault fault) }, new.1)
+    fault_after fault comes = (comes.4 ∙ passed.0, omega (arith, passed.1, comes.3), at (is_over old.0) refl passed.2)
+      where
+        at : (b : Bool) → is_over old.0 ≡ b → Passed b
+            → MatchBool b ((closed ≡ closed) × ((record new.0 { end = Some (Fault fault) }, new.1) ≡ old)) (OpenGives hears old closed (record new.0 { end = Some (Fault fault) }, new.1))
+        at true over same = absurd (true≢false (sym over ∙ ap (λ (t : Receiving × L). is_over t.0) (sym same) ∙ comes.0))
+        at false going (collects, still_open, told) =
+            let content = comes.1.0 in
+            let all = collects_then old.0.taken mid.0.taken new.0.taken old.0.waiting mid.0.waiting (content ∷ new.0.waiting) collects comes.1.1.0 in
+            (inr (content, (all, comes.1.1.1), comes.1.2), comes.5 ∙ told)

@@ -4,8 +4,9 @@ pub mod ContentWaits
 pub mod ContentsSend
 pub mod Frames
 pub mod Handed
+pub mod HeaderFaults
+pub mod RefusedParts
 pub mod RefusedReplies
 pub mod RefusedWakes
 pub mod Replies
 pub mod Sessions
-pub mod Wakes

@@ -4,13 +4,16 @@ use Rattle.std.specs.List.{FoldsTo}
 use mathlib.Core.List.{IsPrefix}
 use Rattle.lsp_message.specs.Message.{Message}
 use Rattle.lsp_message.specs.Written.{AreFramesOf, GetsFrames}
+use Rattle.lsp_message.specs.declared.frame.ReadFault.{ReadFault}
 use Rattle.lsp_message.specs.declared.frame.WriteFault.{WriteFault}
 use Rattle.lsp_message.specs.declared.frame.WriteFault.TheVariants.{Output, Memory as NoMemory}
 use Rattle.lsp_relay.specs.declared.ends.Parcel.{Parcel}
 use Rattle.lsp_session.proofs.Handing.{AreFramesOf-push}
 use Rattle.lsp_session.proofs.Ran.{Facts}
-use Rattle.lsp_session.proofs.SessionGives.{BeginsWith, left_after, stop_ends, NotRefused, WakingGives}
+use Rattle.lsp_session.proofs.Passing.{frames_end, GivesOr, left_after, ReadsFrames}
+use Rattle.lsp_session.proofs.SessionGives.{NotRefused}
 use Rattle.lsp_session.specs.Boxes.{Sends, Receives, Takes}
+use Rattle.lsp_session.specs.PassingBytes.{HearsLast}
 use Rattle.lsp_session.specs.Session.{came_of, letters_of, sends_of, Exchange, SessionAnswer, SessionPart, Stop, refused}
 use Rattle.lsp_session.specs.SessionBytes.{LeftWithin, Wrote}
 use Rattle.lsp_session.specs.SessionFault.{read_answer, session_answer}
@@ -22,10 +25,9 @@ use Rattle.lsp_session.specs.declared.loops.handler.SessionEnd.{SessionEnd}
 use Rattle.lsp_session.specs.declared.loops.stream_session.SessionFault.{SessionFault}
 use Rattle.lsp_session.specs.declared.loops.stream_session.SessionFault.TheVariants.{Write, Memory}
 use Rattle.lsp_threads.proofs.Frames.{breaks, same_parcels}
-use Rattle.lsp_threads.proofs.Wakes.{reads_all, Unwoken}
 use Rattle.lsp_threads.specs.Framing.{parcel_bytes, AreEnded, WritesBytes, WritesParcels}
 use Rattle.lsp_threads.specs.Replies.{Replying, RepliesSend, reply_fault, IsWhole, WritesReplies}
-use Rattle.lsp_threads.specs.Threads.{BreaksOffWithin, EndsInThreads, GetsFirst, ThreadsGiveOver, WroteInThreads}
+use Rattle.lsp_threads.specs.Threads.{BreaksOffWithin, EndsInThreads, GetsFirst, ReadsFrameOrWakes, ThreadsTellOver, WroteInThreads}
 
 -- ---- what was sent
 -- messages that an outbox took added their frames
@@ -168,38 +170,53 @@ not_refused : (stop : Stop) → IsWhole stop → NotRefused stop
 not_refused (refused fault) whole = absurd whole
 not_refused stop whole = tt
 
-module _ {I O : Type 0} (receives : Receives I) (sends : Sends O) (limit : ℕ) (P : SessionPart)
+module _ {I O L : Type 0} (receives : Receives I) (sends : Sends O) (wakeable : Bool) (hears : L → ReadFault → L → Type 0) (limit : ℕ) (P : SessionPart)
     (knows : (xs : List Exchange) (stop : Stop) (null : Option Message) (answer : SessionAnswer) → P xs stop null answer → Facts stop (letters_of xs) answer)
     (a b : Option (List ℕ)) (old new : I × O) (answer : SessionAnswer) (runs : Runs receives sends P old answer new) where
   facts : Facts runs.stop (letters_of runs.exchanges) answer
   facts = knows runs.exchanges runs.stop runs.null answer runs.part
 
-  -- what came in, as an inbox over the text brings it; no wake, where nobody can wake the session
-  module _ (wakeable : Bool) (unwoken : wakeable ≡ false → Unwoken (came_of runs.exchanges)) (text : List ℕ) (s : Stream)
-      (run : FoldsTo (WakingGives limit) (record { remaining = Some text; end = None }) runs.events s) where
-    over : (result : Result SessionEnd SessionFault) (at : List ℕ) → BeginsWith limit text (letters_of runs.exchanges) at
-        → EndsInThreads limit result answer runs.stop runs.null at → WroteInThreads a b result runs.stop runs.null (sends_of runs.exchanges)
-        → ThreadsGiveOver wakeable limit P text a b result
-    over result at read ends wrote = record {
+  -- others wake it only where they can
+  abbrev Others : Type 0
+  Others = wakeable ≡ true
+
+  -- what was read of a text
+  reads_all : (came : List (Option Message)) (from to : List ℕ × L) → ReadsFrames Others hears limit from came to → FoldsTo (ReadsFrameOrWakes wakeable hears limit) from came to
+  reads_all [] from to run = run
+  reads_all (Some m ∷ came) from to run = (run.0, run.1, reads_all came run.0 to run.2)
+  reads_all (None ∷ came) from to run = (run.0, run.1, reads_all came run.0 to run.2)
+
+  -- what came in, as an inbox over the text brings it
+  module _ (text : List ℕ) (first : L) (s : Stream × L)
+      (run : FoldsTo (GivesOr Others hears limit) (record { remaining = Some text; end = None }, first) runs.events s) where
+    abbrev start : Stream × L
+    start = (record { remaining = Some text; end = None }, first)
+
+    over : (result : Result SessionEnd SessionFault) (at : List ℕ × L) → ReadsFrames Others hears limit (text, first) (came_of runs.exchanges) at
+        → HearsLast hears limit runs.stop at s.1 → EndsInThreads limit result answer runs.stop runs.null at.0
+        → WroteInThreads a b result runs.stop runs.null (sends_of runs.exchanges) → ThreadsTellOver wakeable hears limit P text first s.1 a b result
+    over result at read heard ends wrote = record {
       exchanges = runs.exchanges;
       at = at;
-      read = reads_all wakeable limit (came_of runs.exchanges) text at unwoken read;
+      read = reads_all (came_of runs.exchanges) (text, first) at read;
       stop = runs.stop;
       null = runs.null;
       answer = answer;
       part = runs.part;
-      ends = ends;
+      ends = (ends, heard);
       wrote = wrote;
     }
 
-    read : (at : List ℕ) × BeginsWith limit text (letters_of runs.exchanges) at × LeftWithin limit runs.stop at s.remaining
-    read = left_after limit text _ s refl refl runs.events run (came_of runs.exchanges) runs.null answer runs.stop runs.brought facts
+    read : (at : List ℕ × L) × ReadsFrames Others hears limit (text, first) (came_of runs.exchanges) at × HearsLast hears limit runs.stop at s.1
+        × LeftWithin limit runs.stop at.0 s.0.remaining
+    read = left_after Others hears limit text start s refl refl runs.events run (came_of runs.exchanges) answer runs.stop runs.brought facts
 
     pub session_gives : (fault : Option WriteFault) → WritesReplies runs.stop (sends_of runs.exchanges) fault a b
-        → ThreadsGiveOver wakeable limit P text a b (session_answer answer s.end fault)
+        → ThreadsTellOver wakeable hears limit P text first s.1 a b (session_answer answer s.0.end fault)
     session_gives None (whole, written) =
-        let all = stop_ends limit text _ s refl refl runs.events run (came_of runs.exchanges) runs.null answer (sends_of runs.exchanges) a b written
+        let all = frames_end Others hears limit text start s refl refl runs.events run (came_of runs.exchanges) runs.null answer (sends_of runs.exchanges) a b written
         runs.stop runs.brought (not_refused runs.stop whole) facts in
-        over (read_answer answer s.end) all.0 all.1 (s.remaining, all.2.0) (wrote_so a b (read_answer answer s.end) runs.stop runs.null (sends_of runs.exchanges) all.2.1)
-    session_gives (Some (Output kind)) broken = over (Err (Write (Output kind))) read.0 read.1 (s.remaining, read.2) (tt, broken)
-    session_gives (Some NoMemory) first = over (Err Memory) read.0 read.1 (s.remaining, read.2) first
+        over (read_answer answer s.0.end) all.0 all.1 all.2 (s.0.remaining, all.3.0)
+        (wrote_so a b (read_answer answer s.0.end) runs.stop runs.null (sends_of runs.exchanges) all.3.1)
+    session_gives (Some (Output kind)) broken = over (Err (Write (Output kind))) read.0 read.1 read.2 (s.0.remaining, read.3) (tt, broken)
+    session_gives (Some NoMemory) first' = over (Err Memory) read.0 read.1 read.2 (s.0.remaining, read.3) first'

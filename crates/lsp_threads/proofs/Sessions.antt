@@ -1,41 +1,50 @@
 -- A session over relays, as its contract says it: it is one over bytes, but what is left of them is not known.
-use Rattle.std.proofs.Common.{◌≡◌, sym, ◌∙◌, ap, subst, ℕ, Bool, false, List, [], ◌++◌, Some, None, Option, IfSome, String, Global}
+use Rattle.std.proofs.Common.{arith, ◌≡◌, ◌≤◌, refl, sym, ◌∙◌, ap, subst, inl, inr, ℕ, Bool, true, false, List, [], ◌∷◌, ◌++◌, Some, None, Option, IfSome, String, Global}
 use Rattle.std.specs.Bool.{MatchBool}
 use Rattle.std.specs.List.{FoldsTo}
 use Rattle.std.specs.Prelude.{Result, Ok, Err, IfOk}
 use mathlib.Core.List.{IsPrefix}
 use Rattle.lsp_message.specs.Message.{Message as Sent}
+use Rattle.lsp_message.specs.declared.frame.ReadFault.{ReadFault}
 use Rattle.lsp_message.specs.declared.frame.WriteFault.{WriteFault}
 use Rattle.lsp_relay.specs.Relay.{ended, has_end, Sending}
 use Rattle.lsp_relay.specs.declared.ends.Parcel.{Parcel}
 use Rattle.lsp_session.proofs.Lending.{over_as}
 use Rattle.lsp_session.proofs.Ran.{Facts}
+use Rattle.lsp_session.specs.Event.{Event}
+use Rattle.lsp_session.specs.PassingBytes.{PassesNothingOver}
 use Rattle.lsp_session.specs.Session.{came_of, Exchange, letters_of, SessionAnswer, SessionPart, sends_of, Stop}
 use Rattle.lsp_session.specs.SessionFault.{session_answer}
 use Rattle.lsp_session.specs.SessionRun.{Runs}
 use Rattle.lsp_session.specs.declared.loops.ReadEnd.{ReadEnd}
 use Rattle.lsp_session.specs.declared.loops.handler.SessionEnd.{SessionEnd}
 use Rattle.lsp_session.specs.declared.loops.stream_session.SessionFault.{SessionFault}
-use Rattle.lsp_threads.proofs.ContentStream.{as_stream, none_woken}
+use Rattle.lsp_threads.proofs.ContentStream.{as_stream}
 use Rattle.lsp_threads.proofs.Replies.{all_replied, replies_written, session_gives}
-use Rattle.lsp_threads.proofs.Wakes.{came_unwoken, Unwoken}
+use Rattle.lsp_threads.specs.ContentBoxes.{InboxGives, KeepsLent, seen_of}
+use Rattle.lsp_threads.specs.Contents.{Contents, ContentsGive, HandsContents}
 use Rattle.lsp_threads.specs.Framing.{parcel_bytes, AreEnded, WritesParcels}
-use Rattle.lsp_threads.specs.Contents.{Contents, ContentsGive, HandsContents, Receiving}
 use Rattle.lsp_threads.specs.Replies.{Replying, RepliesSend, reply_fault, WritesReplies}
-use Rattle.lsp_threads.specs.Threads.{ThreadsGiveOver, session_end}
+use Rattle.lsp_threads.specs.Threads.{ReadsFrameOrWakes, ReadsOrWakes, session_end, ThreadsGiveOver, ThreadsTellOver}
+use Rattle.lsp_threads.specs.declared.content_inbox.ContentInbox.{ContentInbox}
 
-module _ (limit : ℕ) (P : SessionPart)
+-- what an inbox gave, as it is seen; and what it was lent is kept
+pub seen_all : {R L : Type 0} (hears : L → ReadFault → L → Type 0) (events : List Event) (old new : ContentInbox R L) → FoldsTo (InboxGives hears) old events new
+    → FoldsTo (ContentsGive hears) (seen_of old) events (seen_of new) × KeepsLent old new
+seen_all hears [] old new run = (ap seen_of run, (rw run refl, rw run refl))
+seen_all hears (event ∷ events) old new run =
+    let rest = seen_all hears events run.0 new run.2 in
+    ((seen_of run.0, run.1.0, rest.0), (rest.1.0 ∙ run.1.1.0, rest.1.1 ∙ run.1.1.1))
+
+module _ {L : Type 0} (hears : L → ReadFault → L → Type 0) (limit : ℕ) (P : SessionPart)
     (knows : (xs : List Exchange) (stop : Stop) (null : Option Sent) (answer : SessionAnswer) → P xs stop null answer → Facts stop (letters_of xs) answer)
-    (a b : Option (List ℕ)) (inbox inbox' : Receiving) (outbox outbox' : Replying) (answer : SessionAnswer)
-    (runs : Runs ContentsGive RepliesSend P (inbox, outbox) answer (inbox', outbox')) where
-  -- no wake came, where none was taken
-  unwoken : inbox'.wakes ≡ 0 → Unwoken (came_of runs.exchanges)
-  unwoken none = came_unwoken runs.events (came_of runs.exchanges) runs.stop runs.brought (none_woken runs.events inbox inbox' runs.received none)
-
+    (a b : Option (List ℕ)) {R : Type 0} (inbox inbox' : ContentInbox R L) (outbox outbox' : Replying) (answer : SessionAnswer)
+    (runs : Runs (InboxGives hears) RepliesSend P (inbox, outbox) answer (inbox', outbox')) where
   -- what the threads of a session come to in bytes
-  module _ (none : inbox.taken ≡ []) (all_given : inbox.waiting ≡ []) (unended : inbox.end ≡ None) (unsent : outbox.bytes ≡ []) (taken : List (Parcel Contents)) (back : Sending Contents)
-      (drained : MatchBool (has_end inbox'.taken) (taken ≡ inbox'.taken) ((more : List Contents) × (taken ≡ inbox'.taken ++ ended more))) (settled : IsPrefix taken back.sent)
-      (silent : back.wakeable ≡ false → inbox'.wakes ≡ 0) (tx : Sending Contents) (read : ReadEnd)
+  module _ (none : (seen_of inbox).0.taken ≡ []) (all_given : (seen_of inbox).0.waiting ≡ []) (unended : (seen_of inbox).0.end ≡ None) (unsent : outbox.bytes ≡ [])
+      (taken : List (Parcel Contents)) (back : Sending Contents)
+      (drained : MatchBool (has_end (seen_of inbox').0.taken) (taken ≡ (seen_of inbox').0.taken) ((more : List Contents) × (taken ≡ (seen_of inbox').0.taken ++ ended more)))
+      (settled : IsPrefix taken back.sent) (silent : back.wakeable ≡ false → (seen_of inbox').0.wakes ≡ 0) (tx : Sending Contents) (read : ReadEnd)
       (replies_taken replies : List (Parcel (String Global))) (all : parcel_bytes replies ≡ outbox'.bytes) (finished : AreEnded replies) (fault : Option WriteFault)
       (written : WritesParcels replies_taken fault a b) (replies_settled : IsPrefix replies_taken replies) where
     -- the output was written
@@ -44,15 +53,23 @@ module _ (limit : ℕ) (P : SessionPart)
         subst (λ ms. WritesReplies runs.stop ms (reply_fault fault outbox'.failed) a b) runs.all
         (replies_written runs.stop _ a b outbox outbox' unsent (all_replied outbox outbox' runs.output runs.null runs.stop runs.got) replies_taken replies all finished replies_settled fault written)
 
-    pub threads_give : (known : Option (List ℕ)) → IfSome known (λ text. HandsContents limit text tx read back)
-        → IfSome known (λ text. ThreadsGiveOver tx.wakeable limit P text a b
-        (session_answer answer (session_end inbox'.end (has_end inbox'.taken) read) (reply_fault fault outbox'.failed)))
-    threads_give None handed = tt
-    threads_give (Some text) handed =
-        let s = as_stream limit inbox inbox' none all_given unended runs.events runs.received taken tx back drained settled read text handed in
-        subst (λ end. ThreadsGiveOver tx.wakeable limit P text a b (session_answer answer end (reply_fault fault outbox'.failed))) s.1.1
-        (session_gives ContentsGive RepliesSend limit P knows a b (inbox, outbox) (inbox', outbox') answer runs
-        tx.wakeable (λ e. unwoken (silent (handed.2 ∙ e))) text s.0 s.1.0 (reply_fault fault outbox'.failed) output_written)
+    -- a wake that was taken was given by others
+    woke : (wakeable : Bool) → (wakeable ≡ false → (seen_of inbox').0.wakes ≡ 0) → 1 ≤ (seen_of inbox').0.wakes → wakeable ≡ true
+    woke true silent' some = refl
+    woke false silent' some = absurd (omega (arith, silent' refl, some))
+
+    pub threads_tell : (known : Option (List ℕ)) → IfSome known (λ text. HandsContents limit text tx read back)
+        → IfSome known (λ text. ThreadsTellOver tx.wakeable hears limit P text (seen_of inbox).1 (seen_of inbox').1 a b
+        (session_answer answer (session_end (seen_of inbox').0.end (has_end (seen_of inbox').0.taken) read) (reply_fault fault outbox'.failed)))
+    threads_tell None handed = tt
+    threads_tell (Some text) handed =
+        let s = as_stream limit hears (tx.wakeable ≡ true) (seen_of inbox) (seen_of inbox') none all_given unended runs.events (seen_all hears runs.events inbox inbox' runs.received).0
+        (woke tx.wakeable (λ e. silent (handed.2 ∙ e))) taken tx back drained settled read text handed in
+        subst (λ heard. ThreadsTellOver tx.wakeable hears limit P text (seen_of inbox).1 heard a b
+        (session_answer answer (session_end (seen_of inbox').0.end (has_end (seen_of inbox').0.taken) read) (reply_fault fault outbox'.failed))) s.1.2
+        (subst (λ end. ThreadsTellOver tx.wakeable hears limit P text (seen_of inbox).1 s.0.1 a b (session_answer answer end (reply_fault fault outbox'.failed))) s.1.1
+        (session_gives (InboxGives hears) RepliesSend tx.wakeable hears limit P knows a b (inbox, outbox) (inbox', outbox') answer runs
+        text (seen_of inbox).1 s.0 s.1.0 (reply_fault fault outbox'.failed) output_written))
 
 -- A session in threads that is described otherwise.
 module _ (P Q : SessionPart)
@@ -64,3 +81,47 @@ module _ (P Q : SessionPart)
   started_as contents answer_of None old result gives = tt
   started_as contents answer_of (Some text) old (Ok done) gives = over_as P Q to _ text _ _ gives
   started_as contents answer_of (Some text) old (Err fault) gives = tt
+
+-- The same of one that asks a listener.
+module _ (wakeable : Bool) {L : Type 0} (hears : L → ReadFault → L → Type 0) (limit : ℕ) (first last : L) where
+  pub started_told_as : (P Q : SessionPart)
+      (to : (xs : List Exchange) (stop : Stop) (null : Option Sent) (answer : SessionAnswer) → P xs stop null answer → Q xs stop null answer)
+      {T F : Type 0} (contents : T → Option (List ℕ)) (answer_of : T → Result SessionEnd SessionFault) (known old : Option (List ℕ)) (result : Result T F)
+      → IfSome known (λ text. IfOk result (λ done. ThreadsTellOver wakeable hears limit P text first last old (contents done) (answer_of done)))
+      → IfSome known (λ text. IfOk result (λ done. ThreadsTellOver wakeable hears limit Q text first last old (contents done) (answer_of done)))
+  started_told_as P Q to contents answer_of None old result tells = tt
+  started_told_as P Q to contents answer_of (Some text) old (Ok done) tells = over_as P Q to _ (text, first) _ _ tells
+  started_told_as P Q to contents answer_of (Some text) old (Err fault) tells = tt
+
+  -- A listener that passes over nothing: each frame is a message, and each wake is given by others.
+  module _ (never : PassesNothingOver hears) where
+    reads_or_wakes : (came : List (Option Sent)) (from to : List ℕ × L) → FoldsTo (ReadsFrameOrWakes wakeable hears limit) from came to
+        → FoldsTo (ReadsOrWakes wakeable limit) from.0 came to.0
+    reads_or_wakes [] from to run = ap (λ (at : List ℕ × L). at.0) run
+    reads_or_wakes (Some m ∷ came) from to run = (run.0.0, run.1.0, reads_or_wakes came run.0 to run.2)
+    reads_or_wakes (None ∷ came) from to run = elim run.1 [
+      | inl others ↦ (run.0.0, (others.0, ap (λ (at : List ℕ × L). at.0) others.1), reads_or_wakes came run.0 to run.2)
+      | inr passes ↦ absurd (never from.1 passes.0 run.0.1 passes.3)
+    ]
+
+    pub none_passed : (P : SessionPart) (text : List ℕ) (old new : Option (List ℕ)) (result : Result SessionEnd SessionFault)
+        → ThreadsTellOver wakeable hears limit P text first last old new result → ThreadsGiveOver wakeable limit P text old new result
+    none_passed P text old new result tells = record {
+      exchanges = tells.exchanges;
+      at = tells.at.0;
+      read = reads_or_wakes (came_of tells.exchanges) (text, first) tells.at tells.read;
+      stop = tells.stop;
+      null = tells.null;
+      answer = tells.answer;
+      part = tells.part;
+      ends = tells.ends.0;
+      wrote = tells.wrote;
+    }
+
+    -- where the bytes are known, and both threads were started
+    pub started_untold : (P : SessionPart) {T F : Type 0} (contents : T → Option (List ℕ)) (answer_of : T → Result SessionEnd SessionFault) (known old : Option (List ℕ)) (result : Result T F)
+        → IfSome known (λ text. IfOk result (λ done. ThreadsTellOver wakeable hears limit P text first last old (contents done) (answer_of done)))
+        → IfSome known (λ text. IfOk result (λ done. ThreadsGiveOver wakeable limit P text old (contents done) (answer_of done)))
+    started_untold P contents answer_of None old result tells = tt
+    started_untold P contents answer_of (Some text) old (Ok done) tells = none_passed P text old (contents done) (answer_of done) tells
+    started_untold P contents answer_of (Some text) old (Err fault) tells = tt

@@ -9,13 +9,17 @@ use Rattle.lsp_message.specs.ReadingSteps.{Decodes}
 use Rattle.lsp_message.specs.declared.frame.ReadFault.{ReadFault}
 use Rattle.lsp_message.specs.declared.frame.ReadFault.TheVariants.{Input, Memory as NoMemory}
 use Rattle.lsp_session.specs.Event.{Event, message, closed, woken}
+use Rattle.lsp_session.specs.Passing.{ended_at_body, is_of_body}
+use Rattle.lsp_session.specs.PassingBoxes.{MayEnd}
 use Rattle.lsp_session.specs.declared.loops.ReadEnd.{ReadEnd}
 use Rattle.lsp_session.specs.declared.loops.ReadEnd.TheVariants.{Exit, End, Fault}
 use Rattle.lsp_relay.specs.Relay.{Relay, ended, has_end, Sending}
 use Rattle.lsp_relay.specs.declared.ends.Parcel.{Parcel}
 use Rattle.lsp_relay.specs.declared.ends.Parcel.TheVariants as parcel
-use Rattle.lsp_threads.specs.declared.content_inbox.Next.{Next}
-use Rattle.lsp_threads.specs.declared.content_inbox.Next.TheVariants as next
+use Rattle.lsp_threads.specs.declared.content_parts.Next.{Next}
+use Rattle.lsp_threads.specs.declared.content_parts.Next.TheVariants as next
+use Rattle.lsp_threads.specs.declared.content_reader.Seen.{Seen}
+use Rattle.lsp_threads.specs.declared.content_reader.Seen.TheVariants as seen
 
 -- ---- content parts in parcels
 
@@ -39,29 +43,33 @@ contents_of (parcel.End ∷ rest) = contents_of rest
 abbrev pub IsExit : List ℕ → Type 0
 IsExit content = (m : Message) × (body_means content ≡ Ok m) × (is_exit m ≡ true)
 
--- For private clauses: what a look at a content part tells. Reading ends after `exit`, and where a content part is no message.
-abbrev pub LooksAt : List ℕ → Result Bool ReadFault → Type 0
-LooksAt content (Ok true) = IsExit content
-LooksAt content (Ok false) = Unit {0}
+-- For private clauses: what a look at a content part tells. Reading ends after `exit`. Whether another content part is a message is for
+-- the session to find. A fault of a body is none of the look: such a content part is no message, and is handed on.
+abbrev pub LooksAt : List ℕ → Result Seen ReadFault → Type 0
+LooksAt content (Ok seen.Exit) = IsExit content
+LooksAt content (Ok other) = Unit {0}
 LooksAt content (Err NoMemory) = Unit {0}
-LooksAt content (Err fault) = body_means content ≡ Err fault
+LooksAt content (Err fault) = (is_of_body fault ≡ false) × (body_means content ≡ Err fault)
 
 -- content parts have at most so many bytes
 module _ (limit : ℕ) where
-  -- Reading may stop so at this text: at its end, or at a frame that can't be read or is no message. A reader that fails and an
-  -- allocation that fails may stop it anywhere.
+  -- Reading may stop so at this text: at its end, or at a frame that can't be read. At a content part that was read to its end and is no
+  -- message it may not: that one is handed on, and the session finds what it is. A reader that fails and an allocation that fails may stop
+  -- reading anywhere, and so may a session that takes no more, which stops it as a reader that fails does.
   abbrev pub StopsAt : List ℕ → ReadEnd → Type 0
   StopsAt text End = (rest : List ℕ) × (reading_within limit text ≡ record { outcome = Ok None; rest = rest })
   StopsAt text (Fault (Input kind)) = Unit {0}
   StopsAt text (Fault NoMemory) = Unit {0}
-  StopsAt text (Fault fault) = (rest : List ℕ) × (reading_within limit text ≡ record { outcome = Err fault; rest = rest })
+  StopsAt text (Fault fault) =
+      (is_of_body fault ≡ false) × (rest : List ℕ) × (reading_within limit text ≡ record { outcome = Err fault; rest = rest })
   StopsAt text end = ⊥
 
   -- the text begins with a frame of this content part, and the rest follows it
   abbrev pub BeginsWithContent : List ℕ → List ℕ → List ℕ → Type 0
   BeginsWithContent text content rest = content_within limit text ≡ record { outcome = Ok (Some content); rest = rest }
 
-  -- The text begins with frames of these content parts, and reading stopped so after them: by `Exit` only where the last one is `exit`.
+  -- The text begins with frames of these content parts, messages or not, and reading stopped so after them: by `Exit` only where the last
+  -- one is `exit`.
   abbrev pub ReadsContents : List ℕ → ReadEnd → List (List ℕ) → Type 0
   ReadsContents text end [] = StopsAt text end
   ReadsContents text end (content ∷ more) =
@@ -80,8 +88,15 @@ pub record Gathering : Type 0 where
 
 -- ---- the caller's inbox
 
--- An inbox over the receiver's end, as callers see it: the parcels that were taken, the content parts of them that it did not give yet,
--- what ended its messages before the relay did, and how many wakes were taken.
+-- The receiver's end of a relay, as callers see it: the parcels that were taken, the content parts of them that were not given yet, and
+-- how many wakes were taken.
+pub record Taking : Type 0 where
+  pub relay : Relay Contents
+  pub taken : List (Parcel Contents)
+  pub waiting : List (List ℕ)
+  pub wakes : ℕ
+
+-- An inbox over it: what the end above has, and what ended the inbox's messages before the relay did.
 pub record Receiving : Type 0 where
   pub relay : Relay Contents
   pub taken : List (Parcel Contents)
@@ -115,38 +130,64 @@ ArrivesAs content closed (Some (Fault fault)) = Decodes (λ (m : Message). m) (E
 ArrivesAs content event end = ⊥
 
 module _ (old new : Receiving) where
-  -- the next content part came, and gave this event
+  -- the next content part came
+  abbrev pub TakesContent : List ℕ → Type 0
+  TakesContent content = Collects old.taken old.waiting new.taken (content ∷ new.waiting) × (has_end new.taken ≡ false)
+
+  -- it gave this event
   abbrev pub GivesContent : Event → Type 0
-  GivesContent event =
-      (content : List ℕ) × Collects old.taken old.waiting new.taken (content ∷ new.waiting) × (has_end new.taken ≡ false) × ArrivesAs content event new.end
+  GivesContent event = (content : List ℕ) × TakesContent content × ArrivesAs content event new.end
 
   -- all content parts were given, and then End was taken
   abbrev pub Drains : Type 0
   Drains = Collects old.taken old.waiting new.taken [] × (has_end new.taken ≡ true) × (new.end ≡ None)
 
--- Of an open inbox: it gives the message that the next content part is. After `exit`, after a content part that is no message, and once
--- End was taken it is over.
-abbrev pub OpenGives : Receiving → Event → Receiving → Type 0
-OpenGives old (message m) new = GivesContent old new (message m)
-OpenGives old closed new = Drains old new ⊎ GivesContent old new closed
-OpenGives old woken new = Collects old.taken old.waiting new.taken new.waiting × (has_end new.taken ≡ false) × (new.end ≡ None)
-OpenGives old event new = ⊥
+  -- a wake of the relay came, and no content part was given
+  abbrev pub TakesWake : Type 0
+  TakesWake = Collects old.taken old.waiting new.taken new.waiting × (has_end new.taken ≡ false) × (new.end ≡ None) × (new.wakes ≡ old.wakes + 1)
 
--- wakes are passed over before an event, and a wake that is given is counted
-abbrev pub PassesWakes : Event → ℕ → ℕ → Type 0
-PassesWakes woken old new = new ≡ old + 1
-PassesWakes event old new = old ≤ new
+-- of an inbox and its listener
+module _ {L : Type 0} (hears : L → ReadFault → L → Type 0) where
+  -- The next content part is no message. The listener heard of it, and the messages go on. No wake of the relay was taken.
+  abbrev pub PassesPart : Receiving × L → Receiving × L → Type 0
+  PassesPart old new =
+      (content : List ℕ) × (fault : ReadFault) × TakesContent old.0 new.0 content × (new.0.end ≡ None) × (new.0.wakes ≡ old.0.wakes)
+      × (is_of_body fault ≡ true) × (body_means content ≡ Err fault) × hears old.1 fault new.1
 
--- no wake is passed over
+  -- Of an open inbox: it gives the message that the next content part is. It gives a wake for one of the relay, or for a content part that
+  -- was passed over, and the listener hears nothing but of such a part. After `exit`, after a content part that is no message and was not
+  -- passed over, and once End was taken it is over.
+  abbrev pub OpenGives : Receiving × L → Event → Receiving × L → Type 0
+  OpenGives old (message m) new = GivesContent old.0 new.0 (message m) × (new.1 ≡ old.1)
+  OpenGives old closed new = (Drains old.0 new.0 ⊎ GivesContent old.0 new.0 closed) × (new.1 ≡ old.1)
+  OpenGives old woken new = (TakesWake old.0 new.0 × (new.1 ≡ old.1)) ⊎ PassesPart old new
+  OpenGives old event new = ⊥
+
+  -- Once it is over it gives `closed`, and nothing changes. Wakes of the relay may be passed over before an event that is none.
+  abbrev pub ContentsGive : Receiving × L → Event → Receiving × L → Type 0
+  ContentsGive old event new =
+      (new.0.relay ≡ old.0.relay) × (old.0.wakes ≤ new.0.wakes) × MatchBool (is_over old.0) ((event ≡ closed) × (new ≡ old)) (OpenGives old event new)
+
+-- no wake of the relay is passed over; of a wake that is given the clause above says which it is
 abbrev pub CountsWakes : Event → ℕ → ℕ → Type 0
-CountsWakes woken old new = new ≡ old + 1
+CountsWakes woken old new = new ≤ old + 1
 CountsWakes event old new = new ≡ old
 
--- once it is over it gives `closed`, and nothing changes
-abbrev pub ContentsGive : Receiving → Event → Receiving → Type 0
-ContentsGive old event new =
-    (new.relay ≡ old.relay) × PassesWakes event old.wakes new.wakes × MatchBool (is_over old) ((event ≡ closed) × (new ≡ old)) (OpenGives old event new)
+-- A wait for wakes too passes over none, and the messages end at a content part that is no message only where the listener may end them.
+abbrev pub ContentsListen : {L : Type 0} → (L → ReadFault → Type 0) → Receiving × L → Event → Receiving × L → Type 0
+ContentsListen ends old event new =
+    CountsWakes event old.0.wakes new.0.wakes × (ended_at_body new.0.end ≡ true → (new.0.end ≡ old.0.end) ⊎ MayEnd ends old.1 new.0.end)
 
--- a wait for wakes too passes over none
-abbrev pub ContentsListen : Receiving → Event → Receiving → Type 0
-ContentsListen old event new = CountsWakes event old.wakes new.wakes
+-- For private clauses: a listener that is not asked hears nothing.
+abbrev pub HearsNothing : {L : Type 0} → L → ReadFault → L → Type 0
+HearsNothing old fault new = ⊥
+
+-- For private clauses: what comes next, before the listener is asked. At a fault a content part came that is no message, or an allocation
+-- failed at it, and nothing has ended yet.
+abbrev pub ComesNext : {L : Type 0} → Receiving × L → Result Event ReadFault → Receiving × L → Type 0
+ComesNext old (Ok event) new =
+    ContentsGive HearsNothing old event new × CountsWakes event old.0.wakes new.0.wakes
+    × (ended_at_body new.0.end ≡ true → new.0.end ≡ old.0.end)
+ComesNext old (Err fault) new =
+    (is_over old.0 ≡ false) × ((content : List ℕ) × TakesContent old.0 new.0 content × Decodes (λ (m : Message). m) (Err fault) (body_means content))
+    × (new.0.end ≡ None) × (new.0.wakes ≡ old.0.wakes) × (new.0.relay ≡ old.0.relay) × (new.1 ≡ old.1)

@@ -1,3 +1,4 @@
+pub mod ContentBoxes
 pub mod Contents
 pub mod Framing
 pub mod Pump

@@ -1,8 +1,10 @@
 -- A session whose reader and writer run in threads of their own: bytes in to bytes out (LSP 3.17, "Base Protocol" and "Server lifecycle").
-use Rattle.std.specs.Prelude.{◌≡◌, Bool, true, false, ℕ, List, ◌∷◌, ◌++◌, Option, Some, None, Result, Err}
+use Rattle.std.specs.Prelude.{◌≡◌, ◌⊎◌, Bool, true, false, ℕ, List, ◌∷◌, ◌++◌, Option, Some, None, Result, Err}
 use Rattle.lsp_message.specs.Frame.{Begins}
 use Rattle.lsp_message.specs.Message.{Message}
 use Rattle.lsp_message.specs.Written.{GetsFrames, GetsFramesAndPart, IsOutput}
+use Rattle.lsp_message.specs.declared.frame.ReadFault.{ReadFault}
+use Rattle.lsp_session.specs.PassingBytes.{HearsLast, PassesOver}
 use Rattle.lsp_session.specs.Session.{SessionAnswer, SessionPart, Stop}
 use Rattle.lsp_session.specs.SessionBytes.{Ends, SessionOver}
 use Rattle.lsp_session.specs.declared.loops.ReadEnd.{ReadEnd}
@@ -38,7 +40,7 @@ WroteInThreads old new (Err (Write fault)) stop null sends = IsOutput fault × B
 WroteInThreads old new (Err Memory) stop null sends = GetsFirst sends old new
 WroteInThreads old new result stop null sends = GetsFrames sends old new
 
--- bytes in to bytes out, of a session that others can wake or not
+-- bytes in to bytes out, of a session that passes over nothing, and that others can wake or not
 abbrev pub ThreadsGiveOver : Bool → ℕ → SessionPart → List ℕ → Option (List ℕ) → Option (List ℕ) → Result SessionEnd SessionFault → Type 0
 ThreadsGiveOver wakeable limit P text old new result =
     SessionOver (ReadsOrWakes wakeable limit) P text (EndsInThreads limit result) (WroteInThreads old new result)
@@ -46,6 +48,24 @@ ThreadsGiveOver wakeable limit P text old new result =
 -- nobody can wake the session
 abbrev pub ThreadsGive : ℕ → SessionPart → List ℕ → Option (List ℕ) → Option (List ℕ) → Result SessionEnd SessionFault → Type 0
 ThreadsGive = ThreadsGiveOver false
+
+-- of a session that asks a listener at content parts which are no messages, and that others can wake or not
+module _ (wakeable : Bool) {L : Type 0} (hears : L → ReadFault → L → Type 0) (limit : ℕ) where
+  -- The first frame of the text is this message, and the listener hears nothing. Or the session is woken: by others, if they can, and
+  -- nothing was read; or since the first frame is passed over, of which the listener hears.
+  abbrev pub ReadsFrameOrWakes : List ℕ × L → Option Message → List ℕ × L → Type 0
+  ReadsFrameOrWakes old (Some m) new = Begins limit old.0 m new.0 × (new.1 ≡ old.1)
+  ReadsFrameOrWakes old None new = ((wakeable ≡ true) × (new ≡ old)) ⊎ PassesOver hears limit old new
+
+  -- Bytes in to bytes out. Of its end and of what was written the same is said as of a session that passes over nothing.
+  abbrev pub ThreadsTellOver : SessionPart → List ℕ → L → L → Option (List ℕ) → Option (List ℕ) → Result SessionEnd SessionFault → Type 0
+  ThreadsTellOver P text first last old new result =
+      SessionOver ReadsFrameOrWakes P (text, first)
+      (λ answer stop null at. EndsInThreads limit result answer stop null at.0 × HearsLast hears limit stop at last) (WroteInThreads old new result)
+
+-- nobody can wake the session but for a content part that is passed over
+abbrev pub ThreadsTell : {L : Type 0} → (L → ReadFault → L → Type 0) → ℕ → SessionPart → List ℕ → L → L → Option (List ℕ) → Option (List ℕ) → Result SessionEnd SessionFault → Type 0
+ThreadsTell = ThreadsTellOver false
 
 -- What ended the messages of a session whose inbox ended so, or took End so: a reader's end counts where the session came to it.
 -- For private clauses.

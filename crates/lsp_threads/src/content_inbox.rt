@@ -1,72 +1,44 @@
-//! The receiver's end of a relay of content parts, as an inbox: it gives the messages that they are.
-ghost use Rattle.std.specs.Prelude.{◌≡◌, ◌≤◌, ◌++◌, [], List, false, None, Some, MatchBool, if◌then◌else◌};
-ghost use Rattle.lsp_message.specs.Letters.{is_exit as exit_spec};
-ghost use Rattle.lsp_message.specs.View.{message_view};
-ghost use Rattle.lsp_relay.specs.Relay.{ended, has_end};
+//! An inbox over a relay of content parts: it gives the messages that they are, and asks a listener at one that is none.
+ghost use Rattle.std.specs.Prelude.{◌≡◌, None};
 ghost use Rattle.lsp_session.specs.Event.{arrival_view, event_view};
-ghost use Rattle.lsp_threads.specs.Contents.{ArrivesAs, bytes_of, Contents as Carried, ContentsGive, ContentsListen, NextIs};
+ghost use Rattle.lsp_threads.specs.ContentBoxes.{InboxGives, InboxListens, ReadsNext};
 
-use crate::content_outbox::{Contents, weight};
-use crate::relay_boxes::{collect_or_wake, take_to_end};
-use crate::unread::Takes;
-use lsp_message::Message;
-use lsp_relay::{Parcel, RelayRx};
-use lsp_session::{Arrival, Event, Inbox, ReadEnd, is_exit};
+use crate::content_parts::{ContentParts, Next};
+use lsp_message::{Message, ReadFault};
+use lsp_session::{Arrival, Event, Inbox, Listener, ReadEnd, is_exit, is_of_body};
 use std::alloc::Global;
-use std::collections::VecDeque;
-use std::marker::Model;
 use std::sync::Wait;
 
-/// What comes next from a relay of content parts.
+/// Gives the messages that content parts are, made on the caller's thread, and waits for each. It is closed after `exit`, after a
+/// content part that is no message and was not passed over, and once End was taken. It has no timeouts.
+///
+/// `receive_or_woken` gives each wake of the relay. It also asks the listener at a content part that is no message (`is_of_body`), and
+/// passes over it and gives `Arrival::Woken`, or ends the messages. In the other calls there is no wake: those of the relay are passed over,
+/// and such a part ends the messages, as each other fault does everywhere.
 #[derive(Drop)]
-pub enum Next {
-    /// A content part.
-    Content(Vec<u8>),
-    /// A wake.
-    Wake,
-    /// No more content parts come.
-    End,
-}
-
-/// The receiver's end of a relay, as an inbox. It waits for each content part, and gives the message that it is, made on the caller's
-/// thread. It is closed after `exit`, after a content part that is no message, and once End was taken. It has no timeouts. A wake of
-/// the relay wakes the service, where the session asks for that.
-#[derive(Drop)]
-pub struct ContentInbox<R: Wait + Drop> {
-    rt: R,
+pub struct ContentInbox<'a, R: Wait + Drop, L> {
     alloc: Global,
-    rx: RelayRx<Contents>,
-    takes: Takes,
-    /// Content parts that were taken, and not given yet.
-    waiting: VecDeque<Vec<u8>>,
-    drained: bool,
+    parts: &'a mut ContentParts<R>,
+    listener: &'a mut L,
     end: Option<ReadEnd>,
 }
 
-impl<R: Wait + Drop> Model for ContentInbox<R> {
-    ghost use Rattle.std.specs.Prelude.{◌≡◌};
-    ghost use Rattle.lsp_relay.specs.Relay.{has_end};
-    ghost use Rattle.lsp_threads.specs.Contents.{bytes_of, Receiving};
-
-    ghost Value = { Receiving };
-
-    ghost view = { λ b. record { relay = b.rx.relay; taken = b.rx.taken; waiting = bytes_of b.waiting.items; end = b.end; wakes = b.rx.wakes } };
-
-    ghost invariant = { λ b. b.drained ≡ has_end b.rx.taken };
-}
-
-impl<R: Wait + Copy + Drop> ContentInbox<R> {
-    pub fn new(rt: R, alloc: Global, rx: RelayRx<Contents>, takes: Takes) -> ContentInbox<R>
-        requires { has_end rx.taken ≡ false }
-        ensures { result ≡ record { relay = rx.relay; taken = rx.taken; waiting = []; end = None; wakes = rx.wakes } }
+impl<'a, R: Wait + Copy + Drop, L: Listener> ContentInbox<'a, R, L> {
+    pub fn new(
+        alloc: Global,
+        parts: &'a mut ContentParts<R>,
+        listener: &'a mut L,
+    ) -> ContentInbox<'a, R, L>
+        ensures same_parts { result.parts.ghost_name ≡ parts.entry.ghost_name }
+        ensures untaken { result.parts.now ≡ parts.old }
+        ensures same_listener { result.listener.ghost_name ≡ listener.entry.ghost_name }
+        ensures untold { result.listener.now ≡ listener.old }
+        ensures unended { result.end ≡ None }
     {
         ContentInbox {
-            rt,
             alloc,
-            rx,
-            takes,
-            waiting: VecDeque::new(alloc),
-            drained: false,
+            parts,
+            listener,
             end: None,
         }
     }
@@ -78,130 +50,70 @@ impl<R: Wait + Copy + Drop> ContentInbox<R> {
         self.end
     }
 
-    /// Whether End was taken.
-    pub fn is_drained(&self) -> bool
-        ensures { result ≡ has_end self.now.taken }
+    /// Takes what comes next: a message, a wake of the relay, or that no more come. A fault has not ended the messages yet.
+    fn read_next(&mut self) -> Result<Arrival, ReadFault>
+        ensures { ReadsNext self.old result self.new }
     {
-        self.drained
-    }
-
-    /// Takes the parcels up to End, where End is not taken yet, and gives the relay's end back. From the first on, the thread that reads
-    /// waits no more for what is unread.
-    pub fn drain(self) -> RelayRx<Contents>
-        ensures relay { result.relay ≡ self.relay }
-        ensures taken { MatchBool (has_end self.taken) (result.taken ≡ self.taken) ((more : List Carried) × (result.taken ≡ self.taken ++ ended more)) }
-        ensures wakes { self.wakes ≤ result.wakes }
-    {
-        let ContentInbox {
-            rt,
-            alloc: _,
-            mut rx,
-            takes,
-            waiting: _,
-            drained,
-            end: _,
-        } = self;
-        drop(takes);
-        if !drained {
-            take_to_end(&rt, &mut rx);
+        if self.end.is_some() || self.parts.is_drained() {
+            return Ok(Arrival::Closed);
         }
-        rx
-    }
-
-    /// Gives the message of the next content part, or a wake.
-    fn next_arrival(&mut self) -> Arrival
-        ensures gives { ContentsGive self.old (arrival_view result) self.new }
-        ensures listens { ContentsListen self.old (arrival_view result) self.new }
-    {
-        if self.drained || self.end.is_some() {
-            return Arrival::Closed;
-        }
-        match next_content(&self.rt, &mut self.rx, &self.takes, &mut self.waiting) {
+        match self.parts.take_next() {
             Next::Content(content) => {
-                let (arrival, end) = arrival_of(self.alloc, &content);
-                self.end = end;
-                arrival
+                let message = Message::from_content(self.alloc, &content)?;
+                if is_exit(&message) {
+                    self.end = Some(ReadEnd::Exit);
+                }
+                Ok(Arrival::Message(message))
             }
-            Next::Wake => Arrival::Woken,
-            Next::End => {
-                self.drained = true;
+            Next::Wake => Ok(Arrival::Woken),
+            Next::End => Ok(Arrival::Closed),
+        }
+    }
+
+    /// What one wait gives that also gives wakes. At a content part that is no message the listener is asked whether to read on.
+    fn next_arrival(&mut self) -> Arrival
+        ensures gives { InboxGives L.hears self.old (arrival_view result) self.new }
+        ensures listens { InboxListens L.ends self.old (arrival_view result) self.new }
+    {
+        match self.read_next() {
+            Ok(arrival) => arrival,
+            Err(fault) => {
+                if is_of_body(fault) && self.listener.passes_over(fault) {
+                    self.parts.go_on();
+                    return Arrival::Woken;
+                }
+                self.end = Some(ReadEnd::Fault(fault));
                 Arrival::Closed
             }
         }
     }
 
-    /// Gives the message of the next content part, and passes over wakes.
+    /// Gives the message of the next content part, and passes over wakes of the relay.
     fn next_event(&mut self) -> Event
-        ensures { ContentsGive self.old (event_view result) self.new }
+        ensures { InboxGives L.hears self.old (event_view result) self.new }
     {
-        let rt = self.rt;
+        let rt = self.parts.handle();
         for _ in rt.forever() {
-            match self.next_arrival() {
-                Arrival::Message(message) => return Event::Message(message),
-                Arrival::Woken => {}
-                Arrival::Closed => return Event::Closed,
+            match self.read_next() {
+                Ok(Arrival::Message(message)) => return Event::Message(message),
+                Ok(Arrival::Woken) => {}
+                Ok(Arrival::Closed) => return Event::Closed,
+                Err(fault) => {
+                    self.end = Some(ReadEnd::Fault(fault));
+                    return Event::Closed;
+                }
             }
         }
         unreachable!()
     }
 }
 
-/// Takes the next content part, or a wake. Before those that wait are used up, no parcel is taken, and no wake.
-fn next_content<R: Wait>(
-    rt: &R,
-    rx: &mut RelayRx<Contents>,
-    takes: &Takes,
-    waiting: &mut VecDeque<Vec<u8>>,
-) -> Next
-    requires { has_end rx.old.taken ≡ false }
-    ensures relay { rx.new.relay ≡ rx.old.relay }
-    ensures next { NextIs rx.old.taken (bytes_of waiting.old.items) rx.old.wakes result rx.new.taken (bytes_of waiting.new.items) rx.new.wakes }
-{
-    for _ in rt.forever() {
-        match waiting.pop_front() {
-            Some(content) => return Next::Content(content),
-            None => match collect_or_wake(rt, rx) {
-                Some(Parcel::Message(contents)) => {
-                    takes.took(rt, weight(&contents));
-                    *waiting = VecDeque::from_vec(contents);
-                }
-                Some(Parcel::End) => return Next::End,
-                None => return Next::Wake,
-            },
-        }
-    }
-    unreachable!()
-}
+impl<'a, R: Wait + Copy + Drop, L: Listener> Inbox for ContentInbox<'a, R, L> {
+    ghost use Rattle.lsp_threads.specs.ContentBoxes.{InboxGives, InboxListens};
 
-/// What a content part gives, and what it ends the messages with.
-fn arrival_of(alloc: Global, content: &[u8]) -> (Arrival, Option<ReadEnd>)
-    ensures { ArrivesAs content.now (arrival_view result.0) result.1 }
-{
-    match Message::from_content(alloc, content) {
-        Ok(message) => {
-            let end = end_after(&message);
-            (Arrival::Message(message), end)
-        }
-        Err(fault) => (Arrival::Closed, Some(ReadEnd::Fault(fault))),
-    }
-}
+    ghost receives = { InboxGives L.hears };
 
-/// What the messages end with after this one.
-fn end_after(message: &Message) -> Option<ReadEnd>
-    ensures { result ≡ (if exit_spec (message_view message.now) then Some ReadEnd.Exit else None) }
-{
-    if is_exit(message) {
-        return Some(ReadEnd::Exit);
-    }
-    None
-}
-
-impl<R: Wait + Copy + Drop> Inbox for ContentInbox<R> {
-    ghost use Rattle.lsp_threads.specs.Contents.{ContentsGive, ContentsListen};
-
-    ghost receives = { ContentsGive };
-
-    ghost listens = { ContentsListen };
+    ghost listens = { InboxListens L.ends };
 
     fn receive_for(&mut self, _seconds: u64) -> Event {
         self.next_event()

@@ -103,6 +103,14 @@ impl<R: Wait + Drop> ContentOutbox<R> {
         }
     }
 
+    /// Sends what waits, and then waits until the session goes on after the last content part, which is no message. False: it does not.
+    pub fn waits_to_go_on(&mut self) -> bool
+        ensures { self.new ≡ self.old }
+    {
+        self.hand_over();
+        may_go_on(&self.rt, &self.unread)
+    }
+
     /// Sends what waits and then End, and gives the relay's end back.
     pub fn finish(self) -> RelayTx<Contents>
         ensures relay { result.relay ≡ self.relay }
@@ -129,6 +137,14 @@ impl<R: Wait + Drop> ContentOutbox<R> {
 fn wait_for_room<R: Wait>(rt: &R, unread: &mut Option<Unread>, contents: &Contents) {
     if let Some(unread) = unread {
         unread.add(rt, weight(contents));
+    }
+}
+
+/// Waits until the session goes on after a content part that is no message. False: it does not, or there is nothing that could tell.
+fn may_go_on<R: Wait>(rt: &R, unread: &Option<Unread>) -> bool {
+    match unread {
+        Some(unread) => unread.may_go_on(rt),
+        None => false,
     }
 }
 

@@ -9,13 +9,24 @@ use crate::unread::Unread;
 use crate::workers::ReadsInto;
 use lsp_message::{Message, ReadFault, read_content_within};
 use lsp_relay::RelayTx;
-use lsp_session::{ReadEnd, is_exit};
+use lsp_session::{ReadEnd, is_exit, is_of_body};
 use std::alloc::Global;
 use std::io::{BufRead, ErrorKind};
 use std::sync::Wait;
 
-/// Adds the content parts of a reader's messages to an outbox that has none, up to and with the first `exit`, or up to one that is no
-/// message. What was added is handed over before a read that may wait.
+/// What a content part is to the thread that reads.
+#[derive(Clone, Copy, PartialEq, Eq)]
+enum Seen {
+    /// A message after which more may come.
+    Message,
+    /// `exit`.
+    Exit,
+    /// No message.
+    NoMessage,
+}
+
+/// Adds a reader's content parts to an outbox that has none, up to and with the first that is `exit`. What was added is handed over before
+/// a read that may wait. After a content part that is no message it waits until the session goes on, and ends if it does not.
 fn read_contents<R: Wait + Drop, S: BufRead>(
     alloc: Global,
     reader: &mut PeekingReader<S>,
@@ -33,32 +44,49 @@ fn read_contents<R: Wait + Drop, S: BufRead>(
             Ok(None) => return ReadEnd::End,
             Err(fault) => return ReadEnd::Fault(fault),
         };
-        let is_last = match is_last(alloc, &content) {
-            Ok(is_last) => is_last,
+        let seen = match look_at(alloc, &content) {
+            Ok(seen) => seen,
             Err(fault) => return ReadEnd::Fault(fault),
         };
         match outbox.add(content) {
             Ok(()) => {}
             Err(_) => return ReadEnd::Fault(ReadFault::Memory),
         }
-        if is_last {
-            return ReadEnd::Exit;
+        match seen {
+            Seen::Message => outbox.go_on(reader.shows_frame()),
+            Seen::Exit => return ReadEnd::Exit,
+            Seen::NoMessage => {
+                if !outbox.waits_to_go_on() {
+                    return ReadEnd::Fault(ReadFault::Input(ErrorKind::Other));
+                }
+            }
         }
-        outbox.go_on(reader.shows_frame());
     }
     ReadEnd::Fault(ReadFault::Input(ErrorKind::Other))
 }
 
-/// Whether the content part is `exit`. The fault says why it is no message, or that an allocation failed. What surely is another
-/// message is not looked at closely.
-fn is_last(alloc: Global, content: &[u8]) -> Result<bool, ReadFault>
+/// What the content part is. What surely is a message other than `exit` is not looked at closely. The fault is none of the content part
+/// itself: an allocation failed.
+fn look_at(alloc: Global, content: &[u8]) -> Result<Seen, ReadFault>
     ensures { LooksAt content.now result }
 {
     if surely_goes_on(content) {
-        return Ok(false);
+        return Ok(Seen::Message);
     }
-    let message = Message::from_content(alloc, content)?;
-    Ok(is_exit(&message))
+    match Message::from_content(alloc, content) {
+        Ok(message) => {
+            if is_exit(&message) {
+                return Ok(Seen::Exit);
+            }
+            Ok(Seen::Message)
+        }
+        Err(fault) => {
+            if is_of_body(fault) {
+                return Ok(Seen::NoMessage);
+            }
+            Err(fault)
+        }
+    }
 }
 
 impl ReadsInto for Vec<Vec<u8>> {

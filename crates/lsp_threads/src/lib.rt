@@ -4,6 +4,7 @@
 
 mod content_inbox;
 mod content_outbox;
+mod content_parts;
 mod content_reader;
 mod goes_on;
 pub mod laws;
@@ -22,8 +23,7 @@ mod workers;
 pub use content_outbox::Contents;
 pub use pumping::{PumpFault, pump, pump_by, pump_within};
 pub use run::{
-    ThreadOptions, Threaded, UNREAD_BYTES, run_threads, run_threads_by, run_threads_of_service,
-    run_threads_of_service_by, run_threads_of_service_over, run_threads_of_service_within,
-    run_threads_within,
+    ThreadOptions, Threaded, UNREAD_BYTES, run_threads, run_threads_of_service,
+    run_threads_of_service_over, run_threads_within,
 };
 pub use workers::StartFault;

@@ -4,20 +4,22 @@ ghost use Rattle.std.specs.Prelude.{◌≡◌, [], IfOk, IfSome};
 ghost use Rattle.lsp_message.specs.Frame.{no_limit};
 ghost use Rattle.lsp_session.specs.HandlerSession.{of_handler};
 ghost use Rattle.lsp_session.specs.Session.{SessionOut};
-ghost use Rattle.lsp_threads.specs.Threads.{ThreadsGive, ThreadsGiveOver};
+ghost use Rattle.lsp_threads.specs.Threads.{ThreadsGive, ThreadsTell, ThreadsTellOver};
 
 use crate::content_outbox::Contents;
 use crate::serving::{serve_between, start_both};
 use crate::workers::{ROOM, StartFault};
 use lsp_relay::{RelayRx, RelayTx, relay};
-use lsp_session::{Handler, HandlerService, Service, SessionEnd, SessionFault};
+use lsp_session::{
+    EndSession, Handler, HandlerService, Listener, Service, SessionEnd, SessionFault,
+};
 use serde_json::Value;
 use std::alloc::Global;
 use std::io::{BufRead, Write};
 use std::sync::Wait;
 use std::thread::{Builder, Threads};
 
-/// What `run_threads` gives back.
+/// What a session in threads gives back.
 #[derive(Debug, Drop)]
 pub struct Threaded<W> {
     /// The writer that you gave it.
@@ -26,12 +28,46 @@ pub struct Threaded<W> {
     pub answer: Result<SessionEnd, SessionFault>,
 }
 
+/// How many bytes of content parts a session in threads reads ahead, if its options say nothing else: 1 MiB.
+pub const UNREAD_BYTES: u64 = 1_048_576;
+
+/// How a session in threads runs. But for `limit` it changes speed and memory only, and no answer.
+#[derive(Drop)]
+pub struct ThreadOptions {
+    /// Starts the thread that writes. It can set the size of its stack.
+    pub writer: Builder,
+    /// Starts the thread that reads. It can set the size of its stack.
+    pub reader: Builder,
+    /// How many bytes a content part may have. If the session comes to a longer one, the fault is `SessionFault::Read` with
+    /// `ReadFault::TooLong`.
+    pub limit: u64,
+    /// How many bytes of content parts may be read that the session did not take yet. Above that the client waits. A longer content
+    /// part is read once nothing else is unread.
+    pub unread: u64,
+}
+
+impl ThreadOptions {
+    /// Builders that set nothing, no limit on a content part, and `UNREAD_BYTES`.
+    pub fn new() -> ThreadOptions
+        ensures limit { result.limit ≡ no_limit }
+        ensures unread { result.unread ≡ 1048576 }
+    {
+        ThreadOptions {
+            writer: Builder::new(),
+            reader: Builder::new(),
+            limit: u64::MAX,
+            unread: UNREAD_BYTES,
+        }
+    }
+}
+
 /// Runs a session of a server (LSP 3.17, "Server lifecycle") with a thread that reads, a thread that writes and the handler on
 /// the caller's thread. In every schedule its answer and the bytes that it writes are such as a session allows.
 ///
 /// - The fault means that a thread was not started, or that an allocation failed. Nothing was read or written then.
 /// - It returns only when the reader comes to its end, to a fault or to an `exit`. What is read after the session's answer is
 ///   dropped. A read fault counts only if the session came to it.
+/// - A content part that is no message ends the session with `SessionFault::Read`, and nothing more is read.
 /// - After a failed write nothing more is written, and the session goes on: the handler gets messages that `session` would not
 ///   have read.
 pub fn run_threads<T, R, W, H>(
@@ -72,170 +108,90 @@ where
     ensures { IfSome (R.remaining reader) (λ text. IfOk result (λ done.
         ThreadsGive limit (SessionOut (of_handler H.answers H.notes (view capabilities)) handler.old handler.new) text (W.contents writer) (W.contents done.writer) done.answer)) }
 {
-    run_threads_by(
+    let mut capabilities = capabilities;
+    let mut service = HandlerService::new(alloc, &mut capabilities, handler);
+    let mut options = ThreadOptions::new();
+    options.limit = limit;
+    run_threads_of_service(
         rt,
-        ThreadOptions::new(),
         alloc,
         reader,
         writer,
-        capabilities,
-        handler,
-        limit,
+        &mut service,
+        &mut EndSession,
+        options,
     )
-}
-
-/// How many bytes of content parts a session in threads reads ahead, if its options say nothing else: 1 MiB.
-pub const UNREAD_BYTES: u64 = 1_048_576;
-
-/// How the two threads of a session run. It changes speed and memory only, and no answer.
-#[derive(Drop)]
-pub struct ThreadOptions {
-    /// Starts the thread that writes. It can set the size of its stack.
-    pub writer: Builder,
-    /// Starts the thread that reads. It can set the size of its stack.
-    pub reader: Builder,
-    /// How many bytes of content parts may be read that the session did not take yet. Above that the client waits. A longer content
-    /// part is read once nothing else is unread.
-    pub unread: u64,
-}
-
-impl ThreadOptions {
-    /// Builders that set nothing, and `UNREAD_BYTES`.
-    pub fn new() -> ThreadOptions
-        ensures { result.unread ≡ 1048576 }
-    {
-        ThreadOptions {
-            writer: Builder::new(),
-            reader: Builder::new(),
-            unread: UNREAD_BYTES,
-        }
-    }
-}
-
-/// As `run_threads_within`, with options for the two threads.
-pub fn run_threads_by<T, R, W, H>(
-    rt: &T,
-    options: ThreadOptions,
-    alloc: Global,
-    reader: R,
-    writer: W,
-    capabilities: Value,
-    handler: &mut H,
-    limit: u64,
-) -> Result<Threaded<W>, StartFault>
-where
-    T: Threads + Wait + Copy + Drop + Send + 'static,
-    R: BufRead + Drop + Send + 'static,
-    W: Write + Drop + Send + 'static,
-    H: Handler,
-    ensures { IfSome (R.remaining reader) (λ text. IfOk result (λ done.
-        ThreadsGive limit (SessionOut (of_handler H.answers H.notes (view capabilities)) handler.old handler.new) text (W.contents writer) (W.contents done.writer) done.answer)) }
-{
-    let mut capabilities = capabilities;
-    let mut service = HandlerService::new(alloc, &mut capabilities, handler);
-    run_threads_of_service_by(rt, options, alloc, reader, writer, &mut service, limit)
 }
 
 /// Runs a session of a service (LSP 3.17, "Server lifecycle") with a thread that reads, a thread that writes and the
 /// service on the caller's thread. In every schedule its answer and the bytes that it writes are such as a session allows.
 ///
-/// Starts, faults and the end are those of `run_threads`. A message that the service gives is written while the service goes on.
-pub fn run_threads_of_service<T, R, W, S>(
+/// Starts, faults and the end are those of `run_threads`, but for content parts that are no messages. A message that the service gives is
+/// written while the service goes on.
+///
+/// At a content part that is no message (see `lsp_session::is_of_body`) the listener `bad_bodies` is asked, at once and on your thread. Where
+/// it reads on, nothing is answered, the service is woken, and the next frame follows. That is so from `initialized` up to `shutdown`, where
+/// a service can be woken. Where the listener ends the session, and before and after in any case, such a part is `SessionFault::Read`, and
+/// nothing more is read. So is each other fault of reading at any time. With `EndSession` nothing is ever passed over
+/// (`laws::nothing_is_passed_over_in_threads`). A handler's session reads on as the service `HandlerService`.
+pub fn run_threads_of_service<T, R, W, S, L>(
     rt: &T,
     alloc: Global,
     reader: R,
     writer: W,
     service: &mut S,
-) -> Result<Threaded<W>, StartFault>
-where
-    T: Threads + Wait + Copy + Drop + Send + 'static,
-    R: BufRead + Drop + Send + 'static,
-    W: Write + Drop + Send + 'static,
-    S: Service,
-    ensures { IfSome (R.remaining reader) (λ text. IfOk result (λ done.
-        ThreadsGive no_limit (SessionOut S.behavior service.old service.new)
-        text (W.contents writer) (W.contents done.writer) done.answer)) }
-{
-    run_threads_of_service_within(rt, alloc, reader, writer, service, u64::MAX)
-}
-
-/// `run_threads_of_service` over messages whose content part has at most `limit` bytes. A longer one is `SessionFault::Read` of
-/// `ReadFault::TooLong`, where the session came to it.
-pub fn run_threads_of_service_within<T, R, W, S>(
-    rt: &T,
-    alloc: Global,
-    reader: R,
-    writer: W,
-    service: &mut S,
-    limit: u64,
-) -> Result<Threaded<W>, StartFault>
-where
-    T: Threads + Wait + Copy + Drop + Send + 'static,
-    R: BufRead + Drop + Send + 'static,
-    W: Write + Drop + Send + 'static,
-    S: Service,
-    ensures { IfSome (R.remaining reader) (λ text. IfOk result (λ done.
-        ThreadsGive limit (SessionOut S.behavior service.old service.new)
-        text (W.contents writer) (W.contents done.writer) done.answer)) }
-{
-    let options = ThreadOptions::new();
-    run_threads_of_service_by(rt, options, alloc, reader, writer, service, limit)
-}
-
-/// As `run_threads_of_service_within`, with options for the two threads.
-pub fn run_threads_of_service_by<T, R, W, S>(
-    rt: &T,
+    bad_bodies: &mut L,
     options: ThreadOptions,
-    alloc: Global,
-    reader: R,
-    writer: W,
-    service: &mut S,
-    limit: u64,
 ) -> Result<Threaded<W>, StartFault>
 where
     T: Threads + Wait + Copy + Drop + Send + 'static,
     R: BufRead + Drop + Send + 'static,
     W: Write + Drop + Send + 'static,
     S: Service,
+    L: Listener,
     ensures { IfSome (R.remaining reader) (λ text. IfOk result (λ done.
-        ThreadsGive limit (SessionOut S.behavior service.old service.new)
-        text (W.contents writer) (W.contents done.writer) done.answer)) }
+        ThreadsTell L.hears options.limit (SessionOut S.behavior service.old service.new) text
+        bad_bodies.old bad_bodies.new (W.contents writer) (W.contents done.writer) done.answer)) }
 {
     let Ok(ends) = relay::<Contents>(alloc, ROOM) else {
         return Err(StartFault::Memory);
     };
-    run_threads_of_service_over(rt, options, alloc, ends, reader, writer, service, limit)
+    run_threads_of_service_over(
+        rt, alloc, ends, reader, writer, service, bad_bodies, options,
+    )
 }
 
-/// As `run_threads_of_service_by`, over a relay that the caller made, which nothing has passed: `relay::<Contents>`. Wakers of the relay wake the
-/// service, from `initialized` up to `shutdown`; a wake before or after is passed over. If you made no waker, the service is never
-/// woken. That a wake arrives is tested, and no part of this contract.
+/// As `run_threads_of_service`, over a relay that the caller made, which nothing has passed: `relay::<Contents>`. Wakers of the relay wake
+/// the service, from `initialized` up to `shutdown`; a wake before or after is passed over. If you made no waker, the service is woken
+/// only at a content part that is passed over. That a wake arrives is tested, and no part of this contract.
 ///
 /// Both ends of the relay are gone when this returns, also after a fault: a wake gives false from then on, and one that waits for
-/// room gives up (tested as well). `service` runs on the caller's thread, and should not wake itself: the relay may be full.
-pub fn run_threads_of_service_over<T, R, W, S>(
+/// room gives up (tested as well). `service` and `bad_bodies` run on the caller's thread, and should not wake the session themselves: the
+/// relay may be full.
+pub fn run_threads_of_service_over<T, R, W, S, L>(
     rt: &T,
-    options: ThreadOptions,
     alloc: Global,
     ends: (RelayTx<Contents>, RelayRx<Contents>),
     reader: R,
     writer: W,
     service: &mut S,
-    limit: u64,
+    bad_bodies: &mut L,
+    options: ThreadOptions,
 ) -> Result<Threaded<W>, StartFault>
 where
     T: Threads + Wait + Copy + Drop + Send + 'static,
     R: BufRead + Drop + Send + 'static,
     W: Write + Drop + Send + 'static,
     S: Service,
+    L: Listener,
     requires fresh { (ends.0.sent ≡ []) × (ends.1.taken ≡ []) }
     requires same { ends.1.relay ≡ ends.0.relay }
     ensures { IfSome (R.remaining reader) (λ text. IfOk result (λ done.
-        ThreadsGiveOver ends.0.wakeable limit (SessionOut S.behavior service.old service.new)
-        text (W.contents writer) (W.contents done.writer) done.answer)) }
+        ThreadsTellOver ends.0.wakeable L.hears options.limit (SessionOut S.behavior service.old service.new) text
+        bad_bodies.old bad_bodies.new (W.contents writer) (W.contents done.writer) done.answer)) }
 {
-    match start_both(rt, options, alloc, ends, reader, limit, writer) {
-        Ok(workers) => Ok(serve_between(rt, alloc, workers, service)),
+    match start_both(rt, options, alloc, ends, reader, writer) {
+        Ok(workers) => Ok(serve_between(rt, alloc, workers, service, bad_bodies)),
         Err(fault) => Err(fault),
     }
 }

@@ -1,10 +1,11 @@
 //! The session between the two threads, and how they are started.
 ghost use Rattle.std.specs.Prelude.{◌≡◌, [], IfOk, IfSome};
 ghost use Rattle.lsp_session.specs.Session.{SessionOut};
-ghost use Rattle.lsp_threads.specs.Threads.{ThreadsGiveOver, session_end as session_end_spec};
+ghost use Rattle.lsp_threads.specs.Threads.{ThreadsTellOver, session_end as session_end_spec};
 
 use crate::content_inbox::ContentInbox;
 use crate::content_outbox::Contents;
+use crate::content_parts::ContentParts;
 use crate::relay_boxes::deliver;
 use crate::reply_outbox::{ReplyOutbox, reply_fault};
 use crate::run::{ThreadOptions, Threaded};
@@ -12,7 +13,7 @@ use crate::unread::{Takes, bounded_unread};
 use crate::workers::{ROOM, Reader, StartFault, Writer, start_reader, start_writer};
 use lsp_message::WriteFault;
 use lsp_relay::{Parcel, RelayRx, RelayTx, relay, settle_all};
-use lsp_session::{ReadEnd, Service, serve_service, session_answer};
+use lsp_session::{Listener, ReadEnd, Service, serve_service, session_answer};
 use std::alloc::Global;
 use std::io::{BufRead, Write};
 use std::sync::Wait;
@@ -35,7 +36,6 @@ pub(crate) fn start_both<T, R, W>(
     alloc: Global,
     ends: (RelayTx<Contents>, RelayRx<Contents>),
     reader: R,
-    limit: u64,
     writer: W,
 ) -> Result<Workers<R, W>, StartFault>
 where
@@ -45,7 +45,7 @@ where
     requires fresh { (ends.0.sent ≡ []) × (ends.1.taken ≡ []) }
     requires same { ends.1.relay ≡ ends.0.relay }
     ensures reading { IfOk result (λ workers. (workers.rx.taken ≡ []) × (workers.reading.promise.tx.value.relay ≡ workers.rx.relay)
-        × (workers.reading.promise.tx.value.sent ≡ []) × (workers.reading.promise.reader.value ≡ reader) × (workers.reading.promise.limit ≡ limit)
+        × (workers.reading.promise.tx.value.sent ≡ []) × (workers.reading.promise.reader.value ≡ reader) × (workers.reading.promise.limit ≡ options.limit)
         × (workers.reading.promise.tx.value.wakeable ≡ ends.0.wakeable)) }
     ensures writing { IfOk result (λ workers. (workers.replies.sent ≡ []) × (workers.writing.promise.rx.value.relay ≡ workers.replies.relay)
         × (workers.writing.promise.writer.value ≡ writer)) }
@@ -68,6 +68,7 @@ where
         Err(fault) => return Err(fault),
     };
     let unread = Some(unread);
+    let limit = options.limit;
     match start_reader::<Contents, T, R>(rt, options.reader, alloc, reader, limit, tx, unread) {
         Ok(reading) => Ok(Workers {
             rx,
@@ -97,22 +98,24 @@ fn end_writing<T: Threads + Wait, W: Write + Drop>(
 }
 
 /// The session between the two threads.
-pub(crate) fn serve_between<T, R, W, S>(
+pub(crate) fn serve_between<T, R, W, S, L>(
     rt: &T,
     alloc: Global,
     workers: Workers<R, W>,
     service: &mut S,
+    listener: &mut L,
 ) -> Threaded<W>
 where
     T: Threads + Wait + Copy + Drop,
     R: BufRead + Drop,
     W: Write + Drop,
     S: Service,
+    L: Listener,
     requires reading { (workers.rx.taken ≡ []) × (workers.reading.promise.tx.value.relay ≡ workers.rx.relay) × (workers.reading.promise.tx.value.sent ≡ []) }
     requires writing { (workers.replies.sent ≡ []) × (workers.writing.promise.rx.value.relay ≡ workers.replies.relay) }
     ensures { IfSome (R.remaining workers.reading.promise.reader.value) (λ text.
-        ThreadsGiveOver workers.reading.promise.tx.value.wakeable workers.reading.promise.limit (SessionOut S.behavior service.old service.new) text
-        (W.contents workers.writing.promise.writer.value) (W.contents result.writer) result.answer) }
+        ThreadsTellOver workers.reading.promise.tx.value.wakeable L.hears workers.reading.promise.limit (SessionOut S.behavior service.old service.new) text
+        listener.old listener.new (W.contents workers.writing.promise.writer.value) (W.contents result.writer) result.answer) }
 {
     let Workers {
         rx,
@@ -121,15 +124,16 @@ where
         reading,
         writing,
     } = workers;
-    let mut inbox = ContentInbox::new(*rt, alloc, rx, takes);
+    let mut parts = ContentParts::new(*rt, alloc, rx, takes);
+    let mut inbox = ContentInbox::new(alloc, &mut parts, listener);
     let mut outbox = ReplyOutbox::new(*rt, alloc, replies);
     let answer = serve_service(alloc, &mut inbox, &mut outbox, service);
     let ended = inbox.end();
-    let drained = inbox.is_drained();
+    let drained = parts.is_drained();
     let (replies, failed) = outbox.finish();
     // Nobody waits for ever for room in the relay: draining makes room for the thread that reads, and `settle_all` drops both ends, so
-    // that a wake which waits gives up.
-    let rx = inbox.drain();
+    // that a wake which waits gives up. Nor does that thread wait for the session to go on.
+    let rx = parts.drain();
     let (tx, read) = reading.join(rt);
     let (replies_rx, writer, unwritten) = writing.join(rt);
     settle_all(rt, rx, tx);

@@ -1,4 +1,5 @@
-//! How many bytes a thread may have read that nobody took yet. It bounds memory, and changes no answer.
+//! How many bytes a thread may have read that nobody took yet. It bounds memory, and changes no answer. And whether that thread reads on
+//! after a content part that is no message.
 
 use crossbeam_channel::{Receiver, Sender, bounded};
 use std::alloc::{AllocError, Global};
@@ -8,6 +9,7 @@ use std::sync::{Arc, Wait};
 /// Makes the two ends of an account of what is unread, which should not pass `bound`. The error means that an allocation failed.
 pub fn bounded_unread(alloc: Global, bound: u64) -> Result<(Unread, Takes), AllocError> {
     let (ring, bell) = bounded(alloc, 1)?;
+    let (verdict, verdicts) = bounded(alloc, 1)?;
     let Ok(taken) = Arc::new(alloc, AtomicU64::new(0)) else {
         return Err(AllocError);
     };
@@ -15,12 +17,14 @@ pub fn bounded_unread(alloc: Global, bound: u64) -> Result<(Unread, Takes), Allo
     let unread = Unread {
         taken,
         bell,
+        verdicts,
         bound,
         read: 0,
     };
     let takes = Takes {
         taken: theirs,
         ring,
+        verdict,
     };
     Ok((unread, takes))
 }
@@ -32,6 +36,8 @@ pub struct Unread {
     taken: Arc<AtomicU64, Global>,
     /// Rings after bytes were taken.
     bell: Receiver<()>,
+    /// Has a message once the other end goes on after a content part that is no message.
+    verdicts: Receiver<()>,
     bound: u64,
     /// How many bytes were read, in all.
     read: u64,
@@ -53,6 +59,11 @@ impl Unread {
         let unread = self.read.wrapping_sub(self.taken.load(Ordering::SeqCst));
         unread == 0 || weight <= self.bound.saturating_sub(unread)
     }
+
+    /// Waits until the other end goes on after a content part that is no message. False: it is gone.
+    pub fn may_go_on<R: Wait>(&self, rt: &R) -> bool {
+        self.verdicts.recv(rt).is_ok()
+    }
 }
 
 /// The end of the thread that takes.
@@ -60,6 +71,7 @@ impl Unread {
 pub struct Takes {
     taken: Arc<AtomicU64, Global>,
     ring: Sender<()>,
+    verdict: Sender<()>,
 }
 
 impl Takes {
@@ -67,5 +79,10 @@ impl Takes {
     pub fn took<R: Wait>(&self, rt: &R, weight: u64) {
         self.taken.fetch_add(weight, Ordering::SeqCst);
         let _ = self.ring.try_send(rt, ());
+    }
+
+    /// Goes on after a content part that is no message. It doesn't wait: the other end awaits one such word for each such content part.
+    pub fn go_on<R: Wait>(&self, rt: &R) {
+        let _ = self.verdict.try_send(rt, ());
     }
 }

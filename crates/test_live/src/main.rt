@@ -20,6 +20,7 @@ mod connections;
 mod devices;
 mod escapes;
 mod jobs;
+mod listening;
 mod owners;
 mod pools;
 mod relays;

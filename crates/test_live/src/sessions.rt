@@ -3,17 +3,17 @@
 use crate::attempt::{Attempt, Stop};
 use crate::devices::{Pause, Sink, Source};
 use crate::escapes::escape;
+use crate::listening::Listening;
 use crate::owners::parted;
 use crate::servers::{Echo, Talker};
 use crate::signals::{Signal, Signals, is_alone};
 use crate::table::{Call, Device, Given};
-use lsp_jobs::{PoolSize, run_jobs_within};
+use lsp_jobs::{PoolSize, run_jobs};
 use lsp_server::{Connection, UNREAD_WEIGHT};
 use lsp_service::QueuedServer;
-use lsp_session::{SessionEnd, SessionFault};
+use lsp_session::{HandlerService, SessionEnd, SessionFault};
 use lsp_threads::{
-    PumpFault, StartFault, ThreadOptions, Threaded, UNREAD_BYTES, pump_by, run_threads_by,
-    run_threads_of_service_within,
+    PumpFault, StartFault, ThreadOptions, Threaded, UNREAD_BYTES, pump_by, run_threads_of_service,
 };
 use serde_json::{Map, Value};
 use std::alloc::{AllocError, Global};
@@ -155,24 +155,25 @@ fn handled<R>(
 where
     R: Threads + Wait + Copy + Drop + Send + 'static,
 {
-    let none = Value::Object(Map::new(alloc));
+    let mut none = Value::Object(Map::new(alloc));
     let mut echo = Echo {
         alloc,
         signals: Arc::try_clone(signals)?,
         is_gated: matches!(run.device, Device::Gated),
     };
-    let limit = run.limit();
-    let ran = run_threads_by(
+    let mut service = HandlerService::new(alloc, &mut none, &mut echo);
+    let mut listening = Listening::new(matches!(run.device, Device::Passes));
+    let ran = run_threads_of_service(
         rt,
-        options(run),
         alloc,
         reader,
         writer,
-        none,
-        &mut echo,
-        limit,
+        &mut service,
+        &mut listening,
+        options(run),
     );
-    threads_answer(alloc, ran, run, signals)
+    let came = threads_answer(alloc, ran, run, signals)?;
+    with_passed(alloc, run, came, &listening)
 }
 
 /// How a session of the server that speaks ends, and what it wrote.
@@ -189,9 +190,37 @@ where
 {
     let talker = Talker::new(alloc, Arc::try_clone(signals)?);
     let mut queued = QueuedServer::new(alloc, talker);
-    let limit = run.limit();
-    let ran = run_threads_of_service_within(rt, alloc, reader, writer, &mut queued, limit);
-    threads_answer(alloc, ran, run, signals)
+    let mut listening = Listening::new(matches!(run.device, Device::Passes));
+    let ran = run_threads_of_service(
+        rt,
+        alloc,
+        reader,
+        writer,
+        &mut queued,
+        &mut listening,
+        options(run),
+    );
+    let came = threads_answer(alloc, ran, run, signals)?;
+    with_passed(alloc, run, came, &listening)
+}
+
+/// What came of a run and, if it passes over content parts, how many of each kind it passed over.
+fn with_passed(
+    alloc: Global,
+    run: Run,
+    came: Attempt,
+    listening: &Listening,
+) -> Result<Attempt, AllocError> {
+    match (run.device, came) {
+        (Device::Passes, Attempt::Came(came)) => {
+            let counts = listening.counts;
+            let (not_text, no_json) = (counts.not_text, counts.no_json);
+            let (no_message, batches) = (counts.no_message, counts.batches);
+            let passed = format!(in alloc; "{not_text} {no_json} {no_message} {batches}")?;
+            Ok(Attempt::Came(format!(in alloc; "{came}; passed {passed}")?))
+        }
+        (_, came) => Ok(came),
+    }
 }
 
 /// How a session with jobs ends, what it wrote, how many jobs began and saw their cancellation, and which it saw come to an end.
@@ -207,8 +236,8 @@ where
     R: Threads + Wait + Copy + Drop + Send + 'static,
 {
     let talker = Talker::new(alloc, Arc::try_clone(signals)?);
-    let limit = run.limit();
-    let (talker, ran) = run_talker(rt, alloc, reader, writer, run.pool, talker, limit);
+    let mut listening = Listening::new(matches!(run.device, Device::Passes));
+    let (talker, ran) = run_talker(rt, alloc, reader, writer, run, talker, &mut listening);
     let came = threads_answer(alloc, ran, run, signals)?;
     let Attempt::Came(came) = came else {
         return Ok(came);
@@ -219,7 +248,7 @@ where
         Call::Many => format!(in alloc; "{came}; {begun} begun")?,
         _ => format!(in alloc; "{came}; {begun} begun, {stopped} stopped; finished{finished}")?,
     };
-    Ok(Attempt::Came(told))
+    with_passed(alloc, run, Attempt::Came(told), &listening)
 }
 
 /// A session of the server with its jobs, over any reader and writer: so it is proved in one place that threads may own a job, and in
@@ -229,16 +258,19 @@ fn run_talker<R, S, W>(
     alloc: Global,
     reader: S,
     writer: W,
-    size: PoolSize,
+    run: Run,
     talker: Talker,
-    limit: u64,
+    listening: &mut Listening,
 ) -> (Talker, Result<Threaded<W>, StartFault>)
 where
     R: Threads + Wait + Copy + Drop + Send + 'static,
     S: BufRead + Drop + Send + 'static,
     W: Write + Drop + Send + 'static,
 {
-    run_jobs_within(rt, alloc, reader, writer, size, talker, limit)
+    let options = options(run);
+    run_jobs(
+        rt, alloc, reader, writer, run.pool, talker, listening, options,
+    )
 }
 
 /// How threads run. No thread gets a stack of `usize::MAX` bytes.
@@ -246,6 +278,7 @@ fn options(run: Run) -> ThreadOptions {
     ThreadOptions {
         writer: builder(matches!(run.device, Device::NoWriter)),
         reader: builder(matches!(run.device, Device::NoReader)),
+        limit: run.limit(),
         unread: UNREAD_BYTES,
     }
 }

@@ -88,11 +88,11 @@ pub struct Case<'a> {
 /// What is called.
 #[derive(Clone, Copy)]
 pub enum Call {
-    /// `run_threads_by`, with no capabilities and the handler.
+    /// `run_threads_of_service`, with no capabilities and the handler.
     Session,
-    /// `run_threads_of_service_within`, with the server that speaks.
+    /// The same with the server that speaks.
     Speaks,
-    /// `run_jobs_within`, with the same server.
+    /// `run_jobs`, with that server.
     Jobs,
     /// The same. It tells what was written in the order of the texts.
     Many,
@@ -143,6 +143,9 @@ pub enum Device {
     Slow,
     /// The writer waits for a request to come to the handler, which waits for the second pause of the text.
     Gated,
+    /// Content parts that are no messages are passed over, where a session can. It says how many were not UTF-8, no JSON, no message,
+    /// and lists.
+    Passes,
     /// The thread that reads is not started.
     NoReader,
     /// The thread that writes is not started.
@@ -200,7 +203,7 @@ static CALLS: [(&str, Call); 13] = [
     ("stuck", Call::Stuck),
 ];
 
-static DEVICES: [(&str, Device); 14] = [
+static DEVICES: [(&str, Device); 15] = [
     ("whole", Device::Whole),
     ("ends", Device::Ends),
     ("breaks", Device::Breaks),
@@ -213,6 +216,7 @@ static DEVICES: [(&str, Device); 14] = [
     ("waits", Device::Waits),
     ("slow", Device::Slow),
     ("gated", Device::Gated),
+    ("passes", Device::Passes),
     ("no_reader", Device::NoReader),
     ("no_writer", Device::NoWriter),
 ];

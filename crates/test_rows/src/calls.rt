@@ -6,14 +6,11 @@ use crate::servers::{Echo, Talker};
 use crate::stop::Stop;
 use crate::table::{Case, Given};
 use lsp_message::{Front, Message, ReadFault, WriteFault, front, write_frames};
-use lsp_service::{QueuedServer, session_with_within};
+use lsp_service::{QueuedServer, WokenQueuedServer, session_with};
 use lsp_session::{
-    Event, FrameOutbox, Inbox, ListOutbox, Outbox, ReadEnd, SendFault, SessionEnd, SessionFault,
-    StreamInbox, StreamLine, read_loop, read_loop_within, session, session_of_service, session_on,
-    session_within,
-};
-use lsp_tolerant::{
-    FaultCounts, Ignore, tolerant_session_with_within, tolerant_session_with_woken,
+    EndSession, Event, FaultCounts, FrameOutbox, Ignore, Inbox, ListOutbox, Outbox, ReadEnd,
+    SendFault, SessionEnd, SessionFault, StreamInbox, StreamLine, read_loop, read_loop_within,
+    serve_line, session, session_of_service, session_within,
 };
 use serde_json::{Map, Value};
 use std::alloc::{AllocError, Global};
@@ -286,10 +283,18 @@ fn speaks_answer(
 ) -> Result<Attempt, Stop> {
     let talker = Talker::new(alloc);
     if let Some(limit) = run.limit() {
-        let (_, end) = session_with_within(alloc, reader, writer, talker, limit);
+        let (_, end) = session_with(alloc, reader, writer, talker, &mut EndSession, limit);
         return ended_answer(alloc, run, end, writer, "");
     }
-    let end = session_of_service(alloc, reader, writer, &mut QueuedServer::new(alloc, talker));
+    let mut queued = QueuedServer::new(alloc, talker);
+    let end = session_of_service(
+        alloc,
+        reader,
+        writer,
+        &mut queued,
+        &mut EndSession,
+        u64::MAX,
+    );
     ended_answer(alloc, run, end, writer, "")
 }
 
@@ -301,8 +306,10 @@ fn line_answer(
     writer: &mut Sink<'_>,
 ) -> Result<Attempt, Stop> {
     let mut service = QueuedServer::new(alloc, Talker::new(alloc));
-    let mut line = StreamLine::within(alloc, reader, writer, u64::MAX);
-    let end = session_on(alloc, &mut line, &mut service);
+    let mut listener = EndSession;
+    let mut line = StreamLine::within(alloc, reader, writer, &mut listener, u64::MAX);
+    let served = serve_line(alloc, &mut line, &mut service);
+    let end = line.answer(served);
     drop(line);
     ended_answer(alloc, run, end, writer, "")
 }
@@ -317,18 +324,12 @@ fn tolerant_answer(
 ) -> Result<Attempt, Stop> {
     let server = Talker::new(alloc);
     if let Some(limit) = run.limit() {
-        let (_, end) = tolerant_session_with_within(
-            alloc,
-            reader,
-            writer,
-            server,
-            &mut Ignore,
-            limit,
-        );
+        let (_, end) = session_with(alloc, reader, writer, server, &mut Ignore, limit);
         return ended_answer(alloc, run, end, writer, "");
     }
     let mut counts = FaultCounts::new();
-    let (_, end) = tolerant_session_with_woken(alloc, reader, writer, server, &mut counts);
+    let mut woken = WokenQueuedServer::new(alloc, server);
+    let end = session_of_service(alloc, reader, writer, &mut woken, &mut counts, u64::MAX);
     let FaultCounts {
         not_text,
         no_json,

@@ -4,8 +4,8 @@
 // |---|---|
 // | `calls NAMES \| ANSWERS \| ROOM \| EVENTS` | calls of the lifecycle, one after another, with a gate that answers `y` or `n` |
 // | `serve ROOM \| EVENTS` | `serve` of the echo |
-// | `woken ROOM \| EVENTS` | `serve_with_woken` of the server that speaks, with an inbox that is ready to wake it before each event |
-// | `served ROOM \| EVENTS` | `serve_service` of the same, with an inbox that never wakes |
+// | `woken ROOM \| EVENTS` | `serve_service` of the server that speaks, with an inbox that is ready to wake it before each event |
+// | `served ROOM \| EVENTS` | the same of a server that is not woken, with an inbox that never wakes |
 // | `writes FILLS ROOM \| EVENTS` | `write_loop`, whose writer fails once after so many bytes |
 //
 // A name of `calls` is `start`, `wait`, `finish` or the method of a request that may be `shutdown`. The first three may have a count
@@ -19,7 +19,7 @@ use crate::messages::message_in;
 use crate::servers::{Echo, Talker};
 use crate::stop::{Stop, count_in, cut};
 use lsp_message::{Request, RequestId, WriteFault};
-use lsp_service::{QueuedServer, serve_with_woken};
+use lsp_service::{QueuedServer, WokenQueuedServer};
 use lsp_session::{
     Event, ListGate, ListInbox, ListOutbox, ProtocolError, SessionEnd, WriteEnd, finish,
     finish_within, serve, serve_service, shutdown, start_within, wait_within, write_loop,
@@ -210,7 +210,10 @@ pub fn session(alloc: Global, word: &str, row: &str) -> Result<String, Stop> {
             let none = Value::Object(Map::new(alloc));
             serve(alloc, &mut inbox, &mut outbox, none, &mut echo)
         }
-        "woken" => serve_with_woken(alloc, &mut inbox, &mut outbox, Talker::new(alloc)).1,
+        "woken" => {
+            let mut service = WokenQueuedServer::new(alloc, Talker::new(alloc));
+            serve_service(alloc, &mut inbox, &mut outbox, &mut service)
+        }
         "served" => {
             let mut service = QueuedServer::new(alloc, Talker::new(alloc));
             serve_service(alloc, &mut inbox, &mut outbox, &mut service)

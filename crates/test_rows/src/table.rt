@@ -58,8 +58,9 @@ impl Given {
 /// | `frames` | `write_frames` of all bytes |
 /// | `outbox` | a `FrameOutbox` to which all messages are sent |
 /// | `session` | `session` of the echo, with no capabilities; with a limit `session_within` |
-/// | `speaks` | `session_of_service` of the server that speaks; with a limit `session_with_within` |
-/// | `tolerant` | `tolerant_session_with_woken` of the same; with a limit `tolerant_session_with_within`, which wakes no server |
+/// | `speaks` | `session_of_service` of the server that speaks, with `EndSession`; with a limit `session_with` |
+/// | `line` | `serve_line` of the same over a `StreamLine` |
+/// | `tolerant` | the same, woken and with `FaultCounts`; with a limit `session_with` and `Ignore`, which wakes no server |
 ///
 /// | Device | What happens after the count |
 /// |---|---|

@@ -4,14 +4,14 @@ ghost use Rattle.std.specs.Prelude.{◌≡◌, IfSome};
 ghost use Rattle.lsp_message.specs.Frame.{no_limit};
 ghost use Rattle.lsp_session.specs.HandlerSession.{of_handler};
 ghost use Rattle.lsp_session.specs.Session.{SessionOut};
+ghost use Rattle.lsp_session.specs.PassingBytes.{GivesAndTells};
 ghost use Rattle.lsp_session.specs.SessionBytes.{Gives};
-ghost use Rattle.lsp_session.specs.StreamLines.{IsUnused, KeepsEnds, GivesInTurn};
 ghost use Rattle.lsp_session.specs.SessionFault.{ran_out as ran_out_spec, came_to_no_more as came_to_no_more_spec, protocol_fault as protocol_fault_spec, read_fault as read_fault_spec, plain_answer as plain_answer_spec, read_answer as read_answer_spec, session_answer as session_answer_spec};
 
 use crate::error::ProtocolError;
 use crate::loops::handler_service::HandlerService;
 use crate::loops::{
-    FrameOutbox, Handler, ReadEnd, Service, SessionEnd, StreamInbox, StreamLine, serve_line,
+    EndSession, FrameOutbox, Handler, Listener, ReadEnd, Service, SessionEnd, TolerantInbox,
     serve_service,
 };
 use lsp_message::{ReadFault, WriteFault};
@@ -93,59 +93,36 @@ pub fn session_within<R: BufRead, W: Write, H: Handler>(
 {
     let mut capabilities = capabilities;
     let mut service = HandlerService::new(alloc, &mut capabilities, handler);
-    session_of_service_within(alloc, reader, writer, &mut service, limit)
+    session_of_service(alloc, reader, writer, &mut service, &mut EndSession, limit)
 }
 
-/// `serve_service` from bytes to bytes (LSP 3.17, "Base Protocol" and "Server lifecycle"), as `session` is `serve`.
-pub fn session_of_service<R: BufRead, W: Write, S: Service>(
+/// `serve_service` from bytes to bytes (LSP 3.17, "Base Protocol" and "Server lifecycle"), as `session` is `serve`, over messages whose
+/// content part has at most `limit` bytes. A longer one is `SessionFault::Read` of `ReadFault::TooLong`, and is unread.
+///
+/// At a content part that is no message (see `is_of_body`) the listener `bad_bodies` is asked. Where it reads on, nothing is answered,
+/// the service is woken, and the next frame follows. That is so from `initialized` up to `shutdown`, where a service can be woken. Where
+/// the listener ends the session, and before and after in any case, such a part is `SessionFault::Read`, and so is each other fault at any
+/// time. With `EndSession` nothing is ever passed over (`laws::listeners::nothing_is_passed_over`). `TolerantInbox::receive_or_woken` asks
+/// the listener at each such part. That a session calls it from `initialized` up to `shutdown` is no part of this contract, since a reader
+/// and a writer are two values; over one value, a `StreamLine`, the contract of `serve_line` has it.
+///
+/// A handler's session reads on as the service `HandlerService` (`laws::listeners::handler_service_runs_its_handler`).
+pub fn session_of_service<R: BufRead, W: Write, S: Service, L: Listener>(
     alloc: Global,
     reader: &mut R,
     writer: &mut W,
     service: &mut S,
-) -> Result<SessionEnd, SessionFault>
-    ensures { IfSome (R.remaining reader.old) (λ text.
-        Gives no_limit (SessionOut S.behavior service.old service.new)
-        text (R.remaining reader.new) (W.contents writer.old) (W.contents writer.new) result) }
-{
-    session_of_service_within(alloc, reader, writer, service, u64::MAX)
-}
-
-/// `session_of_service` over messages whose content part has at most `limit` bytes. A longer one is `SessionFault::Read` of
-/// `ReadFault::TooLong`, and is unread.
-pub fn session_of_service_within<R: BufRead, W: Write, S: Service>(
-    alloc: Global,
-    reader: &mut R,
-    writer: &mut W,
-    service: &mut S,
+    bad_bodies: &mut L,
     limit: u64,
 ) -> Result<SessionEnd, SessionFault>
     ensures { IfSome (R.remaining reader.old) (λ text.
-        Gives limit (SessionOut S.behavior service.old service.new)
-        text (R.remaining reader.new) (W.contents writer.old) (W.contents writer.new) result) }
+        GivesAndTells L.hears limit (SessionOut S.behavior service.old service.new) text (R.remaining reader.new)
+        bad_bodies.old bad_bodies.new (W.contents writer.old) (W.contents writer.new) result) }
 {
-    let mut inbox = StreamInbox::within(alloc, reader, limit);
+    let mut inbox = TolerantInbox::within(alloc, reader, bad_bodies, limit);
     let mut outbox = FrameOutbox::new(alloc, writer);
     let answer = serve_service(alloc, &mut inbox, &mut outbox, service);
     session_answer(answer, inbox.end(), outbox.fault())
-}
-
-/// Runs a session of a server over a line that was not used yet, as `session_of_service` does over its reader and its writer, and shows
-/// in which order it read and wrote (LSP 3.17, "Base Protocol" and "Server lifecycle").
-///
-/// All that is said for a message is written before the next message is read: the result of `initialize` before `initialized`, and the
-/// null of `shutdown` before `exit`. So a client may wait for it before it sends on. That the writer is also flushed before the next
-/// message is read is tested, and no part of the contract.
-pub fn session_on<R: BufRead, W: Write, S: Service>(
-    alloc: Global,
-    line: &mut StreamLine<R, W>,
-    service: &mut S,
-) -> Result<SessionEnd, SessionFault>
-    requires unused { IsUnused line.old }
-    ensures in_turn { GivesInTurn R.remaining W.contents (SessionOut S.behavior service.old service.new) line.old result line.new }
-    ensures same_ends { KeepsEnds line.old line.new }
-{
-    let answer = serve_line(alloc, line, service);
-    session_answer(answer, line.end(), line.fault())
 }
 
 /// The answer of a session whose messages ended so, and whose outbox kept this fault of writing: of several faults that fit it is

@@ -2,18 +2,21 @@ use Rattle.std.proofs.Common.{arith, ◌∙◌, ap, refl, sym}
 use Rattle.lsp_session.proofs.Ran.{session_facts}
 use Rattle.lsp_session.specs.Session.{starting, SessionOut}
 use Rattle.lsp_session.specs.SessionFault.{session_answer}
-use Rattle.lsp_threads.specs.Contents.{Receiving}
+use Rattle.lsp_relay.specs.Relay.{has_end}
+use Rattle.lsp_threads.specs.Contents.{Receiving, Taking}
 use Rattle.lsp_threads.specs.Replies.{Replying, reply_fault}
 use Rattle.lsp_threads.specs.Threads.{session_end}
 use Rattle.lsp_threads.proofs.ContentStream.{gives_relay}
 use Rattle.lsp_threads.proofs.Replies.{all_replied}
-use Rattle.lsp_threads.proofs.Sessions.{threads_give}
+use Rattle.lsp_threads.proofs.Sessions.{seen_all, threads_tell}
 use Rattle.lsp_threads.proofs.serving.serve_between.Goals as goal
 
 pub settle_all-requires : goal.settle_all-requires
 settle_all-requires g c =
     let runs = c.serve_service-answer.ensures in
-    c.drain-rx.ensures.relay ∙ gives_relay runs.events _ _ runs.received ∙ ap (λ (t : Receiving). t.relay) c.new-inbox.ensures
+    let seen = seen_all g.L.Listener.hears runs.events _ _ runs.received in
+    let kept = c.parts-2-1.given.1 (sym c.new-inbox.ensures.same_parts ∙ sym seen.1.0) in
+    c.drain-rx.ensures.relay ∙ ap (λ (t : Taking). t.relay) kept ∙ gives_relay g.L.Listener.hears runs.events _ _ seen.0 ∙ ap (λ (t : Taking). t.relay) (c.new-inbox.ensures.untaken ∙ c.new-parts.ensures)
     ∙ sym (c.join-tx.ensures.0 ∙ c.requires.reading.1)
 
 pub settle_all-requires-2 : goal.settle_all-requires-2
@@ -25,18 +28,25 @@ settle_all-requires-2 g c =
 
 pub returns : goal.returns
 returns g c =
+    let hears = g.L.Listener.hears in
     let old = c.args.service.now in
     let new = c.serve_service-answer.new.service in
-    let ended = c.session_end.ensures ∙ (λ i. session_end (c.end-ended.ensures i) (c.is_drained-drained.ensures i) c.join-tx.result.1) in
+    let runs = c.serve_service-answer.ensures in
+    let seen = seen_all hears runs.events _ _ runs.received in
+    let kept = c.parts-2-1.given.1 (sym c.new-inbox.ensures.same_parts ∙ sym seen.1.0) in
+    let told = c.listener-1.given.1 (sym c.new-inbox.ensures.same_listener ∙ sym seen.1.1) in
+    let first = c.new-inbox.ensures.untaken ∙ c.new-parts.ensures in
+    let drained = c.is_drained-drained.ensures ∙ ap (λ (t : Taking). has_end t.taken) kept in
+    let ended = c.session_end.ensures ∙ (λ i. session_end (c.end-ended.ensures i) (drained i) c.join-tx.result.1) in
     let fault = c.reply_fault-fault.ensures ∙ (λ i. reply_fault c.join-replies_rx.result.2 (c.finish-replies.ensures.failed i)) in
     let answer = c.session_answer-answer.ensures ∙ (λ i. session_answer c.serve_service-answer.result (ended i) (fault i)) in
-    rw answer (threads_give c.args.workers.reading.promise.limit (SessionOut g.S.Service.behavior old new)
+    rw (answer, told, sym c.new-inbox.ensures.untold) (threads_tell hears c.args.workers.reading.promise.limit (SessionOut g.S.Service.behavior old new)
     (session_facts g.S.Service.behavior starting old new refl)
-    _ _ c.new-inbox.result c.serve_service-answer.new.inbox c.new-outbox.result c.serve_service-answer.new.outbox c.serve_service-answer.result c.serve_service-answer.ensures
-    (ap (λ (t : Receiving). t.taken) c.new-inbox.ensures ∙ c.requires.reading.0) (ap (λ (t : Receiving). t.waiting) c.new-inbox.ensures) (ap (λ (t : Receiving). t.end) c.new-inbox.ensures)
+    _ _ c.new-inbox.result c.serve_service-answer.new.inbox c.new-outbox.result c.serve_service-answer.new.outbox c.serve_service-answer.result runs
+    (ap (λ (t : Taking). t.taken) first ∙ c.requires.reading.0) (ap (λ (t : Taking). t.waiting) first) c.new-inbox.ensures.unended
     (ap (λ (r : Replying). r.bytes) c.new-outbox.ensures)
-    c.drain-rx.result.taken c.join-tx.result.0 c.drain-rx.ensures.taken c.settle_all.ensures.settled
-    (λ e. omega (arith, c.settle_all.ensures.unwoken e, c.drain-rx.ensures.wakes)) c.args.workers.reading.promise.tx.value c.join-tx.result.1
+    c.drain-rx.result.taken c.join-tx.result.0 (rw kept at c.drain-rx.ensures.taken) c.settle_all.ensures.settled
+    (λ e. omega (arith, c.settle_all.ensures.unwoken e, rw kept at c.drain-rx.ensures.wakes)) c.args.workers.reading.promise.tx.value c.join-tx.result.1
     c.join-replies_rx.result.0.taken c.finish-replies.result.0.sent c.finish-replies.ensures.bytes c.finish-replies.ensures.ended
     c.join-replies_rx.result.2 c.join-replies_rx.ensures.1 c.settle_all-2.ensures.settled
     _ c.join-tx.ensures.1)

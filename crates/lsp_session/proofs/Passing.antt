@@ -1,0 +1,458 @@
+-- A session over a reader and a writer that passes over content parts, as its contract says it.
+use Rattle.lsp_message.proofs.Contents.{frame_unread}
+use Rattle.lsp_message.specs.Frame.{body_means, reading_within}
+use Rattle.lsp_message.specs.Letters.{is_exit}
+use Rattle.lsp_message.specs.Message.{Message}
+use Rattle.lsp_message.specs.Reading.{Reading, StopsWithin}
+use Rattle.lsp_message.specs.Written.{GetsFrames}
+use Rattle.lsp_message.specs.declared.frame.ReadFault.TheVariants.{BodyNotText, NoJson, NoMessage, Batch}
+use Rattle.lsp_message.specs.declared.frame.ReadFault.{ReadFault}
+use Rattle.lsp_message.specs.declared.frame.WriteFault.TheVariants.{Output, Memory as NoMemory}
+use Rattle.lsp_message.specs.declared.frame.WriteFault.{WriteFault}
+use Rattle.lsp_session.proofs.Handing.{begins}
+use Rattle.lsp_session.proofs.Lending.{over_as}
+use Rattle.lsp_session.proofs.Ran.{is_no_exit, Facts}
+use Rattle.lsp_session.proofs.SessionGives.{no_timeout as stream_no_timeout, left_within as stream_left_within, stop_ends as stream_stop_ends, NotRefused, GetsPart, gets_written, gets_keeps, ran_out_answer, ran_out_gives}
+use Rattle.lsp_session.proofs.Waiting.{FoldsTo-split}
+use Rattle.lsp_session.specs.Event.{Event, closed, message, timeout, woken}
+use Rattle.lsp_session.specs.FrameBoxes.{FrameOutboxSends}
+use Rattle.lsp_session.specs.Session.{Exchange, came_of, letters_of, sends_of, SessionAnswer, SessionPart, Stop, decided, no_more, timed_out, refused, exhausted}
+use Rattle.lsp_session.specs.SessionBytes.{ReadsMessage, IsUnsent, LeftAfter, LeftWithin, Ends, Wrote, Gives as SessionGives}
+use Rattle.lsp_session.specs.SessionFault.{ran_out, came_to_no_more, plain_answer, read_answer, session_answer}
+use Rattle.lsp_session.specs.SessionRun.{came_in, is_open, Brings, Runs}
+use Rattle.lsp_session.specs.Streams.{Stream, StreamGives, Reads}
+use Rattle.lsp_session.specs.declared.loops.ReadEnd.TheVariants.{Exit}
+use Rattle.lsp_session.specs.declared.loops.ReadEnd.{ReadEnd}
+use Rattle.lsp_session.specs.declared.loops.frame_outbox.FrameOutbox.{FrameOutbox}
+use Rattle.lsp_session.specs.declared.loops.handler.SessionEnd.{SessionEnd}
+use Rattle.lsp_session.specs.declared.loops.stream_session.SessionFault.TheVariants.{Write, Memory}
+use Rattle.lsp_session.specs.declared.loops.stream_session.SessionFault.{SessionFault}
+use Rattle.lsp_session.specs.Passing.{is_of_body, TolerantGives}
+use Rattle.lsp_session.specs.PassingBoxes.{stream_of, TolerantInboxGives}
+use Rattle.lsp_session.specs.PassingBytes.{PassesNothingOver, PassesOver, ReadsFrame, HearsLast, GivesAndTells}
+use Rattle.lsp_session.specs.declared.loops.tolerant_inbox.TolerantInbox.{TolerantInbox}
+use Rattle.std.proofs.Common.{◌≡◌, refl, sym, ◌∙◌, ap, subst, inl, inr, ◌⊎◌, ℕ, Bool, true, false, true≢false, List, [], ◌∷◌, ◌++◌, append-nil, Some, None, Option, IfSome}
+use Rattle.std.proofs.lemmas.List.Elements.{filter_map-append}
+use Rattle.std.specs.List.{FoldsTo, list_all, filter_map}
+use Rattle.std.specs.Prelude.{Result, Ok, Err, MatchOption, if◌then◌else◌}
+
+-- the first frame of a text is a message, or is passed over; or others woke the session, where they can, and nothing was read
+abbrev pub ReadsFrameOr : (others : Type 0) {L : Type 0} (hears : L → ReadFault → L → Type 0) (limit : ℕ) → List ℕ × L → Option Message → List ℕ × L → Type 0
+ReadsFrameOr others hears limit old (Some m) new = ReadsFrame hears limit old (Some m) new
+ReadsFrameOr others hears limit old None new = (others × (new ≡ old)) ⊎ PassesOver hears limit old new
+
+-- what an inbox gives that passes over content parts, and that others wake, where they can
+abbrev pub GivesOr : (others : Type 0) {L : Type 0} (hears : L → ReadFault → L → Type 0) (limit : ℕ) → Stream × L → Event → Stream × L → Type 0
+GivesOr others hears limit old woken new = (others × (old.0.end ≡ None) × (new ≡ old)) ⊎ TolerantGives hears limit old woken new
+GivesOr others hears limit old event new = TolerantGives hears limit old event new
+
+-- the first frames of a text, one after another
+abbrev pub ReadsFrames : (others : Type 0) {L : Type 0} (hears : L → ReadFault → L → Type 0) (limit : ℕ) → List ℕ × L → List (Option Message) → List ℕ × L → Type 0
+ReadsFrames others hears limit = FoldsTo (ReadsFrameOr others hears limit)
+
+-- the messages of what came
+abbrev letters_in : List (Option Message) → List Message
+letters_in came = filter_map (λ (c : Option Message). c) came
+
+module _ (others : Type 0) {L : Type 0} (hears : L → ReadFault → L → Type 0) (limit : ℕ) where
+  abbrev Gives : Stream × L → Event → Stream × L → Type 0
+  Gives = GivesOr others hears limit
+
+  -- what one that nobody wakes gives
+  given : (event : Event) (old new : Stream × L) → TolerantGives hears limit old event new → Gives old event new
+  given woken old new gives = inr gives
+  given event old new gives = gives
+
+  -- receives from an inbox, as they are seen, and the reader that it was lent
+  seen_all : {R : Type 0} (remaining : R → Option (List ℕ)) (events : List Event) (old new : TolerantInbox R L) → old.limit ≡ limit
+      → FoldsTo (TolerantInboxGives remaining hears) old events new
+      → FoldsTo Gives (stream_of remaining old, old.listener.now) events (stream_of remaining new, new.listener.now)
+      × (new.reader.ghost_name ≡ old.reader.ghost_name) × (new.listener.ghost_name ≡ old.listener.ghost_name)
+  seen_all remaining [] old new limited run = (ap (λ (s : TolerantInbox _ L). (stream_of remaining s, s.listener.now)) run, rw run refl, rw run refl)
+  seen_all remaining (event ∷ events) old new limited run =
+      let rest = seen_all remaining events run.0 new (run.1.1.2 ∙ limited) run.2 in
+      let mid : Stream × L = (stream_of remaining run.0, run.0.listener.now) in
+      let first = given event (stream_of remaining old, old.listener.now) mid (rw limited at run.1.0) in
+      ((mid, first, rest.0), rest.1 ∙ run.1.1.0, rest.2 ∙ run.1.1.1)
+
+  unread : (fault : ReadFault) (text : List ℕ) → (reading_within limit text).outcome ≡ Err fault
+      → reading_within limit text ≡ record { outcome = Err fault; rest = (reading_within limit text).rest }
+  unread fault text is = ap (λ o. record { outcome = o; rest = (reading_within limit text).rest }) is
+
+  -- a content part that was passed over
+  of_body : (fault : ReadFault) (text : List ℕ) (left : Option (List ℕ)) → is_of_body fault ≡ true → Reads limit (Some text) (Err fault) left
+      → (reading_within limit text ≡ record { outcome = Err fault; rest = (reading_within limit text).rest }) × (left ≡ Some (reading_within limit text).rest)
+  of_body BodyNotText text left is reads = (unread BodyNotText text reads.0.0, reads.0.1)
+  of_body NoJson text left is reads = (unread NoJson text reads.0.0, reads.0.1)
+  of_body NoMessage text left is reads = (unread NoMessage text reads.0.0, reads.0.1)
+  of_body Batch text left is reads = (unread Batch text reads.0.0, reads.0.1)
+  of_body fault text left is reads = absurd (cc (is))
+
+  passed : (fault : ReadFault) (text : List ℕ) (first last : L) (left : Option (List ℕ)) → is_of_body fault ≡ true
+      → Reads limit (Some text) (Err fault) left → hears first fault last
+      → PassesOver hears limit (text, first) ((reading_within limit text).rest, last) × (left ≡ Some (reading_within limit text).rest)
+  passed fault text first last left is reads heard = let read = of_body fault text left is reads in ((fault, is, read.0, heard), read.1)
+
+  -- an inbox that has ended gives nothing more
+  ended_stays : (events : List Event) (end : ReadEnd) (old new : Stream × L) → old.0.end ≡ Some end → FoldsTo Gives old events new
+      → list_all is_open events ≡ true
+      → (events ≡ []) × (old ≡ new)
+  ended_stays [] end old new is run still_open = (refl, run)
+  ended_stays (woken ∷ events) end old new is run still_open = elim run.1 [
+    | inl others ↦ absurd (going_on others.1)
+    | inr passes ↦ absurd (going_on passes.4)
+  ]
+    where
+      going_on : old.0.end ≡ None → ⊥
+      going_on none = let never : ◌≡◌ {A = Option ReadEnd} (Some end) None = sym is ∙ none in cc (never)
+  ended_stays (closed ∷ events) end old new is run still_open = absurd (cc (still_open))
+  ended_stays (event ∷ events) end old new is run still_open = let step = rw is at run.1.0 in absurd (cc (step.0))
+
+  -- what an inbox brought that may bring more, what it has left, and whether an `exit` came
+  record Brought (text : List ℕ) (first : L) (came : List (Option Message)) (new : Stream × L) : Type 0 where
+    at : List ℕ
+    read : ReadsFrames others hears limit (text, first) came (at, new.1)
+    left : new.0.remaining ≡ Some at
+    end : new.0.end ≡ (if list_all is_no_exit (letters_in came) then None else Some Exit)
+
+  module _ (m : Message) (text : List ℕ) (first : L) (mid new : Stream × L) (events : List Event)
+      (run : FoldsTo Gives mid events new) (still_open : list_all is_open events ≡ true) where
+    open_then : (b : Bool) → is_exit m ≡ b → mid.0.end ≡ (if b then Some Exit else None)
+        → Reads limit (Some text) (Ok (Some m)) mid.0.remaining → mid.1 ≡ first
+        → ((rest : List ℕ) → mid.0.end ≡ None → mid.0.remaining ≡ Some rest → Brought rest mid.1 (filter_map came_in events) new)
+        → Brought text first (Some m ∷ filter_map came_in events) new
+    open_then true exits is reads same later =
+        let stays = ended_stays events Exit mid new is run still_open in
+        rw (stays.0, sym stays.1) (record {
+          at = (reading_within limit text).rest;
+          read = (((reading_within limit text).rest, mid.1), (begins limit text m reads.0.0, same), refl);
+          left = reads.0.1;
+          end = rw (exits, is) refl;
+        })
+    open_then false exits is reads same later =
+        let more = later (reading_within limit text).rest is reads.0.1 in
+        record {
+          at = more.at;
+          read = (((reading_within limit text).rest, mid.1), (begins limit text m reads.0.0, same), more.read);
+          left = more.left;
+          end = rw exits more.end;
+        }
+
+  brought_open : (events : List Event) (text : List ℕ) (old new : Stream × L) → old.0.end ≡ None → old.0.remaining ≡ Some text → FoldsTo Gives old events new
+      → list_all is_open events ≡ true → Brought text old.1 (filter_map came_in events) new
+  brought_open [] text old new unended known run still_open = record {
+    at = text;
+    read = ap (λ (s : Stream × L). (text, s.1)) run;
+    left = rw (sym run) known;
+    end = rw (sym run) unended;
+  }
+  brought_open (closed ∷ events) text old new unended known run still_open = absurd (cc (still_open))
+  brought_open (message m ∷ events) text old new unended known run still_open =
+      let step = rw (unended, known) at run.1.0 in
+      open_then m text old.1 run.0 new events run.2 still_open (is_exit m) refl step.0 step.1 run.1.1
+      (λ rest still left. brought_open events rest run.0 new still left run.2 still_open)
+  brought_open (woken ∷ events) text old new unended known run still_open = elim run.1 [
+    | inl others ↦
+        let more = brought_open events text run.0 new (rw others.2 unended) (rw others.2 known) run.2 still_open in
+        record {
+          at = more.at;
+          read = ((text, run.0.1), inl (others.0, ap (λ (s : Stream × L). (text, s.1)) others.2), more.read);
+          left = more.left;
+          end = more.end;
+        }
+    | inr passes ↦
+        let step = passed passes.0 text old.1 run.0.1 run.0.0.remaining passes.1 (rw known at passes.2) passes.3 in
+        let more = brought_open events (reading_within limit text).rest run.0 new passes.5 step.1 run.2 still_open in
+        record { at = more.at; read = (((reading_within limit text).rest, run.0.1), inr step.0, more.read); left = more.left; end = more.end }
+  ]
+  brought_open (event ∷ events) text old new unended known run still_open = absurd (rw unended at run.1.0)
+
+  -- the last of several events
+  last_event : (earlier : List Event) (event : Event) (old new : Stream × L) → FoldsTo Gives old (earlier ++ event ∷ []) new
+      → (mid : Stream × L) × FoldsTo Gives old earlier mid × Gives mid event new
+  last_event earlier event old new run = let parts = FoldsTo-split Gives earlier (event ∷ []) old new run in (parts.0, parts.1, rw parts.2.2 at parts.2.1)
+
+  -- an inbox that reads has no timeouts
+  no_timeout : (earlier : List Event) (old new : Stream × L) → FoldsTo Gives old (earlier ++ timeout ∷ []) new → ⊥
+  no_timeout earlier old new run = let last = last_event earlier timeout old new run in stream_no_timeout limit [] last.0.0 new.0 (new.0, last.2.0, refl)
+
+  -- a session that came to its end
+  plain_ends : (null : Option Message) (answer : SessionAnswer) (left : Option (List ℕ)) (stop : Stop) (at : List ℕ) → ran_out answer ≡ false
+      → LeftAfter limit stop at left
+      → (sends : List Message) (a b : Option (List ℕ)) → GetsFrames sends a b
+      → Ends limit left (plain_answer answer) answer stop null at × Wrote a b (plain_answer answer) stop null sends
+  plain_ends null (Ok end) left stop at enough after sends a b wrote = ((refl, after), wrote)
+  plain_ends null (Err fault) left stop at enough after sends a b wrote = rw enough ((refl, after), wrote)
+
+  module _ (text : List ℕ) (old new : Stream × L) (unended : old.0.end ≡ None) (known : old.0.remaining ≡ Some text)
+      (events : List Event) (run : FoldsTo Gives old events new) where
+    open_brought : (came : List (Option Message)) → filter_map came_in events ≡ came → list_all is_open events ≡ true → Brought text old.1 came new
+    open_brought came brings still_open = rw brings at (brought_open events text old new unended known run still_open)
+
+    -- what was left when the inbox told that no more come
+    record ClosedAt (came : List (Option Message)) : Type 0 where
+      at : List ℕ
+      read : ReadsFrames others hears limit (text, old.1) came (at, new.1)
+      before : Stream
+      open_before : before.end ≡ None
+      left_before : before.remaining ≡ Some at
+      gives : StreamGives limit before closed new.0
+
+    closed_at : (earlier : List Event) (came : List (Option Message)) → events ≡ earlier ++ closed ∷ [] → list_all is_open earlier ≡ true
+        → filter_map came_in events ≡ came
+        → list_all is_no_exit (letters_in came) ≡ true → ClosedAt came
+    closed_at earlier came cut still_open brings no_exit =
+        let last = last_event earlier closed old new (rw cut at run) in
+        let same : filter_map came_in earlier ≡ came = rw (sym brings, cut, filter_map-append came_in earlier (closed ∷ []), append-nil) refl in
+        let brought = rw same at (brought_open earlier text old last.0 unended known last.1 still_open) in
+        record {
+          at = brought.at;
+          read = subst (λ heard. ReadsFrames others hears limit (text, old.1) came (brought.at, heard)) (sym last.2.1) brought.read;
+          before = last.0.0;
+          open_before = rw (brought.end, no_exit) refl;
+          left_before = brought.left;
+          gives = last.2.0;
+        }
+
+    -- what a session read, what was left of it, and what the listener heard
+    abbrev pub Reached : List (Option Message) → Stop → (List ℕ × L → Type 0) → Type 0
+    Reached came stop Left = (at : List ℕ × L) × ReadsFrames others hears limit (text, old.1) came at × HearsLast hears limit stop at new.1 × Left at
+
+    abbrev pub Within : List ℕ × L → Type 0
+    Within at = StopsWithin new.0.remaining (reading_within limit at.0)
+
+    -- where it told so, no byte after the next frame was taken
+    closed_within : (came : List (Option Message)) (answer : SessionAnswer) (c : ClosedAt came) → (ran_out answer ≡ false) × (came_to_no_more answer ≡ true)
+        → StopsWithin new.0.remaining (reading_within limit c.at)
+    closed_within came answer c ends =
+        let seen = stream_left_within limit c.at c.before new.0 c.open_before c.left_before (closed ∷ []) (new.0, c.gives, refl) [] no_more answer
+        (refl, inl ([], refl, refl)) (ends.0, ends.1, refl) in
+        subst (λ at. StopsWithin new.0.remaining (reading_within limit at)) (sym seen.1) seen.2
+
+    open_within : (came : List (Option Message)) (b : Brought text old.1 came new) → Within (b.at, new.1)
+    open_within came b = rw b.left (frame_unread body_means limit b.at)
+
+    -- an allocation failed at a wake
+    last_woken : (came : List (Option Message)) (before : List ℕ × L) (at : List ℕ) → ReadsFrames others hears limit (text, old.1) came before → new.0.remaining ≡ Some at
+        → ReadsFrameOr others hears limit before None (at, new.1) → Reached came exhausted Within
+    last_woken came before at read left (inl same) =
+        let rest : at ≡ before.0 = ap (λ (a : List ℕ × L). a.0) same.1 in
+        (before, read, inl (ap (λ (a : List ℕ × L). a.1) same.1), rw (left, rest) (frame_unread body_means limit before.0))
+    last_woken came before at read left (inr passes) =
+        (before, read, inr (at, passes), ([], left ∙ ap (λ (r : Reading Message). Some r.rest) (sym passes.2)))
+
+    -- the frames that were used, and what is left after them
+    left_within : (came : List (Option Message)) (stop : Stop) (answer : SessionAnswer) → Brings events came stop → Facts stop (letters_in came) answer
+        → Reached came stop Within
+    left_within came no_more answer brought facts = elim brought.1 [
+      | inl last ↦ let c = closed_at last.0 came last.1 last.2 brought.0 facts.2 in (
+        (c.at, new.1),
+        c.read,
+        refl,
+        closed_within came answer c
+            (facts.0, facts.1),
+      )
+      | inr many ↦ let all = open_brought came brought.0 many.1 in ((all.at, new.1), all.read, refl, open_within came all)
+    ]
+    left_within came timed_out answer brought facts = absurd (no_timeout brought.1.0 old new (rw brought.1.1 at run))
+    left_within came exhausted answer (None, brought, still_open) facts =
+        let all = open_brought (came ++ None ∷ []) brought still_open in
+        let parts = FoldsTo-split (ReadsFrameOr others hears limit) came (None ∷ []) (text, old.1) (all.at, new.1) all.read in
+        last_woken came parts.0 all.at parts.1 all.left (rw parts.2.2 at parts.2.1)
+    left_within came exhausted answer (Some next, brought, still_open) facts =
+        let all = open_brought (came ++ Some next ∷ []) brought still_open in
+        let parts = FoldsTo-split (ReadsFrameOr others hears limit) came (Some next ∷ []) (text, old.1) (all.at, new.1) all.read in
+        let step = rw parts.2.2 at parts.2.1 in
+        (parts.0, parts.1, inl step.1, ([], all.left ∙ ap (λ (r : Reading Message). Some r.rest) (sym step.0)))
+    left_within came stop answer brought facts = let all = open_brought came brought.0 brought.1 in ((all.at, new.1), all.read, refl, open_within came all)
+
+    -- what is left where a write or an allocation failed
+    pub left_after : (came : List (Option Message)) (answer : SessionAnswer) (stop : Stop) → Brings events came stop → Facts stop (letters_in came) answer
+        → Reached came stop (λ at. LeftWithin limit stop at.0 new.0.remaining)
+    left_after came answer decided brought facts = let all = open_brought came brought.0 brought.1 in ((all.at, new.1), all.read, refl, all.left)
+    left_after came answer (refused fault) brought facts = let all = open_brought came brought.0 brought.1 in ((all.at, new.1), all.read, refl, all.left)
+    left_after came answer no_more brought facts = left_within came no_more answer brought facts
+    left_after came answer timed_out brought facts = absurd (no_timeout brought.1.0 old new (rw brought.1.1 at run))
+    left_after came answer exhausted brought facts = left_within came exhausted answer brought facts
+
+    module _ (came : List (Option Message)) (null : Option Message) (answer : SessionAnswer) (sends : List Message) (a b : Option (List ℕ))
+        (wrote : GetsFrames sends a b) where
+      abbrev pub Ended : Stop → List ℕ → Type 0
+      Ended stop at = Ends limit new.0.remaining (read_answer answer new.0.end) answer stop null at × Wrote a b (read_answer answer new.0.end) stop null sends
+
+      -- a message decided
+      decided_ends : (all : Brought text old.1 came new) → Facts decided (letters_in came) answer → (goes : Bool) → list_all is_no_exit (letters_in came) ≡ goes
+          → Ended decided all.at
+      decided_ends all facts false exits = rw (all.end, exits) (plain_ends null answer new.0.remaining decided all.at facts.0 all.left sends a b wrote)
+      decided_ends all facts true none = at (came_to_no_more answer) refl
+        where
+          at : (c : Bool) → came_to_no_more answer ≡ c → Ended decided all.at
+          at false is = rw (all.end, none, is) (plain_ends null answer new.0.remaining decided all.at facts.0 all.left sends a b wrote)
+          at true is = absurd (true≢false (sym none ∙ facts.1 is))
+
+      -- as many were taken as can be counted
+      many_ends : (all : Brought text old.1 came new) → Facts no_more (letters_in came) answer → Ended no_more all.at
+      many_ends all facts = rw (all.end, facts.2, facts.1) ((refl, open_within came all), wrote)
+
+      -- no more came, as the inbox told
+      closed_ends : (c : ClosedAt came) → (ran_out answer ≡ false) × (came_to_no_more answer ≡ true) → Ended no_more c.at
+      closed_ends c ends =
+          let seen = stream_stop_ends limit c.at c.before new.0 c.open_before c.left_before (closed ∷ []) (new.0, c.gives, refl)
+          [] null answer sends a b wrote no_more
+          (refl, inl ([], refl, refl)) tt (ends.0, ends.1, refl) in
+          subst (λ at. Ended no_more at) (sym seen.1) seen.2
+
+      -- an allocation failed
+      exhausted_ends : ran_out answer ≡ true → (at : List ℕ × L) → Within at → Ended exhausted at.0
+      exhausted_ends ran at stops = rw (ran_out_answer answer ran, ran_out_gives new.0.end) (stops, inl wrote)
+
+      -- no write failed
+      pub frames_end : (stop : Stop) → Brings events came stop → NotRefused stop → Facts stop (letters_in came) answer → Reached came stop (λ at. Ended stop at.0)
+      frames_end decided brought taken facts =
+          let all = open_brought came brought.0 brought.1 in
+          ((all.at, new.1), all.read, refl, decided_ends all facts (list_all is_no_exit (letters_in came)) refl)
+      frames_end no_more brought taken facts = elim brought.1 [
+        | inl last ↦ let c = closed_at last.0 came last.1 last.2 brought.0 facts.2 in ((c.at, new.1), c.read, refl, closed_ends c (facts.0, facts.1))
+        | inr many ↦ let all = open_brought came brought.0 many.1 in
+            ((all.at, new.1), all.read, refl, many_ends all facts)
+      ]
+      frames_end timed_out brought taken facts = absurd (no_timeout brought.1.0 old new (rw brought.1.1 at run))
+      frames_end (refused fault) brought taken facts = absurd taken
+      frames_end exhausted brought taken facts =
+          let left = left_within came exhausted answer brought facts in
+          (left.0, left.1, left.2, exhausted_ends facts left.0 left.3)
+
+-- A session that nobody wakes.
+module _ {L : Type 0} (hears : L → ReadFault → L → Type 0) (limit : ℕ) where
+  -- so each wake is of a frame that was passed over
+  alone : (came : List (Option Message)) (from to : List ℕ × L) → ReadsFrames ⊥ hears limit from came to → FoldsTo (ReadsFrame hears limit) from came to
+  alone [] from to run = run
+  alone (Some m ∷ came) from to run = (run.0, run.1, alone came run.0 to run.2)
+  alone (None ∷ came) from to run = elim run.1 [
+    | inl others ↦ absurd others.0
+    | inr passes ↦ (run.0, passes, alone came run.0 to run.2)
+  ]
+
+  module _ {R W : Type 0} (remaining : R → Option (List ℕ)) (contents : W → Option (List ℕ)) (P : SessionPart)
+      (knows : (xs : List Exchange) (stop : Stop) (null : Option Message) (answer : SessionAnswer) → P xs stop null answer → Facts stop (letters_of xs) answer)
+      (inbox inbox' : TolerantInbox R L) (outbox outbox' : FrameOutbox W) (unended : inbox.end ≡ None) (limited : inbox.limit ≡ limit)
+      (unfailed : outbox.fault ≡ None)
+      (answer : SessionAnswer) (runs : Runs (TolerantInboxGives remaining hears) (FrameOutboxSends contents) P (inbox, outbox) answer (inbox', outbox')) where
+    abbrev old : Option (List ℕ)
+    old = contents outbox.writer.now
+
+    abbrev new : Option (List ℕ)
+    new = contents outbox'.writer.now
+
+    abbrev before : Stream × L
+    before = (stream_of remaining inbox, inbox.listener.now)
+
+    abbrev after : Stream × L
+    after = (stream_of remaining inbox', inbox'.listener.now)
+
+    -- what a session over boxes comes to in bytes
+    runs_give : (text : List ℕ) → remaining inbox.reader.now ≡ Some text
+        → GivesAndTells hears limit P text (remaining inbox'.reader.now) inbox.listener.now inbox'.listener.now (contents outbox.writer.now)
+        (contents outbox'.writer.now)
+        (session_answer answer inbox'.end outbox'.fault)
+    runs_give text known =
+        at outbox'.fault (subst (λ sends. MatchOption outbox'.fault (NotRefused runs.stop × GetsFrames sends old new)
+        (λ f. IsUnsent runs.stop runs.null × GetsPart f sends old new)) runs.all (gets_written contents outbox outbox' runs.output runs.null unfailed runs.stop runs.got))
+      where
+        run : FoldsTo (GivesOr ⊥ hears limit) before runs.events after
+        run = (seen_all ⊥ hears limit remaining runs.events inbox inbox' limited runs.received).0
+
+        facts : Facts runs.stop (letters_of runs.exchanges) answer
+        facts = knows runs.exchanges runs.stop runs.null answer runs.part
+
+        gives : (result : Result SessionEnd SessionFault)
+            → (at : List ℕ × L) × ReadsFrames ⊥ hears limit (text, inbox.listener.now) (came_of runs.exchanges) at
+            × HearsLast hears limit runs.stop at inbox'.listener.now
+            × Ends limit (remaining inbox'.reader.now) result answer runs.stop runs.null at.0
+            → Wrote old new result runs.stop runs.null (sends_of runs.exchanges)
+            → GivesAndTells hears limit P text (remaining inbox'.reader.now) inbox.listener.now inbox'.listener.now old new result
+        gives result reached wrote = record {
+          exchanges = runs.exchanges;
+          at = reached.0;
+          read = alone (came_of runs.exchanges) (text, inbox.listener.now) reached.0 reached.1;
+          stop = runs.stop;
+          null = runs.null;
+          answer = answer;
+          part = runs.part;
+          ends = (reached.3, reached.2);
+          wrote = wrote;
+        }
+
+        at : (fault : Option WriteFault)
+            → MatchOption fault (NotRefused runs.stop × GetsFrames (sends_of runs.exchanges) old new) (λ f. IsUnsent runs.stop runs.null
+            × GetsPart f (sends_of runs.exchanges) old new)
+            → GivesAndTells hears limit P text (remaining inbox'.reader.now) inbox.listener.now inbox'.listener.now old new
+            (session_answer answer inbox'.end fault)
+        at None written =
+            let all = frames_end ⊥ hears limit text before after unended known runs.events run (came_of runs.exchanges) runs.null answer
+            (sends_of runs.exchanges) old new written.1
+            runs.stop runs.brought written.0 facts in
+            gives (read_answer answer inbox'.end) (all.0, all.1, all.2, all.3.0) all.3.1
+        at (Some (Output kind)) unwritten =
+            gives (Err (Write (Output kind)))
+            (left_after ⊥ hears limit text before after unended known runs.events run (came_of runs.exchanges) answer runs.stop runs.brought facts)
+            (tt, unwritten.0, unwritten.1.0, unwritten.1.1, unwritten.1.2, unwritten.1.3)
+        at (Some NoMemory) unwritten =
+            gives (Err Memory) (left_after ⊥ hears limit text before after unended known runs.events run (came_of runs.exchanges) answer runs.stop runs.brought facts)
+            (inr (unwritten.0, unwritten.1))
+
+    -- the same of the reader and the writer that were lent, and of the listener
+    pub session_gives : (first last : R) (first' last' : W) (heard heard' : L) → inbox.reader.now ≡ first → outbox.writer.now ≡ first'
+        → inbox.listener.now ≡ heard
+        → (inbox'.reader.ghost_name ≡ inbox.reader.ghost_name → last ≡ inbox'.reader.now)
+        → (inbox'.listener.ghost_name ≡ inbox.listener.ghost_name → heard' ≡ inbox'.listener.now)
+        → (outbox'.writer.ghost_name ≡ outbox.writer.ghost_name → last' ≡ outbox'.writer.now)
+        → IfSome (remaining first) (λ text. GivesAndTells hears limit P text (remaining last) heard heard' (contents first') (contents last')
+        (session_answer answer inbox'.end outbox'.fault))
+    session_gives first last first' last' heard heard' same same' untold named hearing named' =
+        let seen = seen_all ⊥ hears limit remaining runs.events inbox inbox' limited runs.received in
+        rw (named seen.1, hearing seen.2, named' (gets_keeps contents outbox outbox' runs.output runs.null runs.stop runs.got), sym same, sym same', sym untold)
+        (at (remaining inbox.reader.now) refl)
+      where
+        at : (known : Option (List ℕ)) → remaining inbox.reader.now ≡ known
+            → IfSome known (λ text. GivesAndTells hears limit P text (remaining inbox'.reader.now) inbox.listener.now inbox'.listener.now
+            (contents outbox.writer.now)
+            (contents outbox'.writer.now) (session_answer answer inbox'.end outbox'.fault))
+        at None is = tt
+        at (Some text) is = runs_give text is
+
+-- A listener that passes over nothing: each frame is a message.
+module _ {L : Type 0} (hears : L → ReadFault → L → Type 0) (never : PassesNothingOver hears) (limit : ℕ) where
+  reads_messages : (came : List (Option Message)) (from to : List ℕ × L) → FoldsTo (ReadsFrame hears limit) from came to → FoldsTo (ReadsMessage limit) from.0 came to.0
+  reads_messages [] from to run = ap (λ (at : List ℕ × L). at.0) run
+  reads_messages (Some m ∷ came) from to run = (run.0.0, run.1.0, reads_messages came run.0 to run.2)
+  reads_messages (None ∷ came) from to run = absurd (never from.1 run.1.0 run.0.1 run.1.3)
+
+  -- so the session passes over nothing
+  pub none_passed : (P : SessionPart) (text : List ℕ) (left : Option (List ℕ)) (first last : L) (before after : Option (List ℕ)) (result : Result SessionEnd SessionFault)
+      → GivesAndTells hears limit P text left first last before after result → SessionGives limit P text left before after result
+  none_passed P text left first last before after result g = record {
+    exchanges = g.exchanges;
+    at = g.at.0;
+    read = reads_messages (came_of g.exchanges) (text, first) g.at g.read;
+    stop = g.stop;
+    null = g.null;
+    answer = g.answer;
+    part = g.part;
+    ends = g.ends.0;
+    wrote = g.wrote;
+  }
+
+  -- where the bytes are known
+  pub untold : (P : SessionPart) (known left : Option (List ℕ)) (first last : L) (before after : Option (List ℕ)) (result : Result SessionEnd SessionFault)
+      → IfSome known (λ text. GivesAndTells hears limit P text left first last before after result) → IfSome known (λ text. SessionGives limit P text left before after result)
+  untold P None left first last before after result gives = tt
+  untold P (Some text) left first last before after result g = none_passed P text left first last before after result g
+
+-- A session that is described otherwise, where the bytes are known.
+pub told_as : (P Q : SessionPart)
+    (to : (xs : List Exchange) (stop : Stop) (null : Option Message) (answer : SessionAnswer) → P xs stop null answer → Q xs stop null answer)
+    {L : Type 0} (hears : L → ReadFault → L → Type 0) (limit : ℕ) (known left : Option (List ℕ)) (first last : L) (before after : Option (List ℕ)) (result : Result SessionEnd SessionFault)
+    → IfSome known (λ text. GivesAndTells hears limit P text left first last before after result) → IfSome known (λ text. GivesAndTells hears limit Q text left first last before after result)
+told_as P Q to hears limit None left first last before after result gives = tt
+told_as P Q to hears limit (Some text) left first last before after result gives = over_as P Q to (ReadsFrame hears limit) (text, first) _ _ gives

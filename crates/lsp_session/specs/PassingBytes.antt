@@ -1,0 +1,38 @@
+-- A session that asks a listener at content parts which are no messages: bytes in to bytes out (LSP 3.17, "Base Protocol" and "Server
+-- lifecycle").
+use Rattle.std.specs.Prelude.{◌≡◌, ◌⊎◌, ℕ, true, List, Option, Some, None, Result, Err}
+use Rattle.lsp_message.specs.Frame.{Begins, reading_within}
+use Rattle.lsp_message.specs.Message.{Message}
+use Rattle.lsp_message.specs.declared.frame.ReadFault.{ReadFault}
+use Rattle.lsp_session.specs.Session.{SessionPart, Stop, exhausted}
+use Rattle.lsp_session.specs.SessionBytes.{SessionOver, Ends, Wrote}
+use Rattle.lsp_session.specs.declared.loops.handler.SessionEnd.{SessionEnd}
+use Rattle.lsp_session.specs.declared.loops.stream_session.SessionFault.{SessionFault}
+use Rattle.lsp_session.specs.Passing.{is_of_body}
+
+-- a listener with this clause never passes over anything
+abbrev pub PassesNothingOver : {L : Type 0} → (L → ReadFault → L → Type 0) → Type 0
+PassesNothingOver {L} hears = (old : L) (fault : ReadFault) (new : L) → hears old fault new → ⊥
+
+-- of a text and a listener, where content parts have at most so many bytes
+module _ {L : Type 0} (hears : L → ReadFault → L → Type 0) (limit : ℕ) where
+  -- The text begins with a content part that is no message. The listener hears its fault, and what follows it is left.
+  abbrev pub PassesOver : List ℕ × L → List ℕ × L → Type 0
+  PassesOver old new =
+      (fault : ReadFault) × (is_of_body fault ≡ true) × (reading_within limit old.0 ≡ record { outcome = Err fault; rest = new.0 }) × hears old.1 fault new.1
+
+  -- The first frame of the text is this message, and the listener hears nothing; or it is passed over, and the session is woken.
+  abbrev pub ReadsFrame : List ℕ × L → Option Message → List ℕ × L → Type 0
+  ReadsFrame old (Some m) new = Begins limit old.0 m new.0 × (new.1 ≡ old.1)
+  ReadsFrame old None new = PassesOver old new
+
+  -- The listener hears no more, but perhaps of the frame at which an allocation failed.
+  abbrev pub HearsLast : Stop → List ℕ × L → L → Type 0
+  HearsLast exhausted now last = (last ≡ now.1) ⊎ ((rest : List ℕ) × PassesOver now (rest, last))
+  HearsLast stop now last = last ≡ now.1
+
+  -- A session whose messages and wakes are the first frames of a text. Of its end, of what is left of the text and of what was written
+  -- the same is said as of a session that passes over nothing.
+  abbrev pub GivesAndTells : SessionPart → List ℕ → Option (List ℕ) → L → L → Option (List ℕ) → Option (List ℕ) → Result SessionEnd SessionFault → Type 0
+  GivesAndTells P text left first last before after result =
+      SessionOver ReadsFrame P (text, first) (λ answer stop null at. Ends limit left result answer stop null at.0 × HearsLast stop at last) (Wrote before after result)

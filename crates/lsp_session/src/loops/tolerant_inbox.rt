@@ -1,0 +1,138 @@
+// An inbox that reads messages, and asks a listener whether to read on after a content part that is none.
+ghost use Rattle.std.specs.Prelude.{◌≡◌, None};
+ghost use Rattle.lsp_session.specs.Event.{arrival_view, event_view};
+ghost use Rattle.lsp_session.specs.Passing.{is_of_body as is_of_body_spec};
+ghost use Rattle.lsp_session.specs.PassingBoxes.{EndsAtBody, NeverEndsAtBody, ReadsNext, TolerantInboxGives};
+
+use crate::lifecycle::{Arrival, Event, Inbox, is_exit};
+use crate::loops::{Listener, ReadEnd};
+use lsp_message::{Message, ReadFault};
+use std::alloc::Global;
+use std::io::BufRead;
+
+/// Whether the fault is of a content part that was read to its end: it is not UTF-8, no JSON, no message, or a batch. The next
+/// frame follows it (LSP 3.17, "Base Protocol").
+pub fn is_of_body(fault: ReadFault) -> bool
+    ensures { result ≡ is_of_body_spec fault }
+{
+    matches!(
+        fault,
+        ReadFault::BodyNotText | ReadFault::NoJson | ReadFault::NoMessage | ReadFault::Batch
+    )
+}
+
+/// Gives a reader's messages (LSP 3.17, "Base Protocol"), as `StreamInbox` does, but asks a listener at a content part that is no message
+/// (`is_of_body`) where a wake can tell of it: `receive_or_woken` passes over it and gives `Arrival::Woken`, or ends the messages. In the
+/// other calls there is no wake, and such a part ends the messages, as each other fault does everywhere.
+#[derive(Debug, Drop)]
+pub struct TolerantInbox<'a, R, L> {
+    alloc: Global,
+    reader: &'a mut R,
+    listener: &'a mut L,
+    limit: u64,
+    end: Option<ReadEnd>,
+}
+
+impl<'a, R: BufRead, L: Listener> TolerantInbox<'a, R, L> {
+    /// An inbox over a reader, for messages whose content part has at most `limit` bytes. A longer one ends the messages
+    /// with `ReadFault::TooLong`. It takes no memory.
+    pub fn within(alloc: Global, reader: &'a mut R, listener: &'a mut L, limit: u64) -> Self
+        ensures same_reader { result.reader.ghost_name ≡ reader.entry.ghost_name }
+        ensures unread { result.reader.now ≡ reader.old }
+        ensures same_listener { result.listener.ghost_name ≡ listener.entry.ghost_name }
+        ensures untold { result.listener.now ≡ listener.old }
+        ensures unended { result.end ≡ None }
+        ensures limited { result.limit ≡ limit }
+    {
+        TolerantInbox {
+            alloc,
+            reader,
+            listener,
+            limit,
+            end: None,
+        }
+    }
+
+    /// What ended the messages: `Exit`, `End` or `Fault`.
+    pub fn end(&self) -> Option<ReadEnd>
+        ensures { result ≡ self.now.end }
+    {
+        self.end
+    }
+
+    /// Reads on: a message, or none where no more come. A fault has not ended the messages yet.
+    fn read_next(&mut self) -> Result<Option<Message>, ReadFault>
+        ensures read { ReadsNext R.remaining self.old result self.new }
+        ensures reads_on { NeverEndsAtBody self.old self.new }
+    {
+        if self.end.is_some() {
+            return Ok(None);
+        }
+        match Message::read_within(self.alloc, self.reader, self.limit)? {
+            Some(message) => {
+                if is_exit(&message) {
+                    self.end = Some(ReadEnd::Exit);
+                }
+                Ok(Some(message))
+            }
+            None => {
+                self.end = Some(ReadEnd::End);
+                Ok(None)
+            }
+        }
+    }
+
+    /// What one wait gives that also gives wakes. At a content part that is no message the listener is asked whether to read on.
+    pub(crate) fn next_arrival(&mut self) -> Arrival
+        ensures gives { TolerantInboxGives R.remaining L.hears self.old (arrival_view result) self.new }
+        ensures reads_on { EndsAtBody L.ends self.old self.new }
+    {
+        match self.read_next() {
+            Ok(Some(message)) => Arrival::Message(message),
+            Ok(None) => Arrival::Closed,
+            Err(fault) => {
+                if is_of_body(fault) && self.listener.passes_over(fault) {
+                    return Arrival::Woken;
+                }
+                self.end = Some(ReadEnd::Fault(fault));
+                Arrival::Closed
+            }
+        }
+    }
+
+    fn next_event(&mut self) -> Event
+        ensures { TolerantInboxGives R.remaining L.hears self.old (event_view result) self.new }
+    {
+        match self.read_next() {
+            Ok(Some(message)) => Event::Message(message),
+            Ok(None) => Event::Closed,
+            Err(fault) => {
+                self.end = Some(ReadEnd::Fault(fault));
+                Event::Closed
+            }
+        }
+    }
+}
+
+impl<'a, R: BufRead, L: Listener> Inbox for TolerantInbox<'a, R, L> {
+    ghost use Rattle.lsp_session.specs.PassingBoxes.{EndsAtBody, TolerantInboxGives};
+
+    ghost receives = { TolerantInboxGives R.remaining L.hears };
+
+    // Where a wake can tell of such a part, it ends the messages only if the listener says so.
+    ghost listens = { λ old _ new. EndsAtBody L.ends old new };
+
+    fn receive_for(&mut self, _seconds: u64) -> Event {
+        self.next_event()
+    }
+
+    #[tactic(auto, using(crate::proofs::Waiting::waits_none))]
+    fn receive(&mut self) -> Event {
+        self.next_event()
+    }
+
+    #[tactic(auto, using(crate::proofs::Waiting::waits_none))]
+    fn receive_or_woken(&mut self) -> Arrival {
+        self.next_arrival()
+    }
+}

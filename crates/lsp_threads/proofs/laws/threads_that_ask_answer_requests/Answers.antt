@@ -1,0 +1,21 @@
+use Rattle.std.proofs.Common.{refl}
+use Rattle.serde_json.specs.View.{view}
+use Rattle.lsp_session.proofs.Lending.{session_as, over_as}
+use Rattle.lsp_session.proofs.Ordering.{answers_in_order}
+use Rattle.lsp_session.specs.Answered.{AnswersRequests}
+use Rattle.lsp_session.specs.HandlerService.{lent_handler}
+use Rattle.lsp_session.specs.HandlerSession.{of_handler}
+use Rattle.lsp_session.specs.Session.{SessionOut}
+use Rattle.lsp_session.specs.SessionLaws.{Both, KeepsOrder}
+use Rattle.lsp_threads.proofs.laws.threads_that_ask_answer_requests.Goals as goal
+
+pub returns : goal.returns
+returns g c = λ wakeable limit old new text first last before after answer tells.
+    let capabilities = view old.capabilities.now in
+    let P = SessionOut (lent_handler g.H.Handler.answers g.H.Handler.notes) old new in
+    let Q = SessionOut (of_handler g.H.Handler.answers g.H.Handler.notes capabilities) old.handler.now new.handler.now in
+    over_as P (Both Q (Both AnswersRequests KeepsOrder)) (λ xs stop null answer out.
+    let as_handler = session_as g.H.Handler.answers g.H.Handler.notes capabilities old new new.handler.now (λ names. refl)
+    old.handler.now refl refl xs stop null answer out in
+    (as_handler, answers_in_order g.H.Handler.answers g.H.Handler.notes capabilities old.handler.now new.handler.now xs stop null answer as_handler))
+    _ (text, first) _ _ tells

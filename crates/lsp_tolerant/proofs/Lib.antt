@@ -1,2 +1,0 @@
-mod Refused
-pub mod Tolerating

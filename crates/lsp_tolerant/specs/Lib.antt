@@ -1,4 +1,0 @@
-pub mod FaultCounts
-pub mod Passing
-pub mod TolerantBoxes
-pub mod TolerantBytes

@@ -1,0 +1,35 @@
+// The listener of all rows.
+use lsp_message::ReadFault;
+use lsp_session::{FaultCounts, Listener};
+
+/// Reads on after content parts that are no messages and counts them, or ends the session at the first.
+#[derive(Drop)]
+pub struct Listening {
+    reads_on: bool,
+    pub counts: FaultCounts,
+}
+
+impl Listening {
+    /// One that counted nothing.
+    pub fn new(reads_on: bool) -> Listening {
+        Listening {
+            reads_on,
+            counts: FaultCounts::new(),
+        }
+    }
+}
+
+impl Listener for Listening {
+    ghost use Rattle.std.specs.Prelude.{⊤};
+
+    ghost hears = { λ _ _ _. ⊤ };
+
+    ghost ends = { λ _ _. ⊤ };
+
+    fn passes_over(&mut self, fault: ReadFault) -> bool {
+        if self.reads_on {
+            self.counts.passes_over(fault);
+        }
+        self.reads_on
+    }
+}
