@@ -16,7 +16,7 @@ use lsp_types::{
     DidCloseTextDocumentParams, DidOpenTextDocumentParams, Hover, InitializeParams,
     InitializeResult, Location, MarkupKind, MessageType, Position, PublishDiagnosticsParams, Range,
     ServerCapabilities, ShowMessageParams, TextDocumentPositionParams, TextDocumentSyncKind,
-    methods,
+    TextDocumentSyncOptions, methods,
 };
 use serde_json::Value;
 use std::alloc::{AllocError, Global};
@@ -72,7 +72,7 @@ impl Server for Checker {
         let configuration = params.capabilities.pointer("/workspace/configuration");
         self.configures = configuration.and_then(|can| can.as_bool()) == Some(true);
         let capabilities = ServerCapabilities {
-            text_document_sync: Some(TextDocumentSyncKind::FULL),
+            text_document_sync: Some(TextDocumentSyncOptions::new(TextDocumentSyncKind::FULL)),
             hover_provider: Some(true),
             definition_provider: Some(true),
             ..ServerCapabilities::default()

@@ -1,5 +1,5 @@
-//! The text of open documents, and edits of it by lines and characters (LSP 3.17, "Text Document Synchronization"). It knows no
-//! JSON; `lsp_documents` reads the params of a client's notifications.
+//! The text of open documents, and edits of it by lines and characters (LSP 3.17, "Text Document Synchronization"). A position and a
+//! range are read and written by `serde`, so `lsp_types` has these same types; `lsp_documents` reads the params of a client's notifications.
 #![tactic(auto)]
 
 mod columns;

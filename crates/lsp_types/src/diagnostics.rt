@@ -1,9 +1,12 @@
 //! What a server finds wrong with a document.
-use crate::documents::Range;
-use serde::Serialize;
+use crate::documents::Location;
+use crate::numbers::number_within;
+use lsp_text::Range;
+use serde::{Deserialize, Deserializer, Format, Serialize};
 use serde_json::Value;
+use std::alloc::Global;
 
-/// How severe a diagnostic is (LSP 3.17, "DiagnosticSeverity").
+/// How severe a diagnostic is (LSP 3.17, "DiagnosticSeverity"). On reading, another number is refused.
 #[derive(Clone, Copy, Drop, Serialize)]
 #[serde(transparent)]
 pub struct DiagnosticSeverity(pub u32);
@@ -19,8 +22,38 @@ impl DiagnosticSeverity {
     pub const HINT: DiagnosticSeverity = DiagnosticSeverity(4);
 }
 
-/// A number or a text: the code of a diagnostic, for one (LSP 3.17, "Diagnostic").
-#[derive(Drop, Serialize)]
+impl<'de> Deserialize<'de> for DiagnosticSeverity {
+    fn deserialize<F: Format>(
+        alloc: Global,
+        from: &mut Deserializer<'de, '_, F>,
+    ) -> Result<DiagnosticSeverity, F::Error> {
+        Ok(DiagnosticSeverity(number_within(alloc, from, 1, 4)?))
+    }
+}
+
+/// How a client may show a diagnostic (LSP 3.17, "DiagnosticTag"). On reading, another number is refused.
+#[derive(Clone, Copy, Drop, Serialize)]
+#[serde(transparent)]
+pub struct DiagnosticTag(pub u32);
+
+impl DiagnosticTag {
+    /// Faded: code that nothing uses.
+    pub const UNNECESSARY: DiagnosticTag = DiagnosticTag(1);
+    /// Struck through: code that is not to be used.
+    pub const DEPRECATED: DiagnosticTag = DiagnosticTag(2);
+}
+
+impl<'de> Deserialize<'de> for DiagnosticTag {
+    fn deserialize<F: Format>(
+        alloc: Global,
+        from: &mut Deserializer<'de, '_, F>,
+    ) -> Result<DiagnosticTag, F::Error> {
+        Ok(DiagnosticTag(number_within(alloc, from, 1, 2)?))
+    }
+}
+
+/// A number or a text: the code of a diagnostic, or a token of progress (LSP 3.17, "Diagnostic" and "ProgressToken").
+#[derive(Drop, Serialize, Deserialize)]
 #[serde(untagged)]
 pub enum NumberOrString {
     /// A number.
@@ -29,8 +62,18 @@ pub enum NumberOrString {
     String(String),
 }
 
+/// A place that has to do with a diagnostic (LSP 3.17, "DiagnosticRelatedInformation").
+#[derive(Drop, Serialize, Deserialize)]
+pub struct DiagnosticRelatedInformation {
+    /// The place.
+    pub location: Location,
+    /// What it has to do with it.
+    pub message: String,
+}
+
 /// What is wrong with a part of a document (LSP 3.17, "Diagnostic").
-#[derive(Drop, Serialize)]
+#[derive(Drop, Serialize, Deserialize)]
+#[serde(rename_all = "camelCase")]
 pub struct Diagnostic {
     /// The part.
     pub range: Range,
@@ -45,6 +88,12 @@ pub struct Diagnostic {
     pub source: Option<String>,
     /// What is wrong, for people.
     pub message: String,
+    /// How it may be shown.
+    #[serde(skip_serializing_if = "Option::is_none")]
+    pub tags: Option<Vec<DiagnosticTag>>,
+    /// Places that have to do with it.
+    #[serde(skip_serializing_if = "Option::is_none")]
+    pub related_information: Option<Vec<DiagnosticRelatedInformation>>,
     /// What the client gives back in a code action's context.
     #[serde(skip_serializing_if = "Option::is_none")]
     pub data: Option<Value>,
@@ -55,7 +104,16 @@ impl Diagnostic {
 
     /// A part of a document, how severe it is, and what is wrong there.
     pub fn new(range: Range, severity: DiagnosticSeverity, message: String) -> Diagnostic
-        ensures { result ≡ record { range = range; severity = Some severity; code = None; source = None; message = message; «data» = None } }
+        ensures { result ≡ record {
+          range = range;
+          severity = Some severity;
+          code = None;
+          source = None;
+          message = message;
+          tags = None;
+          related_information = None;
+          «data» = None;
+        } }
     {
         Diagnostic {
             range,
@@ -63,13 +121,15 @@ impl Diagnostic {
             code: None,
             source: None,
             message,
+            tags: None,
+            related_information: None,
             data: None,
         }
     }
 }
 
 /// The params of `textDocument/publishDiagnostics` (LSP 3.17, "PublishDiagnostics Notification").
-#[derive(Drop, Serialize)]
+#[derive(Drop, Serialize, Deserialize)]
 pub struct PublishDiagnosticsParams {
     /// The document's URI.
     pub uri: String,

@@ -1,8 +1,9 @@
-//! What a server shows, and what it asks of its client.
-use serde::Serialize;
-use std::alloc::{AllocError, Global};
+//! What a server shows.
+use crate::numbers::number_within;
+use serde::{Deserialize, Deserializer, Format, Serialize};
+use std::alloc::Global;
 
-/// How important a message is (LSP 3.17, "MessageType").
+/// How important a message is (LSP 3.17, "MessageType"). On reading, another number is refused.
 #[derive(Clone, Copy, Drop, Serialize)]
 #[serde(transparent)]
 pub struct MessageType(pub u32);
@@ -18,8 +19,17 @@ impl MessageType {
     pub const LOG: MessageType = MessageType(4);
 }
 
+impl<'de> Deserialize<'de> for MessageType {
+    fn deserialize<F: Format>(
+        alloc: Global,
+        from: &mut Deserializer<'de, '_, F>,
+    ) -> Result<MessageType, F::Error> {
+        Ok(MessageType(number_within(alloc, from, 1, 4)?))
+    }
+}
+
 /// The params of `window/showMessage` and `window/logMessage` (LSP 3.17, "ShowMessage Notification").
-#[derive(Drop, Serialize)]
+#[derive(Drop, Serialize, Deserialize)]
 pub struct ShowMessageParams {
     /// How important it is. Its key is `type`.
     #[serde(rename = "type")]
@@ -28,40 +38,5 @@ pub struct ShowMessageParams {
     pub message: String,
 }
 
-/// The params of `workspace/configuration` (LSP 3.17, "Configuration Request"). The result is a list with a value for each item.
-#[derive(Drop, Serialize)]
-pub struct ConfigurationParams {
-    /// What is asked for.
-    pub items: Vec<ConfigurationItem>,
-}
-
-impl ConfigurationParams {
-    ghost use Rattle.std.specs.Prelude.{◌≡◌, ◌∷◌, [], Some, None, IfOk, option_map, string_bytes};
-    ghost use Rattle.lsp_types.specs.declared.window.ConfigurationItem.{ConfigurationItem as Item};
-
-    /// One section, of no document. `Err` means that an allocation failed.
-    pub fn section(alloc: Global, section: &str) -> Result<ConfigurationParams, AllocError>
-        ensures { IfOk result (λ params. (item : Item) × (params.items.items ≡ item ∷ [])
-            × (item.scope_uri ≡ None) × (option_map string_bytes item.«section» ≡ Some «section».now)) }
-    {
-        let item = ConfigurationItem {
-            scope_uri: None,
-            section: Some(String::from_str(alloc, section)?),
-        };
-        Ok(ConfigurationParams {
-            items: vec![in alloc; item]?,
-        })
-    }
-}
-
-/// A part of the configuration (LSP 3.17, "ConfigurationItem").
-#[derive(Drop, Serialize)]
-#[serde(rename_all = "camelCase")]
-pub struct ConfigurationItem {
-    /// The document or folder that it is for.
-    #[serde(skip_serializing_if = "Option::is_none")]
-    pub scope_uri: Option<String>,
-    /// The section, as the name of the server.
-    #[serde(skip_serializing_if = "Option::is_none")]
-    pub section: Option<String>,
-}
+/// The params of `window/logMessage` (LSP 3.17, "LogMessage Notification").
+pub type LogMessageParams = ShowMessageParams;

@@ -1,6 +1,4 @@
-use Rattle.std.proofs.Common.{◌≡◌, ◌<◌, true, arith, sym, ap, ◌∙◌, subst, drop, length}
-use Rattle.std.specs.Prelude.{nat_lt, slice_index}
-use Rattle.std.proofs.lemmas.Bool.Decides.{nat_tests}
+use Rattle.std.proofs.Common.{◌<◌, arith, ap, length}
 use Rattle.lsp_text.specs.Lines.{line_starts}
 use Rattle.lsp_text.proofs.ColumnLemmas.{end_reached}
 use Rattle.lsp_text.proofs.text.Text.end_of.Goals as goal

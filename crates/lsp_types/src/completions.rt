@@ -1,53 +1,13 @@
-//! What a server answers: hovers, completions, symbols and edits.
-use crate::documents::Range;
-use serde::Serialize;
+//! Completions: what a client offers while a user types.
+use crate::edits::TextEdit;
+use crate::hovers::MarkupContent;
+use crate::numbers::number_within;
+use crate::workspace::Command;
+use serde::{Deserialize, Deserializer, Format, Serialize};
 use serde_json::Value;
-use std::collections::BTreeMap;
+use std::alloc::Global;
 
-/// How a text is marked up (LSP 3.17, "MarkupContent").
-#[derive(Clone, Copy, Drop, Serialize)]
-#[serde(rename_all = "lowercase")]
-pub enum MarkupKind {
-    /// Plain text.
-    PlainText,
-    /// Markdown.
-    Markdown,
-}
-
-/// A text to show (LSP 3.17, "MarkupContent").
-#[derive(Drop, Serialize)]
-pub struct MarkupContent {
-    /// How it is marked up.
-    pub kind: MarkupKind,
-    /// The text.
-    pub value: String,
-}
-
-/// The result of `textDocument/hover` (LSP 3.17, "Hover Request").
-#[derive(Drop, Serialize)]
-pub struct Hover {
-    /// What is shown.
-    pub contents: MarkupContent,
-    /// The part of the text that it is about.
-    #[serde(skip_serializing_if = "Option::is_none")]
-    pub range: Option<Range>,
-}
-
-impl Hover {
-    ghost use Rattle.std.specs.Prelude.{◌≡◌, None};
-
-    /// A text, about the place that was asked for.
-    pub fn new(kind: MarkupKind, value: String) -> Hover
-        ensures { result ≡ record { contents = record { kind = kind; value = value }; range = None } }
-    {
-        Hover {
-            contents: MarkupContent { kind, value },
-            range: None,
-        }
-    }
-}
-
-/// What a completion inserts (LSP 3.17, "CompletionItemKind").
+/// What a completion inserts (LSP 3.17, "CompletionItemKind"). On reading, another number is refused.
 #[derive(Clone, Copy, Drop, Serialize)]
 #[serde(transparent)]
 pub struct CompletionItemKind(pub u32);
@@ -59,21 +19,62 @@ impl CompletionItemKind {
     pub const METHOD: CompletionItemKind = CompletionItemKind(2);
     /// A function.
     pub const FUNCTION: CompletionItemKind = CompletionItemKind(3);
+    /// A constructor.
+    pub const CONSTRUCTOR: CompletionItemKind = CompletionItemKind(4);
     /// A field.
     pub const FIELD: CompletionItemKind = CompletionItemKind(5);
     /// A variable.
     pub const VARIABLE: CompletionItemKind = CompletionItemKind(6);
     /// A class.
     pub const CLASS: CompletionItemKind = CompletionItemKind(7);
+    /// An interface.
+    pub const INTERFACE: CompletionItemKind = CompletionItemKind(8);
     /// A module.
     pub const MODULE: CompletionItemKind = CompletionItemKind(9);
+    /// A property.
+    pub const PROPERTY: CompletionItemKind = CompletionItemKind(10);
+    /// A unit.
+    pub const UNIT: CompletionItemKind = CompletionItemKind(11);
+    /// A value.
+    pub const VALUE: CompletionItemKind = CompletionItemKind(12);
+    /// An enumeration.
+    pub const ENUM: CompletionItemKind = CompletionItemKind(13);
     /// A keyword.
     pub const KEYWORD: CompletionItemKind = CompletionItemKind(14);
     /// A snippet.
     pub const SNIPPET: CompletionItemKind = CompletionItemKind(15);
+    /// A color.
+    pub const COLOR: CompletionItemKind = CompletionItemKind(16);
+    /// A file.
+    pub const FILE: CompletionItemKind = CompletionItemKind(17);
+    /// A reference.
+    pub const REFERENCE: CompletionItemKind = CompletionItemKind(18);
+    /// A folder.
+    pub const FOLDER: CompletionItemKind = CompletionItemKind(19);
+    /// A member of an enumeration.
+    pub const ENUM_MEMBER: CompletionItemKind = CompletionItemKind(20);
+    /// A constant.
+    pub const CONSTANT: CompletionItemKind = CompletionItemKind(21);
+    /// A struct.
+    pub const STRUCT: CompletionItemKind = CompletionItemKind(22);
+    /// An event.
+    pub const EVENT: CompletionItemKind = CompletionItemKind(23);
+    /// An operator.
+    pub const OPERATOR: CompletionItemKind = CompletionItemKind(24);
+    /// A type parameter.
+    pub const TYPE_PARAMETER: CompletionItemKind = CompletionItemKind(25);
 }
 
-/// How the text of a completion is meant (LSP 3.17, "InsertTextFormat").
+impl<'de> Deserialize<'de> for CompletionItemKind {
+    fn deserialize<F: Format>(
+        alloc: Global,
+        from: &mut Deserializer<'de, '_, F>,
+    ) -> Result<CompletionItemKind, F::Error> {
+        Ok(CompletionItemKind(number_within(alloc, from, 1, 25)?))
+    }
+}
+
+/// How the text of a completion is meant (LSP 3.17, "InsertTextFormat"). On reading, another number is refused.
 #[derive(Clone, Copy, Drop, Serialize)]
 #[serde(transparent)]
 pub struct InsertTextFormat(pub u32);
@@ -85,8 +86,17 @@ impl InsertTextFormat {
     pub const SNIPPET: InsertTextFormat = InsertTextFormat(2);
 }
 
-/// A completion (LSP 3.17, "CompletionItem").
-#[derive(Drop, Serialize)]
+impl<'de> Deserialize<'de> for InsertTextFormat {
+    fn deserialize<F: Format>(
+        alloc: Global,
+        from: &mut Deserializer<'de, '_, F>,
+    ) -> Result<InsertTextFormat, F::Error> {
+        Ok(InsertTextFormat(number_within(alloc, from, 1, 2)?))
+    }
+}
+
+/// A completion (LSP 3.17, "CompletionItem"). The params and the result of `completionItem/resolve` are one.
+#[derive(Drop, Serialize, Deserialize)]
 #[serde(rename_all = "camelCase")]
 pub struct CompletionItem {
     /// What is shown, and inserted where nothing else is said.
@@ -115,6 +125,12 @@ pub struct CompletionItem {
     /// The edit that inserts it.
     #[serde(skip_serializing_if = "Option::is_none")]
     pub text_edit: Option<TextEdit>,
+    /// Edits elsewhere in the document, as of an import.
+    #[serde(skip_serializing_if = "Option::is_none")]
+    pub additional_text_edits: Option<Vec<TextEdit>>,
+    /// The command that the client sends once it is inserted.
+    #[serde(skip_serializing_if = "Option::is_none")]
+    pub command: Option<Command>,
     /// What the client gives back in `completionItem/resolve`.
     #[serde(skip_serializing_if = "Option::is_none")]
     pub data: Option<Value>,
@@ -135,6 +151,8 @@ impl CompletionItem {
           insert_text = None;
           insert_text_format = None;
           text_edit = None;
+          additional_text_edits = None;
+          command = None;
           «data» = None;
         } }
     {
@@ -148,75 +166,19 @@ impl CompletionItem {
             insert_text: None,
             insert_text_format: None,
             text_edit: None,
+            additional_text_edits: None,
+            command: None,
             data: None,
         }
     }
 }
 
-/// The result of `textDocument/completion` (LSP 3.17, "CompletionList").
-#[derive(Drop, Serialize)]
+/// The result of `textDocument/completion`, or null (LSP 3.17, "CompletionList").
+#[derive(Drop, Serialize, Deserialize)]
 #[serde(rename_all = "camelCase")]
 pub struct CompletionList {
     /// Whether more typing is to ask again.
     pub is_incomplete: bool,
     /// The completions.
     pub items: Vec<CompletionItem>,
-}
-
-/// What a symbol is (LSP 3.17, "SymbolKind").
-#[derive(Clone, Copy, Drop, Serialize)]
-#[serde(transparent)]
-pub struct SymbolKind(pub u32);
-
-impl SymbolKind {
-    /// A module.
-    pub const MODULE: SymbolKind = SymbolKind(2);
-    /// A class.
-    pub const CLASS: SymbolKind = SymbolKind(5);
-    /// A method.
-    pub const METHOD: SymbolKind = SymbolKind(6);
-    /// A field.
-    pub const FIELD: SymbolKind = SymbolKind(8);
-    /// A function.
-    pub const FUNCTION: SymbolKind = SymbolKind(12);
-    /// A variable.
-    pub const VARIABLE: SymbolKind = SymbolKind(13);
-    /// A struct.
-    pub const STRUCT: SymbolKind = SymbolKind(23);
-}
-
-/// A symbol of a document, with those inside it (LSP 3.17, "DocumentSymbol").
-#[derive(Drop, Serialize)]
-#[serde(rename_all = "camelCase")]
-pub struct DocumentSymbol {
-    /// Its name.
-    pub name: String,
-    /// More about it, as its type.
-    #[serde(skip_serializing_if = "Option::is_none")]
-    pub detail: Option<String>,
-    /// What it is.
-    pub kind: SymbolKind,
-    /// All of it.
-    pub range: Range,
-    /// The part to select, as its name. It lies in `range`.
-    pub selection_range: Range,
-    /// Those inside it.
-    pub children: Vec<DocumentSymbol>,
-}
-
-/// A change of a text (LSP 3.17, "TextEdit").
-#[derive(Drop, Serialize)]
-#[serde(rename_all = "camelCase")]
-pub struct TextEdit {
-    /// The part that is replaced.
-    pub range: Range,
-    /// The text in its place.
-    pub new_text: String,
-}
-
-/// Changes of documents (LSP 3.17, "WorkspaceEdit").
-#[derive(Drop, Serialize)]
-pub struct WorkspaceEdit {
-    /// The changes of each document, by its URI.
-    pub changes: BTreeMap<String, Vec<TextEdit>>,
 }
