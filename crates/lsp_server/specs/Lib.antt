@@ -66,6 +66,7 @@ pub use Rattle.lsp_session.specs.ProtocolError
 pub use Rattle.lsp_session.specs.ProtocolErrorLaws
 pub use Rattle.lsp_session.specs.ReadLoop
 pub use Rattle.lsp_session.specs.Replies
+pub use Rattle.lsp_session.specs.Served
 pub use Rattle.lsp_session.specs.Session
 pub use Rattle.lsp_session.specs.SessionBytes
 pub use Rattle.lsp_session.specs.SessionFault

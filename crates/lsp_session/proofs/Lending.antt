@@ -2,9 +2,11 @@
 use Rattle.lsp_message.specs.Id.{Id}
 use Rattle.lsp_message.specs.Message.{Message, ErrorObject}
 use Rattle.lsp_session.proofs.Ran.{Row, row, at_initialize, at_initialized, at_served, at_woken, idle, Idle, early_request, early_note, unasked, uninvited, shuts, leaves, exits, stays}
+use Rattle.lsp_session.specs.Boxes.{Sends, Receives}
 use Rattle.lsp_session.specs.Event.{Event}
 use Rattle.lsp_session.specs.HandlerService.{KeepsHandler, lent_handler}
 use Rattle.lsp_session.specs.HandlerSession.{initialize_result, of_handler}
+use Rattle.lsp_session.specs.Prompt.{Talks}
 use Rattle.lsp_session.specs.Session.{Behavior, SessionAnswer, Exchange, Stop, decided, timed_out, refused, exhausted, Phase, starting, replied, serving, asked, ended, phase_after, Step, Steps, Reaches, Stops, SessionOut, SessionPart}
 use Rattle.lsp_session.specs.SessionBytes.{ReadsMessage, SessionOver, Gives}
 use Rattle.lsp_session.specs.SessionRun.{Runs}
@@ -142,6 +144,21 @@ module _ (P Q : SessionPart)
     awaited = run.awaited;
     got = run.got;
     part = to run.exchanges run.stop run.null answer run.part;
+  }
+
+  -- over one value with both ends
+  pub talks_as : {L : Type 0} (receives listens : Receives L) (sends : Sends L) (phase : Phase) (old new : L) (answer : SessionAnswer)
+      → Talks receives listens sends phase P old answer new → Talks receives listens sends phase Q old answer new
+  talks_as receives listens sends phase old new answer talks = record {
+    whole = talks.whole;
+    last = talks.last;
+    stop = talks.stop;
+    null = talks.null;
+    reached = talks.reached;
+    mid = talks.mid;
+    prompt = talks.prompt;
+    ends = talks.ends;
+    part = to (talks.whole ++ talks.last) talks.stop talks.null answer talks.part;
   }
 
   -- over a text, however it is read, and whatever is said of its end and of what was written

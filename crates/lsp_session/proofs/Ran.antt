@@ -1,7 +1,7 @@
 -- Exchanges of a session, one after another: by the rows of the table of steps, the last of which may be cut off, and what they say of its answer.
 use Rattle.lsp_message.specs.Message.{Message, ErrorObject, request, notification, response}
 use Rattle.lsp_session.specs.ProtocolError.{disconnected, shutdown_disconnected, fault_of_refusal, expected_initialize, expected_initialized, unexpected_in_shutdown}
-use Rattle.lsp_session.specs.Session.{Behavior, Exchange, came_of, letters_of, SessionAnswer, Stop, decided, no_more, refused, Phase, starting, replied, serving, asked, ended, Reaches, Stops, SessionFrom, sends_of, null_of, phase_after, Step, Steps, exhausted, is_served, Fails, Leaves, is_shutdown}
+use Rattle.lsp_session.specs.Session.{Behavior, Exchange, came_of, letters_of, SessionAnswer, Stop, decided, no_more, refused, Phase, starting, replied, serving, asked, ended, Reaches, Stops, SessionFrom, sends_of, null_of, phase_after, Step, Steps, is_served, Fails, Leaves, is_shutdown}
 use Rattle.lsp_session.specs.SessionRun.{all_of}
 use Rattle.lsp_session.specs.declared.lifecycle.SendFault.{SendFault}
 use Rattle.lsp_session.specs.declared.loops.handler.SessionEnd.TheVariants.{Closed, ShutDown}
@@ -18,7 +18,6 @@ use Rattle.lsp_session.specs.Answered.{RepliesTo, AllReplied}
 use Rattle.lsp_session.specs.Replies.{null_reply, IsEarlyReply}
 use Rattle.std.specs.Bool.{MatchBool}
 use Rattle.lsp_session.proofs.Waiting.{and-true}
-use Rattle.lsp_session.specs.SessionFault.{ran_out, came_to_no_more}
 use Rattle.std.proofs.lemmas.Slice.Eq.{bytes_eq-Decides}
 
 pub came_both : (xs ys : List Exchange) → came_of (xs ++ ys) ≡ came_of xs ++ came_of ys
@@ -320,12 +319,10 @@ stops_by may p s s' stop answer stops = λ e. (rw e at stops)
 abbrev pub is_no_exit : Message → Bool
 is_no_exit m = not (is_exit m)
 
--- what is known of an answer: none for want of messages comes of a message that is no `exit`
-abbrev pub Facts : Stop → List Message → SessionAnswer → Type 0
-Facts decided letters answer = (ran_out answer ≡ false) × (came_to_no_more answer ≡ true → list_all is_no_exit letters ≡ false)
-Facts no_more letters answer = (ran_out answer ≡ false) × (came_to_no_more answer ≡ true) × (list_all is_no_exit letters ≡ true)
-Facts exhausted letters answer = ran_out answer ≡ true
-Facts stop letters answer = Unit {0}
+-- what is known of the messages: no `exit` came where no more came
+abbrev pub Facts : Stop → List Message → Type 0
+Facts no_more letters = list_all is_no_exit letters ≡ true
+Facts stop letters = Unit {0}
 
 served_is_no_exit : (m : Message) → is_served m ≡ true → is_no_exit m ≡ true
 served_is_no_exit m served = (and-true (not (is_shutdown m)) (is_no_exit m) served).1
@@ -343,9 +340,9 @@ early_no_exit m mute early = refl
 abbrev Passed : List Exchange → Type 0
 Passed xs = list_all is_no_exit (letters_of xs) ≡ true
 
--- a message decided: where the answer is that no more came, it was no `exit`
+-- of a message that decided nothing is said
 abbrev Last : List Exchange → SessionAnswer → Type 0
-Last xs answer = (ran_out answer ≡ false) × (came_to_no_more answer ≡ true → list_all is_no_exit (letters_of xs) ≡ false)
+Last xs answer = Unit {0}
 
 more_known : (by : Option SessionAnswer) (x : Exchange) (xs : List Exchange) → Passed (x ∷ []) → MatchOption by (Passed xs) (λ answer. Last xs answer)
     → MatchOption by (Passed (x ∷ xs)) (λ answer. Last (x ∷ xs) answer)
@@ -361,12 +358,12 @@ module _ {S : Type 0} (may : Behavior S) (stop : Stop) where
   known_idle : (p q : Phase) (x : Exchange) (m : Message) (full : List Message) → x.letter ≡ Some m → Idle p m full q → Known q (x ∷ [])
   known_idle p q x m full there (early_request i method params reply at is early said next) = rw next (passed x m there (rw is refl))
   known_idle p q x m full there (early_note at mute early said next) = rw next (passed x m there (early_no_exit m mute early))
-  known_idle p q x m full there (unasked shown at mute other said next) = rw next (refl, λ closed. absurd (cc (closed)))
-  known_idle p q x m full there (uninvited shown at other said next) = rw next (refl, λ closed. absurd (cc (closed)))
+  known_idle p q x m full there (unasked shown at mute other said next) = rw next tt
+  known_idle p q x m full there (uninvited shown at other said next) = rw next tt
   known_idle p q x m full there (shuts i method params at is asks said next) = rw next (passed x m there (rw is refl))
-  known_idle p q x m full there (leaves at is said next) = rw next (refl, λ closed. (rw (there, is) refl))
-  known_idle p q x m full there (exits i at is said next) = rw next (refl, λ closed. absurd (cc (closed)))
-  known_idle p q x m full there (stays i shown at other said next) = rw next (refl, λ closed. absurd (cc (closed)))
+  known_idle p q x m full there (leaves at is said next) = rw next tt
+  known_idle p q x m full there (exits i at is said next) = rw next tt
+  known_idle p q x m full there (stays i shown at other said next) = rw next tt
 
   known_row : (p q : Phase) (s s' : S) (x : Exchange) (full : List Message) → Row may p s x.letter full q s' → Known q (x ∷ [])
   known_row p q s s' x full (at_initialize i method params outcome at is asks given said next) =
@@ -384,25 +381,12 @@ module _ {S : Type 0} (may : Behavior S) (stop : Stop) where
 
 module _ {S : Type 0} (may : Behavior S) where
   at_no_more : (q : Phase) (s s' : S) (xs : List Exchange) (answer : SessionAnswer) → Known may no_more q xs → Stops may q s no_more answer s'
-      → Facts no_more (letters_of xs) answer
+      → Facts no_more (letters_of xs)
   at_no_more (ended null by) s s' xs answer is stops = absurd stops
-  at_no_more q s s' xs answer is stops = rw stops.0 (refl, refl, is)
-
-  at_exhausted : (q : Phase) (s s' : S) (answer : SessionAnswer) → Stops may q s exhausted answer s' → ran_out answer ≡ true
-  at_exhausted (ended null by) s s' answer stops = absurd stops
-  at_exhausted serving s s' answer stops = rw stops refl
-  at_exhausted q s s' answer stops = rw stops.0 refl
+  at_no_more q s s' xs answer is stops = is
 
   pub session_facts : (p : Phase) (s s' : S) → ended_by p ≡ None → (xs : List Exchange) (stop : Stop) (null : Option Message) (answer : SessionAnswer)
-      → SessionFrom may p s s' xs stop null answer → Facts stop (letters_of xs) answer
-  session_facts p s s' on xs decided null answer out =
-      at (ended_by out.last) (stops_by may out.last out.after s' decided answer out.stopped) (known may decided p out.last s out.after xs on out.reached)
-    where
-      at : (by : Option SessionAnswer) → MatchOption by (decided ≡ decided → ⊥) (λ by. (decided ≡ decided) × (answer ≡ by))
-          → MatchOption by (Passed xs) (λ answer. Last xs answer) → Facts decided (letters_of xs) answer
-      at None none is = absurd (none refl)
-      at (Some by) stops is = rw stops.1 is
+      → SessionFrom may p s s' xs stop null answer → Facts stop (letters_of xs)
   session_facts p s s' on xs no_more null answer out = at_no_more out.last out.after s' xs answer
       (known may no_more p out.last s out.after xs on out.reached) out.stopped
-  session_facts p s s' on xs exhausted null answer out = at_exhausted out.last out.after s' answer out.stopped
   session_facts p s s' on xs stop null answer out = tt

@@ -6,9 +6,11 @@ use Rattle.lsp_session.proofs.Waiting.{waits_none}
 use Rattle.lsp_session.specs.Boxes.{Sends, Receives, Takes}
 use Rattle.lsp_session.specs.Event.{Event, message, woken}
 use Rattle.lsp_session.specs.Prompt.{event_of, next_phase, WaitsIn, Meets, EndsTalk, Talks}
+use Rattle.lsp_session.specs.Served.{StopsFor}
 use Rattle.lsp_session.specs.Session.{Behavior, SessionAnswer, SessionPart, Exchange, came_of, Stop, decided, no_more, timed_out, refused, exhausted, Phase, serving, SessionFrom}
 use Rattle.lsp_session.specs.SessionLaws.{Both}
 use Rattle.lsp_session.specs.declared.loops.handler.SessionEnd.TheVariants.{Closed}
+use Rattle.lsp_session.specs.declared.loops.served.StopReason.TheVariants.{Decided}
 use Rattle.std.proofs.Common.{◌≡◌, refl, sym, ◌∙◌, ap, Bool, true, false, List, [], ◌∷◌, ◌++◌, length, map, Option, Some, None}
 use Rattle.std.specs.List.{FoldsTo, list_all}
 use Rattle.std.specs.Prelude.{Ok}
@@ -66,7 +68,7 @@ module _ (sends : Sends (List Event)) (m : Message) (later new : List Event) whe
 
 -- Where nothing is said of that wait, a session may: it ends at an `exit`, and tells no wake that came before it.
 pub passes_over_unsaid : {S : Type 0} (may : Behavior S) (sends : Sends (List Event)) (s : S) (m : Message) → is_exit m ≡ true
-    → Talks Skips (λ old event new. Unit {0}) sends serving (SessionFrom may serving s s) (woken ∷ message m ∷ []) (Ok Closed) []
+    → Talks Skips (λ old event new. Unit {0}) sends serving (Both (SessionFrom may serving s s) (StopsFor Decided)) (woken ∷ message m ∷ []) (Ok Closed) []
 passes_over_unsaid may sends s m exits =
     ends_at_exit may Skips (λ old event new. Unit {0}) sends s (woken ∷ message m ∷ []) [] m
     (waits_none Skips (woken ∷ message m ∷ []) [] (message m) (record { skipped = woken ∷ []; wakes = refl; are = refl }), tt) exits

@@ -10,11 +10,13 @@ use Rattle.lsp_session.specs.FrameBoxes.{FrameOutboxSends}
 use Rattle.lsp_session.specs.PassingBoxes.{TolerantInboxGives}
 use Rattle.lsp_session.specs.Prompt.{Talks}
 use Rattle.lsp_session.specs.Session.{Behavior, starting, SessionAnswer, SessionPart, SessionOut}
+use Rattle.lsp_session.specs.Served.{StopsFor}
 use Rattle.lsp_session.specs.SessionFault.{session_answer}
 use Rattle.lsp_session.specs.SessionLaws.{Both}
 use Rattle.lsp_session.specs.SessionRun.{Runs}
 use Rattle.lsp_session.specs.StreamLines.{act_view, account_of, IsUnused, KeepsEnds, StreamLineGives, StreamLineSends, GivesInTurn}
 use Rattle.lsp_session.specs.declared.loops.frame_outbox.FrameOutbox.{FrameOutbox}
+use Rattle.lsp_session.specs.declared.loops.served.StopReason.{StopReason}
 use Rattle.lsp_session.specs.declared.loops.stream_line.Noted.{Noted}
 use Rattle.lsp_session.specs.declared.loops.stream_line.StreamLine.{StreamLine}
 use Rattle.lsp_session.specs.declared.loops.tolerant_inbox.TolerantInbox.{TolerantInbox}
@@ -32,15 +34,15 @@ module _ {R W L : Type 0} (remaining : R → Option (List ℕ)) (hears : L → R
   abbrev names : StreamLine R W L → ℕ × ℕ × ℕ
   names line = (line.inbox.reader.ghost_name, line.outbox.writer.ghost_name, line.inbox.listener.ghost_name)
 
-  module _ {S : Type 0} (may : Behavior S) (listens : Receives (StreamLine R W L)) (s s' : S) (old new : StreamLine R W L) (unused : IsUnused old) (answer : SessionAnswer)
-      (talks : Talks (StreamLineGives remaining hears) listens (StreamLineSends contents) starting (SessionOut may s s') old answer new) where
+  module _ {S : Type 0} (may : Behavior S) (listens : Receives (StreamLine R W L)) (s s' : S) (old new : StreamLine R W L) (unused : IsUnused old) (reason : StopReason) (answer : SessionAnswer)
+      (talks : Talks (StreamLineGives remaining hears) listens (StreamLineSends contents) starting (Both (SessionOut may s s') (StopsFor reason)) old answer new) where
     -- of the acts of the session, which are all of the account
     abbrev Turns : List Act → SessionPart
-    Turns acts = Both (SessionOut may s s') (InTurn acts)
+    Turns acts = Both (Both (SessionOut may s s') (StopsFor reason)) (InTurn acts)
 
     in_turn : Talks (StreamLineGives remaining hears) listens (StreamLineSends contents) starting (Turns (account_of new)) old answer new
     in_turn =
-        let t = talks_in_turn (StreamLineGives remaining hears) listens (StreamLineSends contents) (λ (line : StreamLine R W L). account_of line) keeps_account starting (SessionOut may s s') old new answer talks in
+        let t = talks_in_turn (StreamLineGives remaining hears) listens (StreamLineSends contents) (λ (line : StreamLine R W L). account_of line) keeps_account starting (Both (SessionOut may s s') (StopsFor reason)) old new answer talks in
         let all : account_of new ≡ t.0 = t.1 ∙ ap (λ (noted : List Noted). map act_view noted ++ t.0) unused.2 in
         subst (λ (acts : List Act). Talks (StreamLineGives remaining hears) listens (StreamLineSends contents) starting (Turns acts) old answer new) (sym all) t.2
 
@@ -51,9 +53,9 @@ module _ {R W L : Type 0} (remaining : R → Option (List ℕ)) (hears : L → R
         starting (Turns (account_of new)) old answer new in_turn
 
     -- a session over a line, in bytes
-    pub gives_in_turn : GivesInTurn remaining hears contents (SessionOut may s s') old (session_answer answer new.inbox.end new.outbox.fault) new
-    gives_in_turn = session_gives hears old.inbox.limit remaining contents (Turns (account_of new))
-        (λ xs stop null answer both. session_facts may starting s s' refl xs stop null answer both.0)
+    pub gives_in_turn : GivesInTurn remaining hears contents (SessionOut may s s') old (session_answer reason answer new.inbox.end new.outbox.fault) new
+    gives_in_turn = session_gives hears old.inbox.limit remaining contents (Turns (account_of new)) (Both (SessionOut may s s') (InTurn (account_of new))) reason
+        (λ xs stop null answer both. ((both.0.0, both.1), both.0.1, session_facts may starting s s' refl xs stop null answer both.0.0))
         old.inbox new.inbox old.outbox new.outbox unused.0 refl unused.1 answer ran.0
         old.inbox.reader.now new.inbox.reader.now old.outbox.writer.now new.outbox.writer.now old.inbox.listener.now new.inbox.listener.now
         refl refl refl (λ same. refl) (λ same. refl) (λ same. refl)

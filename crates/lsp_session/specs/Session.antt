@@ -83,11 +83,9 @@ pub data Phase : Type 0 where
 
 -- the null that `shutdown` got
 abbrev pub null_of : Phase → Option Message
-null_of starting = None
-null_of replied = None
-null_of serving = None
 null_of (asked i) = Some (null_reply i)
 null_of (ended null answer) = null
+null_of phase = None
 
 -- where a session stands after `initialize` got this outcome: after an error the client may send it again
 abbrev pub phase_after : Result Data ErrorObject → Phase

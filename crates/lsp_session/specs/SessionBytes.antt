@@ -1,13 +1,11 @@
 -- A session over a reader and a writer: bytes in to bytes out (LSP 3.17, "Base Protocol" and "Server lifecycle").
 use Rattle.std.specs.List.{FoldsTo}
 use Rattle.std.specs.Prelude.{◌≡◌, ◌⊎◌, ℕ, List, [], ◌∷◌, ◌++◌, Option, Some, None, Result, Ok, Err}
-use Rattle.lsp_message.specs.Faults.{read_fault_text, write_fault_text}
 use Rattle.lsp_message.specs.Frame.{Begins, reading_within}
 use Rattle.lsp_message.specs.Message.{Message}
 use Rattle.lsp_message.specs.Reading.{StopsWithin}
 use Rattle.lsp_message.specs.Written.{GetsFrames, GetsFramesAndPart, IsOutput}
 use Rattle.lsp_message.specs.declared.frame.ReadFault.TheVariants.{Input, Memory as NoMemoryToRead}
-use Rattle.lsp_session.specs.ProtocolError.{fault_text}
 use Rattle.lsp_session.specs.Session.{SessionAnswer, SessionPart, Exchange, came_of, sends_of, Stop, decided, no_more, timed_out, refused}
 use Rattle.lsp_session.specs.declared.loops.handler.SessionEnd.{SessionEnd}
 use Rattle.lsp_session.specs.declared.loops.stream_session.SessionFault.{SessionFault}
@@ -82,10 +80,3 @@ Wrote old new result stop null sends = GetsFrames sends old new
 -- bytes in to bytes out
 abbrev pub Gives : ℕ → SessionPart → List ℕ → Option (List ℕ) → Option (List ℕ) → Option (List ℕ) → Result SessionEnd SessionFault → Type 0
 Gives limit P text left old new result = SessionOver (ReadsMessage limit) P text (Ends limit left result) (Wrote old new result)
-
--- what a fault prints
-abbrev pub session_fault_text : SessionFault → Option (List ℕ)
-session_fault_text (Protocol fault) = Some (fault_text fault)
-session_fault_text (Read fault) = read_fault_text fault
-session_fault_text (Write fault) = write_fault_text fault
-session_fault_text Memory = Some (Rattle.std.specs.Prelude.codes "out of memory")

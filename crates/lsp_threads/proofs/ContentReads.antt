@@ -5,14 +5,13 @@ use Rattle.std.specs.Io.KnownBytes.{Keeps}
 use Rattle.std.specs.List.{FoldsTo}
 use Rattle.lsp_message.proofs.ContentParts.{content_outcome, end_outcome, fault_outcome}
 use Rattle.lsp_message.specs.Frame.{body_means, content_within, reading_within}
-use Rattle.lsp_message.specs.Reading.{Answers, Reading, found}
+use Rattle.lsp_message.specs.Reading.{Answers, found}
 use Rattle.lsp_message.specs.declared.frame.ReadFault.{ReadFault}
 use Rattle.lsp_message.specs.declared.frame.ReadFault.TheVariants.{Input, Memory as NoMemory}
 use Rattle.lsp_message.specs.Message.{Message}
 use Rattle.lsp_relay.specs.Relay.{ended, IsOpen}
 use Rattle.lsp_relay.specs.declared.ends.Parcel.{Parcel}
 use Rattle.lsp_relay.specs.declared.ends.Parcel.TheVariants as parcel
-use Rattle.lsp_session.specs.Passing.{is_of_body}
 use Rattle.lsp_session.specs.declared.loops.ReadEnd.{ReadEnd}
 use Rattle.lsp_session.specs.declared.loops.ReadEnd.TheVariants.{Exit, End, Fault}
 use Rattle.lsp_threads.proofs.HeaderFaults.{is_of_no_body}

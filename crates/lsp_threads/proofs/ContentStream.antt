@@ -1,5 +1,5 @@
 -- What an inbox over content parts gave: it is what an inbox over the text itself gives.
-use Rattle.std.proofs.Common.{arith, ◌≡◌, ◌≤◌, ◌+◌, ◌||◌, List, [], ◌∷◌, ◌++◌, ◌∙◌, ℕ, ap, sym, refl, append_assoc, append-nil, inl, inr, Option, Some, None, is_some, Result, Ok, Err, subst, Bool, true, false, true≢false}
+use Rattle.std.proofs.Common.{arith, ◌≡◌, ◌≤◌, ◌||◌, List, [], ◌∷◌, ◌++◌, ◌∙◌, ℕ, ap, sym, refl, append_assoc, append-nil, inl, inr, Option, Some, None, is_some, Result, Ok, Err, subst, Bool, true, false, true≢false}
 use Rattle.std.proofs.lemmas.List.{append_cancel_left}
 use Rattle.std.specs.Bool.{MatchBool}
 use Rattle.std.specs.Io.KnownBytes.{Keeps}
@@ -7,9 +7,9 @@ use Rattle.std.specs.List.{FoldsTo}
 use mathlib.Core.List.{IsPrefix}
 use Rattle.lsp_message.proofs.ContentParts.{content_outcome, same_rest}
 use Rattle.lsp_message.proofs.Contents.{frame_unread}
-use Rattle.lsp_message.specs.Frame.{body_means, content_within, reading_within}
+use Rattle.lsp_message.specs.Frame.{body_means, reading_within}
 use Rattle.lsp_message.specs.Gathering.{TakesFront}
-use Rattle.lsp_message.specs.Letters.{Begins, is_exit}
+use Rattle.lsp_message.specs.Letters.{is_exit}
 use Rattle.lsp_message.specs.Message.{Message}
 use Rattle.lsp_message.specs.Reading.{Reading, found}
 use Rattle.lsp_message.specs.ReadingSteps.{Decodes}

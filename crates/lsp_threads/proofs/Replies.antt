@@ -1,9 +1,9 @@
 -- Replies that an outbox made frames of, and what is written of all that it was offered. A session over such an outbox, as its contract says it.
-use Rattle.std.proofs.Common.{◌≡◌, refl, sym, ◌∙◌, ap, subst, inl, inr, append-nil, append_assoc, ℕ, Bool, true, false, true≢false, List, [], ◌∷◌, ◌++◌, Some, None, Option, Result, Ok, Err, String, Global}
+use Rattle.std.proofs.Common.{◌≡◌, refl, sym, ◌∙◌, ap, inl, inr, append-nil, append_assoc, ℕ, Bool, true, false, true≢false, List, [], ◌∷◌, ◌++◌, Some, None, Option, Result, Ok, Err, String, Global}
 use Rattle.std.specs.List.{FoldsTo}
 use mathlib.Core.List.{IsPrefix}
 use Rattle.lsp_message.specs.Message.{Message}
-use Rattle.lsp_message.specs.Written.{AreFramesOf, GetsFrames}
+use Rattle.lsp_message.specs.Written.{AreFramesOf}
 use Rattle.lsp_message.specs.declared.frame.ReadFault.{ReadFault}
 use Rattle.lsp_message.specs.declared.frame.WriteFault.{WriteFault}
 use Rattle.lsp_message.specs.declared.frame.WriteFault.TheVariants.{Output, Memory as NoMemory}
@@ -16,18 +16,20 @@ use Rattle.lsp_session.specs.Boxes.{Sends, Receives, Takes}
 use Rattle.lsp_session.specs.PassingBytes.{HearsLast}
 use Rattle.lsp_session.specs.Session.{came_of, letters_of, sends_of, Exchange, SessionAnswer, SessionPart, Stop, refused}
 use Rattle.lsp_session.specs.SessionBytes.{LeftWithin, Wrote}
-use Rattle.lsp_session.specs.SessionFault.{read_answer, session_answer}
+use Rattle.lsp_session.specs.Served.{reason_of, StopsFor}
+use Rattle.lsp_session.specs.SessionFault.{session_answer}
 use Rattle.lsp_session.specs.SessionRun.{all_of, Gets, OffersLast, RefusesLast, Runs}
 use Rattle.lsp_session.specs.Streams.{Stream}
 use Rattle.lsp_session.specs.declared.lifecycle.SendFault.{SendFault}
 use Rattle.lsp_session.specs.declared.lifecycle.SendFault.TheVariants.{Closed as Shut, Memory as IsFull}
 use Rattle.lsp_session.specs.declared.loops.handler.SessionEnd.{SessionEnd}
+use Rattle.lsp_session.specs.declared.loops.served.StopReason.{StopReason}
 use Rattle.lsp_session.specs.declared.loops.stream_session.SessionFault.{SessionFault}
 use Rattle.lsp_session.specs.declared.loops.stream_session.SessionFault.TheVariants.{Write, Memory}
 use Rattle.lsp_threads.proofs.Frames.{breaks, same_parcels}
 use Rattle.lsp_threads.specs.Framing.{parcel_bytes, AreEnded, WritesBytes, WritesParcels}
 use Rattle.lsp_threads.specs.Replies.{Replying, RepliesSend, reply_fault, IsWhole, WritesReplies}
-use Rattle.lsp_threads.specs.Threads.{BreaksOffWithin, EndsInThreads, GetsFirst, ReadsFrameOrWakes, ThreadsTellOver, WroteInThreads}
+use Rattle.lsp_threads.specs.Threads.{EndsInThreads, ReadsFrameOrWakes, ThreadsTellOver, WroteInThreads}
 
 -- ---- what was sent
 -- messages that an outbox took added their frames
@@ -133,13 +135,7 @@ module _ (stop : Stop) (ms : List Message) (a b : Option (List ℕ)) where
     some_written : (fault : WriteFault) → WritesBytes text (Some fault) a b → WritesReplies stop ms (Some fault) a b
     some_written (Output kind) (output, some, begun) =
         let broken = breaks sent text a b frames some begun in
-        record {
-          whole = broken.0;
-          next = broken.1;
-          unwritten = broken.2 ++ unsent;
-          cut = cut ∙ ap (λ l. l ++ unsent) broken.3 ∙ append_assoc broken.0 (broken.1 ∷ broken.2) unsent;
-          got = broken.4;
-        }
+        (broken.0, broken.1, broken.2 ++ unsent, cut ∙ ap (λ l. l ++ unsent) broken.3 ∙ append_assoc broken.0 (broken.1 ∷ broken.2) unsent, broken.4)
     some_written NoMemory (output, some, begun) = absurd output
 
     bytes_written : (fault : Option WriteFault) (failed : Bool) → (failed ≡ false → (unsent ≡ []) × IsWhole stop) → WritesBytes text fault a b
@@ -161,7 +157,7 @@ module _ (stop : Stop) (ms : List Message) (a b : Option (List ℕ)) where
 wrote_so : (a b : Option (List ℕ)) (result : Result SessionEnd SessionFault) (stop : Stop) (null : Option Message) (sends : List Message) → Wrote a b result stop null sends
     → WroteInThreads a b result stop null sends
 wrote_so a b (Err (Write fault)) stop null sends (output, unsent, whole, last, cut, got) =
-    (output, record { whole = whole; next = last; unwritten = []; cut = cut; got = got })
+    (output, (whole, last, [], cut, got))
 wrote_so a b (Err Memory) stop null sends (inl wrote) = (sends, [], sym (append-nil sends), wrote)
 wrote_so a b (Err Memory) stop null sends (inr most) = (most.1.0, most.1.1 ∷ [], most.1.2, most.1.3)
 wrote_so a b result stop null sends wrote = wrote
@@ -170,11 +166,12 @@ not_refused : (stop : Stop) → IsWhole stop → NotRefused stop
 not_refused (refused fault) whole = absurd whole
 not_refused stop whole = tt
 
-module _ {I O L : Type 0} (receives : Receives I) (sends : Sends O) (wakeable : Bool) (hears : L → ReadFault → L → Type 0) (limit : ℕ) (P : SessionPart)
-    (knows : (xs : List Exchange) (stop : Stop) (null : Option Message) (answer : SessionAnswer) → P xs stop null answer → Facts stop (letters_of xs) answer)
+module _ {I O L : Type 0} (receives : Receives I) (sends : Sends O) (wakeable : Bool) (hears : L → ReadFault → L → Type 0) (limit : ℕ) (P Q : SessionPart) (reason : StopReason)
+    (knows : (xs : List Exchange) (stop : Stop) (null : Option Message) (answer : SessionAnswer) → P xs stop null answer
+    → Q xs stop null answer × StopsFor reason xs stop null answer × Facts stop (letters_of xs))
     (a b : Option (List ℕ)) (old new : I × O) (answer : SessionAnswer) (runs : Runs receives sends P old answer new) where
-  facts : Facts runs.stop (letters_of runs.exchanges) answer
-  facts = knows runs.exchanges runs.stop runs.null answer runs.part
+  known_of : Q runs.exchanges runs.stop runs.null answer × StopsFor reason runs.exchanges runs.stop runs.null answer × Facts runs.stop (letters_of runs.exchanges)
+  known_of = knows runs.exchanges runs.stop runs.null answer runs.part
 
   -- others wake it only where they can
   abbrev Others : Type 0
@@ -194,7 +191,7 @@ module _ {I O L : Type 0} (receives : Receives I) (sends : Sends O) (wakeable : 
 
     over : (result : Result SessionEnd SessionFault) (at : List ℕ × L) → ReadsFrames Others hears limit (text, first) (came_of runs.exchanges) at
         → HearsLast hears limit runs.stop at s.1 → EndsInThreads limit result answer runs.stop runs.null at.0
-        → WroteInThreads a b result runs.stop runs.null (sends_of runs.exchanges) → ThreadsTellOver wakeable hears limit P text first s.1 a b result
+        → WroteInThreads a b result runs.stop runs.null (sends_of runs.exchanges) → ThreadsTellOver wakeable hears limit Q text first s.1 a b result
     over result at read heard ends wrote = record {
       exchanges = runs.exchanges;
       at = at;
@@ -202,21 +199,21 @@ module _ {I O L : Type 0} (receives : Receives I) (sends : Sends O) (wakeable : 
       stop = runs.stop;
       null = runs.null;
       answer = answer;
-      part = runs.part;
+      part = known_of.0;
       ends = (ends, heard);
       wrote = wrote;
     }
 
     read : (at : List ℕ × L) × ReadsFrames Others hears limit (text, first) (came_of runs.exchanges) at × HearsLast hears limit runs.stop at s.1
         × LeftWithin limit runs.stop at.0 s.0.remaining
-    read = left_after Others hears limit text start s refl refl runs.events run (came_of runs.exchanges) answer runs.stop runs.brought facts
+    read = left_after Others hears limit text start s refl refl runs.events run (came_of runs.exchanges) runs.stop runs.brought known_of.2
 
     pub session_gives : (fault : Option WriteFault) → WritesReplies runs.stop (sends_of runs.exchanges) fault a b
-        → ThreadsTellOver wakeable hears limit P text first s.1 a b (session_answer answer s.0.end fault)
+        → ThreadsTellOver wakeable hears limit Q text first s.1 a b (session_answer reason answer s.0.end fault)
     session_gives None (whole, written) =
         let all = frames_end Others hears limit text start s refl refl runs.events run (came_of runs.exchanges) runs.null answer (sends_of runs.exchanges) a b written
-        runs.stop runs.brought (not_refused runs.stop whole) facts in
-        over (read_answer answer s.0.end) all.0 all.1 all.2 (s.0.remaining, all.3.0)
-        (wrote_so a b (read_answer answer s.0.end) runs.stop runs.null (sends_of runs.exchanges) all.3.1)
+        runs.stop runs.brought (not_refused runs.stop whole) known_of.2 in
+        let result = session_answer (reason_of runs.stop) answer s.0.end None in
+        rw known_of.1 (over result all.0 all.1 all.2 (s.0.remaining, all.3.0) (wrote_so a b result runs.stop runs.null (sends_of runs.exchanges) all.3.1))
     session_gives (Some (Output kind)) broken = over (Err (Write (Output kind))) read.0 read.1 read.2 (s.0.remaining, read.3) (tt, broken)
     session_gives (Some NoMemory) first' = over (Err Memory) read.0 read.1 read.2 (s.0.remaining, read.3) first'

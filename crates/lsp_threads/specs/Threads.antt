@@ -12,13 +12,11 @@ use Rattle.lsp_session.specs.declared.loops.handler.SessionEnd.{SessionEnd}
 use Rattle.lsp_session.specs.declared.loops.stream_session.SessionFault.{SessionFault}
 use Rattle.lsp_session.specs.declared.loops.stream_session.SessionFault.TheVariants.{Write, Memory}
 
--- The writer got frames of the first of these messages, and a beginning of a frame of the next.
-pub record BreaksOffWithin (ms : List Message) (old new : Option (List ℕ)) : Type 0 where
-  pub whole : List Message
-  pub next : Message
-  pub unwritten : List Message
-  pub cut : ms ≡ whole ++ next ∷ unwritten
-  pub got : GetsFramesAndPart whole next old new
+-- the writer got frames of the first of these messages, and a beginning of a frame of the next
+abbrev pub BreaksOffWithin : List Message → Option (List ℕ) → Option (List ℕ) → Type 0
+BreaksOffWithin ms old new =
+    (whole : List Message) × (next : Message) × (unwritten : List Message)
+    × (ms ≡ whole ++ next ∷ unwritten) × GetsFramesAndPart whole next old new
 
 -- the writer got frames of the first of these messages, and nothing of the others
 abbrev pub GetsFirst : List Message → Option (List ℕ) → Option (List ℕ) → Type 0

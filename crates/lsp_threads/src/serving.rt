@@ -127,7 +127,7 @@ where
     let mut parts = ContentParts::new(*rt, alloc, rx, takes);
     let mut inbox = ContentInbox::new(alloc, &mut parts, listener);
     let mut outbox = ReplyOutbox::new(*rt, alloc, replies);
-    let answer = serve_service(alloc, &mut inbox, &mut outbox, service);
+    let served = serve_service(alloc, &mut inbox, &mut outbox, service);
     let ended = inbox.end();
     let drained = parts.is_drained();
     let (replies, failed) = outbox.finish();
@@ -139,7 +139,7 @@ where
     settle_all(rt, rx, tx);
     settle_all(rt, replies_rx, replies);
     let fault = reply_fault(unwritten, failed);
-    let answer = session_answer(answer, session_end(ended, drained, read), fault);
+    let answer = session_answer(served, session_end(ended, drained, read), fault);
     Threaded { writer, answer }
 }
 

@@ -212,11 +212,11 @@ pub fn session(alloc: Global, word: &str, row: &str) -> Result<String, Stop> {
         }
         "woken" => {
             let mut service = WokenQueuedServer::new(alloc, Talker::new(alloc));
-            serve_service(alloc, &mut inbox, &mut outbox, &mut service)
+            serve_service(alloc, &mut inbox, &mut outbox, &mut service).answer
         }
         "served" => {
             let mut service = QueuedServer::new(alloc, Talker::new(alloc));
-            serve_service(alloc, &mut inbox, &mut outbox, &mut service)
+            serve_service(alloc, &mut inbox, &mut outbox, &mut service).answer
         }
         _ => return Err(Stop::Table),
     };

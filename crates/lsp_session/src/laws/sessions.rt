@@ -5,12 +5,15 @@ ghost use Rattle.lsp_message.specs.Message.{Message};
 ghost use Rattle.lsp_session.specs.Answered.{AllReplied, AnswersRequests};
 ghost use Rattle.lsp_session.specs.HandlerSession.{of_handler};
 ghost use Rattle.lsp_session.specs.ProtocolError.{ProtocolFault, is_disconnected};
-ghost use Rattle.lsp_session.specs.Session.{Exchange, SessionAnswer, Stop, sends_of, refused, SessionOut};
+ghost use Rattle.lsp_session.specs.Prompt.{Talks};
+ghost use Rattle.lsp_session.specs.Session.{starting, Exchange, SessionAnswer, Stop, sends_of, refused, SessionOut};
+ghost use Rattle.lsp_session.specs.Served.{StopsFor};
 ghost use Rattle.lsp_session.specs.SessionBytes.{Gives};
 ghost use Rattle.lsp_session.specs.SessionLaws.{Both, KeepsOrder, is_reply, OpenedBy};
 ghost use Rattle.lsp_session.specs.SessionRun.{Runs};
 ghost use Rattle.lsp_session.specs.declared.lifecycle.SendFault.{SendFault as RefusedSend};
 ghost use Rattle.lsp_session.specs.declared.loops.handler.SessionEnd.{SessionEnd as EndOfSession};
+ghost use Rattle.lsp_session.specs.declared.loops.served.StopReason.{StopReason as Reason};
 ghost use Rattle.lsp_session.specs.declared.loops.stream_session.SessionFault.{SessionFault as FaultOfSession};
 
 use crate::lifecycle::{Inbox, Outbox};
@@ -31,6 +34,17 @@ pub fn session_answers_requests<I: Inbox, O: Outbox, H: Handler>()
     ensures bytes { (limit : ℕ) (capabilities : Data) (old new : H) (text : List ℕ) (left before after : Option (List ℕ)) (answer : Result EndOfSession FaultOfSession)
         → Gives limit (SessionOut (of_handler H.answers H.notes capabilities) old new) text left before after answer
         → Gives limit (Both (SessionOut (of_handler H.answers H.notes capabilities) old new) (Both AnswersRequests KeepsOrder)) text left before after answer }
+{}
+
+/// The reason why a session stopped may be left out, so the laws of sessions hold of each that `serve_service` or
+/// `serve_line` ran.
+pub fn session_without_its_reason<I: Inbox, O: Outbox, L: Inbox + Outbox, S: Service>()
+    ensures boxes { (old new : S) (reason : Reason) (before after : I × O) (answer : SessionAnswer)
+        → Runs I.receives O.sends (Both (SessionOut S.behavior old new) (StopsFor reason)) before answer after
+        → Runs I.receives O.sends (SessionOut S.behavior old new) before answer after }
+    ensures line { (old new : S) (reason : Reason) (before after : L) (answer : SessionAnswer)
+        → Talks L.receives L.listens L.sends starting (Both (SessionOut S.behavior old new) (StopsFor reason)) before answer after
+        → Talks L.receives L.listens L.sends starting (SessionOut S.behavior old new) before answer after }
 {}
 
 /// Where the answer is that the client is gone, each request that the session read has its reply: a request is left without

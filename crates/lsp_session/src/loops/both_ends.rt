@@ -1,13 +1,14 @@
 // A session of a server over an inbox and an outbox (LSP 3.17, "Server lifecycle").
 ghost use Rattle.std.specs.Prelude.{◌≢◌};
 ghost use Rattle.lsp_session.specs.Event.{event_view, timeout};
+ghost use Rattle.lsp_session.specs.Served.{StopsFor};
 ghost use Rattle.lsp_session.specs.Session.{SessionOut};
+ghost use Rattle.lsp_session.specs.SessionLaws.{Both};
 ghost use Rattle.lsp_session.specs.SessionRun.{Runs};
 
-use crate::error::ProtocolError;
 use crate::lifecycle::{Arrival, Event, Inbox, Outbox, SendFault};
-use crate::loops::handler::SessionEnd;
 use crate::loops::line::serve_line;
+use crate::loops::served::Served;
 use crate::loops::service::Service;
 use lsp_message::Message;
 use std::alloc::Global;
@@ -70,9 +71,10 @@ pub fn serve_service<I: Inbox, O: Outbox, S: Service>(
     inbox: &mut I,
     outbox: &mut O,
     service: &mut S,
-) -> Result<SessionEnd, ProtocolError>
-    ensures { Runs I.receives O.sends (SessionOut S.behavior service.old service.new)
-        (inbox.old, outbox.old) result (inbox.new, outbox.new) }
+) -> Served
+    ensures { Runs I.receives O.sends
+        (Both (SessionOut S.behavior service.old service.new) (StopsFor result.stop))
+        (inbox.old, outbox.old) result.answer (inbox.new, outbox.new) }
 {
     let mut line = BothEnds { inbox, outbox };
     serve_line(alloc, &mut line, service)

@@ -85,7 +85,7 @@ pub fn serve<I: Inbox, O: Outbox, H: Handler>(
 {
     let mut capabilities = capabilities;
     let mut service = HandlerService::new(alloc, &mut capabilities, handler);
-    serve_service(alloc, inbox, outbox, &mut service)
+    serve_service(alloc, inbox, outbox, &mut service).answer
 }
 
 /// The result of `initialize`: `{"capabilities":<capabilities>}`. An `Err` is a failed allocation.

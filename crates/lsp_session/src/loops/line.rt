@@ -9,14 +9,16 @@ ghost use Rattle.lsp_session.specs.OutputView.{output_view};
 ghost use Rattle.lsp_session.specs.Outputs.{SendsAll};
 ghost use Rattle.lsp_session.specs.Prompt.{Talks, WaitsIn};
 ghost use Rattle.lsp_session.specs.Replies.{ok_reply as ok_reply_spec};
+ghost use Rattle.lsp_session.specs.Served.{served_by, StopsFor};
 ghost use Rattle.lsp_session.specs.Session.{starting, serving, SessionFrom, SessionOut};
+ghost use Rattle.lsp_session.specs.SessionLaws.{Both};
 
 use crate::error::ProtocolError;
 use crate::lifecycle::{
     Arrival, EXIT_SECONDS, Event, Inbox, Outbox, finish_on, is_exit, offer, ok_reply, shutdown_on,
     start_on,
 };
-use crate::loops::handler::SessionEnd;
+use crate::loops::served::{Served, StopReason};
 use crate::loops::service::{Output, Service};
 use lsp_message::{Message, RequestId, Response, ResponseError};
 use serde_json::Value;
@@ -49,8 +51,26 @@ pub fn serve_line<L: Inbox + Outbox, S: Service>(
     alloc: Global,
     line: &mut L,
     service: &mut S,
-) -> Result<SessionEnd, ProtocolError>
-    ensures { Talks L.receives L.listens L.sends starting (SessionOut S.behavior service.old service.new) line.old result line.new }
+) -> Served
+    ensures { Talks L.receives L.listens L.sends starting
+        (Both (SessionOut S.behavior service.old service.new) (StopsFor result.stop))
+        line.old result.answer line.new }
+{
+    match run_line(alloc, line, service) {
+        Ok(served) => served,
+        Err(error) => Served::failed(error),
+    }
+}
+
+/// The same, where an error tells the reason itself.
+fn run_line<L: Inbox + Outbox, S: Service>(
+    alloc: Global,
+    line: &mut L,
+    service: &mut S,
+) -> Result<Served, ProtocolError>
+    ensures { Talks L.receives L.listens L.sends starting
+        (Both (SessionOut S.behavior service.old service.new) (StopsFor (served_by result).stop))
+        line.old (served_by result).answer line.new }
 {
     for _attempt in 0..u64::MAX {
         let event = line.receive();
@@ -76,8 +96,10 @@ fn serve_turns<L: Inbox + Outbox, S: Service>(
     alloc: Global,
     line: &mut L,
     service: &mut S,
-) -> Result<SessionEnd, ProtocolError>
-    ensures { Talks L.receives L.listens L.sends serving (SessionFrom S.behavior serving service.old service.new) line.old result line.new }
+) -> Result<Served, ProtocolError>
+    ensures { Talks L.receives L.listens L.sends serving
+        (Both (SessionFrom S.behavior serving service.old service.new) (StopsFor (served_by result).stop))
+        line.old (served_by result).answer line.new }
 {
     for _turn in 0..u64::MAX {
         let message = match wait_serving(line) {
@@ -87,18 +109,18 @@ fn serve_turns<L: Inbox + Outbox, S: Service>(
                 send_output(line, output)?;
                 continue;
             }
-            Arrival::Closed => return Ok(SessionEnd::Closed),
+            Arrival::Closed => return Ok(Served::closed(StopReason::NoMore)),
         };
         if is_exit(&message) {
-            return Ok(SessionEnd::Closed);
+            return Ok(Served::closed(StopReason::Decided));
         }
         if shut_line(alloc, line, &message)? {
-            return Ok(SessionEnd::ShutDown);
+            return Ok(Served::shut_down());
         }
         let output = turn(service, message)?;
         send_output(line, output)?;
     }
-    Ok(SessionEnd::Closed)
+    Ok(Served::closed(StopReason::NoMore))
 }
 
 /// Waits as a session does that serves its client: for a message or a wake.

@@ -4,11 +4,10 @@ ghost use Rattle.lsp_session.specs.Event.{arrival_view, event_view};
 ghost use Rattle.lsp_session.specs.SessionFault.{session_answer as session_answer_spec};
 ghost use Rattle.lsp_session.specs.StreamLines.{account_of, IsUnused, StreamLineGives, StreamLineListens, StreamLineSends};
 
-use crate::error::ProtocolError;
 use crate::lifecycle::{Arrival, Event, Inbox, Outbox, SendFault};
 use crate::loops::account::Account;
 use crate::loops::{
-    FrameOutbox, Listener, ReadEnd, SessionEnd, SessionFault, TolerantInbox, session_answer,
+    FrameOutbox, Listener, ReadEnd, Served, SessionEnd, SessionFault, TolerantInbox, session_answer,
 };
 use lsp_message::{Message, WriteFault};
 use std::alloc::Global;
@@ -86,11 +85,8 @@ impl<'a, R: BufRead, W: Write, L: Listener> StreamLine<'a, R, W, L> {
 
     /// The answer of a session over this line, where `serve_line` gave this: of several faults that fit it is the first of `Write`,
     /// `Memory`, `Read` and `Protocol`.
-    pub fn answer(
-        &self,
-        served: Result<SessionEnd, ProtocolError>,
-    ) -> Result<SessionEnd, SessionFault>
-        ensures { result ≡ session_answer_spec served self.now.inbox.end self.now.outbox.fault }
+    pub fn answer(&self, served: Served) -> Result<SessionEnd, SessionFault>
+        ensures { result ≡ session_answer_spec served.stop served.answer self.now.inbox.end self.now.outbox.fault }
     {
         session_answer(served, self.end(), self.fault())
     }

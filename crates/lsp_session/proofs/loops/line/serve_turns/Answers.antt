@@ -11,12 +11,12 @@ pub loop-turn-init : goal.loop-turn-init
 loop-turn-init g c = goes_none g.S.Service.behavior g.L.Inbox.receives g.L.Inbox.listens g.L.Outbox.sends serving _ _
 
 pub returns-in-Closed : goal.returns-in-Closed
-returns-in-Closed g c = goes_run g.S.Service.behavior g.L.Inbox.receives g.L.Inbox.listens g.L.Outbox.sends _ _ _ _ _ _ _ _ _ _ c.loop-turn.invariant (ends_closed g.S.Service.behavior g.L.Inbox.receives g.L.Inbox.listens g.L.Outbox.sends serving _ _ _ tt c.in-Closed.ensures)
+returns-in-Closed g c = rw c.closed.ensures (goes_run g.S.Service.behavior g.L.Inbox.receives g.L.Inbox.listens g.L.Outbox.sends _ _ _ _ _ _ _ _ _ _ c.loop-turn.invariant (ends_closed g.S.Service.behavior g.L.Inbox.receives g.L.Inbox.listens g.L.Outbox.sends serving _ _ _ tt c.in-Closed.ensures))
 
 pub returns-then-is_exit : goal.returns-then-is_exit
 returns-then-is_exit g c =
     let exits : is_exit (message_view c.in-Message.message) ≡ true = search rules in
-    goes_run g.S.Service.behavior g.L.Inbox.receives g.L.Inbox.listens g.L.Outbox.sends _ _ _ _ _ _ _ _ _ _ c.loop-turn.invariant (ends_at_exit g.S.Service.behavior g.L.Inbox.receives g.L.Inbox.listens g.L.Outbox.sends _ _ _ (message_view c.in-Message.message) c.in-Message.ensures exits)
+    rw c.closed-then-is_exit.ensures (goes_run g.S.Service.behavior g.L.Inbox.receives g.L.Inbox.listens g.L.Outbox.sends _ _ _ _ _ _ _ _ _ _ c.loop-turn.invariant (ends_at_exit g.S.Service.behavior g.L.Inbox.receives g.L.Inbox.listens g.L.Outbox.sends _ _ _ (message_view c.in-Message.message) c.in-Message.ensures exits))
 
 pub returns-in_err-shut_line : goal.returns-in_err-shut_line
 returns-in_err-shut_line g c =
@@ -26,9 +26,9 @@ returns-in_err-shut_line g c =
     (λ e. cc (e)) c.in-Message.ensures c.in_err-shut_line.ensures))
 
 pub returns-then-branch : goal.returns-then-branch
-returns-then-branch g c = goes_run g.S.Service.behavior g.L.Inbox.receives g.L.Inbox.listens g.L.Outbox.sends _ _ _ _ _ _ _ _ _ _ c.loop-turn.invariant
+returns-then-branch g c = rw c.shut_down.ensures (goes_run g.S.Service.behavior g.L.Inbox.receives g.L.Inbox.listens g.L.Outbox.sends _ _ _ _ _ _ _ _ _ _ c.loop-turn.invariant
     (shuts_down g.S.Service.behavior g.L.Inbox.receives g.L.Inbox.listens g.L.Outbox.sends _ _ _ _ (message_view c.in-Message.message) (Ok true)
-    (λ e. cc (e)) c.in-Message.ensures (rw c.if-branch.true at c.in_ok-shut_line.ensures))
+    (λ e. cc (e)) c.in-Message.ensures (rw c.if-branch.true at c.in_ok-shut_line.ensures)))
 
 pub returns-in_err-output : goal.returns-in_err-output
 returns-in_err-output g c =
@@ -73,4 +73,4 @@ loop-turn-preserved-in-Woken g c =
     (goes_step g.S.Service.behavior g.L.Inbox.receives g.L.Inbox.listens g.L.Outbox.sends serving serving _ _ _ _ _ None _ tt c.in-Woken.ensures (c.in_ok-output-in-Woken.ensures, refl) c.in_ok-send_output-in-Woken.ensures)
 
 pub returns : goal.returns
-returns g c = goes_count g.S.Service.behavior g.L.Inbox.receives g.L.Inbox.listens g.L.Outbox.sends serving serving _ _ _ _ tt (let e : c.loop-turn._turn ≡ 2 ^ 64 - 1 = omega arith in rw e at c.loop-turn.invariant)
+returns g c = rw c.closed-2.ensures (goes_count g.S.Service.behavior g.L.Inbox.receives g.L.Inbox.listens g.L.Outbox.sends serving serving _ _ _ _ tt (let e : c.loop-turn._turn ≡ 2 ^ 64 - 1 = omega arith in rw e at c.loop-turn.invariant))

@@ -1,6 +1,6 @@
 use Rattle.lsp_session.proofs.Line.{Goes}
 use Rattle.lsp_session.specs.Session.{starting}
-use Rattle.lsp_session.proofs.loops.line.serve_line.Given as goal
+use Rattle.lsp_session.proofs.loops.line.run_line.Given as goal
 
 -- nothing but early messages came so far, or `initialize` was declined
 abbrev pub invariant-loop-attempt : goal.invariant-loop-attempt

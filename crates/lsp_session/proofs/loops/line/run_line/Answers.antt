@@ -4,7 +4,7 @@ use Rattle.std.proofs.lemmas.Result.{err_from_is_err_and}
 use Rattle.lsp_message.specs.View.{error_view}
 use Rattle.lsp_session.proofs.Line.{goes_none, goes_both, goes_run, goes_count, early_goes, start_failed, was_asked, ask_starved, declined, unanswered, finish_failed, open_starved, open_refused, opened}
 use Rattle.lsp_session.specs.Session.{starting}
-use Rattle.lsp_session.proofs.loops.line.serve_line.Goals as goal
+use Rattle.lsp_session.proofs.loops.line.run_line.Goals as goal
 
 pub loop-attempt-init : goal.loop-attempt-init
 loop-attempt-init g c = goes_none g.S.Service.behavior g.L.Inbox.receives g.L.Inbox.listens g.L.Outbox.sends starting _ _
