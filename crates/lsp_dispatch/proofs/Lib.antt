@@ -1,5 +1,4 @@
 mod Agreement
-mod Keys
 mod LawLemmas
 mod Lists
 mod Live

@@ -1,6 +1,6 @@
 -- Answers of a dispatcher that do not reply once, whatever stands before or after them.
 use Rattle.lsp_message.specs.Id.{Id}
-use Rattle.lsp_message.specs.Message.{Message, ErrorObject, request, response}
+use Rattle.lsp_message.specs.Message.{ErrorObject, request, response}
 use Rattle.lsp_dispatch.specs.DispatchAnswers.{Answer, work, cancelled_work, finished_work}
 use Rattle.lsp_dispatch.specs.DispatchLaw.{RepliesOnce, RepliesTo, reply_in, work_in}
 use Rattle.lsp_dispatch.proofs.Lists.{nothing_in}

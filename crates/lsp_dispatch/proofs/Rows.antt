@@ -3,36 +3,27 @@ use Rattle.std.proofs.Common.{◌≡◌, ◌≢◌, ℕ, ◌+◌, ◌==◌, List
 use Rattle.std.proofs.lemmas.Bool.{cases_Bool, cond-true, cond-false, eq-eqb, eqb-true}
 use Rattle.std.specs.FinMap as map
 use Rattle.std.specs.FinMap.{get-empty}
-use Rattle.std.specs.Prelude.{MatchBool, codes}
+use Rattle.std.specs.Prelude.{codes}
 use Rattle.std.specs.Str.{bytes_eq}
 use Rattle.serde_json.specs.Data.{Data}
-use Rattle.lsp_message.specs.Id.{Id, id_cmp}
+use Rattle.lsp_message.specs.Id.{Id, id_cmp, same_id}
 use Rattle.lsp_message.specs.Message.{Message, ErrorObject, request, notification, response}
 use Rattle.lsp_queue.specs.Queue.{pending_of, count_of}
 use Rattle.lsp_dispatch.proofs.Agreement.{Agrees}
 use Rattle.lsp_dispatch.specs.DispatchAnswers.{Answer, work}
-use Rattle.lsp_dispatch.specs.DispatchCalls.{Call, delivers, finishes, is_own, named_id, asked_by, cancelled_by, is_finished_by, is_id, same_id, ends}
+use Rattle.lsp_dispatch.specs.DispatchCalls.{Call, delivers, finishes, is_own, named_id, asked_by, cancelled_by, is_finished_by, is_id, ends}
 use Rattle.lsp_dispatch.specs.Dispatch.{asked, IsLive, CancelAnswer, CallAnswer}
 use Rattle.lsp_dispatch.specs.DispatchTable.{Held, without, cancelling_at, cancelling, is_pending_with, answered}
-use Rattle.lsp_dispatch.proofs.Keys.{same_own, same_other, same_is, cases_id, insert_here, insert_other, remove_here, remove_other}
+use Rattle.lsp_message.proofs.Choices.{match_true, match_false}
+use Rattle.lsp_message.proofs.Ids.{same_own, same_other, same_is, cases_id}
+use Rattle.lsp_queue.proofs.AtIds.{insert_here, insert_other, remove_here, remove_other}
 use Rattle.lsp_dispatch.proofs.Live.{asked_push, ends_asked, ends_cancelled, ends_finished, ends_none, stays, begins, comes_from}
-use Rattle.lsp_dispatch.proofs.Lists.{nothing_in}
+use Rattle.lsp_dispatch.proofs.Lists.{nothing_in, none_some}
 
 -- the answer that the call's place asks for, and what is pending then
 pub record Row (before : List Call) (c : Call) (r : Answer × Held) : Type 0 where
   pub right : CallAnswer before c r.0
   pub agrees : Agrees (before ++ c ∷ []) r.1
-
-match_true : (b : Bool) (P Q : Type 0) → b ≡ true → P → MatchBool b P Q
-match_true true P Q is p = p
-match_true false P Q is p = cc
-
-match_false : (b : Bool) (P Q : Type 0) → b ≡ false → Q → MatchBool b P Q
-match_false true P Q is q = cc
-match_false false P Q is q = q
-
-none_some : {X : Type 0} (o : Option X) (x : X) → o ≡ None → o ≡ Some x → ⊥
-none_some o x a b = cc
 
 -- nothing is pending, and nothing is live
 pub new_agrees : (held : Held) → held ≡ (map.empty, 0) → Agrees [] held

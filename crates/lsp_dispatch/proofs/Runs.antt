@@ -1,5 +1,5 @@
 -- A list of calls goes on by one.
-use Rattle.std.proofs.Common.{◌≡◌, ◌≢◌, ℕ, ◌+◌, ◌≤◌, List, [], ◌∷◌, ◌++◌, length, Option, None, Some, refl, sym, ap, ◌∙◌, subst, append_assoc, append-nil, arith, map as each}
+use Rattle.std.proofs.Common.{◌≡◌, ℕ, ◌+◌, ◌≤◌, List, [], ◌∷◌, ◌++◌, length, Option, None, Some, refl, sym, ap, ◌∙◌, subst, append_assoc, append-nil, arith, map as each}
 use Rattle.std.proofs.lemmas.List.{map-append, length-map}
 use Rattle.std.specs.FinMap as map
 use Rattle.std.specs.List.{cons_option}
@@ -49,11 +49,6 @@ asked_most (c ∷ calls) = omega (arith, cons_most (asked_by c) (asked calls) (l
 
 pub tickets_most : (calls : List code_call.Call) (answers : List code.Answer) (held : Held) → Replayed calls answers held → count_of held ≤ length calls
 tickets_most calls answers held so = omega (arith, so.agrees.count, asked_most (each call_view calls), length-map calls call_view)
-
--- nothing is left
-pub all_taken : {X : Type 0} (xs ys zs : List X) → xs ++ ys ≡ zs → length ys ≡ 0 → xs ≡ zs
-all_taken xs [] zs same none = sym (append-nil xs) ∙ same
-all_taken xs (y ∷ ys) zs same none = absurd (omega arith)
 
 pub replayed_new : (answers : List code.Answer) (held : Held) → answers ≡ [] → held ≡ (map.empty, 0) → Replayed [] answers held
 replayed_new answers held none new = record {

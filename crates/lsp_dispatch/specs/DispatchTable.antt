@@ -1,13 +1,13 @@
 -- What a dispatcher answers to a call, by what is pending.
 use Rattle.std.specs.FinMap as map
-use Rattle.std.specs.Prelude.{ℕ, ◌+◌, ◌-◌, ◌^◌, ◌==◌, Bool, false, Option, Some, None, option_and_then, Result, codes, if◌then◌else◌, List, [], ◌∷◌}
+use Rattle.std.specs.Prelude.{ℕ, ◌+◌, ◌-◌, ◌^◌, ◌==◌, Bool, false, Option, Some, None, Result, codes, if◌then◌else◌, List, [], ◌∷◌}
 use Rattle.std.specs.Str.{bytes_eq}
 use Rattle.serde_json.specs.Data.{Data}
 use Rattle.lsp_message.specs.Id.{Id}
 use Rattle.lsp_message.specs.Message.{Message, ErrorObject, request, notification, response}
 use Rattle.lsp_queue.specs.Queue.{Asked, pending_of, count_of, cancelled}
 use Rattle.lsp_dispatch.specs.DispatchAnswers.{Answer, unknown, work, cancelled_work, finished_work, note, nothing}
-use Rattle.lsp_dispatch.specs.DispatchCalls.{Call, delivers, finishes, is_own, named_id, not_found_reply, asked_in}
+use Rattle.lsp_dispatch.specs.DispatchCalls.{Call, delivers, finishes, is_own, named_id, not_found_reply}
 
 -- how many tickets there are
 abbrev pub all_tickets : ℕ

@@ -1,10 +1,10 @@
 -- A message, from the content part of its frame.
-use Rattle.std.proofs.Common.{◌≡◌, ◌≢◌, ℕ, ◌≤◌, Bool, true, false, cond, List, [], Option, Some, None, IfSome, inl, inr, Result, Ok, Err, refl, sym, ap, ◌∙◌, nat_lt, length, take, drop}
+use Rattle.std.proofs.Common.{◌≡◌, ℕ, ◌≤◌, Bool, true, false, cond, List, [], Option, Some, None, IfSome, inl, inr, Result, Ok, Err, refl, sym, ap, ◌∙◌, nat_lt, length, take, drop}
 use Rattle.std.specs.Result.{result_map_both}
 use Rattle.std.proofs.lemmas.Bool.{ltb-false}
 use Rattle.lsp_message.specs.Frame.{body_means, RunsOut, RunsOutBefore, body_of, content_of, frame_of, content_within}
 use Rattle.lsp_message.specs.HeaderPart.{header_of}
-use Rattle.lsp_message.specs.Reading.{Reading, Answers, StopsWithin}
+use Rattle.lsp_message.specs.Reading.{Reading, Answers}
 use Rattle.lsp_message.specs.ReadingSteps.{Decodes}
 use Rattle.lsp_message.specs.declared.frame.ReadFault.{ReadFault}
 use Rattle.lsp_message.specs.declared.frame.ReadFault.TheVariants.{Input, ShortBody, TooLong, Memory}

@@ -1,9 +1,11 @@
+pub mod Choices
 pub mod ContentParts
 pub mod Contents
 pub mod FrontOfFrame
 mod FrontSteps
 mod HeaderSteps
-mod Joined
+pub mod Ids
+pub mod Joined
 mod KnownLines
 mod Members
 pub mod Numerals

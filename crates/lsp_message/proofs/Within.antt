@@ -10,7 +10,7 @@ use Rattle.lsp_message.specs.Front.{front_of, front_end, at_header_end}
 use Rattle.lsp_message.specs.HeaderPart.{at_last_line, header_line, header_text, parted, field, same_name, number, name_and_value, fields, after_fields, content_length, lines}
 use Rattle.lsp_message.specs.declared.frame.ReadFault.{ReadFault}
 use Rattle.lsp_message.specs.declared.frame.ReadFault.TheVariants.{LineNotText, LineEnd, BadLength}
-use Rattle.lsp_message.specs.declared.frame.extent.Front.TheVariants.{Whole, Fault, More}
+use Rattle.lsp_message.specs.declared.frame.Front.TheVariants.{Whole, Fault, More}
 use Rattle.lsp_message.specs.declared.frame.header.HeaderLine.{HeaderLine}
 use Rattle.lsp_message.specs.declared.frame.header.HeaderLine.TheVariants.{Length, Other}
 

@@ -5,8 +5,8 @@ use Rattle.std.specs.List.{concat}
 use Rattle.lsp_message.specs.Faults.{read_fault_number}
 use Rattle.lsp_message.specs.HeaderPart.{header_line, fields, after_fields, content_length, at_last_line, lines}
 use Rattle.lsp_message.specs.declared.frame.ReadFault.{ReadFault}
-use Rattle.lsp_message.specs.declared.frame.extent.Front.{Front}
-use Rattle.lsp_message.specs.declared.frame.extent.Front.TheVariants.{Whole, Fault, More}
+use Rattle.lsp_message.specs.declared.frame.Front.{Front}
+use Rattle.lsp_message.specs.declared.frame.Front.TheVariants.{Whole, Fault, More}
 
 -- the header part ended, with so many of all the bytes after it
 abbrev pub at_header_end : ℕ → Result (Option ℕ) ReadFault → ℕ → Front

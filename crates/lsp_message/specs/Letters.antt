@@ -1,6 +1,6 @@
 -- The messages of a stream of bytes, up to and with the first `exit` (LSP 3.17, "Base Protocol" and "Exit Notification").
 use Rattle.std.specs.List.{FoldsTo}
-use Rattle.std.specs.Prelude.{◌≡◌, ℕ, List, [], ◌∷◌, ◌++◌, true, false, Some, None, Ok, Err}
+use Rattle.std.specs.Prelude.{◌≡◌, ℕ, List, [], ◌∷◌, ◌++◌, true, false, None, Ok, Err}
 use Rattle.lsp_message.specs.Frame.{reading_within}
 pub use Rattle.lsp_message.specs.Frame.{Begins}
 use Rattle.lsp_message.specs.Message.{Message}

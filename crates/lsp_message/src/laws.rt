@@ -8,7 +8,7 @@ ghost use Rattle.lsp_message.specs.Text.{IsBodyOf, IsMemberText};
 ghost use Rattle.lsp_message.specs.Written.{frame_text};
 ghost use Rattle.lsp_message.specs.View.{error_view, request_view, notification_view, response_view, message_view};
 
-use crate::frame::extent::Front;
+use crate::frame::Front;
 use crate::msg::{Message, Notification, Request, Response, ResponseError};
 use std::alloc::AllocError;
 

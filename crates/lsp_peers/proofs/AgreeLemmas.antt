@@ -4,7 +4,7 @@ use Rattle.std.proofs.lemmas.Bool.{ne_eqb}
 use Rattle.std.proofs.lemmas.List.{map-append}
 use Rattle.std.specs.FinMap as map
 use Rattle.std.specs.FinMap.{get-empty}
-use Rattle.std.specs.Prelude.{Option, None, Some, option_map, is_some, ◌==◌, if◌then◌else◌, MatchBool, MatchOption, Bool, true, false, map as each, take, Vec}
+use Rattle.std.specs.Prelude.{Option, None, Some, option_map, is_some, ◌==◌, if◌then◌else◌, MatchOption, map as each, take, Vec}
 use Rattle.std.specs.declared.alloc.Global.{Global}
 use Rattle.serde_json.specs.Data.{Data}
 use Rattle.lsp_message.specs.Id.{Id, id_cmp}
@@ -23,18 +23,11 @@ use Rattle.lsp_peers.specs.Post.{Letter, Post, Line, Carries, posted, next, one_
 use Rattle.lsp_peers.specs.Settling.{Settles}
 use Rattle.lsp_peers.specs.InOnePlace.{InOnePlace, requests, replies, going, returning}
 use Rattle.lsp_peers.specs.Token.{OnTheWay, AtOther, ComingBack, Done, GivenUp, Token, token, owed, label_of, Goes}
+use Rattle.lsp_message.proofs.Choices.{match_false}
+use Rattle.lsp_queue.proofs.AtIds.{remove_none}
 use Rattle.lsp_peers.proofs.IdLemmas.{get-nothing}
 use Rattle.lsp_peers.proofs.PlaceLemmas.{held_token, going_token, returning_token, next_first, request_of_own, reply_of_own}
-use Rattle.lsp_peers.proofs.TokenLemmas.{Sets, insert_sets, remove_sets, remove_none, push_sets, push_keeps, goes_sets, goes_keeps, goes-length}
-
--- a choice between two facts, where the test is known
-pub match_true : (b : Bool) (P Q : Type 0) → b ≡ true → P → MatchBool b P Q
-match_true true P Q is p = p
-match_true false P Q is p = cc
-
-pub match_false : (b : Bool) (P Q : Type 0) → b ≡ false → Q → MatchBool b P Q
-match_false false P Q is q = q
-match_false true P Q is q = cc
+use Rattle.lsp_peers.proofs.TokenLemmas.{Sets, insert_sets, remove_sets, push_sets, push_keeps, goes_sets, goes_keeps, goes-length}
 
 pub match_some : (o : Option ℕ) (P : Type 0) (Q : ℕ → Type 0) (x : ℕ) → o ≡ Some x → Q x → MatchOption o P Q
 match_some None P Q x is q = cc
@@ -111,7 +104,7 @@ module _ (near far : Peer) {mine theirs : List Message} (old : Accounts) (agrees
     absent_agrees = record {
       near_side = record {
         out = agrees.near_side.out;
-        held = λ key. ap (λ (p : Pending ℕ). map.get p key) removed ∙ remove_none near.queue.incoming id absent key ∙ agrees.near_side.held key;
+        held = λ key. ap (λ (p : Pending ℕ). map.get p key) (removed ∙ remove_none near.queue.incoming id absent) ∙ agrees.near_side.held key;
         count = agrees.near_side.count;
         line = agrees.near_side.line;
         taken = agrees.near_side.taken;

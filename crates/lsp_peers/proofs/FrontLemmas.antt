@@ -6,7 +6,7 @@ use Rattle.lsp_message.proofs.FrontOfFrame.{front_of-whole, front_of-part}
 use Rattle.lsp_message.specs.Front.{front_of}
 use Rattle.lsp_message.specs.Message.{Message}
 use Rattle.lsp_message.specs.Written.{frame_text, IsFrameOf}
-use Rattle.lsp_message.specs.declared.frame.extent.Front.TheVariants.{Whole, More}
+use Rattle.lsp_message.specs.declared.frame.Front.TheVariants.{Whole, More}
 
 -- where a list begins with `us`, its first elements are those
 pub front_taken : (us vs xs ys : List ℕ) → xs ++ ys ≡ us ++ vs → length us ≤ length xs → (take (length us) xs ≡ us) × (drop (length us) xs ++ ys ≡ vs)

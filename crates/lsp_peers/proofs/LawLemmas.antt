@@ -21,7 +21,8 @@ use Rattle.lsp_peers.specs.Post.{Letter, posted, passed_on, next, one_taken, unp
 use Rattle.lsp_peers.specs.Steps.{Accounts, accounts, Registers, TakesMessage, Takes, StepDoes}
 use Rattle.lsp_peers.specs.InOnePlace.{InOnePlace, requests, replies, going, returning}
 use Rattle.lsp_peers.specs.History.{Event, written_in, payload_in, arrival_in, settled_in, returned_in, count_in, bytes_in, payloads, passed_count, letters_written, taken_count, held, where_held, outcome_of_taking, outcome_of, Follows}
-use Rattle.lsp_peers.proofs.AgreeLemmas.{match_true, match_false, match_some, match_none, takes_at}
+use Rattle.lsp_message.proofs.Choices.{match_true, match_false}
+use Rattle.lsp_peers.proofs.AgreeLemmas.{match_some, match_none, takes_at}
 use Rattle.lsp_peers.proofs.Kept.{Kept, ids_in, taking}
 use Rattle.lsp_peers.proofs.PlaceLemmas.{next_first, held_token, going_token, returning_token, request_of_own, reply_of_own}
 use Rattle.lsp_peers.proofs.HistoryLemmas.{kept_own, kept_others, kept_registered, kept_settled, kept_returned, kept_unasked, kept_unasked_taken, kept_arrived}

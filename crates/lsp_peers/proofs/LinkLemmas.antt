@@ -11,7 +11,7 @@ use Rattle.lsp_message.specs.Tree.{without_null_details}
 use Rattle.lsp_message.specs.View.{message_view}
 use Rattle.lsp_message.specs.declared.frame.ReadFault.{ReadFault}
 use Rattle.lsp_message.specs.declared.frame.ReadFault.TheVariants.{Input, LineNotText, LineEnd, NoSeparator, BadLength, NoLength, ShortBody, BodyNotText, NoJson, NoMessage, Memory, TooLong, Batch}
-use Rattle.lsp_message.specs.declared.frame.extent.Front.TheVariants.{Whole, Fault, More}
+use Rattle.lsp_message.specs.declared.frame.Front.TheVariants.{Whole, Fault, More}
 use Rattle.lsp_peers.specs.WorldFault.{fault_of}
 use Rattle.lsp_peers.specs.declared.fault.WorldFault.TheVariants.{Memory as NoMemory}
 use Rattle.lsp_peers.specs.Post.{Letter, Post, Line, frames, ReadsBack, IsTooDeep, HasNext, line_of, Carries, posted, passed_on, unpassed, next, one_taken, message_of, after_take, IfNext}

@@ -3,13 +3,12 @@ use Rattle.std.proofs.Common.{◌≡◌, ◌≢◌, ℕ, ◌+◌, ◌<◌, List,
 use Rattle.std.proofs.lemmas.Bool.{cond-true, cond-false}
 use Rattle.std.specs.Prelude.{Option, None, Some, Bool, true, false, if◌then◌else◌, nat_le, Result}
 use Rattle.serde_json.specs.Data.{Data}
-use Rattle.lsp_message.specs.Id.{Id}
+use Rattle.lsp_message.specs.Id.{Id, same_id}
 use Rattle.lsp_message.specs.Message.{Message, ErrorObject, request, response}
-use Rattle.lsp_peers.specs.Ids.{same_id}
 use Rattle.lsp_peers.specs.Token.{Place, OnTheWay, AtOther, ComingBack, Done, GivenUp, Token, token, label_in, label_of}
 use Rattle.lsp_peers.specs.Post.{Letter, Post, next, first_passed, frames}
 use Rattle.lsp_peers.specs.InOnePlace.{request_of, reply_of, requests, replies, on_the_way, coming_back, going, returning}
-use Rattle.lsp_peers.proofs.IdLemmas.{same_own, same_other}
+use Rattle.lsp_message.proofs.Ids.{same_own, same_other}
 
 -- a token that is held is at the other side
 held_at : (place : Place) (label : ℕ) → label_in place ≡ Some label → place ≡ AtOther label

@@ -4,7 +4,7 @@ use Rattle.std.proofs.lemmas.Bool.{cases_lt, cond-true, cond-false, lt-leb, le-l
 use Rattle.std.proofs.lemmas.List.{length-take-le, take-append-drop}
 use Rattle.std.proofs.lemmas.Grind.{common_steps}
 use Rattle.std.specs.Prelude.{None, Some, nat_le}
-use Rattle.lsp_message.specs.declared.frame.extent.Front.TheVariants.{Whole, More}
+use Rattle.lsp_message.specs.declared.frame.Front.TheVariants.{Whole, More}
 use Rattle.lsp_message.specs.Front.{front_of}
 use Rattle.lsp_peers.specs.Post.{Letter, Post, Line, Carries, frames, posted, passed_on, unpassed, next, one_taken}
 use Rattle.lsp_peers.proofs.FrontLemmas.{front_taken, front_whole, front_part, front_empty}

@@ -3,12 +3,11 @@ use Rattle.std.proofs.Common.{◌≡◌, ℕ, zero, suc, ◌<◌, ◌≤◌, ◌
 use Rattle.std.proofs.lemmas.Bool.{cases_Bool, lt-ltb, leb-true, leb-false, eqb-false, MatchBool-at_true, MatchBool-at_false}
 use Rattle.std.specs.List.{AllByRecursion}
 use Rattle.std.specs.Prelude.{◌==◌, Option, None, Some, Ok, Err, IfSome, IsSomeAnd, MatchOption, slice_get, nat_le}
-use Rattle.serde_json.specs.Data.{depth}
 use Rattle.serde_json.specs.Read.{max_depth}
+use Rattle.lsp_message.proofs.Ids.{id_flat}
 use Rattle.lsp_message.specs.Id.{Id, number, text}
 use Rattle.lsp_message.specs.Message.{Message, request, notification, response}
 use Rattle.lsp_message.specs.Ranges.{IsIdInRange, nesting}
-use Rattle.lsp_message.specs.Tree.{id_tree}
 use Rattle.lsp_queue.specs.Queue.{all_ids}
 use Rattle.lsp_peers.specs.History.{Event, written_in, next_letter, events_of, IsHistory}
 use Rattle.lsp_peers.specs.Ids.{item_at}
@@ -127,10 +126,6 @@ bare_in step outcome = tt
 all_bare : (history : List Event) → AllWritten IsBare history
 all_bare [] = tt
 all_bare (e ∷ history) = (bare_in e.step e.outcome, all_bare history)
-
-id_flat : (i : Id) → depth (id_tree i) ≡ 0
-id_flat (number z) = refl
-id_flat (text s) = refl
 
 module _ (p : Accounts) (placed : InOnePlace p) (few : AreFew p) (letter : Letter) (rest : List Letter) (first : p.here.post.waiting ≡ letter ∷ rest) where
   too_deep_at : (m : Message) → letter.message ≡ m → IsBare m → max_depth < nesting m → IsTooDeep m

@@ -1,5 +1,5 @@
 -- Each step keeps that each token is in one place, and a run goes on by one step.
-use Rattle.std.proofs.Common.{◌≡◌, ℕ, List, [], ◌∷◌, ◌++◌, length, refl, sym, ap, ◌∙◌, subst, arith, ⊎_elim, append-nil}
+use Rattle.std.proofs.Common.{◌≡◌, ℕ, List, [], ◌∷◌, ◌++◌, length, refl, sym, ap, ◌∙◌, subst, arith, ⊎_elim}
 use Rattle.std.proofs.lemmas.Bool.{cases_Bool, MatchBool-at_true, MatchBool-at_false}
 use Rattle.std.specs.Prelude.{Option, None, Some, Result, Ok, ◌==◌, MatchOption, drop, string_bytes}
 use Rattle.serde_json.specs.Data.{Data}
@@ -213,8 +213,3 @@ run_more old middle new [] [] step outcome run move = (new, subst (λ (p : Accou
 run_more old middle new [] (o ∷ outcomes) step outcome run move = absurd run
 run_more old middle new (s ∷ steps) [] step outcome run move = absurd run
 run_more old middle new (s ∷ steps) (o ∷ outcomes) step outcome run move = (run.0, run.1, run_more run.0 middle new steps outcomes step outcome run.2 move)
-
--- nothing is left
-pub all_taken : {X : Type 0} (xs ys zs : List X) → xs ++ ys ≡ zs → length ys ≡ 0 → xs ≡ zs
-all_taken xs [] zs same none = sym (append-nil xs) ∙ same
-all_taken xs (y ∷ ys) zs same none = absurd (omega arith)

@@ -1,9 +1,9 @@
 -- Each token is in one place: the requests and replies among the letters that wait are exactly the requests whose tokens are on the
 -- way and the replies whose tokens are coming back. A notification has no token.
 use Rattle.std.specs.Prelude.{◌≡◌, ℕ, ◌+◌, List, [], ◌∷◌, Option, None, Some, if◌then◌else◌}
-use Rattle.lsp_message.specs.Id.{Id}
+use Rattle.lsp_message.specs.Id.{Id, same_id}
 use Rattle.lsp_message.specs.Message.{Message, request, response}
-use Rattle.lsp_peers.specs.Ids.{same_id, item_at}
+use Rattle.lsp_peers.specs.Ids.{item_at}
 use Rattle.lsp_peers.specs.Letter.{Letter}
 use Rattle.lsp_peers.specs.Token.{Place, OnTheWay, ComingBack, Token}
 use Rattle.lsp_peers.specs.Steps.{Accounts}

@@ -5,7 +5,7 @@ ghost use Rattle.lsp_message.specs.Frame.{body_of};
 ghost use Rattle.lsp_message.specs.Reading.{Answers, found};
 ghost use Rattle.lsp_message.specs.Gathering.{TakesFront, TakesInto, IsFromReader};
 
-use crate::frame::ReadFault;
+use crate::frame::{ReadFault, unless_interrupted};
 use std::alloc::Global;
 use std::io::{BufRead, ErrorKind};
 
@@ -51,12 +51,7 @@ fn take_part<R: BufRead>(
 {
     let shown = match reader.fill_buf() {
         Ok(shown) => shown,
-        Err(error) => {
-            return match error.kind() {
-                ErrorKind::Interrupted => Ok(true),
-                kind => Err(ReadFault::Input(kind)),
-            };
-        }
+        Err(error) => return unless_interrupted(error, true),
     };
     let count = shown.len().min(missing);
     body.extend_from_slice(&shown[..count]).unwrap();

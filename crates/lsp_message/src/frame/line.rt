@@ -2,7 +2,7 @@
 ghost use Rattle.std.specs.Prelude.{◌≡◌, true, false, Ok, Err, OnOk, OnErr, OnSome, IfErr};
 ghost use Rattle.lsp_message.specs.Gathering.{TakesFront, IsFromOutside, KeepsLine, EndsLine, LeavesSome, StaysInLine};
 
-use crate::frame::ReadFault;
+use crate::frame::{ReadFault, unless_interrupted};
 use memchr::memchr;
 use std::io::{BufRead, ErrorKind};
 
@@ -33,12 +33,7 @@ fn gather_some<R: BufRead>(reader: &mut R, line: &mut Vec<u8>) -> Result<bool, R
 {
     let shown = match reader.fill_buf() {
         Ok(shown) => shown,
-        Err(error) => {
-            return match error.kind() {
-                ErrorKind::Interrupted => Ok(false),
-                kind => Err(ReadFault::Input(kind)),
-            };
-        }
+        Err(error) => return unless_interrupted(error, false),
     };
     let (count, is_whole) = match memchr(b'\n', shown) {
         Some(at) => (at + 1, true),
