@@ -1,8 +1,8 @@
 //! A language server by types: `example_diagnostics [ADDRESS]`, over standard input and output, or over a socket.
 //!
 //! It marks the lines of a document that are too long, as the user types. A hover says how long a line is, and a definition leads
-//! to the heading that a line stands under (`# ..`). How long a line may be it asks its client for, where the client can be
-//! asked (`workspace/configuration`, section `lines`, a number; 80 where there is none). Until the answer comes hovers wait, so
+//! to the heading that a line stands under (`# ..`). How long a line may be it asks its client for, if the client can be
+//! asked (`workspace/configuration`, section `lines`, a number; 80 if there is none). Until the answer comes hovers wait, so
 //! they can be cancelled.
 #![tactic(auto)]
 
@@ -171,7 +171,7 @@ impl Checker {
         }
     }
 
-    /// Takes the client's configuration: a list with one value, which is null where the user set none.
+    /// Takes the client's configuration: a list with one value, which is null if the user set none.
     fn configure(&mut self, values: Value) -> Result<(), AllocError> {
         if let Ok(values) = read_as::<Vec<Option<u32>>>(self.alloc, values)?
             && let Some(Some(longest)) = values.first()

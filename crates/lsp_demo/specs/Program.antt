@@ -27,7 +27,7 @@ asked_address (word ∷ []) = None
 asked_address (word ∷ addr ∷ []) = if bytes_eq (string_bytes word) (codes "tcp") then Some (string_bytes addr) else None
 asked_address (word ∷ addr ∷ next ∷ more) = None
 
--- 0 exactly where all messages were passed on
+-- 0 exactly if all messages were passed on
 abbrev pub status_of : Result (Unit {0}) PumpFault → ℕ
 status_of (Ok done) = 0
 status_of (Err fault) = 1

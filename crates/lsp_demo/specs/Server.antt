@@ -3,7 +3,7 @@ use Rattle.serde_json.specs.Data.{Data}
 use Rattle.std.specs.Prelude.{ℕ, List, Bool, None, Result, Ok, Err, codes, if◌then◌else◌}
 use Rattle.std.specs.Str.{bytes_eq}
 use Rattle.lsp_server.specs.DispatchAnswers.{Answer, unknown, work, cancelled_work, finished_work, note, nothing}
-use Rattle.lsp_server.specs.DispatchTable.{Held, delivered, finished}
+use Rattle.lsp_server.specs.DispatchPending.{Held, delivered, finished}
 use Rattle.lsp_server.specs.ErrorCode.{number_of}
 use Rattle.lsp_server.specs.Message.{ErrorObject, Message, request, notification, response}
 use Rattle.lsp_message.specs.declared.msg.code.ErrorCode.TheVariants.{MethodNotFound}

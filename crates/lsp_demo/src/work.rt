@@ -4,7 +4,7 @@ ghost use Rattle.std.specs.BTreeMap.{IsEmpty, Updates};
 ghost use Rattle.std.specs.Ordering.{nat_cmp};
 ghost use Rattle.serde_json.specs.View.{view};
 ghost use Rattle.lsp_server.specs.DispatchAnswers.{answer_view};
-ghost use Rattle.lsp_server.specs.DispatchTable.{finished};
+ghost use Rattle.lsp_server.specs.DispatchPending.{finished};
 ghost use Rattle.lsp_server.specs.View.{outcome_view, request_view, message_view};
 ghost use Rattle.lsp_demo.specs.Server.{begun, demo_outcome, is_kept, served};
 

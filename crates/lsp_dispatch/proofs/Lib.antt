@@ -4,5 +4,5 @@ mod LawLemmas
 mod Lists
 mod Live
 mod Refused
-mod Rows
+mod Cases
 mod Runs

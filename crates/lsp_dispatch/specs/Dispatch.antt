@@ -24,7 +24,7 @@ pub record IsLive (before : List Call) (id : Id) (ticket : ℕ) : Type 0 where
   pub brings : asked_by call ≡ Some id
   pub unended : (x y : List Call) (c : Call) → since ≡ x ++ c ∷ y → ends id ticket c ≡ false
 
--- a reply where the ticket is live, and nothing where no ticket is
+-- a reply if the ticket is live, and nothing if no ticket is
 abbrev pub CancelAnswer : List Call → Option Id → Answer → Type 0
 CancelAnswer before None answer = answer ≡ nothing
 CancelAnswer before (Some id) answer =

@@ -4,7 +4,7 @@ ghost use Rattle.lsp_dispatch.specs.DispatchAnswers.{answer_view, call_view};
 ghost use Rattle.lsp_dispatch.specs.Dispatch.{Dispatches, AnswersEach};
 ghost use Rattle.lsp_dispatch.specs.DispatchFaults.{dispatch_fault_number};
 ghost use Rattle.lsp_dispatch.specs.DispatchLaw.{RepliesOnce};
-ghost use Rattle.lsp_dispatch.specs.DispatchTable.{answered, all_tickets};
+ghost use Rattle.lsp_dispatch.specs.DispatchPending.{answered, all_tickets};
 ghost use Rattle.lsp_queue.specs.Queue.{count_of};
 
 use crate::answer::{Answer, DispatchFault};

@@ -7,7 +7,7 @@ ghost use Rattle.lsp_message.specs.View.{request_view, notification_view, respon
 ghost use Rattle.lsp_queue.specs.Queue.{pending_of, count_of};
 ghost use Rattle.lsp_dispatch.specs.DispatchAnswers.{answer_view};
 ghost use Rattle.lsp_dispatch.specs.DispatchCalls.{asked_in, not_found_reply, named_id as named_spec};
-ghost use Rattle.lsp_dispatch.specs.DispatchTable.{delivered, cancelling, finished, all_tickets, is_pending_with as pending_with};
+ghost use Rattle.lsp_dispatch.specs.DispatchPending.{delivered, cancelling, finished, all_tickets, is_pending_with as pending_with};
 ghost use Rattle.lsp_dispatch.specs.DispatchFaults.{handed_back, IsSpent};
 
 use crate::answer::{Answer, DispatchFault};
@@ -37,7 +37,7 @@ impl Model for Dispatcher {
     ghost use Rattle.std.specs.Coded.{coded×, coded_ℕ};
     ghost use Rattle.std.specs.FinMap as map;
     ghost use Rattle.lsp_message.specs.IdKeys.{coded_id};
-    ghost use Rattle.lsp_dispatch.specs.DispatchTable.{Held};
+    ghost use Rattle.lsp_dispatch.specs.DispatchPending.{Held};
 
     ghost Value = { Held };
 
@@ -154,7 +154,7 @@ impl Dispatcher {
         Ok(Answer::Note(notification))
     }
 
-    /// Cancels the request that the params name, where it is pending.
+    /// Cancels the request that the params name, if it is pending.
     fn cancel(&mut self, params: &Value) -> Result<Answer, AllocError>
         ensures ok { IfOk result (λ answer. (answer_view answer, self.new) ≡ cancelling self.old (named_spec (view params.now))) }
         ensures err { OnErr result (self.new ≡ self.old) }

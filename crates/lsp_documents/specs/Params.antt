@@ -10,7 +10,7 @@ use Rattle.lsp_text.specs.declared.position.Position.{Position}
 use Rattle.lsp_text.specs.declared.position.Range.{Range}
 use Rattle.lsp_text.specs.declared.position.PositionEncoding.{PositionEncoding}
 use Rattle.lsp_text.specs.declared.position.PositionEncoding.TheVariants.{Utf8, Utf16, Utf32}
-use Rattle.lsp_documents.specs.Session.{Notice, document, opens, edits, saves, closes}
+use Rattle.lsp_documents.specs.Notices.{Notice, document, opens, edits, saves, closes}
 
 -- ---- members
 
@@ -106,6 +106,6 @@ first_named (item d ds) = if is_some (option_and_then encoding_named (as_str d))
 abbrev pub offered_in : Data → Option Items
 offered_in params = option_and_then as_array (option_and_then (get (codes "positionEncodings")) (option_and_then (get (codes "general")) (get (codes "capabilities") params)))
 
--- the encoding that is agreed on: UTF-16 where the client offers none of the three
+-- the encoding that is agreed on: UTF-16 if the client offers none of the three
 abbrev pub agreed_in : Data → PositionEncoding
 agreed_in params = unwrap_or (option_and_then first_named (offered_in params)) Utf16

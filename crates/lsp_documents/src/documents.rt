@@ -4,7 +4,7 @@ ghost use Rattle.std.specs.Option.{option_copied};
 ghost use Rattle.std.specs.Str.{bytes_eq};
 ghost use Rattle.serde_json.specs.View.{view};
 ghost use Rattle.lsp_documents.specs.Held.{documents_of, has_known, loses};
-ghost use Rattle.lsp_documents.specs.Session.{document, opens, edits, closes, saves, shown, lost, missed, is_not_higher as not_higher, changed_in, saved_in, change_fault, has_whole as has_whole_text, has_changes, is_known, MissesAll, Took, Refused, Failed, FailedSave};
+ghost use Rattle.lsp_documents.specs.Notices.{document, opens, edits, closes, saves, shown, lost, missed, is_not_higher as not_higher, changed_in, saved_in, change_fault, has_whole as has_whole_text, has_changes, is_known, MissesAll, Took, Refused, Failed, FailedSave};
 ghost use Rattle.lsp_documents.specs.declared.kept.Open.TheVariants.{Known};
 ghost use Rattle.lsp_documents.specs.declared.fault.DocumentFault.TheVariants.{Params};
 ghost use Rattle.lsp_documents.specs.Params.{uri_in, did_open_in, did_change_in, did_save_in, did_close_in};
@@ -20,7 +20,7 @@ use std::collections::BTreeMap;
 use std::collections::btree_map::Iter;
 use std::mem;
 
-/// The documents that a client has opened, by their URIs. Two URIs are the same where they are the same text. Where something that
+/// The documents that a client has opened, by their URIs. Two URIs are the same if they are the same text. If something that
 /// the client told of a document was missed, its text is lost, and not to be had until the client tells it whole. Contracts see
 /// the encoding that was agreed on, and what is kept of each URI.
 ///
@@ -52,7 +52,7 @@ impl TextDocuments {
         self.encoding
     }
 
-    /// The document of a URI, where it is open and its text is known.
+    /// The document of a URI, if it is open and its text is known.
     pub fn get(&self, uri: &str) -> Option<&TextDocument>
         ensures { option_copied result ≡ option_and_then shown ((documents_of self.now).held uri.now) }
     {
@@ -89,7 +89,7 @@ impl TextDocuments {
             .any(|open| open.document().is_some())
     }
 
-    /// Opens a document. Where the URI has one already, this one takes its place, and the remark is `OpenAlready`. Where memory
+    /// Opens a document. If the URI has one already, this one takes its place, and the remark is `OpenAlready`. If memory
     /// runs out, the text of the one that it had is lost.
     pub fn open(
         &mut self,
@@ -115,7 +115,7 @@ impl TextDocuments {
         }
     }
 
-    /// Puts the document of a URI in. Where memory runs out, nothing is changed.
+    /// Puts the document of a URI in. If memory runs out, nothing is changed.
     fn insert(
         &mut self,
         uri: &str,
@@ -151,9 +151,9 @@ impl TextDocuments {
         }
     }
 
-    /// Makes the changes of one notification in a document, each in the text that the one before it left. Where the version is
+    /// Makes the changes of one notification in a document, each in the text that the one before it left. If the version is
     /// the document's or a lower one the remark is `VersionNotHigher`. Without a document of the URI the fault is `NotOpen`, and
-    /// `OutOfStep` where its text is lost and no change is of the whole text: nothing is changed then. Where memory runs out, the
+    /// `OutOfStep` if its text is lost and no change is of the whole text: nothing is changed then. If memory runs out, the
     /// text is lost. Without a change no memory is needed.
     pub fn change(
         &mut self,
@@ -176,7 +176,7 @@ impl TextDocuments {
         Ok(remark)
     }
 
-    /// The version of a document whose text is known, where it has one.
+    /// The version of a document whose text is known, if it has one.
     fn version_of(&self, uri: &str) -> Option<i32>
         ensures { result ≡ option_and_then (λ d. d.version) (option_and_then shown ((documents_of self.now).held uri.now)) }
     {
@@ -230,8 +230,8 @@ impl TextDocuments {
         });
     }
 
-    /// Hears that a document was saved. A text that is given is taken only where the document's own is lost. Without a document of
-    /// the URI the fault is `NotOpen`, and nothing is changed. Where memory runs out, the text stays lost.
+    /// Hears that a document was saved. A text that is given is taken only if the document's own is lost. Without a document of
+    /// the URI the fault is `NotOpen`, and nothing is changed. If memory runs out, the text stays lost.
     pub fn save(&mut self, uri: &str, text: Option<&str>) -> Result<(), DocumentFault>
         ensures ok { OnOk result (Took (documents_of self.old) (saves uri.now (option_map (λ s. s.now) text.entry)) None (documents_of self.new)) }
         ensures err { IfErr result (λ fault. Refused (documents_of self.old) (saves uri.now (option_map (λ s. s.now) text.entry)) fault (documents_of self.new)) }
@@ -281,7 +281,7 @@ impl TextDocuments {
     }
 
     /// Opens the document that the params of `textDocument/didOpen` tell of (LSP 3.17, `DidOpenTextDocumentParams`), as `open` does.
-    /// Where they are of another shape the fault is `Params`, and the text of the URI that they name is lost. Where they name none
+    /// If they are of another shape the fault is `Params`, and the text of the URI that they name is lost. If they name none
     /// that is each text.
     pub fn did_open<'v>(&mut self, params: &'v Value) -> Result<Made<'v>, NotMade<'v>>
         ensures ok { IfOk result (λ m. IsSomeAnd (did_open_in (view params.now)) (λ n. (m.uri.now ≡ n.uri) × Took (documents_of self.old) n m.remark (documents_of self.new))) }
@@ -303,7 +303,7 @@ impl TextDocuments {
     }
 
     /// Makes the changes that the params of `textDocument/didChange` tell of (LSP 3.17, `DidChangeTextDocumentParams`), as `change`
-    /// does. Where they are of another shape the fault is `Params`, and the text of the URI that they name is lost. Where they name
+    /// does. If they are of another shape the fault is `Params`, and the text of the URI that they name is lost. If they name
     /// none that is each text.
     pub fn did_change<'v>(&mut self, params: &'v Value) -> Result<Made<'v>, NotMade<'v>>
         ensures ok { IfOk result (λ m. IsSomeAnd (did_change_in (view params.now)) (λ n. (m.uri.now ≡ n.uri) × Took (documents_of self.old) n m.remark (documents_of self.new))) }
@@ -335,7 +335,7 @@ impl TextDocuments {
     }
 
     /// Hears that the document was saved that the params of `textDocument/didSave` tell of (LSP 3.17,
-    /// `DidSaveTextDocumentParams`), as `save` does. A text that is no string is none. Where the params name no URI the fault is
+    /// `DidSaveTextDocumentParams`), as `save` does. A text that is no string is none. If the params name no URI the fault is
     /// `Params`, and nothing is changed: a save changes no text.
     pub fn did_save<'v>(&mut self, params: &'v Value) -> Result<Made<'v>, NotMade<'v>>
         ensures ok { IfOk result (λ m. IsSomeAnd (did_save_in (view params.now)) (λ n. (m.uri.now ≡ n.uri) × Took (documents_of self.old) n m.remark (documents_of self.new))) }
@@ -353,7 +353,7 @@ impl TextDocuments {
     }
 
     /// Closes the document that the params of `textDocument/didClose` tell of (LSP 3.17, `DidCloseTextDocumentParams`), as `close`
-    /// does. Where they name no URI the fault is `Params`, and each text is lost: one of them is closed.
+    /// does. If they name no URI the fault is `Params`, and each text is lost: one of them is closed.
     pub fn did_close<'v>(&mut self, params: &'v Value) -> Result<Made<'v>, NotMade<'v>>
         ensures ok { IfOk result (λ m. IsSomeAnd (did_close_in (view params.now)) (λ n. (m.uri.now ≡ n.uri) × Took (documents_of self.old) n m.remark (documents_of self.new))) }
         ensures err { IfErr result (λ m. Failed (documents_of self.old) (did_close_in (view params.now)) (uri_in (view params.now)) m.fault (documents_of self.new)) }
@@ -417,7 +417,7 @@ fn lose_text(alloc: Global, kept: &mut Open)
     *kept = before.into_lost();
 }
 
-/// Makes changes in what is kept of a document. Where memory runs out, its text is lost.
+/// Makes changes in what is kept of a document. If memory runs out, its text is lost.
 fn change_open(
     alloc: Global,
     kept: &mut Open,
@@ -448,7 +448,7 @@ fn change_open(
     }
 }
 
-/// Puts a text into what is kept of a document, where its own is lost. Where memory runs out, nothing is changed.
+/// Puts a text into what is kept of a document, if its own is lost. If memory runs out, nothing is changed.
 fn renew_open(alloc: Global, kept: &mut Open, text: &str) -> Result<(), AllocError>
     ensures ok { OnOk result (kept.new ≡ saved_in kept.old text.now) }
     ensures err { OnErr result (kept.new ≡ kept.old) }

@@ -3,7 +3,7 @@ ghost use Rattle.std.specs.Prelude.{◌≡◌, ℕ, ℤ, List, ◌∷◌, Option
 ghost use Rattle.lsp_text.specs.Documents.{Document};
 ghost use Rattle.lsp_documents.specs.declared.fault.DocumentFault.{DocumentFault};
 ghost use Rattle.lsp_documents.specs.declared.kept.Open.TheVariants.{Known};
-ghost use Rattle.lsp_documents.specs.Session.{Documents, Notice, Sent, made, opens, document, fault_of, Keeps, Makes, TakesAll, Agrees, SavesItsText, kept_after_all, events_of, told_all, is_current};
+ghost use Rattle.lsp_documents.specs.Notices.{Documents, Notice, Sent, made, opens, document, fault_of, Keeps, Makes, TakesAll, Agrees, SavesItsText, kept_after_all, events_of, told_all, is_current};
 
 /// A document that may be looked at is the client's: after any list of notifications, of which some were made, of some the URI
 /// alone was known, and of some nothing at all, each URI whose text is known has the text of the client's own document, and its

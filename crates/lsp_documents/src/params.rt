@@ -3,7 +3,7 @@ ghost use Rattle.std.specs.Prelude.{◌≡◌, ℕ, List, Option, option_map, op
 ghost use Rattle.serde_json.specs.Find.{get, as_array};
 ghost use Rattle.serde_json.specs.View.{view, items_view};
 ghost use Rattle.lsp_text.specs.Documents.{Change, Document};
-ghost use Rattle.lsp_documents.specs.Session.{has_whole, has_changes};
+ghost use Rattle.lsp_documents.specs.Notices.{has_whole, has_changes};
 ghost use Rattle.lsp_documents.specs.Params.{text_in as text_of, count_in as count_of, line_in as line_of, is_negative as is_below, version_in as version_from, position_in as position_of, range_in as range_of, given_range as range_given, change_in as change_of, changes_in as changes_of, document_in as document_of, uri_in as uri_of, opened_in, changes_given, encoding_named as named, first_named as first_of, offered_in as offers, agreed_in};
 
 use lsp_text::{ContentChange, Position, PositionEncoding, Range};
@@ -51,7 +51,7 @@ fn line_in(position: &Value) -> Option<u32>
     }
 }
 
-/// The version of a document, where one is given.
+/// The version of a document, if one is given.
 fn version_in(document: &Value) -> Option<Option<i32>>
     ensures { result ≡ version_from (view document.now) }
 {
@@ -83,7 +83,7 @@ pub fn range_in(range: &Value) -> Option<Range>
     Some(Range { start, end })
 }
 
-/// The range of a change, where one is given.
+/// The range of a change, if one is given.
 fn given_range(change: &Value) -> Option<Option<Range>>
     ensures { result ≡ range_given (get (codes "range") (view change.now)) }
 {
@@ -179,7 +179,7 @@ pub fn uri_in(params: &Value) -> Option<&str>
     text_in(params.get("textDocument")?, "uri")
 }
 
-/// The version of the document that params tell of, where they give one.
+/// The version of the document that params tell of, if they give one.
 pub fn version_of(params: &Value) -> Option<Option<i32>>
     ensures { result ≡ option_and_then version_from (document_of (view params.now)) }
 {
@@ -191,7 +191,7 @@ pub fn version_of(params: &Value) -> Option<Option<i32>>
 pub struct Item<'v> {
     /// Its language.
     pub language_id: &'v str,
-    /// Its version, where the client gives one.
+    /// Its version, if the client gives one.
     pub version: Option<i32>,
     /// Its text.
     pub text: &'v str,
@@ -209,7 +209,7 @@ pub fn item_in(params: &Value) -> Option<Item<'_>>
     })
 }
 
-/// The text of a document that was saved, where a string is given.
+/// The text of a document that was saved, if a string is given.
 pub fn saved_text(params: &Value) -> Option<&str>
     ensures { option_map (λ s. s.now) result ≡ text_of (codes "text") (view params.now) }
 {
@@ -244,8 +244,8 @@ fn first_named(names: &[Value]) -> Option<PositionEncoding>
 }
 
 /// The encoding that the params of `initialize` agree on (LSP 3.17, `general.positionEncodings` of the client's capabilities):
-/// the first of the client's that is UTF-8, UTF-16 or UTF-32, and UTF-16 where there is none. Say it to the client as
-/// `positionEncoding` of the server's capabilities, where it is not UTF-16.
+/// the first of the client's that is UTF-8, UTF-16 or UTF-32, and UTF-16 if there is none. Say it to the client as
+/// `positionEncoding` of the server's capabilities, if it is not UTF-16.
 pub fn position_encoding(params: &Value) -> PositionEncoding
     ensures { result ≡ agreed_in (view params.now) }
 {

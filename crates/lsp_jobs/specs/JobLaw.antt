@@ -9,7 +9,7 @@ use Rattle.std.specs.Prelude.{◌≡◌, ◌⊎◌, ℕ, Bool, false, List, [], 
 use Rattle.lsp_message.specs.Id.{Id, id_cmp}
 use Rattle.lsp_message.specs.Message.{Message, request, notification, response}
 use Rattle.lsp_session.specs.Session.{Exchange, SessionAnswer, Stop}
-use Rattle.lsp_service.specs.Desk.{Act, tells, replies, cancelled_by}
+use Rattle.lsp_service.specs.Acts.{Act, tells, replies, cancelled_by}
 use Rattle.lsp_service.specs.Law.{Handed, KeepsLaws, TakesPart, TakesTurns, Turn, ids_after_all}
 use Rattle.lsp_service.specs.QueuedServer.{held_by}
 use Rattle.lsp_service.specs.Stated.{Stated}
@@ -100,8 +100,8 @@ module _ (T : Type 0) {S J P : Type 0} (may : Plain S P) (may_start : S → List
   started_at_wake old did acts (inr (inr finishes)) = jobs_of finishes.4.3
   started_at_wake old did acts woken = []
 
-  -- the jobs that it started when it was handed a letter, or woken
-  abbrev pub started_at : (old did : PooledServer T S J) (letter : Option Message) (payload : Option P) (acts : List (Act P)) → Handed Seen old letter payload acts did → List (Id × J)
+  -- the jobs that it started when it was handed a message, or woken
+  abbrev pub started_at : (old did : PooledServer T S J) (came : Option Message) (payload : Option P) (acts : List (Act P)) → Handed Seen old came payload acts did → List (Id × J)
   started_at old did (Some (request id method params)) payload acts handed = jobs_of handed.0.3
   started_at old did (Some (notification method params)) payload acts handed = jobs_of handed.0.3
   started_at old did (Some (response id outcome)) (Some payload) acts handed = jobs_of handed.3
@@ -113,8 +113,8 @@ module _ (T : Type 0) {S J P : Type 0} (may : Plain S P) (may_start : S → List
       → TakesTurns Seen count old turns new → Type 0
   WakesActByJobs events count old [] new took = Unit {0}
   WakesActByJobs events count old (turn ∷ turns) new took =
-      (turn.letter ≡ None → ActsByJobs events old.server turn.acts)
-      × WakesActByJobs (after (comes turn.letter ∷ events) turn.acts (started_at old took.0 turn.letter turn.payload turn.acts took.2))
+      (turn.came ≡ None → ActsByJobs events old.server turn.acts)
+      × WakesActByJobs (after (comes turn.came ∷ events) turn.acts (started_at old took.0 turn.came turn.payload turn.acts took.2))
       (ids_after_all count turn.acts) took.1 turns new took.4
 
   -- the same of the server's whole part in a session
@@ -124,7 +124,7 @@ module _ (T : Type 0) {S J P : Type 0} (may : Plain S P) (may_start : S → List
       WakesActByJobs (after [] part.begun (jobs_of part.began.3)) (ids_after_all 0 part.begun) part.first part.turns last part.took_turns
 
   -- a session of a server with jobs, which keeps the laws of a session of a server
-  pub record LawfulJobSession (first last : S) (exchanges : List Exchange) (stop : Stop) (null : Option Message) (answer : SessionAnswer) : Type 0 where
-    pub session : JobSession T may may_start may_finish answers first last exchanges stop null answer
+  pub record LawfulJobSession (first last : S) (exchanges : List Exchange) (stop : Stop) (shutdown_reply : Option Message) (answer : SessionAnswer) : Type 0 where
+    pub session : JobSession T may may_start may_finish answers first last exchanges stop shutdown_reply answer
     pub laws : KeepsLaws Seen session.old session.new
-        (held_by Seen session.session) exchanges stop null answer
+        (held_by Seen session.session) exchanges stop shutdown_reply answer

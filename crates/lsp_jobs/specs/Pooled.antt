@@ -6,7 +6,7 @@ use Rattle.lsp_message.specs.ErrorCode.{number_of}
 use Rattle.lsp_message.specs.Id.{Id}
 use Rattle.lsp_message.specs.Message.{ErrorObject}
 use Rattle.lsp_message.specs.declared.msg.code.ErrorCode.TheVariants.{RequestFailed}
-use Rattle.lsp_service.specs.Desk.{Act, tells, replies, cancelled_by}
+use Rattle.lsp_service.specs.Acts.{Act, tells, replies, cancelled_by}
 use Rattle.lsp_service.specs.Stated.{Stated}
 use Rattle.lsp_service.specs.declared.server.Server.{Ghosts as Plain}
 use Rattle.lsp_jobs.specs.Table.{Table, Outcome, Answers, without, with_job}
@@ -62,7 +62,7 @@ module _ {S J P : Type 0} (may_start : S → List (Id × J) → S → Type 0) (m
     abbrev pub with_jobs : Stated (S × Table J) P
     with_jobs = record {
       initializes = λ old params outcome new. may.initializes old.0 params outcome new.0 × (new.1 ≡ old.1);
-      begins = λ old all new. Does (may.begins old.0) old.1 all new;
+      at_initialized = λ old all new. Does (may.at_initialized old.0) old.1 all new;
       requested = λ old id method params all new. Does (may.requested old.0 id method params) (without id old.1) all new;
       notified = λ old method params all new. Does (may.notified old.0 method params) (without_cancelled (cancelled_by method params) old.1) all new;
       replied = λ old payload outcome all new. Does (may.replied old.0 payload outcome) old.1 all new;

@@ -175,7 +175,7 @@ pub(crate) fn assign<T: Wait, J: Task<R>, R: Drop>(
 }
 
 impl<J: Task<R>, R: Drop> Assignment<J, R> {
-    /// Performs the task, and sends what it says. It waits while there is no room for the outcome; nothing is sent where nobody waits
+    /// Performs the task, and sends what it says. It waits while there is no room for the outcome; nothing is sent if nobody waits
     /// for it any more.
     pub fn perform<T: Wait + Copy + Drop, M: Drop>(
         self,
@@ -235,7 +235,7 @@ impl<J: Task<R>, R: Drop> Model for Reports<J, R> {
 }
 
 impl<J: Task<R>, R: Drop> Reports<J, R> {
-    /// Sends a report, where there is room.
+    /// Sends a report, if there is room.
     fn send<T: Wait>(&mut self, rt: &T, notification: Notification) -> bool {
         let slip = Slip {
             task: Snapshot::of(&self.task),
@@ -266,7 +266,7 @@ impl<T: Wait + Drop, J: Task<R>, R: Drop, M: Drop> Progress for Reporter<T, J, R
 }
 
 impl<J: Task<R>, R: Drop> Awaited<J, R> {
-    /// What the task said next, where that was sent and not taken yet.
+    /// What the task said next, if that was sent and not taken yet.
     pub fn take<T: Wait>(&mut self, rt: &T) -> Option<Saying<R>>
         ensures task { self.new ≡ self.old }
         ensures saying { IfSome result (λ saying. MaySay J.comes_to self.old saying) }

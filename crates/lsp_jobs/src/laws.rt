@@ -20,11 +20,11 @@ use std::sync::Wait;
 
 /// A session that was run by `run_jobs`, with a limit or without one, and that passes over nothing, keeps the laws of `lsp_service::laws::server_keeps_laws`: under no
 /// id more replies than requests, whatever jobs come to and when; one reply for a request whose id was used once, unless it is still held
-/// or the session ended at it; and before `initialized` nothing but errors and the result of `initialize`, nothing after the null of `shutdown`.
+/// or the session ended at it; and before `initialized` nothing but errors and the result of `initialize`, nothing after the reply to `shutdown`.
 pub fn session_with_jobs_keeps_laws<T: Wait + Drop, S: JobServer<J>, J: Job>()
-    ensures exchanges { (first last : S) (exchanges : List Exchange) (stop : Stop) (null : Option Message) (answer : SessionAnswer)
-        → JobSession T S.Server S.starts S.finishes J.answers first last exchanges stop null answer
-        → LawfulJobSession T S.Server S.starts S.finishes J.answers first last exchanges stop null answer }
+    ensures exchanges { (first last : S) (exchanges : List Exchange) (stop : Stop) (shutdown_reply : Option Message) (answer : SessionAnswer)
+        → JobSession T S.Server S.starts S.finishes J.answers first last exchanges stop shutdown_reply answer
+        → LawfulJobSession T S.Server S.starts S.finishes J.answers first last exchanges stop shutdown_reply answer }
     ensures bytes { (limit : ℕ) (first last : S) (text : List ℕ) (before after : Option (List ℕ)) (answer : Result EndOfSession FaultOfSession)
         → ThreadsGiveOver true limit (JobSession T S.Server S.starts S.finishes J.answers first last) text before after answer
         → ThreadsGiveOver true limit (LawfulJobSession T S.Server S.starts S.finishes J.answers first last) text before after answer }

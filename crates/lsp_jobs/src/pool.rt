@@ -271,7 +271,7 @@ impl<T: Wait + Drop, J: Job> JobPool<T, J> {
     }
 }
 
-/// The report that a job made, where it made one.
+/// The report that a job made, if it made one.
 fn report_in<R: Drop>(said: Option<Saying<R>>) -> Option<JobNews>
     ensures { IfSome result (λ news. IsReport (news_view news)) }
 {

@@ -113,7 +113,7 @@ where
         Ok(acts)
     }
 
-    /// Starts a job, or answers its request where too many wait.
+    /// Starts a job, or answers its request if too many wait.
     fn start_one(
         &mut self,
         start: Start<J>,
@@ -171,7 +171,7 @@ where
 
     ghost initializes = { (seen_with_jobs T S.Server S.starts S.finishes J.answers).initializes };
 
-    ghost begins = { (seen_with_jobs T S.Server S.starts S.finishes J.answers).begins };
+    ghost at_initialized = { (seen_with_jobs T S.Server S.starts S.finishes J.answers).at_initialized };
 
     ghost requested = { (seen_with_jobs T S.Server S.starts S.finishes J.answers).requested };
 

@@ -67,7 +67,7 @@ module _ {M : Type 0} (means : List ℕ → Result M ReadFault) (limit : ℕ) wh
   pub content_outcome : (text items : List ℕ) → (content_within limit text).outcome ≡ Ok (Some items) → (frame_of means limit text).outcome ≡ found (means items)
   content_outcome text items is = some_of (header_of text).outcome (header_of text).rest items is
 
-  -- where there is none, the text is at its end
+  -- if there is none, the text is at its end
   pub end_outcome : (text : List ℕ) → (content_within limit text).outcome ≡ Ok None → (frame_of means limit text).outcome ≡ Ok None
   end_outcome text is = none_of (header_of text).outcome (header_of text).rest is
 

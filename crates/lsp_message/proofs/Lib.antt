@@ -13,7 +13,7 @@ mod Printed
 mod ReadBack
 mod Readings
 mod ReadsBack
-mod Rows
+mod Cases
 pub mod Sendable
 mod Separators
 mod Shown

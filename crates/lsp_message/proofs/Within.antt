@@ -37,7 +37,7 @@ front_within text k is = within_lines (length text) k (content_length (fields (l
 
 -- ---- the number of a fault
 
--- the fault, where there is one, is of the header part
+-- the fault, if there is one, is of the header part
 abbrev FaultsInHeader : {X : Type 0} → Result X ReadFault → Type 0
 FaultsInHeader (Ok x) = Unit {0}
 FaultsInHeader (Err fault) = (2 ≤ read_fault_number fault) × (read_fault_number fault ≤ 6)

@@ -66,13 +66,13 @@ reading_of text = reading_within no_limit text
 abbrev pub Begins : ℕ → List ℕ → Message → List ℕ → Type 0
 Begins limit text m rest = reading_within limit text ≡ record { outcome = Ok (Some m); rest = rest }
 
--- Memory ran out in the header part; or where the room for a content part within the limit was reserved, and none of it was taken.
+-- Memory ran out in the header part; or if the room for a content part within the limit was reserved, and none of it was taken.
 abbrev pub RunsOutBefore : ℕ → List ℕ → Option (List ℕ) → Type 0
 RunsOutBefore limit text left =
     StopsBefore left (header_of text)
     ⊎ ((n : ℕ) × ((header_of text).outcome ≡ Ok (Some n)) × (n ≤ limit) × (left ≡ Some (header_of text).rest))
 
--- Memory ran out: in the header part; or where the room for a content part within the limit was reserved, and none of it was
+-- Memory ran out: in the header part; or if the room for a content part within the limit was reserved, and none of it was
 -- taken; or after the whole content part was taken.
 abbrev pub RunsOut : ℕ → List ℕ → Option (List ℕ) → Type 0
 RunsOut limit text left =

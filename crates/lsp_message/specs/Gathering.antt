@@ -1,4 +1,4 @@
--- Bytes taken from a reader, where those that it has left are known.
+-- Bytes taken from a reader, if those that it has left are known.
 use Rattle.std.specs.Prelude.{◌≡◌, ◌≢◌, ℕ, List, [], ◌++◌, Option, Some, IfSome, IsSomeAnd}
 use Rattle.std.specs.Io.BufRead.{take_through, drop_through}
 use Rattle.std.specs.Io.KnownBytes.{Consumes}

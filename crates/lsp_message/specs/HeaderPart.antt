@@ -42,7 +42,7 @@ name_and_value (c ∷ d ∷ text) =
 abbrev pub same_name : List ℕ → List ℕ → Bool
 same_name a b = bytes_eq (map to_ascii_lowercase a) (map to_ascii_lowercase b)
 
--- the length, where the field has that name, or any other field
+-- the length, if the field has that name, or any other field
 abbrev pub field : List ℕ → List ℕ → Result HeaderLine ReadFault
 field name value = if same_name name (codes "Content-Length") then ok_or (option_map Length (number value)) BadLength else Ok Other
 

@@ -56,12 +56,12 @@ failure_of None e = option_map Err (as_error e)
 failure_of (Some r) e = None
 
 -- What came of a request, by the member `result` and by the member `error`, which counts unless it is null:
--- `result`, a null too, where `error` doesn't count; else the error, where `result` is absent or null; else nothing.
+-- `result`, a null too, if `error` doesn't count; else the error, if `result` is absent or null; else nothing.
 abbrev pub outcome_of : Option Data → Option Data → Option (Result Data ErrorObject)
 outcome_of result None = option_map Ok result
 outcome_of result (Some e) = failure_of (unless_null result) e
 
--- by the members `method`, where it is a text, and `id`, where it is good
+-- by the members `method`, if it is a text, and `id`, if it is good
 abbrev pub message_of : Option (List ℕ) → Option Id → Data → Option (Result Data ErrorObject) → Option Message
 message_of (Some method) (Some i) params outcome = Some (request i method params)
 message_of (Some method) None params outcome = Some (notification method params)

@@ -9,12 +9,12 @@ use Rattle.lsp_message.specs.declared.frame.place.InPlace.TheVariants.{Whole, Cu
 use Rattle.lsp_message.specs.declared.frame.ReadFault.{ReadFault}
 use Rattle.lsp_message.specs.declared.frame.ReadFault.TheVariants.{Input, Memory}
 
--- the line that a text begins with, or nothing where the text is empty
+-- the line that a text begins with, or nothing if the text is empty
 abbrev pub first_line : List ℕ → Reading HeaderLine
 first_line [] = record { outcome = Ok None; rest = [] }
 first_line (byte ∷ bytes) = record { outcome = found (header_line (take_through 10 (byte ∷ bytes))); rest = drop_through 10 (byte ∷ bytes) }
 
--- What was answered to a header line, or to the header part, and what is left unread. Where memory ran out, a byte of it at
+-- What was answered to a header line, or to the header part, and what is left unread. If memory ran out, a byte of it at
 -- least was not taken.
 abbrev pub AnswersHeader : {X A : Type 0} → (X → A) → Result (Option X) ReadFault → Option (List ℕ) → Reading A → Type 0
 AnswersHeader view (Ok answer) left reading = (reading.outcome ≡ Ok (option_map view answer)) × (left ≡ Some reading.rest)

@@ -10,7 +10,7 @@ use Rattle.lsp_message.specs.Meaning.{unless_null}
 use Rattle.lsp_message.specs.Message.{ErrorObject, Message, request, notification, response}
 use Rattle.lsp_message.specs.Tree.{id_tree}
 
--- A text that `serde_json` may write for a value, with no space. There is one where the value has no float. The digits of a float are
+-- A text that `serde_json` may write for a value, with no space. There is one if the value has no float. The digits of a float are
 -- the choice of `serde_json`: they are read back as that float, as far as a value is read back at all, which nests at most 127 levels.
 pub record IsValueText (d : Data) (text : List ℕ) : Type 0 where
   pub exact : has_float d ≡ false → text ≡ compact_text d

@@ -29,7 +29,7 @@ IsFact own others (Register side method params payload) (Registered id) = id ≡
 IsFact own others (Take side label) (Arrived id) = (id ≡ nth_id (length (labels own))) × (length (labels own) < length (payloads others))
 -- a reply gives back the payload that was registered before under its id, and no reply comes twice
 IsFact own others (Take side label) (Returned id payload) = IsSome payload × (payload ≡ item_at (payloads own) id) × (has id (returned own) ≡ false)
--- a request is found exactly if it has arrived and is not settled
+-- a request is found exactly if it has arrived and is not closed
 IsFact own others (Answer side id value) outcome = outcome ≡ where_held (held own id) (λ label. Answered label)
 IsFact own others (Refuse side id code message) outcome = outcome ≡ where_held (held own id) (λ label. Answered label)
 IsFact own others (Cancel side id) outcome = outcome ≡ where_held (held own id) (λ label. Cancelled)

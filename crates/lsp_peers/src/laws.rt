@@ -81,9 +81,9 @@ pub fn a_reply_is_the_answer_of_the_other_side()
         × (each message_view (seen_at side new).taken ≡ each message_view (seen_at side world).taken ++ response id answer ∷ []) × AnsweredBy (other side) id answer before }
 {}
 
-/// A history over tokens: its steps do this to one token for each request, and to the letters of two posts, each token in one place;
-/// and a world after the history agrees with these tokens and posts.
-pub fn a_history_moves_tokens()
+/// A history over tracked requests: its steps do this to them, and to the sent frames of two posts, each request in one place;
+/// and a world after the history agrees with these requests and posts.
+pub fn a_history_moves_requests()
     ensures { (history : List Event) → IsHistory history → (p : Accounts)
         × Run nothing (each (λ event. event.step) history) (each (λ event. event.outcome) history) p × InOnePlace p
         × ((world : World) (handed : Side → List plain.Message) → WorldAfter world handed history → WorldAgrees world handed p) }

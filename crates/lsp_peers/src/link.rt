@@ -3,7 +3,7 @@ ghost use Rattle.std.specs.Prelude.{◌≡◌, ◌≤◌, ℕ, length, Ok, Err, 
 ghost use Rattle.lsp_message.specs.Front.{front_of};
 ghost use Rattle.lsp_message.specs.View.{message_view};
 ghost use Rattle.lsp_peers.specs.WorldFault.{fault_of};
-ghost use Rattle.lsp_peers.specs.Post.{Letter, Post, Carries, ReadsBack, IsTooDeep, HasNext, posted, passed_on, unpassed, next, message_of, empty_post, IfNext, after_take};
+ghost use Rattle.lsp_peers.specs.Post.{SentFrame, Post, Carries, ReadsBack, IsTooDeep, HasNext, posted, passed_on, unpassed, next, message_of, empty_post, IfNext, after_take};
 
 use crate::fault::WorldFault;
 use lsp_message::{Front, Message, ReadFault, front};
@@ -65,7 +65,7 @@ impl Link {
     /// The only fault is `WorldFault::Memory`, and the link is then as it was.
     pub fn write(&mut self, message: &Message) -> Result<(), WorldFault>
         ensures ok { (post : Post) → Carries self.old post → OnOk result (
-            (letter : Letter) × (letter.message ≡ message_view message.now) × Carries self.new (posted post letter)) }
+            (sent_frame : SentFrame) × (sent_frame.message ≡ message_view message.now) × Carries self.new (posted post sent_frame)) }
         ensures err { OnErr result (self.new ≡ self.old) }
         ensures memory { OnErr result (result ≡ Err WorldFault.Memory) }
     {

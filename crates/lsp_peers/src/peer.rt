@@ -8,7 +8,7 @@ ghost use Rattle.lsp_queue.specs.Queue.{cancelled, count_of, all_ids};
 ghost use Rattle.lsp_peers.specs.Agreement.{PeerAgrees, Agrees};
 ghost use Rattle.lsp_peers.specs.Steps.{Accounts, Registers, Tells, Passes, Takes, Replies, GivesUp, StepDoes};
 ghost use Rattle.lsp_peers.specs.Post.{ReadsBack, IsTooDeep, IfNext, HasNext, next, empty_post};
-ghost use Rattle.lsp_peers.specs.Settling.{Settles, ReadsNext, TakesTooDeep, IsFree, HasNothing};
+ghost use Rattle.lsp_peers.specs.Delivery.{Delivers, ReadsNext, TakesTooDeep, IsFree, HasNothing};
 ghost use Rattle.lsp_peers.specs.InOnePlace.{InOnePlace};
 
 use crate::fault::WorldFault;
@@ -30,7 +30,7 @@ pub(crate) struct Peer {
 
 impl Peer {
     pub(crate) fn new(alloc: Global) -> Peer
-        ensures { PeerAgrees result [] (record { tokens = []; post = empty_post }) [] }
+        ensures { PeerAgrees result [] (record { tracked = []; post = empty_post }) [] }
     {
         Peer {
             queue: ReqQueue::default(alloc),
@@ -179,7 +179,7 @@ impl Peer {
         let Some(message) = self.link.take()? else {
             return Ok(Outcome::Waiting);
         };
-        let Ok(outcome) = settle(&mut self.queue, &message, label) else {
+        let Ok(outcome) = deliver(&mut self.queue, &message, label) else {
             return Err(WorldFault::Memory);
         };
         match self.taken.push(message) {
@@ -200,12 +200,12 @@ impl Peer {
 }
 
 /// What a taken message does: a request becomes pending with the label, a reply completes its id, a notification does nothing.
-fn settle(
+fn deliver(
     queue: &mut ReqQueue<u64, u64>,
     message: &Message,
     label: u64,
 ) -> Result<Outcome, WorldFault>
-    ensures { IfOk result (λ outcome. Settles (message_view message.now) label queue.old outcome queue.new) }
+    ensures { IfOk result (λ outcome. Delivers (message_view message.now) label queue.old outcome queue.new) }
 {
     match message {
         Message::Request(request) => {

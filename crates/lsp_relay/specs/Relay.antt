@@ -59,7 +59,7 @@ module _ {M : Type 0} where
   TakenIs (taken.Parcel x) old new = new ≡ old ++ x ∷ []
   TakenIs found old new = new ≡ old
 
-  -- how many wakes were taken, where so many were before this was found
+  -- how many wakes were taken, if so many were before this was found
   abbrev pub wakes_after : front.Taken M → ℕ → ℕ
   wakes_after taken.Wake count = count + 1
   wakes_after found count = count
@@ -71,14 +71,14 @@ module _ {M : Type 0} where
   HoldsNoWake (Some parcel ∷ rest) = HoldsNoWake rest
 
   -- One pass at most may send, and its account has what was sent, and whether a waker was made; the same for takes, and how many wakes
-  -- were taken. A pass may wake only where a waker was made.
+  -- were taken. A pass may wake only if a waker was made.
   abbrev pub Agrees : ℕ → ℕ → List (Parcel M) → List (Parcel M) → ℕ → Bool → ℕ → Account M → Type 0
   Agrees sender receiver sent taken wakes wakeable pass account =
       (account.sends ≡ true → (pass ≡ sender) × (account.sent ≡ sent) × (account.wakeable ≡ wakeable))
       × (account.takes ≡ true → (pass ≡ receiver) × (account.taken ≡ taken) × (account.wakes ≡ wakes))
       × (account.may_wake ≡ true → wakeable ≡ true)
 
-  -- The rule of a relay: what was taken, and then the parcels that are held, is what was sent. Where no waker was made, no wake is held,
+  -- The rule of a relay: what was taken, and then the parcels that are held, is what was sent. If no waker was made, no wake is held,
   -- and none was taken.
   pub record TakenThenHeldIsSent (held : List (Option (Parcel M))) (accounts : List (Account M)) : Type 0 where
     pub sender : ℕ

@@ -213,7 +213,7 @@ impl<M: Drop> RelayRx<M> {
     }
 
     /// Takes the parcel or the wake at the front in one step. It waits while the relay is empty. `Taken::Wake` means that one wake was
-    /// taken, and no other answer takes one. `Taken::Nothing` comes where `take` gives `None`.
+    /// taken, and no other answer takes one. `Taken::Nothing` comes if `take` gives `None`.
     pub fn take_or_wake<R: Wait>(&mut self, rt: &R) -> Taken<M>
         ensures relay { self.new.relay ≡ self.old.relay }
         ensures taken { TakenIs result self.old.taken self.new.taken }
@@ -226,7 +226,7 @@ impl<M: Drop> RelayRx<M> {
         }
     }
 
-    /// As `take_or_wake`, but it doesn't wait. `Taken::Nothing` comes where nothing stands at the front.
+    /// As `take_or_wake`, but it doesn't wait. `Taken::Nothing` comes if nothing stands at the front.
     pub fn try_take<R: Wait>(&mut self, rt: &R) -> Taken<M>
         ensures relay { self.new.relay ≡ self.old.relay }
         ensures taken { TakenIs result self.old.taken self.new.taken }

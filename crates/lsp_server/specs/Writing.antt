@@ -20,7 +20,7 @@ WritesMessages old (Err Start) new = ⊥
 WritesMessages old (Err (Socket kind)) new = ⊥
 WritesMessages old (Err Memory) new = ⊥
 
--- A message is written, and others behind it; or a beginning of all that. Where a frame could not be made, the messages before that one were written.
+-- A message is written, and others behind it; or a beginning of all that. If a frame could not be made, the messages before that one were written.
 abbrev pub WritesFrom : Message → Option (List ℕ) → Result (Unit {0}) WriteFault → Option (List ℕ) → Type 0
 WritesFrom m old (Ok done) new = (behind : List Message) × GetsFrames (m ∷ behind) old new
 WritesFrom m old (Err (Output kind)) new = (behind : List Message) × BreaksOffWithin (m ∷ behind) old new

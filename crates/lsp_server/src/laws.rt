@@ -18,9 +18,9 @@ pub use lsp_peers::laws as peers;
 pub use lsp_queue::laws::pending_is_last_registered;
 use lsp_service::Server;
 pub use lsp_service::laws::{
-    desk_runs_its_server, lost_client_is_owed_what_is_held, server_keeps_laws,
+    lost_client_is_owed_what_is_held, queued_server_runs_its_server, server_keeps_laws,
     server_over_boxes_keeps_laws, server_that_asks_keeps_laws, turn_sends_its_acts,
-    woken_desk_runs_its_server, woken_server_keeps_laws, woken_turn_sends_its_acts,
+    woken_queued_server_runs_its_server, woken_server_keeps_laws, woken_turn_sends_its_acts,
 };
 use lsp_session::Listener;
 pub use lsp_session::laws::{dialogs, listeners, sessions, streams, turns};

@@ -88,7 +88,7 @@ fn another(connection: &Connection) -> Result<Connection, AllocError> {
 
 /// Starts the thread, or gives nothing if the system refuses it.
 ///
-/// It takes the ends of channels that carry any type `M`: the check finds that a thread may own them only where it need not look into
+/// It takes the ends of channels that carry any type `M`: the check finds that a thread may own them only if it need not look into
 /// what they carry.
 fn start<M, R, P, F, T>(
     rt: &R,

@@ -111,7 +111,7 @@ fn write_behind<R: Wait, W: Write>(
     Ok(())
 }
 
-/// Adds a frame to those that are not written. Where they have no room together, the others are written first.
+/// Adds a frame to those that are not written. If they have no room together, the others are written first.
 fn join<W: Write>(pending: String, next: String, writer: &mut W) -> Result<String, WriteFault>
     ensures ok { IfOk result (λ left. (done : List ℕ) × Appends (W.contents writer.old) (W.contents writer.new) done
         × (string_bytes pending ++ string_bytes next ≡ done ++ string_bytes left)) }

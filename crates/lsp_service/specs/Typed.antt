@@ -5,7 +5,7 @@ use Rattle.serde_json.specs.Data.{Data}
 use Rattle.lsp_message.specs.Converted.{IsOutcomeOf}
 use Rattle.lsp_message.specs.View.{error_view}
 use Rattle.lsp_message.specs.declared.msg.ResponseError.{ResponseError}
-use Rattle.lsp_service.specs.Desk.{Act}
+use Rattle.lsp_service.specs.Acts.{Act}
 use Rattle.lsp_service.specs.View.{act_view}
 use Rattle.lsp_service.specs.declared.server.Act as rust
 

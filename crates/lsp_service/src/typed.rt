@@ -4,7 +4,7 @@ ghost use Rattle.serde_json.specs.Data.{Data};
 ghost use Rattle.lsp_message.specs.Converted.{IsOutcomeOf, method_not_found};
 ghost use Rattle.lsp_message.specs.ErrorCode.{number_of};
 ghost use Rattle.lsp_message.specs.Message.{ErrorObject};
-ghost use Rattle.lsp_service.specs.Desk.{asks, replies, tells};
+ghost use Rattle.lsp_service.specs.Acts.{asks, replies, tells};
 ghost use Rattle.lsp_service.specs.Typed.{Carries};
 ghost use Rattle.lsp_service.specs.View.{act_view};
 

@@ -1,7 +1,7 @@
 -- A session over a reader and a writer, as its contract says it.
 use Rattle.lsp_message.proofs.Contents.{frame_unread}
 use Rattle.lsp_message.specs.Frame.{body_means, reading_within}
-use Rattle.lsp_message.specs.Letters.{Begins, is_exit}
+use Rattle.lsp_message.specs.Messages.{Begins, is_exit}
 use Rattle.lsp_message.specs.Message.{Message}
 use Rattle.lsp_message.specs.Reading.{Reading, Answers, StopsWithin}
 use Rattle.lsp_message.specs.Written.{GetsFrames, GetsFramesAndPart, Writes}
@@ -62,21 +62,21 @@ module _ {R : Type 0} (remaining : R → Option (List ℕ)) (limit : ℕ) where
         (new.end, inr (lost.0, lost.1, lost.2, ap (λ (s : StreamInbox R). stream_of remaining s) lost.3))
 
 -- the messages of what came
-abbrev pub letters_in : List (Option Message) → List Message
-letters_in came = filter_map (λ (c : Option Message). c) came
+abbrev pub messages_in : List (Option Message) → List Message
+messages_in came = filter_map (λ (c : Option Message). c) came
 
 -- these are the first messages of the text, and the rest follows them
 abbrev pub BeginsWith : ℕ → List ℕ → List Message → List ℕ → Type 0
 BeginsWith limit = FoldsTo (Begins limit)
 
 module _ (limit : ℕ) where
-  -- what an inbox over a reader gives where others may wake it
+  -- what an inbox over a reader gives if others may wake it
   abbrev pub WakingGives : Stream → Event → Stream → Type 0
   WakingGives old woken new = new ≡ old
   WakingGives old event new = StreamGives limit old event new
 
   -- an inbox that has ended brings no message more
-  ended_brings : (events : List Event) (end : ReadEnd) (old new : Stream) → old.end ≡ Some end → FoldsTo WakingGives old events new → letters_in (filter_map came_in events) ≡ []
+  ended_brings : (events : List Event) (end : ReadEnd) (old new : Stream) → old.end ≡ Some end → FoldsTo WakingGives old events new → messages_in (filter_map came_in events) ≡ []
   ended_brings [] end old new is run = refl
   ended_brings (woken ∷ events) end old new is run = ended_brings events end old new is (rw run.1 at run.2)
   ended_brings (closed ∷ events) end old new is run = ended_brings events end run.0 new (rw is at run.1).1 run.2
@@ -90,17 +90,17 @@ module _ (limit : ℕ) where
   ended_closes (event ∷ events) end old new is run still_open = absurd (cc ((rw is at run.1).0))
 
   -- what an inbox brought that may bring more, what it has left, and whether an `exit` came
-  pub record Brought (text : List ℕ) (letters : List Message) (new : Stream) : Type 0 where
+  pub record Brought (text : List ℕ) (messages : List Message) (new : Stream) : Type 0 where
     pub at : List ℕ
-    pub read : BeginsWith limit text letters at
+    pub read : BeginsWith limit text messages at
     pub left : new.remaining ≡ Some at
-    pub end : new.end ≡ (if list_all is_no_exit letters then None else Some Exit)
+    pub end : new.end ≡ (if list_all is_no_exit messages then None else Some Exit)
 
   module _ (m : Message) (text : List ℕ) (mid new : Stream) (events : List Event) (run : FoldsTo WakingGives mid events new) (still_open : list_all is_open events ≡ true) where
     open_then : (b : Bool) → is_exit m ≡ b → mid.end ≡ (if b then Some Exit else None)
         → Reads limit (Some text) (Ok (Some m)) mid.remaining
-        → ((rest : List ℕ) → mid.end ≡ None → mid.remaining ≡ Some rest → Brought rest (letters_in (filter_map came_in events)) new)
-        → Brought text (m ∷ letters_in (filter_map came_in events)) new
+        → ((rest : List ℕ) → mid.end ≡ None → mid.remaining ≡ Some rest → Brought rest (messages_in (filter_map came_in events)) new)
+        → Brought text (m ∷ messages_in (filter_map came_in events)) new
     open_then true exits is reads later = rw (ended_brings events Exit mid new is run, sym (ended_closes events Exit mid new is run still_open)) (record {
       at = (reading_within limit text).rest;
       read = ((reading_within limit text).rest, begins limit text m reads.0.0, refl);
@@ -112,7 +112,7 @@ module _ (limit : ℕ) where
         record { at = more.at; read = ((reading_within limit text).rest, begins limit text m reads.0.0, more.read); left = more.left; end = rw exits more.end }
 
   pub brought_open : (events : List Event) (text : List ℕ) (old new : Stream) → old.end ≡ None → old.remaining ≡ Some text → FoldsTo WakingGives old events new
-      → list_all is_open events ≡ true → Brought text (letters_in (filter_map came_in events)) new
+      → list_all is_open events ≡ true → Brought text (messages_in (filter_map came_in events)) new
   brought_open [] text old new unended known run still_open = record { at = text; read = refl; left = rw (sym run) known; end = rw (sym run) unended }
   brought_open (closed ∷ events) text old new unended known run still_open = absurd (cc (still_open))
   brought_open (message m ∷ events) text old new unended known run still_open =
@@ -131,7 +131,7 @@ module _ (limit : ℕ) where
       at (Some end) gives = cc (gives.0)
   no_timeout (event ∷ earlier) old new run = no_timeout earlier run.0 new run.2
 
--- what is written of messages where the write of the last one failed
+-- what is written of messages if the write of the last one failed
 abbrev pub GetsPart : WriteFault → List Message → Option (List ℕ) → Option (List ℕ) → Type 0
 GetsPart (Output kind) ms old new = (whole : List Message) × (last : Message) × (ms ≡ whole ++ last ∷ []) × GetsFramesAndPart whole last old new
 GetsPart NoMemory ms old new = GetsAllButLast ms old new
@@ -171,42 +171,42 @@ module _ {W : Type 0} (contents : W → Option (List ℕ)) where
       pick None both = (took both.0, both.1)
       pick (Some f) part = (lost, part)
 
-  module _ (old new : FrameOutbox W) (output : List Message) (null : Option Message) (unfailed : old.fault ≡ None) where
-    -- the output is written, or a part of it where a write failed
+  module _ (old new : FrameOutbox W) (output : List Message) (shutdown_reply : Option Message) (unfailed : old.fault ≡ None) where
+    -- the output is written, or a part of it if a write failed
     abbrev pub IsWritten : Stop → Type 0
     IsWritten stop =
-        MatchOption new.fault (NotRefused stop × GetsFrames (all_of output null) (at old) (at new)) (λ f. IsUnsent stop null × GetsPart f (all_of output null) (at old) (at new))
+        MatchOption new.fault (NotRefused stop × GetsFrames (all_of output shutdown_reply) (at old) (at new)) (λ f. IsUnsent stop shutdown_reply × GetsPart f (all_of output shutdown_reply) (at old) (at new))
 
-    taken_written : (stop : Stop) (mid : FrameOutbox W) → FoldsTo (Takes (FrameOutboxSends contents)) old output mid → OffersLast (FrameOutboxSends contents) mid null new
-        → MatchOption new.fault (Unit {0} × GetsFrames (all_of output null) (at old) (at new)) (λ f. IsUnsent stop null × GetsPart f (all_of output null) (at old) (at new))
-    taken_written stop mid taken offers = last null offers
+    taken_written : (stop : Stop) (mid : FrameOutbox W) → FoldsTo (Takes (FrameOutboxSends contents)) old output mid → OffersLast (FrameOutboxSends contents) mid shutdown_reply new
+        → MatchOption new.fault (Unit {0} × GetsFrames (all_of output shutdown_reply) (at old) (at new)) (λ f. IsUnsent stop shutdown_reply × GetsPart f (all_of output shutdown_reply) (at old) (at new))
+    taken_written stop mid taken offers = last shutdown_reply offers
       where
         frames : (mid.fault ≡ None) × GetsFrames output (at old) (at mid)
         frames = taken_frames contents old output mid unfailed taken
 
-        last : (null : Option Message) → OffersLast (FrameOutboxSends contents) mid null new
-            → MatchOption new.fault (Unit {0} × GetsFrames (all_of output null) (at old) (at new)) (λ f. IsUnsent stop null × GetsPart f (all_of output null) (at old) (at new))
+        last : (shutdown_reply : Option Message) → OffersLast (FrameOutboxSends contents) mid shutdown_reply new
+            → MatchOption new.fault (Unit {0} × GetsFrames (all_of output shutdown_reply) (at old) (at new)) (λ f. IsUnsent stop shutdown_reply × GetsPart f (all_of output shutdown_reply) (at old) (at new))
         last None same = rw (same, frames.0) (tt, frames.1)
-        last (Some null) offers = sent_after output null (at old) (at mid) mid new offers.outcome frames.0 refl frames.1 offers.sent (λ e. tt) tt
+        last (Some shutdown_reply) offers = sent_after output shutdown_reply (at old) (at mid) mid new offers.outcome frames.0 refl frames.1 offers.sent (λ e. tt) tt
 
-    refused_written : (fault : SendFault) → RefusesLast (FrameOutboxSends contents) old output fault new → null ≡ None → IsWritten (refused fault)
+    refused_written : (fault : SendFault) → RefusesLast (FrameOutboxSends contents) old output fault new → shutdown_reply ≡ None → IsWritten (refused fault)
     refused_written fault last none =
         let frames = taken_frames contents old last.0 last.2 unfailed last.4 in
         rw (none, last.3) (sent_after last.0 last.1 (at old) (at last.2) last.2 new (Err fault) frames.0 refl frames.1 last.5 (λ e. cc (e)) tt)
 
-    pub gets_written : (stop : Stop) → Gets (FrameOutboxSends contents) old output null stop new → IsWritten stop
+    pub gets_written : (stop : Stop) → Gets (FrameOutboxSends contents) old output shutdown_reply stop new → IsWritten stop
     gets_written (refused fault) got = refused_written fault got.0 got.1
     gets_written stop got = taken_written stop got.0 got.1 got.2
 
-  last_keeps : (null : Option Message) (mid new : FrameOutbox W) → OffersLast (FrameOutboxSends contents) mid null new → new.writer.ghost_name ≡ mid.writer.ghost_name
+  last_keeps : (shutdown_reply : Option Message) (mid new : FrameOutbox W) → OffersLast (FrameOutboxSends contents) mid shutdown_reply new → new.writer.ghost_name ≡ mid.writer.ghost_name
   last_keeps None mid new same = ap (λ (o : FrameOutbox W). o.writer.ghost_name) same
-  last_keeps (Some null) mid new offers = offers.sent.1
+  last_keeps (Some shutdown_reply) mid new offers = offers.sent.1
 
   -- an outbox keeps the writer that it was lent
-  pub gets_keeps : (old new : FrameOutbox W) (output : List Message) (null : Option Message) (stop : Stop) → Gets (FrameOutboxSends contents) old output null stop new
+  pub gets_keeps : (old new : FrameOutbox W) (output : List Message) (shutdown_reply : Option Message) (stop : Stop) → Gets (FrameOutboxSends contents) old output shutdown_reply stop new
       → new.writer.ghost_name ≡ old.writer.ghost_name
-  gets_keeps old new output null (refused fault) got = got.0.5.1 ∙ taken_keeps contents old got.0.0 got.0.2 got.0.4
-  gets_keeps old new output null stop got = last_keeps null got.0 new got.2 ∙ taken_keeps contents old output got.0 got.1
+  gets_keeps old new output shutdown_reply (refused fault) got = got.0.5.1 ∙ taken_keeps contents old got.0.0 got.0.2 got.0.4
+  gets_keeps old new output shutdown_reply stop got = last_keeps shutdown_reply got.0 new got.2 ∙ taken_keeps contents old output got.0 got.1
 
 -- the answer of a session in which an allocation failed
 pub ran_out_answer : (answer : SessionAnswer) → ran_out answer ≡ true → answer ≡ Err out_of_memory
@@ -225,9 +225,9 @@ module _ (limit : ℕ) where
   unread_at fault at is = ap (λ o. record { outcome = o; rest = (reading_within limit at).rest }) is
 
   -- what is left, and what was written
-  module _ (null : Option Message) (sends : List Message) (a b : Option (List ℕ)) where
+  module _ (shutdown_reply : Option Message) (sends : List Message) (a b : Option (List ℕ)) where
     abbrev Ended : Option (List ℕ) → Result SessionEnd SessionFault → SessionAnswer → Stop → List ℕ → Type 0
-    Ended left result answer stop at = Ends limit left result answer stop null at × Wrote a b result stop null sends
+    Ended left result answer stop at = Ends limit left result answer stop shutdown_reply at × Wrote a b result stop shutdown_reply sends
 
     module _ (wrote : GetsFrames sends a b) where
       -- a session that came to its end
@@ -242,10 +242,10 @@ module _ (limit : ℕ) where
           → Ended left (read_answer answer end) answer exhausted at
       exhausted_ends answer ran end left at stops = rw (ran_out_answer answer ran, ran_out_gives end) (stops, inl wrote)
 
-      module _ (answer : SessionAnswer) (letters : List Message) where
-        module _ (text : List ℕ) (new : Stream) (brought : Brought limit text letters new) where
+      module _ (answer : SessionAnswer) (messages : List Message) where
+        module _ (text : List ℕ) (new : Stream) (brought : Brought limit text messages new) where
           -- a message decided
-          decided_ends : Facts decided letters answer → (goes : Bool) → list_all is_no_exit letters ≡ goes
+          decided_ends : Facts decided messages answer → (goes : Bool) → list_all is_no_exit messages ≡ goes
               → Ended new.remaining (read_answer answer new.end) answer decided brought.at
           decided_ends facts false exits = rw (brought.end, exits) (plain_ends answer new.remaining decided brought.at facts.0 brought.left)
           decided_ends facts true none = at (came_to_no_more answer) refl
@@ -255,7 +255,7 @@ module _ (limit : ℕ) where
               at true is = absurd (true≢false (sym none ∙ facts.1 is))
 
           -- as many were taken as can be counted
-          many_ends : Facts no_more letters answer → Ended new.remaining (read_answer answer new.end) answer no_more brought.at
+          many_ends : Facts no_more messages answer → Ended new.remaining (read_answer answer new.end) answer no_more brought.at
           many_ends facts = rw (brought.end, facts.2, facts.1) ((refl, rw brought.left (frame_unread body_means limit brought.at)), wrote)
 
         fault_ends : (fault : ReadFault) (left : Option (List ℕ)) (at : List ℕ) → Answers (λ (m : Message). m) (Err fault) left (reading_within limit at)
@@ -265,7 +265,7 @@ module _ (limit : ℕ) where
         fault_ends fault left at answers = ((refl, (reading_within limit at).rest, unread_at fault at answers.0, answers.1), wrote)
 
         -- no more came
-        closed_ends : Facts no_more letters answer → (end : Option ReadEnd) (left : Option (List ℕ)) (at : List ℕ) → StreamReads limit (Some at) closed end left
+        closed_ends : Facts no_more messages answer → (end : Option ReadEnd) (left : Option (List ℕ)) (at : List ℕ) → StreamReads limit (Some at) closed end left
             → Ended left (read_answer answer end) answer no_more at
         closed_ends facts None left at reads = absurd reads
         closed_ends facts (Some End) left at reads = plain_ends answer left no_more at facts.0
@@ -293,13 +293,13 @@ module _ (limit : ℕ) where
   module _ (text : List ℕ) (old new : Stream) (unended : old.end ≡ None) (known : old.remaining ≡ Some text)
       (events : List Event) (run : FoldsTo (WakingGives limit) old events new) where
     -- what was left when an inbox told that no more come
-    pub record ClosedAt (letters : List Message) : Type 0 where
+    pub record ClosedAt (messages : List Message) : Type 0 where
       pub at : List ℕ
-      pub read : BeginsWith limit text letters at
+      pub read : BeginsWith limit text messages at
       pub reads : StreamReads limit (Some at) closed new.end new.remaining
 
     closed_at : (earlier : List Event) (came : List (Option Message)) → events ≡ earlier ++ closed ∷ [] → list_all is_open earlier ≡ true → filter_map came_in events ≡ came
-        → list_all is_no_exit (letters_in came) ≡ true → ClosedAt (letters_in came)
+        → list_all is_no_exit (messages_in came) ≡ true → ClosedAt (messages_in came)
     closed_at earlier came cut still_open brings no_exit =
         let last = last_event earlier closed old new (rw cut at run) in
         let same : filter_map came_in earlier ≡ came = rw (sym brings, cut, filter_map-append came_in earlier (closed ∷ []), append-nil) refl in
@@ -307,36 +307,36 @@ module _ (limit : ℕ) where
         let unended' : last.0.end ≡ None = rw (brought.end, no_exit) refl in
         record { at = brought.at; read = brought.read; reads = rw (unended', brought.left) at last.2 }
 
-    open_brought : (came : List (Option Message)) → filter_map came_in events ≡ came → list_all is_open events ≡ true → Brought limit text (letters_in came) new
+    open_brought : (came : List (Option Message)) → filter_map came_in events ≡ came → list_all is_open events ≡ true → Brought limit text (messages_in came) new
     open_brought came brings still_open = rw brings at (brought_open limit events text old new unended known run still_open)
 
-    open_within : (letters : List Message) → Brought limit text letters new → (at : List ℕ) × BeginsWith limit text letters at × StopsWithin new.remaining (reading_within limit at)
-    open_within letters brought = (brought.at, brought.read, rw brought.left (frame_unread body_means limit brought.at))
+    open_within : (messages : List Message) → Brought limit text messages new → (at : List ℕ) × BeginsWith limit text messages at × StopsWithin new.remaining (reading_within limit at)
+    open_within messages brought = (brought.at, brought.read, rw brought.left (frame_unread body_means limit brought.at))
 
-    -- the letters that were used, and what is left after them
-    pub left_within : (came : List (Option Message)) (stop : Stop) (answer : SessionAnswer) → Brings events came stop → Facts stop (letters_in came) answer
-        → (at : List ℕ) × BeginsWith limit text (letters_in came) at × StopsWithin new.remaining (reading_within limit at)
+    -- the messages that were used, and what is left after them
+    pub left_within : (came : List (Option Message)) (stop : Stop) (answer : SessionAnswer) → Brings events came stop → Facts stop (messages_in came) answer
+        → (at : List ℕ) × BeginsWith limit text (messages_in came) at × StopsWithin new.remaining (reading_within limit at)
     left_within came no_more answer brought facts = elim brought.1 [
       | inl last ↦ let closed' = closed_at last.0 came last.1 last.2 brought.0 facts.2 in (closed'.at, closed'.read, reads_within closed'.at new.end new.remaining closed'.reads)
-      | inr many ↦ open_within (letters_in came) (open_brought came brought.0 many.1)
+      | inr many ↦ open_within (messages_in came) (open_brought came brought.0 many.1)
     ]
     left_within came timed_out answer brought facts = absurd (no_timeout limit brought.1.0 old new (rw brought.1.1 at run))
     left_within came exhausted answer (None, brought, still_open) facts =
-        let all = open_within (letters_in (came ++ None ∷ [])) (open_brought (came ++ None ∷ []) brought still_open) in
-        let same : letters_in (came ++ None ∷ []) ≡ letters_in came = filter_map-append (λ (c : Option Message). c) came (None ∷ []) ∙ append-nil (letters_in came) in
-        subst (λ letters. (at : List ℕ) × BeginsWith limit text letters at × StopsWithin new.remaining (reading_within limit at)) same all
+        let all = open_within (messages_in (came ++ None ∷ [])) (open_brought (came ++ None ∷ []) brought still_open) in
+        let same : messages_in (came ++ None ∷ []) ≡ messages_in came = filter_map-append (λ (c : Option Message). c) came (None ∷ []) ∙ append-nil (messages_in came) in
+        subst (λ messages. (at : List ℕ) × BeginsWith limit text messages at × StopsWithin new.remaining (reading_within limit at)) same all
     left_within came exhausted answer (Some next, brought, still_open) facts =
         let all = open_brought (came ++ Some next ∷ []) brought still_open in
-        let read = subst (λ letters. BeginsWith limit text letters all.at) (filter_map-append (λ (c : Option Message). c) came (Some next ∷ [])) all.read in
-        let parts = FoldsTo-split (Begins limit) (letters_in came) (next ∷ []) text all.at read in
+        let read = subst (λ messages. BeginsWith limit text messages all.at) (filter_map-append (λ (c : Option Message). c) came (Some next ∷ [])) all.read in
+        let parts = FoldsTo-split (Begins limit) (messages_in came) (next ∷ []) text all.at read in
         let after : (reading_within limit parts.0).rest ≡ all.at = ap (λ (r : Reading Message). r.rest) parts.2.1 ∙ parts.2.2 in
         (parts.0, parts.1, ([], rw after all.left))
-    left_within came stop answer brought facts = open_within (letters_in came) (open_brought came brought.0 brought.1)
+    left_within came stop answer brought facts = open_within (messages_in came) (open_brought came brought.0 brought.1)
 
-    module _ (came : List (Option Message)) (null : Option Message) (answer : SessionAnswer) where
-      -- what is left where a write or an allocation failed
-      pub left_after : (stop : Stop) → Brings events came stop → Facts stop (letters_in came) answer
-          → (at : List ℕ) × BeginsWith limit text (letters_in came) at × LeftWithin limit stop at new.remaining
+    module _ (came : List (Option Message)) (shutdown_reply : Option Message) (answer : SessionAnswer) where
+      -- what is left if a write or an allocation failed
+      pub left_after : (stop : Stop) → Brings events came stop → Facts stop (messages_in came) answer
+          → (at : List ℕ) × BeginsWith limit text (messages_in came) at × LeftWithin limit stop at new.remaining
       left_after decided brought facts = let all = open_brought came brought.0 brought.1 in (all.at, all.read, all.left)
       left_after (refused fault) brought facts = let all = open_brought came brought.0 brought.1 in (all.at, all.read, all.left)
       left_after no_more brought facts = left_within came no_more answer brought facts
@@ -345,18 +345,18 @@ module _ (limit : ℕ) where
 
       -- no write failed
       pub stop_ends : (sends : List Message) (a b : Option (List ℕ)) → GetsFrames sends a b → (stop : Stop) → Brings events came stop → NotRefused stop
-          → Facts stop (letters_in came) answer
-          → (at : List ℕ) × BeginsWith limit text (letters_in came) at × Ended null sends a b new.remaining (read_answer answer new.end) answer stop at
+          → Facts stop (messages_in came) answer
+          → (at : List ℕ) × BeginsWith limit text (messages_in came) at × Ended shutdown_reply sends a b new.remaining (read_answer answer new.end) answer stop at
       stop_ends sends a b wrote decided brought taken facts =
           let all = open_brought came brought.0 brought.1 in
-          (all.at, all.read, decided_ends null sends a b wrote answer (letters_in came) text new all facts (list_all is_no_exit (letters_in came)) refl)
+          (all.at, all.read, decided_ends shutdown_reply sends a b wrote answer (messages_in came) text new all facts (list_all is_no_exit (messages_in came)) refl)
       stop_ends sends a b wrote no_more brought taken facts = elim brought.1 [
         | inl last ↦ let closed' = closed_at last.0 came last.1 last.2 brought.0 facts.2 in
-            (closed'.at, closed'.read, closed_ends null sends a b wrote answer (letters_in came) facts new.end new.remaining closed'.at closed'.reads)
-        | inr many ↦ let all = open_brought came brought.0 many.1 in (all.at, all.read, many_ends null sends a b wrote answer (letters_in came) text new all facts)
+            (closed'.at, closed'.read, closed_ends shutdown_reply sends a b wrote answer (messages_in came) facts new.end new.remaining closed'.at closed'.reads)
+        | inr many ↦ let all = open_brought came brought.0 many.1 in (all.at, all.read, many_ends shutdown_reply sends a b wrote answer (messages_in came) text new all facts)
       ]
       stop_ends sends a b wrote timed_out brought taken facts = absurd (no_timeout limit brought.1.0 old new (rw brought.1.1 at run))
       stop_ends sends a b wrote (refused fault) brought taken facts = absurd taken
       stop_ends sends a b wrote exhausted brought taken facts =
           let left = left_within came exhausted answer brought facts in
-          (left.0, left.1, exhausted_ends null sends a b wrote answer facts new.end new.remaining left.0 left.2)
+          (left.0, left.1, exhausted_ends shutdown_reply sends a b wrote answer facts new.end new.remaining left.0 left.2)

@@ -4,7 +4,7 @@ use Rattle.lsp_message.specs.Message.{Message}
 use Rattle.lsp_session.specs.Account.{Act, gave, took, lost}
 use Rattle.lsp_session.specs.Answered.{RepliesToEach, requests_of}
 use Rattle.lsp_session.specs.Event.{message}
-use Rattle.lsp_session.specs.Session.{Behavior, Exchange, letters_of, sends_of, Phase, starting, ended, Steps}
+use Rattle.lsp_session.specs.Session.{Behavior, Exchange, messages_of, sends_of, Phase, starting, ended, Steps}
 
 -- A client by its own rule: whether it sends on, or closes, after it sent these messages and got those. Otherwise it waits for more.
 abbrev pub Client : Type 0
@@ -25,10 +25,10 @@ WaitsForReplies goes_on = (sent got : List Message) → RepliesToEach (requests_
 
 -- something is awaited in the phase
 abbrev pub awaits : Phase → Type 0
-awaits (ended null answer) = ⊥
+awaits (ended shutdown_reply answer) = ⊥
 awaits phase = Unit {0}
 
--- The client waits for what the session says for its messages, and for nothing else: once it got all of that, it goes on.
+-- The client waits for what the session sends for its messages, and for nothing else: once it got all of that, it goes on.
 abbrev pub WaitsForItsDue : {S : Type 0} → Behavior S → S → Client → Type 0
 WaitsForItsDue may s goes_on = (exchanges : List Exchange) (phase : Phase) (s' : _) → Steps may starting s exchanges phase s' → awaits phase
-    → goes_on (letters_of exchanges) (sends_of exchanges) ≡ true
+    → goes_on (messages_of exchanges) (sends_of exchanges) ≡ true

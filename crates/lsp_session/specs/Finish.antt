@@ -51,7 +51,7 @@ module _ {G I : Type 0} (asks : G → Bool → G → Type 0) (receives : Receive
     pub awaits : Awaits turns answer
 
   module _ {O : Type 0} (sends : Sends O) where
-    -- The result is offered first. Where the outbox refuses it, no gate is asked and nothing is received.
+    -- The result is offered first. If the outbox refuses it, no gate is asked and nothing is received.
     abbrev pub FinishesWithin : ℕ → Message → G × I × O → Option FinishAnswer → G × I × O → Type 0
     FinishesWithin limit reply old answer new =
         (Takes sends old.2 reply new.2 × AwaitsWithin limit (old.0, old.1) answer (new.0, new.1))

@@ -17,8 +17,8 @@ module _ {H : Type 0} where
   abbrev pub lent_handler : (H → Id → List ℕ → Data → Result Data ErrorObject → H → Type 0) → (H → List ℕ → Data → H → Type 0) → Behavior (HandlerService H)
   lent_handler answers notes = record {
     initializes = λ old params outcome new. (outcome ≡ Ok (initialize_result (view old.capabilities.now))) × KeepsHandler old new;
-    opens = λ old said new. (said ≡ []) × KeepsHandler old new;
-    gives = λ old m said new. Handles answers notes old.handler.now m said new.handler.now × (new.handler.ghost_name ≡ old.handler.ghost_name);
-    wakes = λ old said new. (said ≡ []) × KeepsHandler old new;
-    starves = KeepsHandler;
+    at_initialized = λ old sent new. (sent ≡ []) × KeepsHandler old new;
+    outputs = λ old m sent new. Handles answers notes old.handler.now m sent new.handler.now × (new.handler.ghost_name ≡ old.handler.ghost_name);
+    wakes = λ old sent new. (sent ≡ []) × KeepsHandler old new;
+    after_memory_fault = KeepsHandler;
   }

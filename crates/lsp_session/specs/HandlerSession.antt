@@ -17,12 +17,12 @@ module _ {H : Type 0} (answers : H → Id → List ℕ → Data → Result Data 
   Handles old (notification method params) replies new = notes old method params new × (replies ≡ [])
   Handles old (response i outcome) replies new = (new ≡ old) × (replies ≡ [])
 
-  -- `initialize` is answered with the capabilities, and nothing is said to `initialized` or at a wake. These leave the handler alone.
+  -- `initialize` is answered with the capabilities, and nothing is sent at `initialized` or at a wake. These leave the handler alone.
   abbrev pub of_handler : Data → Behavior H
   of_handler capabilities = record {
     initializes = λ old params outcome new. (outcome ≡ Ok (initialize_result capabilities)) × (new ≡ old);
-    opens = λ old said new. (said ≡ []) × (new ≡ old);
-    gives = Handles;
-    wakes = λ old said new. (said ≡ []) × (new ≡ old);
-    starves = λ old new. new ≡ old;
+    at_initialized = λ old sent new. (sent ≡ []) × (new ≡ old);
+    outputs = Handles;
+    wakes = λ old sent new. (sent ≡ []) × (new ≡ old);
+    after_memory_fault = λ old new. new ≡ old;
   }

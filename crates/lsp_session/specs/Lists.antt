@@ -13,12 +13,12 @@ TakesUpToRoom room room' old message (Ok done) new = (length old < room) × (new
 TakesUpToRoom room room' old message (Err (Closed back)) new = (room ≤ length old) × (new ≡ old) × (room' ≡ room)
 TakesUpToRoom room room' old message (Err (Memory back)) new = (length old < room) × (new ≡ old) × (room' ≡ room)
 
--- the first event comes, and `closed` where none is left
+-- the first event comes, and `closed` if none is left
 abbrev pub GivesNext : List Event → Event → List Event → Type 0
 GivesNext [] event new = (event ≡ closed) × (new ≡ [])
 GivesNext (first ∷ rest) event new = (event ≡ first) × (new ≡ rest)
 
--- the first answer comes, and `false` where none is left
+-- the first answer comes, and `false` if none is left
 abbrev pub AnswersNext : List Bool → Bool → List Bool → Type 0
 AnswersNext [] answer new = (answer ≡ false) × (new ≡ [])
 AnswersNext (first ∷ rest) answer new = (answer ≡ first) × (new ≡ rest)

@@ -19,7 +19,7 @@ abbrev pub MayEnd : {L : Type 0} → (L → ReadFault → Type 0) → L → Opti
 MayEnd ends l (Some (Fault fault)) = ends l fault
 MayEnd ends l end = ⊥
 
--- A call ended the messages at a content part that is no message only where the listener may end them.
+-- A call ended the messages at a content part that is no message only if the listener may end them.
 abbrev pub EndsAtBody : {R L : Type 0} → (L → ReadFault → Type 0) → TolerantInbox R L → TolerantInbox R L → Type 0
 EndsAtBody ends old new = ended_at_body new.end ≡ true → (new.end ≡ old.end) ⊎ MayEnd ends old.listener.now new.end
 

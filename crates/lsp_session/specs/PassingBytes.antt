@@ -14,7 +14,7 @@ use Rattle.lsp_session.specs.Passing.{is_of_body}
 abbrev pub PassesNothingOver : {L : Type 0} → (L → ReadFault → L → Type 0) → Type 0
 PassesNothingOver {L} hears = (old : L) (fault : ReadFault) (new : L) → hears old fault new → ⊥
 
--- of a text and a listener, where content parts have at most so many bytes
+-- of a text and a listener, if content parts have at most so many bytes
 module _ {L : Type 0} (hears : L → ReadFault → L → Type 0) (limit : ℕ) where
   -- The text begins with a content part that is no message. The listener hears its fault, and what follows it is left.
   abbrev pub PassesOver : List ℕ × L → List ℕ × L → Type 0
@@ -35,4 +35,4 @@ module _ {L : Type 0} (hears : L → ReadFault → L → Type 0) (limit : ℕ) w
   -- the same is said as of a session that passes over nothing.
   abbrev pub GivesAndTells : SessionPart → List ℕ → Option (List ℕ) → L → L → Option (List ℕ) → Option (List ℕ) → Result SessionEnd SessionFault → Type 0
   GivesAndTells P text left first last before after result =
-      SessionOver ReadsFrame P (text, first) (λ answer stop null at. Ends limit left result answer stop null at.0 × HearsLast stop at last) (Wrote before after result)
+      SessionOver ReadsFrame P (text, first) (λ answer stop shutdown_reply at. Ends limit left result answer stop shutdown_reply at.0 × HearsLast stop at last) (Wrote before after result)

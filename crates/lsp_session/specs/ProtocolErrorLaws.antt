@@ -1,4 +1,4 @@
--- Two protocol errors are equal where their texts and their flags are: an equivalence.
+-- Two protocol errors are equal if their texts and their flags are: an equivalence.
 use Rattle.std.specs.Bool.{beq}
 use Rattle.std.specs.Cmp.{IsEquivalence, bool_eq_equiv, booleans_Decides}
 use Rattle.std.specs.Prelude.{◌≡◌, Bool, true, false, ◌&&◌}

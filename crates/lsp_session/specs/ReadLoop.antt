@@ -2,7 +2,7 @@
 use Rattle.std.specs.List.{FoldsTo}
 use Rattle.std.specs.Prelude.{◌≡◌, ℕ, List, Option, Some, Err}
 use Rattle.lsp_message.specs.Frame.{Begins, reading_within}
-use Rattle.lsp_message.specs.Letters.{PassesAll, Ending, exited, ended, failed, Letters}
+use Rattle.lsp_message.specs.Messages.{PassesAll, Ending, exited, ended, failed, Messages}
 use Rattle.lsp_message.specs.Message.{Message}
 use Rattle.lsp_message.specs.Reading.{StopsWithin}
 use Rattle.lsp_message.specs.declared.frame.ReadFault.TheVariants.{Input, Memory as NoMemory}
@@ -13,7 +13,7 @@ use Rattle.lsp_session.specs.declared.lifecycle.SendFault.TheVariants.{Closed as
 use Rattle.lsp_session.specs.declared.loops.ReadEnd.{ReadEnd}
 use Rattle.lsp_session.specs.declared.loops.ReadEnd.TheVariants.{Exit, End, Fault, Closed, Memory}
 
--- how reading ends where a message is refused
+-- how reading ends if a message is refused
 abbrev pub refused_end : SendFault → ReadEnd
 refused_end (IsClosed back) = Closed
 refused_end (IsFull back) = Memory
@@ -25,7 +25,7 @@ module _ {O : Type 0} (limit : ℕ) (sends : Sends O)
   pub record HandsAll (ending : Ending) : Type 0 where
     pub messages : List Message
     pub rest : List ℕ
-    pub letters : Letters limit text messages ending rest
+    pub of_text : Messages limit text messages ending rest
     pub taken : FoldsTo (Takes sends) old messages new
     pub unread : left ≡ Some rest
 

@@ -32,12 +32,12 @@ abbrev pub read_fault : ReadFault → SessionFault
 read_fault NoMemoryToRead = Memory
 read_fault fault = Read fault
 
--- where neither reading nor writing failed
+-- if neither reading nor writing failed
 abbrev pub plain_answer : SessionAnswer → Result SessionEnd SessionFault
 plain_answer (Ok end) = Ok end
 plain_answer (Err fault) = Err (protocol_fault fault)
 
--- where writing did not fail; where nothing ended the messages, a session that says so had taken as many as it can count
+-- if writing did not fail; if nothing ended the messages, a session that says so had taken as many as it can count
 abbrev pub read_answer : SessionAnswer → Option ReadEnd → Result SessionEnd SessionFault
 read_answer answer (Some (Fault fault)) = if ran_out answer then Err Memory else Err (read_fault fault)
 read_answer answer (Some end) = plain_answer answer

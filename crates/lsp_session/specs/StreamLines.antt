@@ -37,7 +37,7 @@ module _ {R W L : Type 0} where
   StreamLineGives remaining hears old event new =
       TolerantInboxGives remaining hears old.inbox event new.inbox × (new.outbox ≡ old.outbox) × (account_of new ≡ account_of old ++ gave event ∷ [])
 
-  -- A wait that also gives wakes ended the messages at a content part that is no message only where the listener may end them.
+  -- A wait that also gives wakes ended the messages at a content part that is no message only if the listener may end them.
   abbrev pub StreamLineListens : (L → ReadFault → Type 0) → StreamLine R W L → Event → StreamLine R W L → Type 0
   StreamLineListens ends old event new = EndsAtBody ends old.inbox new.inbox
 

@@ -11,7 +11,7 @@ use Rattle.lsp_session.specs.Event.{Event, message, closed}
 use Rattle.lsp_session.specs.declared.loops.ReadEnd.{ReadEnd}
 use Rattle.lsp_session.specs.declared.loops.ReadEnd.TheVariants.{Exit, End, Fault}
 
--- what is seen of an inbox over a reader: the bytes that it has left, where they are known, and what ended its messages
+-- what is seen of an inbox over a reader: the bytes that it has left, if they are known, and what ended its messages
 pub record Stream : Type 0 where
   pub remaining : Option (List ℕ)
   pub end : Option ReadEnd

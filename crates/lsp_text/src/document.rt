@@ -73,7 +73,7 @@ impl TextDocument {
         language_id
     }
 
-    /// The version, as the client counts it, where it gave one.
+    /// The version, as the client counts it, if it gave one.
     pub fn version(&self) -> Option<i32>
         ensures { result ≡ self.now.version }
     {
@@ -87,7 +87,7 @@ impl TextDocument {
         &self.text
     }
 
-    /// Makes the changes of one notification, each in the text that the one before it left. Where memory runs out, the document
+    /// Makes the changes of one notification, each in the text that the one before it left. If memory runs out, the document
     /// stays as it was. Without a change no memory is needed.
     pub fn change(
         &mut self,

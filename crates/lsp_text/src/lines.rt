@@ -6,7 +6,7 @@ ghost use Rattle.lsp_text.specs.Columns.{line_of};
 
 use std::alloc::{AllocError, Global};
 
-/// Whether a byte is the last one of what ends a line, where another one follows.
+/// Whether a byte is the last one of what ends a line, if another one follows.
 fn ends_line(byte: u8, next: u8) -> bool
     ensures { result ≡ is_ended byte next }
 {
@@ -128,7 +128,7 @@ pub fn starts_of(alloc: Global, text: &[u8]) -> Result<Vec<usize>, AllocError>
     Ok(starts)
 }
 
-/// Makes the starts of the lines of a text those of the text in which other bytes take the place of some. Where memory runs
+/// Makes the starts of the lines of a text those of the text in which other bytes take the place of some. If memory runs
 /// out, they stay as they were.
 pub fn replace_starts(
     alloc: Global,

@@ -118,7 +118,7 @@ impl Text {
         }
     }
 
-    /// Puts other text in the place of the bytes between two offsets, where no character is cut.
+    /// Puts other text in the place of the bytes between two offsets, if no character is cut.
     pub fn replace(
         &mut self,
         alloc: Global,

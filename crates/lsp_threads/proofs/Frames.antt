@@ -36,7 +36,7 @@ parcel_bytes-push sent text = parcel_bytes-append sent (parcel.Message text ∷ 
 pub parcel_bytes-end : (sent : List (Parcel (String Global))) → parcel_bytes (sent ++ parcel.End ∷ []) ≡ parcel_bytes sent
 parcel_bytes-end sent = parcel_bytes-append sent (parcel.End ∷ []) ∙ append-nil (parcel_bytes sent)
 
--- where no End was sent, texts were
+-- if no End was sent, texts were
 open_texts : (sent : List (Parcel (String Global))) → IsOpen sent → (texts : List (String Global)) × (sent ≡ map parcel.Message texts)
 open_texts [] still_open = ([], refl)
 open_texts (parcel.Message text ∷ rest) still_open = let more = open_texts rest still_open in (text ∷ more.0, ap (λ l. parcel.Message text ∷ l) more.1)
@@ -235,11 +235,11 @@ module _ (limit : ℕ) where
   module _ (text : List ℕ) (a b : Option (List ℕ)) (ms : List plain.Message) where
     -- all was written
     whole_pumped : (end : ReadEnd) → Told limit text end ms → GetsFrames ms a b → Pumps limit text a b (pump_answer end None)
-    whole_pumped Exit (rest, letters) frames = inl (record { messages = ms; rest = rest; letters = letters; written = frames })
-    whole_pumped End (rest, letters) frames = inr (record { messages = ms; rest = rest; letters = letters; written = frames })
+    whole_pumped Exit (rest, messages) frames = inl (record { messages = ms; rest = rest; of_text = messages; written = frames })
+    whole_pumped End (rest, messages) frames = inr (record { messages = ms; rest = rest; of_text = messages; written = frames })
     whole_pumped (Fault (Input kind)) (at, passed) frames = record { messages = ms; at = at; passed = passed; written = frames }
     whole_pumped (Fault NoMemoryToRead) (at, passed) frames = record { messages = ms; at = at; passed = passed; written = frames }
-    whole_pumped (Fault fault) (rest, letters) frames = record { messages = ms; rest = rest; letters = letters; written = frames }
+    whole_pumped (Fault fault) (rest, messages) frames = record { messages = ms; rest = rest; of_text = messages; written = frames }
     whole_pumped Closed told frames = absurd told
     whole_pumped Memory (at, passed) frames = record { messages = ms; at = at; passed = passed; written = frames }
 

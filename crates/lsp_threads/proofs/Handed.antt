@@ -3,7 +3,7 @@ use Rattle.std.proofs.Common.{◌≡◌, ℕ, Bool, true, false, List, [], ◌�
 use Rattle.std.specs.Bool.{MatchBool}
 use Rattle.std.specs.List.{FoldsTo}
 use Rattle.lsp_message.specs.Frame.{reading_within}
-use Rattle.lsp_message.specs.Letters.{Begins, PassesAll, is_exit, exited, ended, failed, Letters}
+use Rattle.lsp_message.specs.Messages.{Begins, PassesAll, is_exit, exited, ended, failed, Messages}
 use Rattle.lsp_message.specs.Message.{Message}
 use Rattle.lsp_message.specs.declared.frame.ReadFault.TheVariants.{Input, Memory as NoMemory}
 use Rattle.lsp_message.specs.declared.msg.Message as msg
@@ -14,7 +14,7 @@ use Rattle.lsp_session.specs.declared.loops.ReadEnd.{ReadEnd}
 use Rattle.lsp_session.specs.declared.loops.ReadEnd.TheVariants.{Exit, End, Fault, Closed, Memory}
 
 module _ (limit : ℕ) where
-  -- reading may end so at this text; where an outbox was full, nothing is said
+  -- reading may end so at this text; if an outbox was full, nothing is said
   abbrev pub EndsAt : List ℕ → ReadEnd → Type 0
   EndsAt text Exit = ⊥
   EndsAt text End = (rest : List ℕ) × (reading_within limit text ≡ record { outcome = Ok None; rest = rest })
@@ -50,11 +50,11 @@ module _ (limit : ℕ) where
 
   -- the same in the words of `pump`
   abbrev pub Told : List ℕ → ReadEnd → List Message → Type 0
-  Told text Exit ms = (rest : List ℕ) × Letters limit text ms exited rest
-  Told text End ms = (rest : List ℕ) × Letters limit text ms ended rest
+  Told text Exit ms = (rest : List ℕ) × Messages limit text ms exited rest
+  Told text End ms = (rest : List ℕ) × Messages limit text ms ended rest
   Told text (Fault (Input kind)) ms = (at : List ℕ) × PassesAll limit text ms at
   Told text (Fault NoMemory) ms = (at : List ℕ) × PassesAll limit text ms at
-  Told text (Fault fault) ms = (rest : List ℕ) × Letters limit text ms (failed fault) rest
+  Told text (Fault fault) ms = (rest : List ℕ) × Messages limit text ms (failed fault) rest
   Told text Closed ms = ⊥
   Told text Memory ms = (at : List ℕ) × PassesAll limit text ms at
 
@@ -76,11 +76,11 @@ module _ (limit : ℕ) where
     module _ (never : (old : O) (m : Message) (back : msg.Message) (new : O) → sends old m (Err (IsClosed back)) new → ⊥) (text : List ℕ) (old new : O) (left : Option (List ℕ)) where
       pub handed_on : (end : ReadEnd) → Hands limit sends text old new left end → HandedOn text old end new
       handed_on Exit h =
-          let l = h.letters in
+          let l = h.of_text in
           let reads : ReadsTo text Exit h.messages = rw l.3 (passed_then l.0 (l.1 ∷ []) text l.2 Exit l.4 (h.rest, l.5, rw l.6 (refl, refl))) in
           record { messages = h.messages; mid = new; taken = h.taken; after = refl; told = (h.rest, l); reads = reads }
       handed_on End h =
-          let l = h.letters in
+          let l = h.of_text in
           record { messages = h.messages; mid = new; taken = h.taken; after = refl; told = (h.rest, l); reads = passed_to h.messages text l.0 End l.1 (h.rest, l.2) }
       handed_on (Fault (Input kind)) h =
           let reads = passed_to h.messages text h.at (Fault (Input kind)) h.passed tt in
@@ -89,7 +89,7 @@ module _ (limit : ℕ) where
           let reads = passed_to h.messages text h.at (Fault NoMemory) h.passed tt in
           record { messages = h.messages; mid = new; taken = h.taken; after = refl; told = (h.at, h.passed); reads = reads }
       handed_on (Fault fault) h =
-          let l = h.letters in
+          let l = h.of_text in
           record { messages = h.messages; mid = new; taken = h.taken; after = refl; told = (h.rest, l); reads = passed_to h.messages text l.0 (Fault fault) l.1 (h.rest, l.2) }
       handed_on Closed h = absurd (never h.mid h.next h.back new h.refused)
       handed_on Memory h =

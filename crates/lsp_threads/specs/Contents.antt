@@ -68,7 +68,7 @@ module _ (limit : ℕ) where
   abbrev pub BeginsWithContent : List ℕ → List ℕ → List ℕ → Type 0
   BeginsWithContent text content rest = content_within limit text ≡ record { outcome = Ok (Some content); rest = rest }
 
-  -- The text begins with frames of these content parts, messages or not, and reading stopped so after them: by `Exit` only where the last
+  -- The text begins with frames of these content parts, messages or not, and reading stopped so after them: by `Exit` only if the last
   -- one is `exit`.
   abbrev pub ReadsContents : List ℕ → ReadEnd → List (List ℕ) → Type 0
   ReadsContents text end [] = StopsAt text end
@@ -173,7 +173,7 @@ abbrev pub CountsWakes : Event → ℕ → ℕ → Type 0
 CountsWakes woken old new = new ≤ old + 1
 CountsWakes event old new = new ≡ old
 
--- A wait for wakes too passes over none, and the messages end at a content part that is no message only where the listener may end them.
+-- A wait for wakes too passes over none, and the messages end at a content part that is no message only if the listener may end them.
 abbrev pub ContentsListen : {L : Type 0} → (L → ReadFault → Type 0) → Receiving × L → Event → Receiving × L → Type 0
 ContentsListen ends old event new =
     CountsWakes event old.0.wakes new.0.wakes × (ended_at_body new.0.end ≡ true → (new.0.end ≡ old.0.end) ⊎ MayEnd ends old.1 new.0.end)

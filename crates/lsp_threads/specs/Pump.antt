@@ -2,7 +2,7 @@
 use Rattle.std.specs.Io.KnownBytes.{Keeps}
 use Rattle.std.specs.Prelude.{◌⊎◌, ℕ, List, Option, Some, None, Result, Ok, Err, codes}
 use Rattle.lsp_message.specs.Faults.{read_fault_text, write_fault_text}
-use Rattle.lsp_message.specs.Letters.{Begins, PassesAll, Ending, exited, ended, failed, Letters}
+use Rattle.lsp_message.specs.Messages.{Begins, PassesAll, Ending, exited, ended, failed, Messages}
 use Rattle.lsp_message.specs.Message.{Message}
 use Rattle.lsp_message.specs.Written.{GetsFrames, GetsFramesAndPart}
 use Rattle.lsp_message.specs.declared.frame.ReadFault.TheVariants.{Input, Memory}
@@ -21,7 +21,7 @@ module _ (limit : ℕ) (text : List ℕ) (old new : Option (List ℕ)) where
   pub record PassesOn (ending : Ending) : Type 0 where
     pub messages : List Message
     pub rest : List ℕ
-    pub letters : Letters limit text messages ending rest
+    pub of_text : Messages limit text messages ending rest
     pub written : GetsFrames messages old new
 
   -- the writer got frames of the first messages of the text, in order

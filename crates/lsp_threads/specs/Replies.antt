@@ -36,7 +36,7 @@ abbrev pub IsWhole : Stop → Type 0
 IsWhole (refused fault) = ⊥
 IsWhole stop = Unit {0}
 
--- For private clauses: what the writer got of all that was sent, by the first fault. Where there is none, no message was refused.
+-- For private clauses: what the writer got of all that was sent, by the first fault. If there is none, no message was refused.
 abbrev pub WritesReplies : Stop → List plain.Message → Option WriteFault → Option (List ℕ) → Option (List ℕ) → Type 0
 WritesReplies stop sends None old new = IsWhole stop × GetsFrames sends old new
 WritesReplies stop sends (Some (Output kind)) old new = BreaksOffWithin sends old new

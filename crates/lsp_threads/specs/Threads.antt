@@ -31,14 +31,14 @@ ReadsOrWakes wakeable limit text None rest = (wakeable ≡ true) × (rest ≡ te
 
 -- For what a session in threads answers: as one over bytes ends, whatever is left of the text, since the reader is gone.
 abbrev pub EndsInThreads : ℕ → Result SessionEnd SessionFault → SessionAnswer → Stop → Option Message → List ℕ → Type 0
-EndsInThreads limit result answer stop null at = (left : Option (List ℕ)) × Ends limit left result answer stop null at
+EndsInThreads limit result answer stop shutdown_reply at = (left : Option (List ℕ)) × Ends limit left result answer stop shutdown_reply at
 
--- What the writer got of all that was sent: frames of it; or, where a write failed, frames of the first messages and a beginning of
--- the next; or, where an allocation failed, frames of the first messages.
+-- What the writer got of all that was sent: frames of it; or, if a write failed, frames of the first messages and a beginning of
+-- the next; or, if an allocation failed, frames of the first messages.
 abbrev pub WroteInThreads : Option (List ℕ) → Option (List ℕ) → Result SessionEnd SessionFault → Stop → Option Message → List Message → Type 0
-WroteInThreads old new (Err (Write fault)) stop null sends = IsOutput fault × BreaksOffWithin sends old new
-WroteInThreads old new (Err Memory) stop null sends = GetsFirst sends old new
-WroteInThreads old new result stop null sends = GetsFrames sends old new
+WroteInThreads old new (Err (Write fault)) stop shutdown_reply sends = IsOutput fault × BreaksOffWithin sends old new
+WroteInThreads old new (Err Memory) stop shutdown_reply sends = GetsFirst sends old new
+WroteInThreads old new result stop shutdown_reply sends = GetsFrames sends old new
 
 -- bytes in to bytes out, of a session that passes over nothing, and that others can wake or not
 abbrev pub ThreadsGiveOver : Bool → ℕ → SessionPart → List ℕ → Option (List ℕ) → Option (List ℕ) → Result SessionEnd SessionFault → Type 0
@@ -61,13 +61,13 @@ module _ (wakeable : Bool) {L : Type 0} (hears : L → ReadFault → L → Type 
   abbrev pub ThreadsTellOver : SessionPart → List ℕ → L → L → Option (List ℕ) → Option (List ℕ) → Result SessionEnd SessionFault → Type 0
   ThreadsTellOver P text first last old new result =
       SessionOver ReadsFrameOrWakes P (text, first)
-      (λ answer stop null at. EndsInThreads limit result answer stop null at.0 × HearsLast hears limit stop at last) (WroteInThreads old new result)
+      (λ answer stop shutdown_reply at. EndsInThreads limit result answer stop shutdown_reply at.0 × HearsLast hears limit stop at last) (WroteInThreads old new result)
 
 -- nobody can wake the session but for a content part that is passed over
 abbrev pub ThreadsTell : {L : Type 0} → (L → ReadFault → L → Type 0) → ℕ → SessionPart → List ℕ → L → L → Option (List ℕ) → Option (List ℕ) → Result SessionEnd SessionFault → Type 0
 ThreadsTell = ThreadsTellOver false
 
--- What ended the messages of a session whose inbox ended so, or took End so: a reader's end counts where the session came to it.
+-- What ended the messages of a session whose inbox ended so, or took End so: a reader's end counts if the session came to it.
 -- For private clauses.
 abbrev pub session_end : Option ReadEnd → Bool → ReadEnd → Option ReadEnd
 session_end (Some end) drained read = Some end

@@ -95,7 +95,7 @@ impl<R: Wait + Drop> ContentParts<R> {
         self.takes.go_on(&self.rt);
     }
 
-    /// Takes the parcels up to End, where End is not taken yet, and gives the relay's end back. From the first on, the thread that reads
+    /// Takes the parcels up to End, if End is not taken yet, and gives the relay's end back. From the first on, the thread that reads
     /// waits no more: not for what is unread, and not for a session that might go on.
     pub fn drain(self) -> RelayRx<Contents>
         ensures relay { result.relay ≡ self.relay }

@@ -120,7 +120,7 @@ pub fn deliver_text<R: Wait>(rt: &R, tx: &mut RelayTx<String>, text: String)
     }
 }
 
-/// Writes each text up to End, and those that wait together as one: it waits for a text only where it has written all that it took. After
+/// Writes each text up to End, and those that wait together as one: it waits for a text only if it has written all that it took. After
 /// a fault it writes nothing more, and drops the texts.
 pub fn write_texts<R: Wait, W: Write>(
     rt: &R,
@@ -167,7 +167,7 @@ fn next_parcel<R: Wait, M: Drop>(rt: &R, rx: &mut RelayRx<M>, waits: bool) -> Op
     }
 }
 
-/// Puts a text behind those that are not written. Where it can't join them, the others are written first, unless a write failed before.
+/// Puts a text behind those that are not written. If it can't join them, the others are written first, unless a write failed before.
 /// Gives what is left, and the first fault.
 fn gather<W: Write>(
     before: Option<WriteFault>,

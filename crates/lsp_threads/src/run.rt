@@ -130,7 +130,7 @@ where
 /// written while the service goes on.
 ///
 /// At a content part that is no message (see `lsp_session::is_of_body`) the listener `bad_bodies` is asked, at once and on your thread. Where
-/// it reads on, nothing is answered, the service is woken, and the next frame follows. That is so from `initialized` up to `shutdown`, where
+/// it reads on, nothing is answered, the service is woken, and the next frame follows. That is so from `initialized` up to `shutdown`, if
 /// a service can be woken. Where the listener ends the session, and before and after in any case, such a part is `SessionFault::Read`, and
 /// nothing more is read. So is each other fault of reading at any time. With `EndSession` nothing is ever passed over
 /// (`laws::nothing_is_passed_over_in_threads`). A handler's session reads on as the service `HandlerService`.

@@ -45,7 +45,7 @@ impl fmt::Display for StartFault {
 impl Error for StartFault {}
 
 /// What a thread that reads sends on a relay. The thread is started for any such type, since the check finds that it may own the end
-/// of its relay only where it need not look into the type.
+/// of its relay only if it need not look into the type.
 pub trait ReadsInto: Drop {
     ghost use Rattle.std.specs.Prelude.{ℕ, List};
     ghost use Rattle.lsp_relay.specs.Relay.{Sending};
@@ -55,7 +55,7 @@ pub trait ReadsInto: Drop {
     /// end is this then.
     ghost hands_on: { ℕ → List ℕ → Sending Self → read_end → Sending Self → Type 0 };
 
-    /// Sends the messages of a reader, whose content parts have at most `limit` bytes, and then End. Where `unread` is there, it waits
+    /// Sends the messages of a reader, whose content parts have at most `limit` bytes, and then End. If `unread` is there, it waits
     /// as that says.
     fn read_into<R: Wait + Drop, S: BufRead + Drop>(
         rt: R,

@@ -134,7 +134,7 @@ pub struct TextDocumentContentChangeEvent {
 pub struct DidSaveTextDocumentParams {
     /// The document that was saved.
     pub text_document: TextDocumentIdentifier,
-    /// Its text, where the server asked for it.
+    /// Its text, if the server asked for it.
     pub text: Option<String>,
 }
 

@@ -89,7 +89,7 @@ impl InsertTextFormat {
 #[derive(Drop, Serialize)]
 #[serde(rename_all = "camelCase")]
 pub struct CompletionItem {
-    /// What is shown, and inserted where nothing else is said.
+    /// What is shown, and inserted if nothing else is said.
     pub label: String,
     /// What it is.
     #[serde(skip_serializing_if = "Option::is_none")]

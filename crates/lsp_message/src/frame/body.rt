@@ -34,7 +34,7 @@ pub(crate) fn read_body<R: BufRead>(
     Err(ReadFault::Input(ErrorKind::Other))
 }
 
-/// Takes what the reader shows of the missing bytes. Is false where the input ended.
+/// Takes what the reader shows of the missing bytes. Is false if the input ended.
 fn take_part<R: BufRead>(
     reader: &mut R,
     missing: usize,

@@ -19,7 +19,7 @@ pub(crate) enum InPlace {
     AtEnd,
 }
 
-/// The next line, where the reader shows it whole. Otherwise nothing is taken.
+/// The next line, if the reader shows it whole. Otherwise nothing is taken.
 pub(crate) fn line_in_place<R: BufRead>(reader: &mut R) -> Result<InPlace, ReadFault>
     ensures exact { IfSome (R.remaining reader.old) (AnswersInPlace result (R.remaining reader.new)) }
     ensures begun { TakesFront (R.remaining reader.old) (R.remaining reader.new) }

@@ -43,7 +43,7 @@ pub fn write_as<T: Serialize>(
     }
 }
 
-/// The error to reply with where a conversion failed.
+/// The error to reply with if a conversion failed.
 fn fault(
     alloc: Global,
     code: ErrorCode,

@@ -38,7 +38,7 @@ fn is_plain(text: &str) -> bool
         .all(|&byte| byte >= b' ' && byte != b'"' && byte != b'\\')
 }
 
-// Adds a text in quotes, with JSON's escapes. Where there are none, it is copied once.
+// Adds a text in quotes, with JSON's escapes. If there are none, it is copied once.
 pub(super) fn push_quoted(out: &mut String, alloc: Global, text: &str) -> Result<(), AllocError>
     ensures { OnOk result (string_bytes out.new ≡ string_bytes out.old ++ compact_text (string text.now)) }
 {
@@ -112,7 +112,7 @@ fn push_id(out: &mut String, alloc: Global, before: &str, id: &RequestId) -> Res
     id.push_text(out, alloc)
 }
 
-// Adds a member after others, where there is a value.
+// Adds a member after others, if there is a value.
 fn push_later_member(
     out: &mut String,
     alloc: Global,
@@ -129,7 +129,7 @@ fn push_later_member(
     Ok(())
 }
 
-// Adds the params of a message, which are not written where they are null.
+// Adds the params of a message, which are not written if they are null.
 fn push_params(out: &mut String, alloc: Global, params: &Value) -> Result<(), AllocError>
     ensures { OnOk result (Adds (IsLaterMember (codes "params") (unless_null (Some (view params.now))))
         (string_bytes out.old) (string_bytes out.new)) }

@@ -34,9 +34,9 @@ pub fn session_that_asks_keeps_order<S: Service, L: Listener>()
 /// service was lent: what `session` says is so of each session that is run over such a service, and each request gets exactly one reply
 /// (`sessions::session_answers_requests`). So a handler's session can read on too.
 pub fn handler_service_runs_its_handler<H: Handler, L: Listener>()
-    ensures exchanges { (old new : ServiceOf H) (exchanges : List Exchange) (stop : Stop) (null : Option Message) (answer : SessionAnswer)
-        → SessionOut (lent_handler H.answers H.notes) old new exchanges stop null answer
-        → SessionOut (of_handler H.answers H.notes (view old.capabilities.now)) old.handler.now new.handler.now exchanges stop null answer }
+    ensures exchanges { (old new : ServiceOf H) (exchanges : List Exchange) (stop : Stop) (shutdown_reply : Option Message) (answer : SessionAnswer)
+        → SessionOut (lent_handler H.answers H.notes) old new exchanges stop shutdown_reply answer
+        → SessionOut (of_handler H.answers H.notes (view old.capabilities.now)) old.handler.now new.handler.now exchanges stop shutdown_reply answer }
     ensures bytes { (limit : ℕ) (old new : ServiceOf H) (text : List ℕ) (left : Option (List ℕ)) (first last : L) (before after : Option (List ℕ)) (answer : Result EndOfSession FaultOfSession)
         → GivesAndTells L.hears limit (SessionOut (lent_handler H.answers H.notes) old new) text left first last before after answer
         → GivesAndTells L.hears limit

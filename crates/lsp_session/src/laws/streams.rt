@@ -41,8 +41,8 @@ pub fn finish_over_reader<R: BufRead, O: Outbox>(
 /// and "Server lifecycle"): a fact of each session that `serve_line` ran over a `StreamLine`, whose answer is `StreamLine::answer`. The
 /// line keeps its reader, its writer and its listener.
 ///
-/// All that is said for a message is written before the next message is read: the result of `initialize` before `initialized`, and the
-/// null of `shutdown` before `exit`. So a client may wait for it before it sends on. That the writer is also flushed before the next
+/// All that is to be sent for a message is written before the next message is read: the result of `initialize` before `initialized`, and the
+/// reply to `shutdown` before `exit`. So a client may wait for it before it sends on. That the writer is also flushed before the next
 /// message is read is tested, and no part of the contract.
 pub fn line_gives_in_turn<R: BufRead, W: Write, L: Listener, S: Service>()
     ensures { (old new : S) (before after : LineOf R W L) (answer : SessionAnswer)

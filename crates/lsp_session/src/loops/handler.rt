@@ -25,7 +25,7 @@ pub enum SessionEnd {
 
 /// What a server does with the requests and the notifications of a session.
 ///
-/// The ghost members say what a handler promises. Where an `impl` leaves one out, it promises nothing there: the method may do anything.
+/// The ghost members say what a handler promises. If an `impl` leaves one out, it promises nothing there: the method may do anything.
 pub trait Handler {
     ghost use Rattle.serde_json.specs.Data.{Data};
     ghost use Rattle.std.specs.Prelude.{ℕ, Result, ⊤};
@@ -68,11 +68,11 @@ pub trait Handler {
 ///
 /// `initialize` is answered with `{"capabilities":<capabilities>}`. From `initialized` on each request is answered, in
 /// order, with what the handler gives, and each notification is told to it; a response is dropped. `shutdown` is answered
-/// with null, and `exit` then gives `ShutDown`. `Closed` comes where, from `initialized` on, `exit` comes without a
+/// with null, and `exit` then gives `ShutDown`. `Closed` comes if, from `initialized` on, `exit` comes without a
 /// `shutdown` or no more messages come. What comes at the wrong time is in the table of `lifecycle`.
 ///
 /// An outbox that is closed to a reply ends the session with `disconnected channel`, and an allocation that fails with
-/// `out of memory`; that the null could not be sent is ignored. After 2^64 - 1 events it ends as if no more messages came.
+/// `out of memory`; that this reply could not be sent is ignored. After 2^64 - 1 events it ends as if no more messages came.
 pub fn serve<I: Inbox, O: Outbox, H: Handler>(
     alloc: Global,
     inbox: &mut I,

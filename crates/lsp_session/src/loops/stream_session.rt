@@ -60,8 +60,8 @@ impl Error for SessionFault {}
 ///
 /// What follows the last message that the session used is left in the reader: what comes after the `exit` of a session
 /// that was shut down, for one. After a failed write that holds too, and all of the output but its last message was written,
-/// and a beginning of that one. Where memory ran out, the output's first messages were written, each whole. There, and where
-/// the null of `shutdown` was not written, the next message may have been taken too. Each reply is written, and the writer
+/// and a beginning of that one. If memory ran out, the output's first messages were written, each whole. There, and where
+/// the reply to `shutdown` was not written, the next message may have been taken too. Each reply is written, and the writer
 /// flushed, before the next message is read: that is tested, and no part of the contract.
 pub fn session<R: BufRead, W: Write, H: Handler>(
     alloc: Global,
@@ -99,8 +99,8 @@ pub fn session_within<R: BufRead, W: Write, H: Handler>(
 /// `serve_service` from bytes to bytes (LSP 3.17, "Base Protocol" and "Server lifecycle"), as `session` is `serve`, over messages whose
 /// content part has at most `limit` bytes. A longer one is `SessionFault::Read` of `ReadFault::TooLong`, and is unread.
 ///
-/// At a content part that is no message (see `is_of_body`) the listener `bad_bodies` is asked. Where it reads on, nothing is answered,
-/// the service is woken, and the next frame follows. That is so from `initialized` up to `shutdown`, where a service can be woken. Where
+/// At a content part that is no message (see `is_of_body`) the listener `bad_bodies` is asked. If it reads on, nothing is answered,
+/// the service is woken, and the next frame follows. That is so from `initialized` up to `shutdown`, if a service can be woken. Where
 /// the listener ends the session, and before and after in any case, such a part is `SessionFault::Read`, and so is each other fault at any
 /// time. With `EndSession` nothing is ever passed over (`laws::listeners::nothing_is_passed_over`). `TolerantInbox::receive_or_woken` asks
 /// the listener at each such part. That a session calls it from `initialized` up to `shutdown` is no part of this contract, since a reader
@@ -141,7 +141,7 @@ pub fn session_answer(
     }
 }
 
-/// The answer where writing did not fail. Where nothing ended the messages, a session that says that no more came had
+/// The answer if writing did not fail. If nothing ended the messages, a session that says that no more came had
 /// taken as many as it can count.
 fn read_answer(
     answer: Result<SessionEnd, ProtocolError>,
@@ -189,7 +189,7 @@ fn came_to_no_more(answer: &Result<SessionEnd, ProtocolError>) -> bool
     }
 }
 
-/// The fault where a message was not read.
+/// The fault if a message was not read.
 fn read_fault(fault: ReadFault) -> SessionFault
     ensures { result ≡ read_fault_spec fault }
 {
@@ -199,7 +199,7 @@ fn read_fault(fault: ReadFault) -> SessionFault
     }
 }
 
-/// The answer where neither reading nor writing failed.
+/// The answer if neither reading nor writing failed.
 fn plain_answer(answer: Result<SessionEnd, ProtocolError>) -> Result<SessionEnd, SessionFault>
     ensures { result ≡ plain_answer_spec answer }
 {

@@ -22,7 +22,7 @@ settle_all-requires g c =
 pub settle_all-requires-2 : goal.settle_all-requires-2
 settle_all-requires-2 g c =
     let runs = c.serve_service-answer.ensures in
-    let replied = all_replied _ _ runs.output runs.null runs.stop runs.got in
+    let replied = all_replied _ _ runs.output runs.shutdown_reply runs.stop runs.got in
     c.join-replies_rx.ensures.0 ∙ c.requires.writing.1
     ∙ sym (c.finish-replies.ensures.relay ∙ replied.same_relay ∙ ap (λ (r : Replying). r.relay) c.new-outbox.ensures)
 
