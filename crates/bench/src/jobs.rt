@@ -1,9 +1,10 @@
 //! A session whose requests are jobs, each of which gets its params back: what a job costs, and what more workers gain.
-use crate::threads::{Output, ended};
+use crate::threads::ended;
 use anyhow::Result;
 use lsp_jobs::{CancellationToken, Job, JobServer, PoolSize, Progress, Start, run_jobs};
 use lsp_server::{
-    Act, EndSession, Notification, Request, RequestId, ResponseError, Server, ThreadOptions,
+    Act, EndSession, Notification, Request, RequestId, ResponseError, Server, StandardOutput,
+    ThreadOptions,
 };
 use serde_json::{Map, Value, put};
 use std::alloc::{AllocError, Global};
@@ -124,7 +125,7 @@ where
     };
     let size = PoolSize::from(workers);
     let options = ThreadOptions::new();
-    let writer = Output(*rt);
+    let writer = StandardOutput::new(*rt);
     let done = run_jobs(
         rt,
         alloc,

@@ -27,38 +27,24 @@ mod sessions;
 mod sums;
 
 use anyhow::{Result, bail};
-use lsp_server::{SessionEnd, SessionFault};
+use lsp_server::{SessionEnd, SessionFault, StandardOutput};
 use server::Sums;
 use sessions::{serve, serve_in_threads, serve_with_jobs};
 use std::alloc::Global;
-use std::io::{BufReader, Write};
+use std::env;
+use std::io::BufReader;
 use std::net::{Net, TcpListener, TcpStream};
 use std::sync::Wait;
 use std::thread::Threads;
-use std::{env, io};
 
 /// How many bytes of the input are asked for at once.
 const READ_AHEAD: usize = 65536;
-
-/// Standard output, for a thread that writes.
-#[derive(Drop)]
-struct Output<R>(R);
-
-impl<R: Print> Write for Output<R> {
-    fn write(&mut self, buf: &[u8]) -> io::Result<usize> {
-        io::writer(&self.0).write(buf)
-    }
-
-    fn flush(&mut self) -> io::Result<()> {
-        io::writer(&self.0).flush()
-    }
-}
 
 fn main(rt: HostRuntime) -> Result<()> {
     let alloc: Global = rt.alloc();
     let words: Vec<String> = env::args(&rt)?.skip(1).collect(alloc)?;
     let mut reader = BufReader::with_capacity(alloc, READ_AHEAD, rt.reader())?;
-    let mut writer = Output(rt);
+    let mut writer = StandardOutput::new(rt);
     let answer = match words.as_slice() {
         [] => serve(alloc, &mut reader, &mut writer, Sums::new(alloc, false)).1,
         [word] if word.as_str() == "threads" => {

@@ -200,7 +200,7 @@ impl Sums {
         }))
     }
 
-    /// Asks for the configuration, where the client can be asked.
+    /// Asks for the configuration, if the client can be asked.
     fn ask_configuration(&self) -> Result<Acts, AllocError> {
         let mut acts = Vec::new(self.alloc);
         if self.configures {
@@ -247,7 +247,7 @@ impl Sums {
         Ok(acts)
     }
 
-    /// Shows what is wrong with each text that is open: nothing, where the text is lost.
+    /// Shows what is wrong with each text that is open: nothing, if the text is lost.
     fn mark_all(&self, acts: &mut Acts) -> Result<(), AllocError> {
         for (uri, kept) in self.documents.iter() {
             let told = match kept.document() {
@@ -260,7 +260,7 @@ impl Sums {
     }
 
     /// What the client is told after a notification that was not made: why, and no marks of a text that was lost by it. Each may
-    /// be, where no URI is named.
+    /// be, if no URI is named.
     fn complain(&self, missed: NotMade<'_>) -> Result<Acts, AllocError> {
         let mut acts = Vec::new(self.alloc);
         let fault = missed.fault;
@@ -312,7 +312,7 @@ impl Sums {
         Ok(Value::String(text))
     }
 
-    /// The document that params name, where its text is known.
+    /// The document that params name, if its text is known.
     fn document_in(&self, params: &Value) -> Option<&TextDocument> {
         self.documents.get(uri_in(params)?)
     }

@@ -200,7 +200,7 @@ fn sum_of(
     terms: &[Word],
 ) -> Result<Result<i64, Problem>, AllocError> {
     let mut sum: i64 = 0;
-    // The sign of the number that comes next. There is none where a sign is to come.
+    // The sign of the number that comes next. There is none if a sign is to come.
     let mut sign: Option<i64> = Some(1);
     let mut last = equals;
     for term in terms {

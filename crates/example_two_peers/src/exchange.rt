@@ -13,8 +13,10 @@ pub fn run_through(
     steps: Vec<Step>,
 ) -> Result<(World, Vec<Outcome>, bool), WorldFault>
     ensures { IfOk result (λ r. (history : List Event)
-        × (each (λ event. event.step) history ≡ steps.items) × (each (λ event. event.outcome) history ≡ r.1.items)
-        × WorldAfter r.0 (λ side. []) history × (r.2 ≡ true → TookAll r.0 history) × (TookAll r.0 history → r.2 ≡ true)) }
+        × (each (λ event. event.step) history ≡ steps.items)
+        × (each (λ event. event.outcome) history ≡ r.1.items)
+        × WorldAfter r.0 (λ side. []) history × (r.2 ≡ true → TookAll r.0 history)
+        × (TookAll r.0 history → r.2 ≡ true)) }
 {
     let (world, outcomes) = World::run(alloc, steps)?;
     let all = is_idle(&world, Side::A) && is_idle(&world, Side::B);
@@ -23,8 +25,10 @@ pub fn run_through(
 
 /// Whether no byte is in the link to a side.
 pub fn is_idle(world: &World, side: Side) -> bool
-    ensures idle { result ≡ true → (seen_at side world.now).arrived ++ (seen_at side world.now).on_way ≡ [] }
-    ensures busy { (seen_at side world.now).arrived ++ (seen_at side world.now).on_way ≡ [] → result ≡ true }
+    ensures idle { result ≡ true
+        → (seen_at side world.now).arrived ++ (seen_at side world.now).on_way ≡ [] }
+    ensures busy { (seen_at side world.now).arrived ++ (seen_at side world.now).on_way ≡ []
+        → result ≡ true }
 {
     world.arrived(side).is_empty() && world.on_way(side).is_empty()
 }

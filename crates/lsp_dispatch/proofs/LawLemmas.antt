@@ -11,9 +11,9 @@ use Rattle.lsp_dispatch.specs.DispatchAnswers.{Answer}
 use Rattle.lsp_dispatch.specs.DispatchCalls.{Call, delivers, finishes, is_own, named_id, asked_by, cancelled_by, ends}
 use Rattle.lsp_dispatch.specs.Dispatch.{asked, IsLive, CancelAnswer, FinishAnswer, CallAnswer, Dispatches, AnswersEach}
 use Rattle.lsp_dispatch.specs.DispatchLaw.{reply_in, work_in, RepliesTo, RepliesOnce}
-use Rattle.lsp_dispatch.proofs.Keys.{same_own}
+use Rattle.lsp_message.proofs.Ids.{same_own}
 use Rattle.lsp_dispatch.proofs.Live.{ends_asked, ends_cancelled, ends_finished}
-use Rattle.lsp_dispatch.proofs.Lists.{nothing_in}
+use Rattle.lsp_dispatch.proofs.Lists.{nothing_in, none_some}
 
 -- ---- a run in parts
 
@@ -89,9 +89,6 @@ at_call start (d ∷ calls) (b ∷ answers) (f ∷ earlier) c since run place =
     }
 
 -- ---- what an answer says of its call
-
-none_some : {X : Type 0} (o : Option X) (x : X) → o ≡ None → o ≡ Some x → ⊥
-none_some o x a b = cc
 
 some_pair : {X Y : Type 0} (x x' : X) (y y' : Y) → ◌≡◌ {A = Option (X × Y)} (Some (x, y)) (Some (x', y')) → (x ≡ x') × (y ≡ y')
 some_pair {X} {Y} x x' y y' e = let p : ◌≡◌ {A = X × Y} (x, y) (x', y') = cc in (ap (λ (q : X × Y). q.0) p, ap (λ (q : X × Y). q.1) p)

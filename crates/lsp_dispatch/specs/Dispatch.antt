@@ -24,7 +24,7 @@ pub record IsLive (before : List Call) (id : Id) (ticket : ℕ) : Type 0 where
   pub brings : asked_by call ≡ Some id
   pub unended : (x y : List Call) (c : Call) → since ≡ x ++ c ∷ y → ends id ticket c ≡ false
 
--- a reply where the ticket is live, and nothing where no ticket is
+-- a reply if the ticket is live, and nothing if no ticket is
 abbrev pub CancelAnswer : List Call → Option Id → Answer → Type 0
 CancelAnswer before None answer = answer ≡ nothing
 CancelAnswer before (Some id) answer =
@@ -39,7 +39,8 @@ FinishAnswer before id ticket outcome answer =
 -- the answer to a message, after these calls
 abbrev pub DeliverAnswer : List Call → Message → Answer → Type 0
 DeliverAnswer before (request id method params) answer =
-    answer ≡ (if is_own method then unknown (not_found_reply id) else work (request id method params) (length (asked before)))
+    answer ≡ (if is_own method then unknown (not_found_reply id)
+    else work (request id method params) (length (asked before)))
 DeliverAnswer before (notification method params) answer =
     MatchBool (bytes_eq method (codes "$/cancelRequest"))
     (CancelAnswer before (named_id params) answer)
@@ -53,7 +54,8 @@ CallAnswer before (finishes id ticket outcome) answer = FinishAnswer before id t
 -- each call, after those before it, has its answer
 abbrev pub Dispatches : List Call → List Call → List Answer → Type 0
 Dispatches before [] [] = Unit {0}
-Dispatches before (call ∷ calls) (answer ∷ answers) = CallAnswer before call answer × Dispatches (before ++ call ∷ []) calls answers
+Dispatches before (call ∷ calls) (answer ∷ answers) = CallAnswer before call answer
+    × Dispatches (before ++ call ∷ []) calls answers
 Dispatches before [] (answer ∷ answers) = ⊥
 Dispatches before (call ∷ calls) [] = ⊥
 

@@ -17,7 +17,7 @@ pub(crate) fn is_own(method: &str) -> bool
     method.starts_with("$/")
 }
 
-/// The id that the params of a cancellation name, where they are an object whose `id` is a good one.
+/// The id that the params of a cancellation name, if they are an object whose `id` is a good one.
 pub(crate) fn named_id(params: &Value) -> Result<Option<RequestId>, AllocError>
     ensures { IfOk result (λ id. id ≡ named_spec (view params.now)) }
 {

@@ -10,7 +10,7 @@ use Rattle.lsp_documents.specs.declared.kept.Open.TheVariants.{Known, Lost}
 use Rattle.lsp_documents.specs.declared.fault.DocumentFault.{DocumentFault}
 use Rattle.lsp_documents.specs.declared.fault.DocumentFault.TheVariants.{OutOfStep, Memory}
 use Rattle.lsp_documents.specs.declared.fault.Remark.TheVariants.{OpenAlready}
-use Rattle.lsp_documents.specs.Session.{Event, Event.opened, Event.changed, Event.saved, Event.closed, Notice, Sent.made, Sent.unmade, Sent.unread, Documents, Takes, Took, Refused, after, missed, changed_in, change_fault, fault_of, needs_memory, remark_of, has_whole, has_changes, shown, opens, edits, saves, closes, document}
+use Rattle.lsp_documents.specs.Notices.{Event, Event.opened, Event.changed, Event.saved, Event.closed, Notice, Sent.made, Sent.unmade, Sent.unread, Documents, Takes, Took, Refused, after, missed, changed_in, change_fault, fault_of, needs_memory, remark_of, has_whole, has_changes, shown, opens, edits, saves, closes, document}
 
 never : {P : Type 0} → false ≡ true → P
 never h = grind (arith, h)

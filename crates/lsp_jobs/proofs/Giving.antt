@@ -11,7 +11,7 @@ use Rattle.lsp_message.specs.IdLaws.{id_decides}
 use Rattle.lsp_message.specs.Message.{Message, request, notification, response}
 use Rattle.lsp_message.specs.Methods.{is_initialize}
 use Rattle.lsp_session.specs.Session.{Exchange, Stop}
-use Rattle.lsp_service.specs.Desk.{Act, tells, asks, replies, cancels, TakesBack, unsent, cancelled_by}
+use Rattle.lsp_service.specs.Acts.{Act, tells, asks, replies, cancels, TakesBack, unsent, cancelled_by}
 use Rattle.lsp_service.specs.Law.{AnswersInitialize, Initializes, Handed, TakesTurns, TakesPart, Turn, ids_after_all}
 use Rattle.lsp_service.specs.Stated.{Stated}
 use Rattle.lsp_service.specs.declared.server.Server.{Ghosts as Plain}
@@ -176,7 +176,7 @@ module _ (T : Type 0) {S J P : Type 0} (may : Plain S P) (may_start : S → List
   keeps_nothing old did acts events none same before =
       subst (λ (x : PooledServer T S J × List (Act P)). AllWait (after events x.1 []) (table_of x.0.pool)) (λ k. (sym same k, sym none k)) before
 
-  -- the same where only what is seen of it is the same
+  -- the same if only what is seen of it is the same
   keeps_idle : (old did : PooledServer T S J) (acts : List (Act P)) (events : List (Event P J)) → acts ≡ [] → seen did ≡ seen old → AllWait events (table_of old.pool) → AllWait (after events acts []) (table_of did.pool)
   keeps_idle old did acts events none same before =
       subst (λ (x : (S × Table J) × List (Act P)). AllWait (after events x.1 []) x.0.1) (λ k. (sym same k, sym none k)) before
@@ -212,10 +212,10 @@ module _ (T : Type 0) {S J P : Type 0} (may : Plain S P) (may_start : S → List
         s.0,
       )
 
-  handed_jobs : (old did : PooledServer T S J) (letter : Option Message) (payload : Option P) (acts : List (Act P)) (handed : Handed W old letter payload acts did)
+  handed_jobs : (old did : PooledServer T S J) (arrived : Option Message) (payload : Option P) (acts : List (Act P)) (handed : Handed W old arrived payload acts did)
       (events : List (Event P J)) → AllWait events (table_of old.pool)
-      → (letter ≡ None → ActsByJobs T may may_start may_finish answers events old.server acts)
-      × AllWait (after (comes letter ∷ events) acts (started_at T may may_start may_finish answers old did letter payload acts handed)) (table_of did.pool)
+      → (arrived ≡ None → ActsByJobs T may may_start may_finish answers events old.server acts)
+      × AllWait (after (comes arrived ∷ events) acts (started_at T may may_start may_finish answers old did arrived payload acts handed)) (table_of did.pool)
   handed_jobs old did (Some (request id method params)) payload acts h events before = (
     (λ no. absurd (cc (no))),
     (starts_jobs (h.0.1, without id (table_of old.pool)) (seen did) h.0.0 acts h.0.3 (comes (Some (request id method params)) ∷ events)
@@ -243,8 +243,8 @@ module _ (T : Type 0) {S J P : Type 0} (may : Plain S P) (may_start : S → List
       → WakesActByJobs T may may_start may_finish answers events count old turns new run
   turns_jobs count [] old new run events before = tt
   turns_jobs count (turn ∷ turns) old new run events before =
-      let one = handed_jobs old run.0 turn.letter turn.payload turn.acts run.2 events before in
-      let events_then : List (Event P J) = after (comes turn.letter ∷ events) turn.acts (started_at T may may_start may_finish answers old run.0 turn.letter turn.payload turn.acts run.2) in
+      let one = handed_jobs old run.0 turn.came turn.payload turn.acts run.2 events before in
+      let events_then : List (Event P J) = after (comes turn.came ∷ events) turn.acts (started_at T may may_start may_finish answers old run.0 turn.came turn.payload turn.acts run.2) in
       (one.0, turns_jobs (ids_after_all count turn.acts) turns run.1 new run.4 events_then (back_jobs (unsent count turn.acts) run.0 run.1 run.3 events_then one.1))
 
   none_wait : AllWait {P = P} {J = J} [] no_jobs
@@ -263,14 +263,14 @@ module _ (T : Type 0) {S J P : Type 0} (may : Plain S P) (may_start : S → List
   pub handshake_jobs : (old new : PooledServer T S J) (exchanges : List Exchange) → AnswersInitialize (seen_with_jobs T may may_start may_finish answers) old exchanges new
       → table_of new.pool ≡ table_of old.pool
   handshake_jobs old new [] same = ap (λ (p : PooledServer T S J). table_of p.pool) same
-  handshake_jobs old new (x ∷ xs) step = handshake_jobs step.0 new xs step.2 ∙ by x.letter step.1
+  handshake_jobs old new (x ∷ xs) step = handshake_jobs step.0 new xs step.2 ∙ by x.came step.1
     where
-      at : (m : Message) (b : Bool) → MatchBool b (Initializes (seen_with_jobs T may may_start may_finish answers) old m x.said step.0) (step.0 ≡ old)
+      at : (m : Message) (b : Bool) → MatchBool b (Initializes (seen_with_jobs T may may_start may_finish answers) old m x.sent step.0) (step.0 ≡ old)
           → table_of step.0.pool ≡ table_of old.pool
       at m true init = init.gave.1
       at m false same = ap (λ (p : PooledServer T S J). table_of p.pool) same
 
-      by : (letter : Option Message) → IsSomeAnd letter (λ m. MatchBool (is_initialize m) (Initializes (seen_with_jobs T may may_start may_finish answers) old m x.said step.0) (step.0 ≡ old))
+      by : (arrived : Option Message) → IsSomeAnd arrived (λ m. MatchBool (is_initialize m) (Initializes (seen_with_jobs T may may_start may_finish answers) old m x.sent step.0) (step.0 ≡ old))
           → table_of step.0.pool ≡ table_of old.pool
       by None none = absurd none
       by (Some m) is = at m (is_initialize m) is

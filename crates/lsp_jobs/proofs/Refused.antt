@@ -6,8 +6,8 @@ use Rattle.std.specs.Ordering.{eq_by_cmp}
 use Rattle.lsp_message.specs.Id.{Id, id_cmp}
 use Rattle.lsp_message.specs.IdLaws.{id_decides}
 use Rattle.lsp_message.specs.Message.{Message, request, notification}
-use Rattle.lsp_session.specs.Session.{Exchange, SessionAnswer, Stop, letters_of, sends_of}
-use Rattle.lsp_service.specs.Desk.{Act, replies, cancelled_by}
+use Rattle.lsp_session.specs.Session.{Exchange, SessionAnswer, Stop, messages_of, sends_of}
+use Rattle.lsp_service.specs.Acts.{Act, replies, cancelled_by}
 use Rattle.lsp_service.specs.Law.{TakesTurns, Turn, how_many, is_reply_under, is_request_under}
 use Rattle.lsp_service.specs.declared.server.Server.{Ghosts as Plain}
 use Rattle.lsp_jobs.specs.JobLaw.{Event, comes, does, starts, concerns, WaitsFor, after, ActsByJobs, LawfulJobSession, WakesActByJobs, refuses, started_at, is_that}
@@ -44,7 +44,7 @@ module _ {P J : Type 0} where
   -- no job was started for a request under this id
   abbrev IsNotStarted : Id → List (Event P J) → Type 0
   IsNotStarted id [] = Unit {0}
-  IsNotStarted id (comes letter ∷ events) = IsNotStarted id events
+  IsNotStarted id (comes arrived ∷ events) = IsNotStarted id events
   IsNotStarted id (does act ∷ events) = IsNotStarted id events
   IsNotStarted id (starts i job ∷ events) = (eq_by_cmp id_cmp id i ≡ false) × IsNotStarted id events
 
@@ -55,8 +55,8 @@ module _ {P J : Type 0} where
 
   never_started : (events : List (Event P J)) (id : Id) (job : J) → IsNotStarted id events → WaitsFor events id job → ⊥
   never_started [] id job none waits = waits
-  never_started (comes letter ∷ events) id job none waits =
-      let came : Event P J = comes letter in
+  never_started (comes arrived ∷ events) id job none waits =
+      let came : Event P J = comes arrived in
       earlier came events id job (λ e. absurd (cc (e))) (never_started events id job none) (concerns id came) waits
   never_started (does act ∷ events) id job none waits =
       let came : Event P J = does act in
@@ -115,11 +115,11 @@ module _ (T : Type 0) {S J P : Type 0} (may : Plain S P) (may_start : S → List
   cancelled_then_answered : (events : List (Event P J)) (count : ℕ) (old new : PooledServer T S J) (id : Id) (outcome : Outcome) (method : List ℕ) (params : Data) (turns : List (Turn P))
       → cancelled_by method params ≡ Some id
       → (took : TakesTurns (seen_with_jobs T may may_start may_finish answers) count old (
-      record { letter = Some (notification method params); payload = None; acts = [] } ∷ record { letter = None; payload = None; acts = replies id outcome ∷ [] } ∷ turns
+      record { came = Some (notification method params); payload = None; acts = [] } ∷ record { came = None; payload = None; acts = replies id outcome ∷ [] } ∷ turns
       ) new)
       → started_at T may may_start may_finish answers old took.0 (Some (notification method params)) None [] took.2 ≡ []
       → WakesActByJobs T may may_start may_finish answers events count old (
-      record { letter = Some (notification method params); payload = None; acts = [] } ∷ record { letter = None; payload = None; acts = replies id outcome ∷ [] } ∷ turns
+      record { came = Some (notification method params); payload = None; acts = [] } ∷ record { came = None; payload = None; acts = replies id outcome ∷ [] } ∷ turns
       ) new took → ⊥
   cancelled_then_answered events count old new id outcome method params turns is took none law =
       let came : List (Event P J) = comes (Some (notification method params)) ∷ events in
@@ -127,17 +127,17 @@ module _ (T : Type 0) {S J P : Type 0} (may : Plain S P) (may_start : S → List
       (subst (λ (jobs : List (Id × J)). Gives (after came [] jobs) took.1.server id outcome) none (law.1.0 refl))
 
   -- one request gets two replies
-  two_replies : (first last : S) (exchanges : List Exchange) (stop : Stop) (null : Option Message) (answer : SessionAnswer) (id : Id)
-      → how_many (is_request_under id) (letters_of exchanges) ≡ 1 → how_many (is_reply_under id) (sends_of exchanges) ≡ 2
-      → LawfulJobSession T may may_start may_finish answers first last exchanges stop null answer → ⊥
-  two_replies first last exchanges stop null answer id one two session =
-      let few : how_many (is_reply_under id) (sends_of exchanges) ≤ how_many (is_request_under id) (letters_of exchanges) = session.laws.never_more id exchanges [] (sym (append-nil exchanges)) in
+  two_replies : (first last : S) (exchanges : List Exchange) (stop : Stop) (shutdown_reply : Option Message) (answer : SessionAnswer) (id : Id)
+      → how_many (is_request_under id) (messages_of exchanges) ≡ 1 → how_many (is_reply_under id) (sends_of exchanges) ≡ 2
+      → LawfulJobSession T may may_start may_finish answers first last exchanges stop shutdown_reply answer → ⊥
+  two_replies first last exchanges stop shutdown_reply answer id one two session =
+      let few : how_many (is_reply_under id) (sends_of exchanges) ≤ how_many (is_request_under id) (messages_of exchanges) = session.laws.never_more id exchanges [] (sym (append-nil exchanges)) in
       absurd (omega (arith, one, two, few))
 
   -- a reply goes to a request that never came
-  reply_to_nobody : (first last : S) (exchanges : List Exchange) (stop : Stop) (null : Option Message) (answer : SessionAnswer) (id : Id)
-      → how_many (is_request_under id) (letters_of exchanges) ≡ 0 → how_many (is_reply_under id) (sends_of exchanges) ≡ 1
-      → LawfulJobSession T may may_start may_finish answers first last exchanges stop null answer → ⊥
-  reply_to_nobody first last exchanges stop null answer id none one session =
-      let few : how_many (is_reply_under id) (sends_of exchanges) ≤ how_many (is_request_under id) (letters_of exchanges) = session.laws.never_more id exchanges [] (sym (append-nil exchanges)) in
+  reply_to_nobody : (first last : S) (exchanges : List Exchange) (stop : Stop) (shutdown_reply : Option Message) (answer : SessionAnswer) (id : Id)
+      → how_many (is_request_under id) (messages_of exchanges) ≡ 0 → how_many (is_reply_under id) (sends_of exchanges) ≡ 1
+      → LawfulJobSession T may may_start may_finish answers first last exchanges stop shutdown_reply answer → ⊥
+  reply_to_nobody first last exchanges stop shutdown_reply answer id none one session =
+      let few : how_many (is_reply_under id) (sends_of exchanges) ≤ how_many (is_request_under id) (messages_of exchanges) = session.laws.never_more id exchanges [] (sym (append-nil exchanges)) in
       absurd (omega (arith, none, one, few))

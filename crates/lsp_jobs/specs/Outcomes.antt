@@ -24,4 +24,5 @@ module _ {J R : Type 0} (comes_to : J → R → Type 0) where
   abbrev pub AreOfOneTask : List (Slip J R) → List (Option J) → Type 0
   AreOfOneTask slips known =
       ((slips ≡ []) × (known ≡ None ∷ []))
-      ⊎ ((task : J) × AreOf task slips × ((pass : ℕ) (knows : Option J) → get_elem? known pass ≡ some knows → knows ≡ Some task))
+      ⊎ ((task : J) × AreOf task slips
+      × ((pass : ℕ) (knows : Option J) → get_elem? known pass ≡ some knows → knows ≡ Some task))

@@ -34,7 +34,8 @@ module _ {J : Type 0} where
   with_job id job table = λ i. if eq_by_cmp id_cmp i id then Some job else table i
 
   -- A request of the table gets an outcome that its own job may come to, and leaves the table.
-  pub record Answers (answers : J → Outcome → Type 0) (id : Id) (old : Table J) (outcome : Outcome) (new : Table J) : Type 0 where
+  pub record Answers (answers : J → Outcome → Type 0) (id : Id) (old : Table J) (outcome : Outcome)
+      (new : Table J) : Type 0 where
     pub job : J
     pub waits : old id ≡ Some job
     pub may : answers job outcome

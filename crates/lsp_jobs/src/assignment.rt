@@ -91,7 +91,8 @@ impl<J: Task<R>, R> Outcome<Slip<J, R>, Option<J>> for Taking {
     ghost use Rattle.std.specs.Prelude.{◌≡◌, IfSome};
     ghost use Rattle.lsp_jobs.specs.Outcomes.{IsOf};
 
-    ghost then = { λ before slip after. (after ≡ before) × IfSome before (λ task. IsOf J.comes_to task slip) };
+    ghost then = { λ before slip after. (after ≡ before)
+        × IfSome before (λ task. IsOf J.comes_to task slip) };
 }
 
 impl<J, R> Lesson<Slip<J, R>, Option<J>> for Taking {
@@ -115,7 +116,8 @@ pub(crate) struct Assignment<J: Task<R>, R: Drop> {
     pass: Pass<Slip<J, R>, Option<J>>,
     report_sender: RuledSender<Slip<J, R>, Option<J>, OneTask>,
     report_pass: Pass<Slip<J, R>, Option<J>>,
-    ghost known: { IsSeatAt (sends_on sender) pass × (knows pass ≡ Some task) × IsSeatAt (sends_on report_sender) report_pass × (knows report_pass ≡ Some task) },
+    ghost known: { IsSeatAt (sends_on sender) pass × (knows pass ≡ Some task)
+        × IsSeatAt (sends_on report_sender) report_pass × (knows report_pass ≡ Some task) },
 }
 
 /// The end of the channel that gives what a task says. Contracts see the task.
@@ -175,7 +177,7 @@ pub(crate) fn assign<T: Wait, J: Task<R>, R: Drop>(
 }
 
 impl<J: Task<R>, R: Drop> Assignment<J, R> {
-    /// Performs the task, and sends what it says. It waits while there is no room for the outcome; nothing is sent where nobody waits
+    /// Performs the task, and sends what it says. It waits while there is no room for the outcome; nothing is sent if nobody waits
     /// for it any more.
     pub fn perform<T: Wait + Copy + Drop, M: Drop>(
         self,
@@ -235,7 +237,7 @@ impl<J: Task<R>, R: Drop> Model for Reports<J, R> {
 }
 
 impl<J: Task<R>, R: Drop> Reports<J, R> {
-    /// Sends a report, where there is room.
+    /// Sends a report, if there is room.
     fn send<T: Wait>(&mut self, rt: &T, notification: Notification) -> bool {
         let slip = Slip {
             task: Snapshot::of(&self.task),
@@ -266,7 +268,7 @@ impl<T: Wait + Drop, J: Task<R>, R: Drop, M: Drop> Progress for Reporter<T, J, R
 }
 
 impl<J: Task<R>, R: Drop> Awaited<J, R> {
-    /// What the task said next, where that was sent and not taken yet.
+    /// What the task said next, if that was sent and not taken yet.
     pub fn take<T: Wait>(&mut self, rt: &T) -> Option<Saying<R>>
         ensures task { self.new ≡ self.old }
         ensures saying { IfSome result (λ saying. MaySay J.comes_to self.old saying) }

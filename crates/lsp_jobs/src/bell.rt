@@ -7,7 +7,7 @@ use std::alloc::{AllocError, Global};
 use std::sync::Wait;
 use std::thread::yield_now;
 
-/// Tells whoever waits for jobs that one said something: by its id, and by a wake where a relay is waited at.
+/// Tells whoever waits for jobs that one said something: by its id, and by a wake if a relay is waited at.
 #[derive(Drop)]
 pub(crate) struct Bell<M: Drop> {
     said: Sender<RequestId>,
@@ -49,7 +49,7 @@ impl<M: Drop> Bell<M> {
         Ok(Bell { said, pool, waker })
     }
 
-    /// Says that the job of this request said something. False where nobody hears it.
+    /// Says that the job of this request said something. False if nobody hears it.
     pub fn ring<T: Wait>(&mut self, rt: &T, id: RequestId) -> bool {
         if !self.say(rt, id) {
             return false;

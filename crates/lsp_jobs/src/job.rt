@@ -14,7 +14,7 @@ pub trait Job: Drop {
     ghost use Rattle.std.specs.Prelude.{Result, ⊤};
     ghost use Rattle.lsp_message.specs.Message.{ErrorObject};
 
-    /// The job may come to this outcome. Where an `impl` leaves this out, it may come to any.
+    /// The job may come to this outcome. If an `impl` leaves this out, it may come to any.
     ghost answers: { Self → Result Data ErrorObject → Type 0 } = { λ _ _. ⊤ };
 
     /// Comes to the outcome of the request. It may look at the token, and stop early with any outcome. It may tell by `progress` how

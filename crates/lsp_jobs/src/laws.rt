@@ -20,14 +20,22 @@ use std::sync::Wait;
 
 /// A session that was run by `run_jobs`, with a limit or without one, and that passes over nothing, keeps the laws of `lsp_service::laws::server_keeps_laws`: under no
 /// id more replies than requests, whatever jobs come to and when; one reply for a request whose id was used once, unless it is still held
-/// or the session ended at it; and before `initialized` nothing but errors and the result of `initialize`, nothing after the null of `shutdown`.
+/// or the session ended at it; and before `initialized` nothing but errors and the result of `initialize`, nothing after the reply to `shutdown`.
 pub fn session_with_jobs_keeps_laws<T: Wait + Drop, S: JobServer<J>, J: Job>()
-    ensures exchanges { (first last : S) (exchanges : List Exchange) (stop : Stop) (null : Option Message) (answer : SessionAnswer)
-        → JobSession T S.Server S.starts S.finishes J.answers first last exchanges stop null answer
-        → LawfulJobSession T S.Server S.starts S.finishes J.answers first last exchanges stop null answer }
-    ensures bytes { (limit : ℕ) (first last : S) (text : List ℕ) (before after : Option (List ℕ)) (answer : Result EndOfSession FaultOfSession)
-        → ThreadsGiveOver true limit (JobSession T S.Server S.starts S.finishes J.answers first last) text before after answer
-        → ThreadsGiveOver true limit (LawfulJobSession T S.Server S.starts S.finishes J.answers first last) text before after answer }
+    ensures exchanges { (first last : S) (exchanges : List Exchange) (stop : Stop)
+        (shutdown_reply : Option Message) (answer : SessionAnswer)
+        → JobSession T S.Server S.starts S.finishes J.answers first last exchanges stop
+        shutdown_reply answer
+        → LawfulJobSession T S.Server S.starts S.finishes J.answers first last exchanges stop
+        shutdown_reply answer }
+    ensures bytes { (limit : ℕ) (first last : S) (text : List ℕ) (before after : Option (List ℕ))
+        (answer : Result EndOfSession FaultOfSession)
+        → ThreadsGiveOver true limit
+        (JobSession T S.Server S.starts S.finishes J.answers first last) text before after
+        answer
+        → ThreadsGiveOver true limit
+        (LawfulJobSession T S.Server S.starts S.finishes J.answers first last) text before after
+        answer }
 {}
 
 /// `session_with_jobs_keeps_laws` of a session with a listener: a fact of each session that was run by `run_jobs`. At a wake for a content
@@ -39,12 +47,23 @@ pub fn session_with_jobs_that_asks_keeps_laws<
     J: Job,
     L: Listener,
 >()
-    ensures bytes { (limit : ℕ) (first last : S) (text : List ℕ) (heard heard_last : L) (before after : Option (List ℕ)) (answer : Result EndOfSession FaultOfSession)
-        → ThreadsTellOver true L.hears limit (JobSession T S.Server S.starts S.finishes J.answers first last) text heard heard_last before after answer
-        → ThreadsTellOver true L.hears limit (LawfulJobSession T S.Server S.starts S.finishes J.answers first last) text heard heard_last before after answer }
-    ensures nothing_passed { (limit : ℕ) (first last : S) (text : List ℕ) (heard heard_last : L) (before after : Option (List ℕ)) (answer : Result EndOfSession FaultOfSession)
-        → PassesNothingOver L.hears → ThreadsTellOver true L.hears limit (JobSession T S.Server S.starts S.finishes J.answers first last) text heard heard_last before after answer
-        → ThreadsGiveOver true limit (JobSession T S.Server S.starts S.finishes J.answers first last) text before after answer }
+    ensures bytes { (limit : ℕ) (first last : S) (text : List ℕ) (heard heard_last : L)
+        (before after : Option (List ℕ)) (answer : Result EndOfSession FaultOfSession)
+        → ThreadsTellOver true L.hears limit
+        (JobSession T S.Server S.starts S.finishes J.answers first last) text heard heard_last
+        before after answer
+        → ThreadsTellOver true L.hears limit
+        (LawfulJobSession T S.Server S.starts S.finishes J.answers first last) text heard
+        heard_last before after answer }
+    ensures nothing_passed { (limit : ℕ) (first last : S) (text : List ℕ) (heard heard_last : L)
+        (before after : Option (List ℕ)) (answer : Result EndOfSession FaultOfSession)
+        → PassesNothingOver L.hears
+        → ThreadsTellOver true L.hears limit
+        (JobSession T S.Server S.starts S.finishes J.answers first last) text heard heard_last
+        before after answer
+        → ThreadsGiveOver true limit
+        (JobSession T S.Server S.starts S.finishes J.answers first last) text before after
+        answer }
 {}
 
 /// At each wake nothing is done, or one notification is sent, or a request is answered: with an outcome to which the job may come that the
@@ -53,9 +72,14 @@ pub fn session_with_jobs_that_asks_keeps_laws<
 /// turns from `initialized` on; no request waits for a job then, since the handshake starts none. Which jobs were started is told by what
 /// the server states in `starts`: if it states nothing, that there are such jobs.
 pub fn requests_are_answered_by_their_jobs<T: Wait + Drop, S: JobServer<J>, J: Job>()
-    ensures turns { (start last : PooledServer T S J) (came : List (Option Message)) (stop : Stop) (requests : List Message)
-        → (part : TakesPart (seen_with_jobs T S.Server S.starts S.finishes J.answers) start last came stop requests)
-        → table_of start.pool ≡ no_jobs → PartActsByJobs T S.Server S.starts S.finishes J.answers start last came stop requests part }
+    ensures turns { (start last : PooledServer T S J) (came : List (Option Message)) (stop : Stop)
+        (requests : List Message)
+        → (part : TakesPart (seen_with_jobs T S.Server S.starts S.finishes J.answers) start last
+        came stop requests)
+        → table_of start.pool ≡ no_jobs
+        → PartActsByJobs T S.Server S.starts S.finishes J.answers start last came stop requests
+        part }
     ensures handshake { (old new : PooledServer T S J) (exchanges : List Exchange)
-        → AnswersInitialize (seen_with_jobs T S.Server S.starts S.finishes J.answers) old exchanges new → table_of new.pool ≡ table_of old.pool }
+        → AnswersInitialize (seen_with_jobs T S.Server S.starts S.finishes J.answers) old exchanges
+        new → table_of new.pool ≡ table_of old.pool }
 {}

@@ -254,7 +254,8 @@ impl<T: Wait + Drop, J: Job> JobPool<T, J> {
 
     /// A request waits for its job.
     fn keep(&mut self, id: RequestId, entry: Entry<J>) -> Result<(), AllocError>
-        ensures ok { OnOk result (table_of self.new ≡ with_job id entry.awaited (table_of self.old)) }
+        ensures ok { OnOk result
+            (table_of self.new ≡ with_job id entry.awaited (table_of self.old)) }
         ensures err { OnErr result (table_of self.new ≡ table_of self.old) }
     {
         match self.jobs.register(id, entry) {
@@ -271,7 +272,7 @@ impl<T: Wait + Drop, J: Job> JobPool<T, J> {
     }
 }
 
-/// The report that a job made, where it made one.
+/// The report that a job made, if it made one.
 fn report_in<R: Drop>(said: Option<Saying<R>>) -> Option<JobNews>
     ensures { IfSome result (λ news. IsReport (news_view news)) }
 {

@@ -57,7 +57,8 @@ impl<T: Wait + Drop, S: Drop, J: Job> PooledServer<T, S, J> {
 
     /// A request that the server answers by itself needs no job any more.
     fn forget_answered<P: Drop>(&mut self, acts: &[Act<P>])
-        ensures { seen self.new ≡ (self.old.server, unanswered (map act_view acts.now) (table_of self.old.pool)) }
+        ensures { seen self.new
+            ≡ (self.old.server, unanswered (map act_view acts.now) (table_of self.old.pool)) }
     {
         for act in acts {
             if let Act::Reply(id, _) = act {
@@ -79,7 +80,9 @@ where
         id: RequestId,
         outcome: Result<Value, ResponseError>,
     ) -> Result<Vec<Act<S::Payload>>, AllocError>
-        ensures { IfOk result (λ all. Finishes S.starts S.finishes (seen self.old) id (outcome_view outcome) (map act_view all.items) (seen self.new)) }
+        ensures { IfOk result (λ all.
+            Finishes S.starts S.finishes (seen self.old) id (outcome_view outcome)
+            (map act_view all.items) (seen self.new)) }
     {
         let mut acts = self.server.finished(&id, &outcome)?;
         match acts.push(Act::Reply(id, outcome)) {
@@ -90,7 +93,9 @@ where
 
     /// Starts the jobs that the server starts now, after it did these acts. What is answered for a job that was not taken on follows them.
     fn start_jobs(&mut self, acts: Vec<Act<S::Payload>>) -> Result<Vec<Act<S::Payload>>, AllocError>
-        ensures { IfOk result (λ all. StartsJobs S.starts S.finishes (seen self.old) (map act_view acts.items) (map act_view all.items) (seen self.new)) }
+        ensures { IfOk result (λ all.
+            StartsJobs S.starts S.finishes (seen self.old) (map act_view acts.items)
+            (map act_view all.items) (seen self.new)) }
     {
         self.forget_answered(&acts);
         let jobs = self.server.take_jobs()?;
@@ -104,7 +109,8 @@ where
         acts: Vec<Act<S::Payload>>,
     ) -> Result<Vec<Act<S::Payload>>, AllocError>
         ensures { IfOk result (λ all. (self.new.server ≡ self.old.server)
-            × FoldsTo StartsOne (table_of self.old.pool, map act_view acts.items) (map start_view jobs.items) (table_of self.new.pool, map act_view all.items)) }
+            × FoldsTo StartsOne (table_of self.old.pool, map act_view acts.items)
+            (map start_view jobs.items) (table_of self.new.pool, map act_view all.items)) }
     {
         let mut acts = acts;
         for start in jobs {
@@ -113,14 +119,16 @@ where
         Ok(acts)
     }
 
-    /// Starts a job, or answers its request where too many wait.
+    /// Starts a job, or answers its request if too many wait.
     fn start_one(
         &mut self,
         start: Start<J>,
         acts: &mut Vec<Act<S::Payload>>,
     ) -> Result<(), AllocError>
         ensures server { IfOk result (λ _. self.new.server ≡ self.old.server) }
-        ensures job { IfOk result (λ _. StartsOne (table_of self.old.pool, map act_view acts.old.items) (start_view start) (table_of self.new.pool, map act_view acts.new.items)) }
+        ensures job { IfOk result (λ _.
+            StartsOne (table_of self.old.pool, map act_view acts.old.items) (start_view start)
+            (table_of self.new.pool, map act_view acts.new.items)) }
     {
         let Start { id, job } = start;
         match self.pool.take_on(id.clone()?, job) {
@@ -171,7 +179,7 @@ where
 
     ghost initializes = { (seen_with_jobs T S.Server S.starts S.finishes J.answers).initializes };
 
-    ghost begins = { (seen_with_jobs T S.Server S.starts S.finishes J.answers).begins };
+    ghost at_initialized = { (seen_with_jobs T S.Server S.starts S.finishes J.answers).at_initialized };
 
     ghost requested = { (seen_with_jobs T S.Server S.starts S.finishes J.answers).requested };
 

@@ -1,4 +1,4 @@
-// The threads that run jobs. Each is started for any such task, since the check finds that it may own its ends only where it need not
+// The threads that run jobs. Each is started for any such task, since the check finds that it may own its ends only if it need not
 // look into the types.
 use crate::assignment::{Assignment, Task};
 use crate::bell::Bell;

@@ -16,14 +16,14 @@ use Rattle.lsp_peers.specs.declared.step.Step.{Step}
 use Rattle.lsp_peers.specs.declared.step.Step.TheVariants.{Register, Take, Answer, Refuse, Cancel, GiveUp}
 use Rattle.lsp_peers.specs.declared.world.World.{World}
 use Rattle.lsp_peers.specs.Exchange.{WorldAfter, seen_at}
-use Rattle.lsp_peers.specs.History.{Event, count_in, payloads, labels, settled, returned, held, where_held, taken_count, letters_written, letters_taken, letters_left, next_letter, outcome_of_taking, outcome_of, only_of, events_of, IsHistory}
+use Rattle.lsp_peers.specs.History.{Event, count_in, payloads, labels, closed, returned, held, where_held, taken_count, frames_written, frames_taken, frames_left, next_sent, outcome_of_taking, outcome_of, only_of, events_of, IsHistory}
 use Rattle.lsp_peers.specs.HistoryLaw.{IsFact, bare, AllFacts, FactsOf, TakenAs}
 use Rattle.lsp_peers.specs.Ids.{nth_id, item_at, has}
-use Rattle.lsp_peers.specs.Letter.{Letter, messages}
+use Rattle.lsp_peers.specs.SentFrame.{SentFrame, messages}
 use Rattle.lsp_peers.specs.Sides.{side_of, other}
 use Rattle.lsp_peers.proofs.ExchangeLemmas.{of_own, of_other}
 use Rattle.lsp_peers.proofs.HistoryLaws.{beginning_of, last_of, back_law, arrival_law}
-use Rattle.lsp_peers.proofs.Kept.{taking, payload_of, label_of_arrival, settled_id, returned_id}
+use Rattle.lsp_peers.proofs.Kept.{taking, payload_of, label_of_arrival, closed_id, returned_id}
 use Rattle.lsp_peers.proofs.MailLemmas.{count_push}
 use Rattle.lsp_peers.proofs.PlaceLemmas.{next_first_of}
 
@@ -53,14 +53,14 @@ payloads_bared events = flat_bared payload_of events (λ e. refl)
 labels_bared : (events : List Event) → labels (each bared events) ≡ labels events
 labels_bared events = flat_bared label_of_arrival events (λ e. refl)
 
-settled_bared : (events : List Event) → settled (each bared events) ≡ settled events
-settled_bared events = flat_bared settled_id events (λ e. refl)
+closed_bared : (events : List Event) → closed (each bared events) ≡ closed events
+closed_bared events = flat_bared closed_id events (λ e. refl)
 
 returned_bared : (events : List Event) → returned (each bared events) ≡ returned events
 returned_bared events = flat_bared returned_id events (λ e. refl)
 
 held_bared : (events : List Event) (id : Id) → held (each bared events) id ≡ held events id
-held_bared events id = λ i. if has id (settled_bared events i) then None else item_at (labels_bared events i) id
+held_bared events id = λ i. if has id (closed_bared events i) then None else item_at (labels_bared events i) id
 
 fact_bared : (own others : List Event) (step : Step) (outcome : Outcome) → IsFact own others step outcome → IsFact (each bared own) (each bared others) step outcome
 fact_bared own others (Register side method params payload) (Registered id) fact = fact ∙ ap (λ (l : List ℕ). nth_id (length l)) (sym (payloads_bared own))
@@ -118,46 +118,46 @@ facts_of history is = facts_from [] history is
 
 -- so many of these messages, and then one more
 module _ (own others : List Event) (label : ℕ) (side : Side) where
-  one_more : (letter : Letter) (rest : List Letter) (n : ℕ) → letters_left own others ≡ letter ∷ rest → n ≡ taken_count own + 1 → messages (take n (letters_written others)) ≡ messages (letters_taken own others) ++ letter.message ∷ []
-  one_more letter rest n first is =
-      ap (λ (k : ℕ). messages (take k (letters_written others))) is
-      ∙ ap messages (take-add (taken_count own) 1 (letters_written others) ∙ ap (λ (l : List Letter). letters_taken own others ++ take 1 l) first)
-      ∙ map-append (λ (l : Letter). l.message) (letters_taken own others) (letter ∷ [])
+  one_more : (sent_frame : SentFrame) (rest : List SentFrame) (n : ℕ) → frames_left own others ≡ sent_frame ∷ rest → n ≡ taken_count own + 1 → messages (take n (frames_written others)) ≡ messages (frames_taken own others) ++ sent_frame.message ∷ []
+  one_more sent_frame rest n first is =
+      ap (λ (k : ℕ). messages (take k (frames_written others))) is
+      ∙ ap messages (take-add (taken_count own) 1 (frames_written others) ∙ ap (λ (l : List SentFrame). frames_taken own others ++ take 1 l) first)
+      ∙ map-append (λ (l : SentFrame). l.message) (frames_taken own others) (sent_frame ∷ [])
 
-  taken_message : (letter : Letter) (rest : List Letter) (m : Message) (outcome : Outcome) (n : ℕ) → letters_left own others ≡ letter ∷ rest → letter.message ≡ m → outcome ≡ outcome_of_taking own others m → n ≡ taken_count own + count_in (Take side label) outcome → TakenAs outcome (messages (letters_taken own others)) (messages (take n (letters_written others)))
-  taken_message letter rest (request id method params) outcome n first is comes count =
+  taken_message : (sent_frame : SentFrame) (rest : List SentFrame) (m : Message) (outcome : Outcome) (n : ℕ) → frames_left own others ≡ sent_frame ∷ rest → sent_frame.message ≡ m → outcome ≡ outcome_of_taking own others m → n ≡ taken_count own + count_in (Take side label) outcome → TakenAs outcome (messages (frames_taken own others)) (messages (take n (frames_written others)))
+  taken_message sent_frame rest (request id method params) outcome n first is comes count =
       let k : n ≡ taken_count own + 1 = count ∙ ap (λ (o : Outcome). taken_count own + count_in (Take side label) o) comes in
-      subst (λ (o : Outcome). TakenAs o (messages (letters_taken own others)) (messages (take n (letters_written others)))) (sym comes)
-      (method, params, one_more letter rest n first k ∙ ap (λ (x : Message). messages (letters_taken own others) ++ x ∷ []) is)
-  taken_message letter rest (response id answer) outcome n first is comes count =
+      subst (λ (o : Outcome). TakenAs o (messages (frames_taken own others)) (messages (take n (frames_written others)))) (sym comes)
+      (method, params, one_more sent_frame rest n first k ∙ ap (λ (x : Message). messages (frames_taken own others) ++ x ∷ []) is)
+  taken_message sent_frame rest (response id answer) outcome n first is comes count =
       let k : n ≡ taken_count own + 1 = count ∙ ap (λ (o : Outcome). taken_count own + count_in (Take side label) o) comes in
-      subst (λ (o : Outcome). TakenAs o (messages (letters_taken own others)) (messages (take n (letters_written others)))) (sym comes)
-      (answer, one_more letter rest n first k ∙ ap (λ (x : Message). messages (letters_taken own others) ++ x ∷ []) is)
-  taken_message letter rest (notification method params) outcome n first is comes count =
+      subst (λ (o : Outcome). TakenAs o (messages (frames_taken own others)) (messages (take n (frames_written others)))) (sym comes)
+      (answer, one_more sent_frame rest n first k ∙ ap (λ (x : Message). messages (frames_taken own others) ++ x ∷ []) is)
+  taken_message sent_frame rest (notification method params) outcome n first is comes count =
       let k : n ≡ taken_count own + 1 = count ∙ ap (λ (o : Outcome). taken_count own + count_in (Take side label) o) comes in
-      subst (λ (o : Outcome). TakenAs o (messages (letters_taken own others)) (messages (take n (letters_written others)))) (sym comes)
-      (method, params, one_more letter rest n first k ∙ ap (λ (x : Message). messages (letters_taken own others) ++ x ∷ []) is)
+      subst (λ (o : Outcome). TakenAs o (messages (frames_taken own others)) (messages (take n (frames_written others)))) (sym comes)
+      (method, params, one_more sent_frame rest n first k ∙ ap (λ (x : Message). messages (frames_taken own others) ++ x ∷ []) is)
 
-  taken_letter : (o : Option Letter) (outcome : Outcome) (n : ℕ) → next_letter own others ≡ o → outcome ≡ taking own others o → n ≡ taken_count own + count_in (Take side label) outcome → TakenAs outcome (messages (letters_taken own others)) (messages (take n (letters_written others)))
-  taken_letter None outcome n is comes count =
+  taken_sent_frame : (o : Option SentFrame) (outcome : Outcome) (n : ℕ) → next_sent own others ≡ o → outcome ≡ taking own others o → n ≡ taken_count own + count_in (Take side label) outcome → TakenAs outcome (messages (frames_taken own others)) (messages (take n (frames_written others)))
+  taken_sent_frame None outcome n is comes count =
       let none : n ≡ taken_count own + 0 = count ∙ ap (λ (o : Outcome). taken_count own + count_in (Take side label) o) comes in
       let k : n ≡ taken_count own = omega arith in
-      subst (λ (o : Outcome). TakenAs o (messages (letters_taken own others)) (messages (take n (letters_written others)))) (sym comes)
-      (ap (λ (j : ℕ). messages (take j (letters_written others))) k)
-  taken_letter (Some letter) outcome n is comes count =
-      let first = next_first_of _ _ (letters_left own others) letter is in
-      taken_message letter first.0 letter.message outcome n first.1 refl comes count
+      subst (λ (o : Outcome). TakenAs o (messages (frames_taken own others)) (messages (take n (frames_written others)))) (sym comes)
+      (ap (λ (j : ℕ). messages (take j (frames_written others))) k)
+  taken_sent_frame (Some sent_frame) outcome n is comes count =
+      let first = next_first_of _ _ (frames_left own others) sent_frame is in
+      taken_message sent_frame first.0 sent_frame.message outcome n first.1 refl comes count
 
 pub taken_law : (before : List Event) (e : Event) → IsHistory (before ++ e ∷ []) → (side : Side) (label : ℕ) → e.step ≡ Take side label →
-    TakenAs e.outcome (messages (letters_taken (events_of side before) (events_of (other side) before))) (messages (letters_taken (events_of side (before ++ e ∷ [])) (events_of (other side) (before ++ e ∷ []))))
+    TakenAs e.outcome (messages (frames_taken (events_of side before) (events_of (other side) before))) (messages (frames_taken (events_of side (before ++ e ∷ [])) (events_of (other side) (before ++ e ∷ []))))
 taken_law before e history side label is =
     let by : side_of e.step ≡ side = ap side_of is in
     let own = of_own side before e by in
     let others = of_other side before e by in
     let count : taken_count (events_of side (before ++ e ∷ [])) ≡ taken_count (events_of side before) + count_in (Take side label) e.outcome =
     ap taken_count own ∙ count_push (events_of side before) e ∙ ap (λ (s : Step). taken_count (events_of side before) + count_in s e.outcome) is in
-    subst (λ (l : List Event). TakenAs e.outcome (messages (letters_taken (events_of side before) (events_of (other side) before))) (messages (letters_taken (events_of side (before ++ e ∷ [])) l))) (sym others)
-    (taken_letter (events_of side before) (events_of (other side) before) label side (next_letter (events_of side before) (events_of (other side) before)) e.outcome _ refl (came before e (Take side label) e.outcome history is refl) count)
+    subst (λ (l : List Event). TakenAs e.outcome (messages (frames_taken (events_of side before) (events_of (other side) before))) (messages (frames_taken (events_of side (before ++ e ∷ [])) l))) (sym others)
+    (taken_sent_frame (events_of side before) (events_of (other side) before) label side (next_sent (events_of side before) (events_of (other side) before)) e.outcome _ refl (came before e (Take side label) e.outcome history is refl) count)
 
 taken_at : (outcome : Outcome) (handed old new all more : List Message) → handed ++ old ≡ all → handed ++ new ≡ more → TakenAs outcome all more → TakenAs outcome old new
 taken_at (Arrived id) handed old new all more was now told = (told.0, told.1, append_cancel_left handed _ _ (now ∙ told.2 ∙ ap (λ (l : List Message). l ++ request id told.0 told.1 ∷ []) (sym was) ∙ append_assoc handed old (request id told.0 told.1 ∷ [])))

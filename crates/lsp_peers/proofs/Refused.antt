@@ -15,9 +15,9 @@ use Rattle.lsp_peers.specs.declared.world.World.{World}
 use Rattle.lsp_peers.specs.Exchange.{WorldAfter, IsWholeRun, seen_at}
 use Rattle.lsp_peers.specs.Shallow.{TakesReadable, AllTakeReadable}
 use Rattle.lsp_peers.specs.Sides.{side_of, other}
-use Rattle.lsp_peers.specs.History.{Event, written_in, IsHistory, outcome_of_taking, outcome_of, next_letter, events_of}
+use Rattle.lsp_peers.specs.History.{Event, written_in, IsHistory, outcome_of_taking, outcome_of, next_sent, events_of}
 use Rattle.lsp_peers.specs.Ids.{nth_id}
-use Rattle.lsp_peers.specs.Letter.{Letter, frames, messages}
+use Rattle.lsp_peers.specs.SentFrame.{SentFrame, frames, messages}
 use Rattle.lsp_peers.specs.declared.step.Outcome.{Outcome}
 use Rattle.lsp_peers.specs.declared.step.Outcome.TheVariants.{Registered, Passed, Arrived, Returned, Waiting, Answered}
 use Rattle.lsp_peers.specs.declared.step.Side.{Side}
@@ -26,21 +26,21 @@ use Rattle.lsp_peers.specs.declared.step.Step.{Step}
 use Rattle.lsp_peers.specs.declared.step.Step.TheVariants.{Register, Pass, Take, Answer, Refuse}
 use Rattle.lsp_peers.proofs.AnswerLemmas.{answered_law}
 use Rattle.lsp_peers.proofs.Kept.{taking}
-use Rattle.lsp_peers.proofs.LawLemmas.{event, one_letter}
+use Rattle.lsp_peers.proofs.LawLemmas.{event, one_sent_frame}
 
 -- a frame is not empty
-frame_some : (l : Letter) → 16 ≤ length l.frame
+frame_some : (l : SentFrame) → 16 ≤ length l.frame
 frame_some l =
     let body = l.framed.0 in
     let frame : l.frame ≡ frame_text body = l.framed.2 in
     omega (arith, ap (λ (x : List ℕ). length x) frame, length-append (codes "Content-Length: ") (decimal (length body) ++ 13 ∷ 10 ∷ 13 ∷ 10 ∷ body))
 
--- what comes of taking a request, where it may have arrived
-not_returned : (own others : List Event) (l : Letter) (b : Bool) (key id : Id) (method : List ℕ) (params : _) (x : Option ℕ) → l.message ≡ request key method params → Returned id x ≡ taking own others (if b then Some l else None) → ⊥
+-- what comes of taking a request, if it may have arrived
+not_returned : (own others : List Event) (l : SentFrame) (b : Bool) (key id : Id) (method : List ℕ) (params : _) (x : Option ℕ) → l.message ≡ request key method params → Returned id x ≡ taking own others (if b then Some l else None) → ⊥
 not_returned own others l true key id method params x is came = let e : Returned id x ≡ Arrived key = came ∙ ap (λ (m : Message). outcome_of_taking own others m) is in cc
 not_returned own others l false key id method params x is came = cc
 
-module _ (method : String Global) (params : Value) (result : Value) (rest : List Event) (w1 w2 w3 w4 w5 w6 w7 : List Letter) where
+module _ (method : String Global) (params : Value) (result : Value) (rest : List Event) (w1 w2 w3 w4 w5 w6 w7 : List SentFrame) where
   -- a reply is taken before its request has arrived at the other side
   pub early : IsHistory (event (Register A method params 7) (Registered (nth_id 0)) w1 ∷ event (Take A 0) (Returned (nth_id 0) (Some 7)) w2 ∷ rest) → ⊥
   early history = let came = history.1.0.outcome_is in cc
@@ -48,27 +48,27 @@ module _ (method : String Global) (params : Value) (result : Value) (rest : List
   -- nothing arrives of a request
   pub unpassed_request : IsHistory (event (Register A method params 7) (Registered (nth_id 0)) w1 ∷ event (Pass B 1000) (Passed 0) w2 ∷ rest) → ⊥
   unpassed_request history =
-      let one = one_letter w1 _ history.0.wrote_is in
+      let one = one_sent_frame w1 _ history.0.wrote_is in
       let came : Passed 0 ≡ Passed (min 1000 (length (frames (w1 ++ [])) - 0)) = history.1.0.outcome_is in
       let none : 0 ≡ min 1000 (length (frames (w1 ++ [])) - 0) = cc in
-      absurd (omega (arith, none, ap (λ (l : List Letter). length (frames (l ++ []))) one.1, length-append one.0.frame [], frame_some one.0))
+      absurd (omega (arith, none, ap (λ (l : List SentFrame). length (frames (l ++ []))) one.1, length-append one.0.frame [], frame_some one.0))
 
   -- a request of which every byte has arrived is not taken
   pub lazy : length (frames w1) ≤ 1000 → IsHistory (event (Register A method params 7) (Registered (nth_id 0)) w1 ∷ event (Pass B 1000) (Passed (length (frames w1))) w2 ∷ event (Take B 0) Waiting w3 ∷ rest) → ⊥
   lazy short history = at w1 history.0.wrote_is history.1.1.0.outcome_is
     where
-      own : List Letter → List Event
+      own : List SentFrame → List Event
       own w = event (Pass B 1000) (Passed (length (frames w))) w2 ∷ []
 
-      theirs : List Letter → List Event
+      theirs : List SentFrame → List Event
       theirs w = event (Register A method params 7) (Registered (nth_id 0)) w ∷ []
 
-      at : (w : List Letter) → messages w ≡ request (nth_id 0) (string_bytes method) (view params) ∷ [] → Waiting ≡ taking (own w) (theirs w) (next_letter (own w) (theirs w)) → ⊥
+      at : (w : List SentFrame) → messages w ≡ request (nth_id 0) (string_bytes method) (view params) ∷ [] → Waiting ≡ taking (own w) (theirs w) (next_sent (own w) (theirs w)) → ⊥
       at [] is came = cc
       at (l ∷ ls) is came =
           let first : l.message ≡ request (nth_id 0) (string_bytes method) (view params) = cc in
           let whole : nat_le (0 + length l.frame) (length (l.frame ++ frames ls) + 0) ≡ true = le-leb (0 + length l.frame) (length (l.frame ++ frames ls) + 0) (omega (arith, length-append l.frame (frames ls))) in
-          let arrives : Waiting ≡ Arrived (nth_id 0) = came ∙ ap (λ (o : Option Letter). taking (own (l ∷ ls)) (theirs (l ∷ ls)) o) (cond-true (nat_le (0 + length l.frame) (length (l.frame ++ frames ls) + 0)) (Some l) None whole) ∙ ap (λ (m : Message). outcome_of_taking (own (l ∷ ls)) (theirs (l ∷ ls)) m) first in
+          let arrives : Waiting ≡ Arrived (nth_id 0) = came ∙ ap (λ (o : Option SentFrame). taking (own (l ∷ ls)) (theirs (l ∷ ls)) o) (cond-true (nat_le (0 + length l.frame) (length (l.frame ++ frames ls) + 0)) (Some l) None whole) ∙ ap (λ (m : Message). outcome_of_taking (own (l ∷ ls)) (theirs (l ∷ ls)) m) first in
           cc
 
   -- a reply is taken before a request that was written first
@@ -78,19 +78,19 @@ module _ (method : String Global) (params : Value) (result : Value) (rest : List
       own : List Event
       own = event (Register A method params 7) (Registered (nth_id 0)) w1 ∷ event (Pass A 1000) (Passed m) w6 ∷ []
 
-      theirs : List Letter → List Event
+      theirs : List SentFrame → List Event
       theirs w = event (Register B method params 8) (Registered (nth_id 0)) w ∷ event (Pass B 1000) (Passed n) w3 ∷ event (Take B 5) (Arrived (nth_id 0)) w4 ∷ event (Answer B (nth_id 0) result) (Answered 5) w5 ∷ []
 
-      at : (w : List Letter) → messages w ≡ request (nth_id 0) (string_bytes method) (view params) ∷ [] → Returned id x ≡ taking own (theirs w) (next_letter own (theirs w)) → ⊥
+      at : (w : List SentFrame) → messages w ≡ request (nth_id 0) (string_bytes method) (view params) ∷ [] → Returned id x ≡ taking own (theirs w) (next_sent own (theirs w)) → ⊥
       at [] is came = cc
       at (l ∷ ls) is came = let first : l.message ≡ request (nth_id 0) (string_bytes method) (view params) = cc in not_returned own (theirs (l ∷ ls)) l (nat_le (0 + length l.frame) (0 + (m + 0))) (nth_id 0) id (string_bytes method) (view params) x first came
 
 -- an answer to a request that nobody holds, however deep its result is
-pub answered_nothing : (value : Value) (wrote : List Letter) (rest : List Event) → IsHistory (event (Answer A (nth_id 0) value) (Answered 0) wrote ∷ rest) → ⊥
+pub answered_nothing : (value : Value) (wrote : List SentFrame) (rest : List Event) → IsHistory (event (Answer A (nth_id 0) value) (Answered 0) wrote ∷ rest) → ⊥
 answered_nothing value wrote rest history = let came = history.0.outcome_is in cc
 
 -- a refusal of a request that nobody holds
-pub refused_nothing : (code : ℤ) (text : String Global) (wrote : List Letter) (rest : List Event) → IsHistory (event (Refuse A (nth_id 0) code text) (Answered 0) wrote ∷ rest) → ⊥
+pub refused_nothing : (code : ℤ) (text : String Global) (wrote : List SentFrame) (rest : List Event) → IsHistory (event (Refuse A (nth_id 0) code text) (Answered 0) wrote ∷ rest) → ⊥
 refused_nothing code text wrote rest history = let came = history.0.outcome_is in cc
 
 -- the code of an answer that is an error
@@ -99,7 +99,7 @@ code_of (Ok result) = pos 0
 code_of (Err error) = error.code
 
 -- A asks and B replies, by any step that writes this answer. Then A takes this answer, and no other.
-module _ (world new : World) (handed : Side → List Message) (method : String Global) (params : Value) (n m : ℕ) (w1 w2 w3 w4 w5 w6 : List Letter) where
+module _ (world new : World) (handed : Side → List Message) (method : String Global) (params : Value) (n m : ℕ) (w1 w2 w3 w4 w5 w6 : List SentFrame) where
   abbrev asked : Step → List Event
   asked reply = event (Register A method params 7) (Registered (nth_id 0)) w1 ∷ event (Pass B 1000) (Passed n) w2 ∷ event (Take B 5) (Arrived (nth_id 0)) w3 ∷ event reply (Answered 5) w4 ∷ event (Pass A 1000) (Passed m) w5 ∷ []
 

@@ -12,8 +12,8 @@ use Rattle.lsp_peers.specs.declared.step.Step.{Step}
 use Rattle.lsp_peers.specs.declared.step.Step.TheVariants.{Take}
 use Rattle.lsp_peers.specs.declared.world.World.{World}
 use Rattle.lsp_peers.specs.Exchange.{WorldAfter, IsWholeRun, MeetsDeep}
-use Rattle.lsp_peers.specs.History.{Event, next_letter, events_of}
-use Rattle.lsp_peers.specs.Letter.{Letter}
+use Rattle.lsp_peers.specs.History.{Event, next_sent, events_of}
+use Rattle.lsp_peers.specs.SentFrame.{SentFrame}
 use Rattle.lsp_peers.specs.Shallow.{TakesReadable, AllTakeReadable, AllShallow}
 use Rattle.lsp_peers.specs.Sides.{other}
 use Rattle.lsp_peers.proofs.ExchangeLemmas.{takes_any}
@@ -21,11 +21,11 @@ use Rattle.lsp_peers.proofs.ShallowLemmas.{shallow_readable, shallow_before}
 
 -- whether what the step takes nests too deeply
 cases_readable : (history : List Event) (step : Step) → TakesReadable history step ⊎ (¬ TakesReadable history step)
-cases_readable history (Take side label) = at (next_letter (events_of side history) (events_of (other side) history))
+cases_readable history (Take side label) = at (next_sent (events_of side history) (events_of (other side) history))
   where
-    at : (o : Option Letter) → IfSome o (λ letter. nesting letter.message ≤ max_depth) ⊎ (¬ IfSome o (λ letter. nesting letter.message ≤ max_depth))
+    at : (o : Option SentFrame) → IfSome o (λ sent_frame. nesting sent_frame.message ≤ max_depth) ⊎ (¬ IfSome o (λ sent_frame. nesting sent_frame.message ≤ max_depth))
     at None = inl tt
-    at (Some letter) = ⊎_elim (λ short. inl (leb-true _ _ short)) (λ long. inr (λ short. absurd (omega (arith, short, leb-false _ _ long)))) (cases_Bool (nat_le (nesting letter.message) max_depth))
+    at (Some sent_frame) = ⊎_elim (λ short. inl (leb-true _ _ short)) (λ long. inr (λ short. absurd (omega (arith, short, leb-false _ _ long)))) (cases_Bool (nat_le (nesting sent_frame.message) max_depth))
 cases_readable history step = inl tt
 
 pub whole_nothing : (world : World) → WorldAfter world (λ side. []) [] → IsWholeRun [] [] world

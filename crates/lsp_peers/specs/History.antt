@@ -13,23 +13,25 @@ use Rattle.lsp_peers.specs.declared.step.Step.TheVariants.{Register, Tell, Pass,
 use Rattle.lsp_peers.specs.declared.step.Outcome.{Outcome}
 use Rattle.lsp_peers.specs.declared.step.Outcome.TheVariants.{Registered, Spent, Told, Passed, Arrived, Returned, Notified, Waiting, Answered, Cancelled, GaveUp, Absent}
 use Rattle.lsp_peers.specs.Ids.{nth_id, item_at, has}
-use Rattle.lsp_peers.specs.Letter.{Letter, refused, messages, frames, first_passed}
+use Rattle.lsp_peers.specs.SentFrame.{SentFrame, refused, messages, frames, first_passed}
 use Rattle.lsp_peers.specs.Sides.{side_of, other}
 
--- a step with its outcome, and the letter that it wrote to the other side, if it wrote one
+-- a step with its outcome, and the frame that it wrote to the other side, if it wrote one
 pub record Event : Type 0 where
   pub step : Step
   pub outcome : Outcome
-  pub wrote : List Letter
+  pub wrote : List SentFrame
 
 -- ---- what an event is, by its step and outcome
 
 -- the message that it writes to the other side
 abbrev pub written_in : Step → Outcome → List Message
-written_in (Register side method params payload) (Registered id) = request id (string_bytes method) (view params) ∷ []
+written_in (Register side method params payload) (Registered id) =
+    request id (string_bytes method) (view params) ∷ []
 written_in (Tell side method params) Told = notification (string_bytes method) (view params) ∷ []
 written_in (Answer side id value) (Answered label) = response id (Ok (view value)) ∷ []
-written_in (Refuse side id code message) (Answered label) = refused id code (string_bytes message) ∷ []
+written_in (Refuse side id code message) (Answered label) =
+    refused id code (string_bytes message) ∷ []
 written_in (Cancel side id) Cancelled = cancelled id ∷ []
 written_in step outcome = []
 
@@ -44,12 +46,12 @@ arrival_in (Take side label) (Arrived id) = label ∷ []
 arrival_in step outcome = []
 
 -- the id of a request that was answered, refused, cancelled or given up
-abbrev pub settled_in : Step → Outcome → List Id
-settled_in (Answer side id value) (Answered label) = id ∷ []
-settled_in (Refuse side id code message) (Answered label) = id ∷ []
-settled_in (Cancel side id) Cancelled = id ∷ []
-settled_in (GiveUp side id) (GaveUp label) = id ∷ []
-settled_in step outcome = []
+abbrev pub closed_in : Step → Outcome → List Id
+closed_in (Answer side id value) (Answered label) = id ∷ []
+closed_in (Refuse side id code message) (Answered label) = id ∷ []
+closed_in (Cancel side id) Cancelled = id ∷ []
+closed_in (GiveUp side id) (GaveUp label) = id ∷ []
+closed_in step outcome = []
 
 -- the id of a reply that was taken
 abbrev pub returned_in : Step → Outcome → List Id
@@ -79,24 +81,24 @@ abbrev pub labels : List Event → List ℕ
 labels events = flat_map (λ event. arrival_in event.step event.outcome) events
 
 -- the ids of the requests that it answered, refused, cancelled or gave up
-abbrev pub settled : List Event → List Id
-settled events = flat_map (λ event. settled_in event.step event.outcome) events
+abbrev pub closed : List Event → List Id
+closed events = flat_map (λ event. closed_in event.step event.outcome) events
 
 -- the ids of the replies that it took
 abbrev pub returned : List Event → List Id
 returned events = flat_map (λ event. returned_in event.step event.outcome) events
 
--- the label under which it holds a request: it took the request, and hasn't settled it
+-- the label under which it holds a request: it took the request, and hasn't closed it
 abbrev pub held : List Event → Id → Option ℕ
-held events id = if has id (settled events) then None else item_at (labels events) id
+held events id = if has id (closed events) then None else item_at (labels events) id
 
 -- the payload that is pending under an id: it registered the request, and hasn't taken the reply
 abbrev pub pending : List Event → Id → Option ℕ
 pending events id = if has id (returned events) then None else item_at (payloads events) id
 
 -- what it wrote to the other side, in order
-abbrev pub letters_written : List Event → List Letter
-letters_written events = flat_map (λ event. event.wrote) events
+abbrev pub frames_written : List Event → List SentFrame
+frames_written events = flat_map (λ event. event.wrote) events
 
 -- how many messages it took
 abbrev pub taken_count : List Event → ℕ
@@ -116,17 +118,17 @@ where_held (Some label) outcome = outcome label
 -- ---- what the events of a side and those of the other side come to
 
 module _ (own others : List Event) where
-  -- the letters that it took: the first of those that the other side wrote
-  abbrev pub letters_taken : List Letter
-  letters_taken = take (taken_count own) (letters_written others)
+  -- the frames that it took: the first of those that the other side wrote
+  abbrev pub frames_taken : List SentFrame
+  frames_taken = take (taken_count own) (frames_written others)
 
-  -- the letters that it has yet to take
-  abbrev pub letters_left : List Letter
-  letters_left = drop (taken_count own) (letters_written others)
+  -- the frames that it has yet to take
+  abbrev pub frames_left : List SentFrame
+  frames_left = drop (taken_count own) (frames_written others)
 
-  -- the first letter that it has yet to take, if the whole frame has arrived
-  abbrev pub next_letter : Option Letter
-  next_letter = first_passed (length (frames letters_taken)) (passed_count own) letters_left
+  -- the first frame that it has yet to take, if the whole frame has arrived
+  abbrev pub next_sent : Option SentFrame
+  next_sent = first_passed (length (frames frames_taken)) (passed_count own) frames_left
 
   -- What comes of taking a message: a request arrives, a reply gives back the payload of its request. That no reply comes twice
   -- is a law, `a_reply_gives_back_its_payload_once`.
@@ -137,10 +139,13 @@ module _ (own others : List Event) where
 
   -- what comes of a step of this side
   abbrev pub outcome_of : Step → Outcome
-  outcome_of (Register side method params payload) = if length (payloads own) == all_ids then Spent else Registered (nth_id (length (payloads own)))
+  outcome_of (Register side method params payload) = if length (payloads own) ==
+      all_ids then Spent else Registered (nth_id (length (payloads own)))
   outcome_of (Tell side method params) = Told
-  outcome_of (Pass side bytes) = Passed (min bytes (length (frames (letters_written others)) - passed_count own))
-  outcome_of (Take side label) = option_map_or (λ letter. outcome_of_taking letter.message) next_letter Waiting
+  outcome_of (Pass side bytes) =
+      Passed (min bytes (length (frames (frames_written others)) - passed_count own))
+  outcome_of (Take side label) =
+      option_map_or (λ sent_frame. outcome_of_taking sent_frame.message) next_sent Waiting
   outcome_of (Answer side id value) = where_held (held own id) (λ label. Answered label)
   outcome_of (Refuse side id code message) = where_held (held own id) (λ label. Answered label)
   outcome_of (Cancel side id) = where_held (held own id) (λ label. Cancelled)
@@ -167,7 +172,8 @@ events_of side history = flat_map (λ event. only_of side (side_of event.step) e
 abbrev pub AllFollow : List Event → List Event → Type 0
 AllFollow before [] = Unit {0}
 AllFollow before (event ∷ events) =
-    Follows (events_of (side_of event.step) before) (events_of (other (side_of event.step)) before) event × AllFollow (before ++ event ∷ []) events
+    Follows (events_of (side_of event.step) before) (events_of (other (side_of event.step)) before)
+    event × AllFollow (before ++ event ∷ []) events
 
 abbrev pub IsHistory : List Event → Type 0
 IsHistory events = AllFollow [] events

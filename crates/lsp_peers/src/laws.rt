@@ -33,58 +33,76 @@ pub fn a_shallow_run_meets_nothing_deep()
 
 /// What shallow steps write nests at most 127 levels.
 pub fn shallow_steps_are_readable()
-    ensures { (history : List Event) → AllShallow (each (λ event. event.step) history) → AreReadable history }
+    ensures { (history : List Event) → AllShallow (each (λ event. event.step) history)
+        → AreReadable history }
 {}
 
 /// One more shallow step keeps that.
 pub fn a_shallow_step_keeps_a_history_readable()
-    ensures { (history : List Event) (event : Event) → AreReadable history → IsShallow event.step → AreReadable (history ++ event ∷ []) }
+    ensures { (history : List Event) (event : Event) → AreReadable history → IsShallow event.step
+        → AreReadable (history ++ event ∷ []) }
 {}
 
 /// After such a history, each step may be taken: no message nests too deeply.
 pub fn a_readable_history_takes_any_step()
-    ensures { (history : List Event) (step : Step) → IsHistory history → AreReadable history → TakesReadable history step }
+    ensures { (history : List Event) (step : Step) → IsHistory history → AreReadable history
+        → TakesReadable history step }
 {}
 
 /// What the outcomes of a history say, over its steps and outcomes alone: requests are registered and arrive as 0, 1, 2, .., each
 /// reply gives back the payload of its own request, once, and a request is found exactly if it is held.
 pub fn a_history_has_its_facts()
-    ensures { (history : List Event) → IsHistory history → FactsOf (each (λ event. event.step) history) (each (λ event. event.outcome) history) }
+    ensures { (history : List Event) → IsHistory history
+        → FactsOf (each (λ event. event.step) history) (each (λ event. event.outcome) history) }
 {}
 
 /// A reply that a side takes gives back the payload that it registered under the id. No reply to that id was taken before.
 pub fn a_reply_gives_back_its_payload_once()
     ensures { (before : List Event) (event : Event) → IsHistory (before ++ event ∷ []) →
-        (side : Side) (label : ℕ) (id : Id) (payload : Option ℕ) → event.step ≡ Take side label → event.outcome ≡ Returned id payload →
-        IsSome payload × (payload ≡ item_at (payloads (events_of side before)) id) × (has id (returned (events_of side before)) ≡ false) }
+        (side : Side) (label : ℕ) (id : Id) (payload : Option ℕ) → event.step ≡ Take side label
+        → event.outcome ≡ Returned id payload →
+        IsSome payload × (payload ≡ item_at (payloads (events_of side before)) id)
+        × (has id (returned (events_of side before)) ≡ false) }
 {}
 
 /// The requests that arrive at a side have the ids 0, 1, 2, .., and the other side registered each of them before.
 pub fn requests_arrive_in_order()
     ensures { (before : List Event) (event : Event) → IsHistory (before ++ event ∷ []) →
-        (side : Side) (label : ℕ) (id : Id) → event.step ≡ Take side label → event.outcome ≡ Arrived id →
-        (id ≡ nth_id (length (labels (events_of side before)))) × (length (labels (events_of side before)) < length (payloads (events_of (other side) before))) }
+        (side : Side) (label : ℕ) (id : Id) → event.step ≡ Take side label
+        → event.outcome ≡ Arrived id →
+        (id ≡ nth_id (length (labels (events_of side before))))
+        × (length (labels (events_of side before))
+        < length (payloads (events_of (other side) before))) }
 {}
 
 /// The message that a Take names is the last of those that the side took: the request of that id, the reply to it, a notification.
 pub fn a_take_gives_the_last_message()
-    ensures { (world new : World) (handed : Side → List plain.Message) (before : List Event) (event : Event) →
-        WorldAfter world handed before → WorldAfter new handed (before ++ event ∷ []) → (side : Side) (label : ℕ) → event.step ≡ Take side label →
-        TakenAs event.outcome (each message_view (seen_at side world).taken) (each message_view (seen_at side new).taken) }
+    ensures { (world new : World) (handed : Side → List plain.Message) (before : List Event)
+        (event : Event) →
+        WorldAfter world handed before → WorldAfter new handed (before ++ event ∷ [])
+        → (side : Side) (label : ℕ) → event.step ≡ Take side label →
+        TakenAs event.outcome (each message_view (seen_at side world).taken)
+        (each message_view (seen_at side new).taken) }
 {}
 
 /// A reply that a side takes is what the other side wrote before, in answer to the request of this id.
 pub fn a_reply_is_the_answer_of_the_other_side()
-    ensures { (world new : World) (handed : Side → List plain.Message) (before : List Event) (event : Event) →
-        WorldAfter world handed before → WorldAfter new handed (before ++ event ∷ []) → (side : Side) (label : ℕ) (id : Id) (payload : Option ℕ) →
-        event.step ≡ Take side label → event.outcome ≡ Returned id payload → (answer : Result Data ErrorObject)
-        × (each message_view (seen_at side new).taken ≡ each message_view (seen_at side world).taken ++ response id answer ∷ []) × AnsweredBy (other side) id answer before }
+    ensures { (world new : World) (handed : Side → List plain.Message) (before : List Event)
+        (event : Event) →
+        WorldAfter world handed before → WorldAfter new handed (before ++ event ∷ [])
+        → (side : Side) (label : ℕ) (id : Id) (payload : Option ℕ) →
+        event.step ≡ Take side label → event.outcome ≡ Returned id payload
+        → (answer : Result Data ErrorObject)
+        × (each message_view (seen_at side new).taken ≡ each message_view (seen_at side world).taken
+        ++ response id answer ∷ []) × AnsweredBy (other side) id answer before }
 {}
 
-/// A history over tokens: its steps do this to one token for each request, and to the letters of two posts, each token in one place;
-/// and a world after the history agrees with these tokens and posts.
-pub fn a_history_moves_tokens()
+/// A history over tracked requests: its steps do this to them, and to the sent frames of two posts, each request in one place;
+/// and a world after the history agrees with these requests and posts.
+pub fn a_history_moves_requests()
     ensures { (history : List Event) → IsHistory history → (p : Accounts)
-        × Run nothing (each (λ event. event.step) history) (each (λ event. event.outcome) history) p × InOnePlace p
-        × ((world : World) (handed : Side → List plain.Message) → WorldAfter world handed history → WorldAgrees world handed p) }
+        × Run nothing (each (λ event. event.step) history) (each (λ event. event.outcome) history) p
+        × InOnePlace p
+        × ((world : World) (handed : Side → List plain.Message) → WorldAfter world handed history
+        → WorldAgrees world handed p) }
 {}

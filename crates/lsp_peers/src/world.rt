@@ -73,19 +73,28 @@ impl World {
     /// A world keeps each message that a side took. `hand_out` lets them go.
     pub fn step(&mut self, step: Step) -> Result<Outcome, WorldFault>
         // The outcome follows from the events that led to this world, and the new world is what it is after one more event.
-        ensures exchanged { (handed : Side → List plain.Message) (old : List Event) → WorldAfter self.old handed old → TakesReadable old step → IfOk result (λ outcome.
-            (event : Event) × (event.step ≡ step) × (event.outcome ≡ outcome) × WorldAfter self.new handed (old ++ event ∷ [])) }
+        ensures exchanged { (handed : Side → List plain.Message) (old : List Event)
+            → WorldAfter self.old handed old → TakesReadable old step → IfOk result (λ outcome.
+            (event : Event) × (event.step ≡ step) × (event.outcome ≡ outcome)
+            × WorldAfter self.new handed (old ++ event ∷ [])) }
         // The other fault comes only if the message that is taken nests too deeply, and nothing has changed then.
-        ensures err { (handed : Side → List plain.Message) (old : List Event) → WorldAfter self.old handed old → TakesReadable old step →
+        ensures err { (handed : Side → List plain.Message) (old : List Event)
+            → WorldAfter self.old handed old → TakesReadable old step →
             OnErr result (result ≡ Err WorldFault.Memory) }
         ensures same { result ≡ Err WorldFault.NotReadBack → self.new ≡ self.old }
-        ensures free { (handed : Side → List plain.Message) (old : List Event) → WorldAfter self.old handed old →
-            NeedsNoMemory (outcome_of (events_of (side_of step) old) (events_of (other (side_of step)) old) step) → IsOk result }
+        ensures free { (handed : Side → List plain.Message) (old : List Event)
+            → WorldAfter self.old handed old →
+            NeedsNoMemory
+            (outcome_of (events_of (side_of step) old) (events_of (other (side_of step)) old)
+            step) → IsOk result }
         // A message that nests too deeply is never taken.
-        ensures unread { (handed : Side → List plain.Message) (old : List Event) → WorldAfter self.old handed old → ¬ TakesReadable old step → IsErr result }
+        ensures unread { (handed : Side → List plain.Message) (old : List Event)
+            → WorldAfter self.old handed old → ¬ TakesReadable old step → IsErr result }
         // Nor is it waited for.
-        ensures waits { (handed : Side → List plain.Message) (old : List Event) → WorldAfter self.old handed old → result ≡ Ok Outcome.Waiting →
-            outcome_of (events_of (side_of step) old) (events_of (other (side_of step)) old) step ≡ Outcome.Waiting }
+        ensures waits { (handed : Side → List plain.Message) (old : List Event)
+            → WorldAfter self.old handed old → result ≡ Ok Outcome.Waiting →
+            outcome_of (events_of (side_of step) old) (events_of (other (side_of step)) old) step
+            ≡ Outcome.Waiting }
     {
         let side = step.side();
         match side {
@@ -98,7 +107,8 @@ impl World {
     /// queues and links of this side, and all that the other side has.
     pub fn hand_out(&mut self, alloc: Global, side: Side) -> Vec<Message>
         ensures given { result.items ≡ (seen_at side self.old).taken }
-        ensures after { (handed : Side → List plain.Message) (old : List Event) → WorldAfter self.old handed old →
+        ensures after { (handed : Side → List plain.Message) (old : List Event)
+            → WorldAfter self.old handed old →
             WorldAfter self.new (handed_on side (each message_view result.items) handed) old }
         ensures here { seen_at side self.new ≡ handed_out (seen_at side self.old) }
         ensures there { seen_at (other side) self.new ≡ seen_at (other side) self.old }

@@ -26,4 +26,10 @@ all_ids = 2 ^ 31
 
 -- the reply to a request that its client cancelled (LSP 3.17, "Cancellation Support")
 abbrev pub cancelled : Id → Message
-cancelled id = response id (Err (record { code = number_of RequestCanceled; message = codes "canceled by client"; details = None }))
+cancelled id =
+    response id (Err
+    (record {
+      code = number_of RequestCanceled;
+      message = codes "canceled by client";
+      details = None;
+    }))

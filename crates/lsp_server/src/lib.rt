@@ -52,4 +52,5 @@ pub use memory::keep_freed_memory;
 pub use relays::{Parcel, RelayRx, RelayTx, relay};
 pub use servers::run_threads_with;
 pub use serving_thread::{spawn, spawn_with};
+pub use stdio::StandardOutput;
 pub use unread::UNREAD_WEIGHT;

@@ -1,9 +1,9 @@
-// Places of a channel that its sender keeps. A channel tells a sender that its receiver is gone only where it has no place free. A
+// Places of a channel that its sender keeps. A channel tells a sender that its receiver is gone only if it has no place free. A
 // sender that has to wait with places free takes these first.
 ghost use Rattle.std.specs.Prelude.{◌≡◌, IfErr};
 ghost use Rattle.crossbeam_channel.specs.Err.{send_message};
 
-use crossbeam_channel::internal::{Operation, Sink, Source, Token};
+use crossbeam_channel::internal::{Operation, Sink, Source, TrackedRequest};
 use crossbeam_channel::{Receiver, Select, SelectedOperation, SendError, Sender, never};
 use std::alloc::{AllocError, Global};
 use std::sync::Wait;
@@ -61,7 +61,12 @@ impl Sink for Nowhere {
         self.none.operation(index)
     }
 
-    fn write<R: Wait>(&self, _rt: &R, _token: Token, _msg: ()) -> Result<(), SendError<()>> {
+    fn write<R: Wait>(
+        &self,
+        _rt: &R,
+        _token: TrackedRequest,
+        _msg: (),
+    ) -> Result<(), SendError<()>> {
         Ok(())
     }
 }

@@ -3,7 +3,7 @@ use Rattle.std.proofs.Common.{◌≡◌, ℕ, true, false, List, [], ◌∷◌, 
 use Rattle.std.proofs.lemmas.Fn.{FoldsTo-push}
 use Rattle.std.specs.List.{FoldsTo}
 use Rattle.lsp_message.specs.Frame.{body_means, reading_within}
-use Rattle.lsp_message.specs.Letters.{Begins, Passes, PassesAll, is_exit}
+use Rattle.lsp_message.specs.Messages.{Begins, Passes, PassesAll, is_exit}
 use Rattle.lsp_message.specs.Message.{Message}
 use Rattle.lsp_message.specs.Reading.{Answers}
 use Rattle.lsp_message.specs.declared.frame.ReadFault.{ReadFault}
@@ -37,7 +37,7 @@ module _ (limit : ℕ) where
     abbrev pub Handed : Option (List ℕ) → Option (List ℕ) → S → S → Type 0
     Handed a b old new = IfSome a (λ text. IsSomeAnd b (λ at. (ms : List Message) × PassesAll limit text ms at × FoldsTo (Takes sends) old ms new))
 
-    -- what follows where both are known
+    -- what follows if both are known
     known : {R A : List ℕ → Type 0} (a b : Option (List ℕ)) (old new : S) → Handed a b old new → IfSome b A
         → ((text left : List ℕ) (ms : List Message) → PassesAll limit text ms left → FoldsTo (Takes sends) old ms new → A left → R text) → IfSome a R
     known None b old new so_far read then = tt

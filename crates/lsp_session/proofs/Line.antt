@@ -1,6 +1,6 @@
 -- A session over one value with both ends: its parts one after another, and each of its steps.
 use Rattle.lsp_message.specs.Id.{Id}
-use Rattle.lsp_message.specs.Letters.{is_exit}
+use Rattle.lsp_message.specs.Messages.{is_exit}
 use Rattle.lsp_message.specs.Message.{Message, ErrorObject, request, notification, response}
 use Rattle.lsp_session.proofs.Phases.{phase_follows}
 use Rattle.lsp_session.proofs.Ran.{IsWhole, IsOpen, answer_at_end, of_open, steps_both, one_step, reaches_whole, from_after, open_after}
@@ -8,13 +8,13 @@ use Rattle.lsp_session.proofs.Waiting.{FoldsTo-append, and-true}
 use Rattle.lsp_session.specs.Boxes.{Sends, Receives, Takes, Offers}
 use Rattle.lsp_session.specs.Event.{Event, message, timeout, closed, woken}
 use Rattle.lsp_session.specs.Finish.{FinishAnswer, IsUninvited, EventFinishes, is_initialized}
-use Rattle.lsp_session.specs.LineParts.{FinishesOn, OffersNullOn, ShutsDownOn}
+use Rattle.lsp_session.specs.LineParts.{FinishesOn, OffersShutdownReplyOn, ShutsDownOn}
 use Rattle.lsp_session.specs.Outputs.{RefusesOne}
-use Rattle.lsp_session.specs.Prompt.{event_of, StopsAfterNull, next_phase, WaitsIn, Meets, EndsTalk, Talks}
+use Rattle.lsp_session.specs.Prompt.{event_of, StopsAfterShutdown, next_phase, WaitsIn, Meets, EndsTalk, Talks}
 use Rattle.lsp_session.specs.ProtocolError.{ProtocolFault, disconnected, out_of_memory}
 use Rattle.lsp_session.specs.Replies.{null_reply}
 use Rattle.lsp_session.specs.Served.{reason_of, reason_of_fault, StopsFor}
-use Rattle.lsp_session.specs.Session.{Behavior, SessionAnswer, SessionPart, Exchange, Stop, decided, no_more, timed_out, refused, exhausted, Phase, starting, replied, serving, asked, ended, null_of, phase_after, is_served, request_id, is_initialize, Step, Steps, Stops, SessionFrom}
+use Rattle.lsp_session.specs.Session.{Behavior, SessionAnswer, SessionPart, Exchange, Stop, decided, no_more, timed_out, refused, exhausted, Phase, starting, replied, serving, asked, ended, shutdown_reply_of, phase_after, is_served, request_id, is_initialize, Step, Steps, Stops, SessionFrom}
 use Rattle.lsp_session.specs.SessionLaws.{Both}
 use Rattle.lsp_session.specs.Shutdown.{ShutdownAnswer, IsNoExit, EventShutsDown}
 use Rattle.lsp_session.specs.Start.{StartAnswer, is_early, IsEarlyReply, fault_of_refusal, PassesOver, RefusesReply, Decides, MessageDecides, Ends}
@@ -33,9 +33,9 @@ use Rattle.std.specs.Str.{bytes_eq}
 
 module _ {L : Type 0} (receives listens : Receives L) (sends : Sends L) where
   -- more whole exchanges came before the end
-  later_end : (phase : Phase) (few many : ℕ) (stop : Stop) (null : Option Message) (last : List Exchange) (old new : L) → few ≤ many
-      → EndsTalk receives listens sends phase few stop null last old new → EndsTalk receives listens sends phase many stop null last old new
-  later_end phase few many stop (Some null) last old new more ends = ends
+  later_end : (phase : Phase) (few many : ℕ) (stop : Stop) (shutdown_reply : Option Message) (last : List Exchange) (old new : L) → few ≤ many
+      → EndsTalk receives listens sends phase few stop shutdown_reply last old new → EndsTalk receives listens sends phase many stop shutdown_reply last old new
+  later_end phase few many stop (Some shutdown_reply) last old new more ends = ends
   later_end phase few many no_more None last old new more ends = (
     ends.0,
     elim ends.1 [
@@ -85,7 +85,7 @@ module _ {S L : Type 0} (may : Behavior S) (receives listens : Receives L) (send
   pub goes_step : (p p' : Phase) (s s' : S) (old mid new : L) (m : Option Message) (sent : List Message) → IsOpen p'
       → WaitsIn receives listens p old (event_of m) mid → Step may p s m sent p' s' → FoldsTo (Takes sends) mid sent new → Goes 1 p s old p' s' new
   goes_step p p' s s' old mid new m sent is_open waits step taken = record {
-    exchanges = record { letter = m; said = sent } ∷ [];
+    exchanges = record { came = m; sent = sent } ∷ [];
     many = omega arith;
     prompt = ((p', new), record { met = mid; waited = waits; taken = taken; next = phase_follows may p p' s s' m sent is_open step }, refl);
     steps = one_step may p p' s s' m sent step;
@@ -107,13 +107,13 @@ module _ {S L : Type 0} (may : Behavior S) (receives listens : Receives L) (send
     whole = first.exchanges ++ run.whole;
     last = run.last;
     stop = run.stop;
-    null = run.null;
+    shutdown_reply = run.shutdown_reply;
     reached = run.reached;
     mid = run.mid;
     prompt = FoldsTo-append (Meets receives listens sends) first.exchanges run.whole (p, old) (p', mid) (run.reached, run.mid) first.prompt run.prompt;
-    ends = later_end receives listens sends run.reached (length run.whole) (length (first.exchanges ++ run.whole)) run.stop run.null run.last run.mid new
+    ends = later_end receives listens sends run.reached (length run.whole) (length (first.exchanges ++ run.whole)) run.stop run.shutdown_reply run.last run.mid new
         (rw (length-append first.exchanges run.whole) (omega arith)) run.ends;
-    part = rw append_assoc (from_after may p p' s s' s'' first.exchanges (run.whole ++ run.last) run.stop run.null answer first.steps run.part.0, run.part.1);
+    part = rw append_assoc (from_after may p p' s s' s'' first.exchanges (run.whole ++ run.last) run.stop run.shutdown_reply answer first.steps run.part.0, run.part.1);
   }
 
   -- it went on for as many exchanges as are received at most
@@ -122,12 +122,12 @@ module _ {S L : Type 0} (may : Behavior S) (receives listens : Receives L) (send
     whole = all.exchanges;
     last = [];
     stop = no_more;
-    null = None;
+    shutdown_reply = None;
     reached = p';
     mid = new;
     prompt = all.prompt;
     ends = (refl, inr (all.many, refl));
-    part = rw append-nil (record { last = p'; after = s'; reached = all.steps; null_is = (of_open may p' s' is_open).0; stopped = (of_open may p' s' is_open).1 }, refl);
+    part = rw append-nil (record { last = p'; after = s'; reached = all.steps; shutdown_reply_is = (of_open may p' s' is_open).0; stopped = (of_open may p' s' is_open).1 }, refl);
   }
 
   -- no more comes
@@ -136,12 +136,12 @@ module _ {S L : Type 0} (may : Behavior S) (receives listens : Receives L) (send
     whole = [];
     last = [];
     stop = no_more;
-    null = None;
+    shutdown_reply = None;
     reached = p;
     mid = old;
     prompt = refl;
     ends = (refl, inl waits);
-    part = (record { last = p; after = s; reached = (refl, refl); null_is = (of_open may p s is_open).0; stopped = (of_open may p s is_open).1 }, refl);
+    part = (record { last = p; after = s; reached = (refl, refl); shutdown_reply_is = (of_open may p s is_open).0; stopped = (of_open may p s is_open).1 }, refl);
   }
 
   -- an allocation fails at a message or a wake
@@ -151,27 +151,27 @@ module _ {S L : Type 0} (may : Behavior S) (receives listens : Receives L) (send
     whole = [];
     last = [];
     stop = exhausted;
-    null = None;
+    shutdown_reply = None;
     reached = p;
     mid = old;
     prompt = refl;
     ends = (refl, m, waits);
-    part = (record { last = p; after = s; reached = (refl, refl); null_is = (of_open may p s is_open).0; stopped = stops }, refl);
+    part = (record { last = p; after = s; reached = (refl, refl); shutdown_reply_is = (of_open may p s is_open).0; stopped = stops }, refl);
   }
 
   -- a message ends the session
   pub ends_decided : (p : Phase) (s : S) (old new : L) (m : Message) (answer : SessionAnswer) → WaitsIn receives listens p old (message m) new
       → Step may p s (Some m) [] (ended None answer) s → {reason : StopReason} → reason ≡ Decided → Talks receives listens sends p (From reason p s s) old answer new
   ends_decided p s old new m answer waits step is = record {
-    whole = record { letter = Some m; said = [] } ∷ [];
+    whole = record { came = Some m; sent = [] } ∷ [];
     last = [];
     stop = decided;
-    null = None;
-    reached = next_phase p (record { letter = Some m; said = [] });
+    shutdown_reply = None;
+    reached = next_phase p (record { came = Some m; sent = [] });
     mid = new;
-    prompt = ((next_phase p (record { letter = Some m; said = [] }), new), record { met = new; waited = waits; taken = refl; next = refl }, refl);
+    prompt = ((next_phase p (record { came = Some m; sent = [] }), new), record { met = new; waited = waits; taken = refl; next = refl }, refl);
     ends = (refl, refl);
-    part = (record { last = ended None answer; after = s; reached = one_step may p (ended None answer) s s (Some m) [] step; null_is = refl; stopped = (refl, refl) }, is);
+    part = (record { last = ended None answer; after = s; reached = one_step may p (ended None answer) s s (Some m) [] step; shutdown_reply_is = refl; stopped = (refl, refl) }, is);
   }
 
   -- one of the messages that are sent for it is refused
@@ -180,22 +180,22 @@ module _ {S L : Type 0} (may : Behavior S) (receives listens : Receives L) (send
       → Talks receives listens sends p (From (reason_of_fault fault) p s s') old (Err fault) new
   ends_refused p p' s s' old mid new m sent fault is_open waits step lost = record {
     whole = [];
-    last = record { letter = m; said = lost.part ++ lost.unsent ∷ [] } ∷ [];
+    last = record { came = m; sent = lost.part ++ lost.unsent ∷ [] } ∷ [];
     stop = refused lost.refusal;
-    null = None;
+    shutdown_reply = None;
     reached = p;
     mid = old;
     prompt = refl;
-    ends = record { letter = m; part = lost.part; unsaid = lost.unsent; is = refl; met = mid; waited = waits; mid = lost.mid; taken = lost.taken; refuses = lost.refuses };
+    ends = record { came = m; part = lost.part; not_sent = lost.unsent; is = refl; met = mid; waited = waits; mid = lost.mid; taken = lost.taken; refuses = lost.refuses };
     part = (
       record {
         last = p';
         after = s';
         reached = record {
           earlier = [];
-          letter = m;
+          came = m;
           part = lost.part;
-          unsaid = lost.unsent;
+          not_sent = lost.unsent;
           more = lost.more;
           cut = refl;
           next = p;
@@ -203,7 +203,7 @@ module _ {S L : Type 0} (may : Behavior S) (receives listens : Receives L) (send
           steps = (refl, refl);
           step = rw lost.cut at step;
         };
-        null_is = (of_open may p' s' is_open).0;
+        shutdown_reply_is = (of_open may p' s' is_open).0;
         stopped = rw lost.is ((of_open may p' s' is_open).2 lost.refusal);
       },
       ap reason_of_fault lost.is ∙ refusal_reason lost.refusal,
@@ -218,15 +218,15 @@ module _ {S L : Type 0} (may : Behavior S) (receives listens : Receives L) (send
     ask = request id method params
 
     module _ (asks : bytes_eq method (codes "shutdown") ≡ true) (mid : L) (offers : Offers sends (null_reply id) met mid) where
-      -- what comes after the null
+      -- what comes after the reply to `shutdown`
       exit_run : (event : Event) (answer : SessionAnswer) (later : List Exchange) (stop : Stop) (last : Phase) → receives mid event new
-          → StopsAfterNull event stop later → IsWhole stop → Steps may (asked id) s later last s → null_of last ≡ Some (null_reply id)
+          → StopsAfterShutdown event stop later → IsWhole stop → Steps may (asked id) s later last s → shutdown_reply_of last ≡ Some (null_reply id)
           → Stops may last s stop answer s → {reason : StopReason} → reason ≡ reason_of stop → Talks receives listens sends serving (From reason serving s s) old answer new
       exit_run event answer later stop last received after is_whole steps kept stops why = record {
         whole = [];
-        last = record { letter = Some ask; said = null_reply id ∷ [] } ∷ later;
+        last = record { came = Some ask; sent = null_reply id ∷ [] } ∷ later;
         stop = stop;
-        null = Some (null_reply id);
+        shutdown_reply = Some (null_reply id);
         reached = serving;
         mid = old;
         prompt = refl;
@@ -247,8 +247,8 @@ module _ {S L : Type 0} (may : Behavior S) (receives listens : Receives L) (send
           record {
             last = last;
             after = s;
-            reached = reaches_whole may stop serving last s s (record { letter = Some ask; said = null_reply id ∷ [] } ∷ later) is_whole (asked id, s, rw asks ((refl, refl), refl), steps);
-            null_is = sym kept;
+            reached = reaches_whole may stop serving last s s (record { came = Some ask; sent = null_reply id ∷ [] } ∷ later) is_whole (asked id, s, rw asks ((refl, refl), refl), steps);
+            shutdown_reply_is = sym kept;
             stopped = stops;
           },
           why,
@@ -258,11 +258,11 @@ module _ {S L : Type 0} (may : Behavior S) (receives listens : Receives L) (send
       exit_message : (m : Message) (answer : ShutdownAnswer) (b : Bool) → receives mid (message m) new
           → is_exit m ≡ b → MatchBool b (answer ≡ Ok true) (IsErrAnd answer IsNoExit) → Talks receives listens sends serving (From (shut_reason answer) serving s s) old (shut_answer answer) new
       exit_message m answer true received e decides =
-          exit_run (message m) (shut_answer answer) (record { letter = Some m; said = [] } ∷ []) decided (ended (Some (null_reply id)) (Ok ShutDown)) received refl tt
+          exit_run (message m) (shut_answer answer) (record { came = Some m; sent = [] } ∷ []) decided (ended (Some (null_reply id)) (Ok ShutDown)) received refl tt
           (one_step may (asked id) (ended (Some (null_reply id)) (Ok ShutDown)) s s (Some m) [] (rw e (refl, refl), refl)) refl (ap shut_answer decides, refl) (ap shut_reason decides)
       exit_message m (Ok b) false received e decides = absurd decides
       exit_message m (Err fault) false received e decides = elim decides [
-        | inl shows ↦ exit_run (message m) (Err fault) (record { letter = Some m; said = [] } ∷ []) decided (ended (Some (null_reply id)) (Err fault)) received refl tt
+        | inl shows ↦ exit_run (message m) (Err fault) (record { came = Some m; sent = [] } ∷ []) decided (ended (Some (null_reply id)) (Err fault)) received refl tt
             (one_step may (asked id) (ended (Some (null_reply id)) (Err fault)) s s (Some m) []
             (rw e (shows.0, refl, ap (λ (x : ProtocolFault). ended (Some (null_reply id)) (Err x)) shows.1), refl)) refl (refl, refl) (ap reason_of_fault shows.1)
         | inr memory ↦ exit_run (message m) (Err fault) [] exhausted (asked id) received refl tt (refl, refl) refl (ap (λ (x : ProtocolFault). Err x) memory, refl) (ap reason_of_fault memory)
@@ -279,20 +279,20 @@ module _ {S L : Type 0} (may : Behavior S) (receives listens : Receives L) (send
 
     ends_shut : (answer : ShutdownAnswer) (b : Bool) → bytes_eq method (codes "shutdown") ≡ b
         → (answer ≡ Ok false → ⊥)
-        → MatchBool b (OffersNullOn receives sends id met answer new ⊎ ((answer ≡ Err out_of_memory) × (new ≡ met))) ((answer ≡ Ok false) × (new ≡ met))
+        → MatchBool b (OffersShutdownReplyOn receives sends id met answer new ⊎ ((answer ≡ Err out_of_memory) × (new ≡ met))) ((answer ≡ Ok false) × (new ≡ met))
         → Talks receives listens sends serving (From (shut_reason answer) serving s s) old (shut_answer answer) new
     ends_shut answer true e other shuts = elim shuts [
-      | inl null ↦ exit_event e null.mid null.offered null.event answer null.received null.decides
+      | inl shutdown_reply ↦ exit_event e shutdown_reply.mid shutdown_reply.offered shutdown_reply.event answer shutdown_reply.received shutdown_reply.decides
       | inr memory ↦ rw (memory.1, memory.0) (ends_exhausted serving s s old met (Some ask) tt waits refl)
     ]
     ends_shut answer false e other shuts = absurd (other shuts.0)
 
     -- another request is left alone
     passes_other : (b : Bool) → bytes_eq method (codes "shutdown") ≡ b
-        → MatchBool b (OffersNullOn receives sends id met (Ok false) new ⊎ (◌≡◌ {A = ShutdownAnswer} (Ok false) (Err out_of_memory) × (new ≡ met))) (◌≡◌ {A = ShutdownAnswer} (Ok false) (Ok false) × (new ≡ met))
+        → MatchBool b (OffersShutdownReplyOn receives sends id met (Ok false) new ⊎ (◌≡◌ {A = ShutdownAnswer} (Ok false) (Err out_of_memory) × (new ≡ met))) (◌≡◌ {A = ShutdownAnswer} (Ok false) (Ok false) × (new ≡ met))
         → (bytes_eq method (codes "shutdown") ≡ false) × (new ≡ met)
     passes_other true e shuts = elim shuts [
-      | inl null ↦ absurd (never_false null.event null.decides)
+      | inl shutdown_reply ↦ absurd (never_false shutdown_reply.event shutdown_reply.decides)
       | inr memory ↦ absurd (cc (memory.0))
     ]
       where
@@ -307,7 +307,7 @@ module _ {S L : Type 0} (may : Behavior S) (receives listens : Receives L) (send
         never_false closed decides = let e : ◌≡◌ {A = ShutdownAnswer} (Ok false) (Err Rattle.lsp_session.specs.ProtocolError.shutdown_disconnected) = decides in cc
     passes_other false e shuts = (e, shuts.1)
 
-    is_request_served : MatchBool (bytes_eq method (codes "shutdown")) (OffersNullOn receives sends id met (Ok false) new ⊎ (◌≡◌ {A = ShutdownAnswer} (Ok false) (Err out_of_memory) × (new ≡ met))) (◌≡◌ {A = ShutdownAnswer} (Ok false) (Ok false) × (new ≡ met))
+    is_request_served : MatchBool (bytes_eq method (codes "shutdown")) (OffersShutdownReplyOn receives sends id met (Ok false) new ⊎ (◌≡◌ {A = ShutdownAnswer} (Ok false) (Err out_of_memory) × (new ≡ met))) (◌≡◌ {A = ShutdownAnswer} (Ok false) (Ok false) × (new ≡ met))
         → (is_served ask ≡ true) × WaitsIn receives listens serving old (message ask) new
     is_request_served shuts = let passed = passes_other (bytes_eq method (codes "shutdown")) refl shuts in (rw passed.0 refl, rw passed.1 waits)
 
@@ -447,8 +447,8 @@ module _ {S L : Type 0} (may : Behavior S) (receives listens : Receives L) (send
         → Step may starting s (Some (request id ask.method params)) (response id outcome ∷ []) (phase_after outcome) s'
     answers outcome answered = rw ask.is (outcome, answered, refl, refl)
 
-    pub ask_starved : may.starves s s' → Talks receives listens sends starting (From may receives listens sends Exhausted starting s s') old (Err out_of_memory) at1
-    ask_starved starved = ends_exhausted may receives listens sends starting s s' old at1 (Some (request id ask.method params)) tt ask.waits (refl, inr starved)
+    pub ask_without_memory : may.after_memory_fault s s' → Talks receives listens sends starting (From may receives listens sends Exhausted starting s s') old (Err out_of_memory) at1
+    ask_without_memory without_memory = ends_exhausted may receives listens sends starting s s' old at1 (Some (request id ask.method params)) tt ask.waits (refl, inr without_memory)
 
     -- it is answered with an error
     pub declined : (error : ErrorObject) (new : L) → may.initializes s params (Err error) s' → sends at1 (response id (Err error)) (Ok tt) new
@@ -498,15 +498,15 @@ module _ {S L : Type 0} (may : Behavior S) (receives listens : Receives L) (send
         pub record Invited : Type 0 where
           pub mid : L
           pub goes : Goes may receives listens sends 1 starting s old replied s' mid
-          pub letter : Message
-          pub is : is_initialized letter ≡ true
-          pub waits : WaitsIn receives listens replied mid (message letter) at2
+          pub came : Message
+          pub is : is_initialized came ≡ true
+          pub waits : WaitsIn receives listens replied mid (message came) at2
 
         invited_by : (mid : L) (event : Event) → WaitsIn receives listens replied mid event at2 → EventFinishes event (Ok tt) → Takes sends at1 (response id (Ok result)) mid → Invited
         invited_by mid (message m) waits decides took = by_name (is_initialized m) refl decides
           where
             by_name : (b : Bool) → is_initialized m ≡ b → MatchBool b (◌≡◌ {A = FinishAnswer} (Ok tt) (Ok tt)) ⊥ → Invited
-            by_name true e same = record { mid = mid; goes = result_goes mid took; letter = m; is = e; waits = waits }
+            by_name true e same = record { mid = mid; goes = result_goes mid took; came = m; is = e; waits = waits }
             by_name false e none = absurd none
         invited_by mid closed waits decides took = let e : ◌≡◌ {A = FinishAnswer} (Ok tt) (Err disconnected) = decides in cc
         invited_by mid event waits decides took = absurd decides
@@ -518,18 +518,18 @@ module _ {S L : Type 0} (may : Behavior S) (receives listens : Receives L) (send
         ]
 
         -- at `initialized` an allocation fails
-        pub open_starved : (s'' : S) → may.starves s' s'' → Talks receives listens sends starting (From may receives listens sends Exhausted starting s s'') old (Err out_of_memory) at2
-        open_starved s'' starved = goes_run may receives listens sends 1 starting replied s s' s'' old invited.mid at2 (Err out_of_memory) invited.goes
-            (ends_exhausted may receives listens sends replied s' s'' invited.mid at2 (Some invited.letter) tt invited.waits (refl, inr starved))
+        pub open_without_memory : (s'' : S) → may.after_memory_fault s' s'' → Talks receives listens sends starting (From may receives listens sends Exhausted starting s s'') old (Err out_of_memory) at2
+        open_without_memory s'' without_memory = goes_run may receives listens sends 1 starting replied s s' s'' old invited.mid at2 (Err out_of_memory) invited.goes
+            (ends_exhausted may receives listens sends replied s' s'' invited.mid at2 (Some invited.came) tt invited.waits (refl, inr without_memory))
 
-        module _ (s'' : S) (sent : List Message) (new : L) (opens : may.opens s' sent s'') where
-          -- what is said to it is refused
+        module _ (s'' : S) (sent : List Message) (new : L) (opens : may.at_initialized s' sent s'') where
+          -- what is sent for it is refused
           pub open_refused : (fault : ProtocolFault) → RefusesOne sends at2 sent fault new
               → Talks receives listens sends starting (From may receives listens sends (reason_of_fault fault) starting s s'') old (Err fault) new
           open_refused fault lost = goes_run may receives listens sends 1 starting replied s s' s'' old invited.mid new (Err fault) invited.goes
-              (ends_refused may receives listens sends replied serving s' s'' invited.mid at2 new (Some invited.letter) sent fault tt invited.waits (rw invited.is (opens, refl)) lost)
+              (ends_refused may receives listens sends replied serving s' s'' invited.mid at2 new (Some invited.came) sent fault tt invited.waits (rw invited.is (opens, refl)) lost)
 
           -- it is taken
           pub opened : FoldsTo (Takes sends) at2 sent new → Goes may receives listens sends 2 starting s old serving s'' new
           opened taken = goes_both may receives listens sends 1 1 starting replied serving s s' s'' old invited.mid new invited.goes
-              (goes_step may receives listens sends replied serving s' s'' invited.mid at2 new (Some invited.letter) sent tt invited.waits (rw invited.is (opens, refl)) taken)
+              (goes_step may receives listens sends replied serving s' s'' invited.mid at2 new (Some invited.came) sent tt invited.waits (rw invited.is (opens, refl)) taken)

@@ -1,7 +1,7 @@
 -- A session over a reader and a writer that passes over content parts, as its contract says it.
 use Rattle.lsp_message.proofs.Contents.{frame_unread}
 use Rattle.lsp_message.specs.Frame.{body_means, reading_within}
-use Rattle.lsp_message.specs.Letters.{is_exit}
+use Rattle.lsp_message.specs.Messages.{is_exit}
 use Rattle.lsp_message.specs.Message.{Message}
 use Rattle.lsp_message.specs.Reading.{Reading, StopsWithin}
 use Rattle.lsp_message.specs.Written.{GetsFrames}
@@ -16,7 +16,7 @@ use Rattle.lsp_session.proofs.SessionGives.{no_timeout as stream_no_timeout, rea
 use Rattle.lsp_session.proofs.Waiting.{FoldsTo-split}
 use Rattle.lsp_session.specs.Event.{Event, closed, message, timeout, woken}
 use Rattle.lsp_session.specs.FrameBoxes.{FrameOutboxSends}
-use Rattle.lsp_session.specs.Session.{Exchange, came_of, letters_of, sends_of, SessionAnswer, SessionPart, Stop, decided, no_more, timed_out, refused, exhausted}
+use Rattle.lsp_session.specs.Session.{Exchange, came_of, messages_of, sends_of, SessionAnswer, SessionPart, Stop, decided, no_more, timed_out, refused, exhausted}
 use Rattle.lsp_session.specs.SessionBytes.{ReadsMessage, IsUnsent, LeftWithin, Ends, Wrote, Gives as SessionGives}
 use Rattle.lsp_session.specs.Served.{reason_of, StopsFor}
 use Rattle.lsp_session.specs.SessionFault.{session_answer}
@@ -38,12 +38,12 @@ use Rattle.std.proofs.lemmas.List.Elements.{filter_map-append}
 use Rattle.std.specs.List.{FoldsTo, list_all, filter_map}
 use Rattle.std.specs.Prelude.{Result, Ok, Err, MatchOption, if◌then◌else◌}
 
--- the first frame of a text is a message, or is passed over; or others woke the session, where they can, and nothing was read
+-- the first frame of a text is a message, or is passed over; or others woke the session, if they can, and nothing was read
 abbrev pub ReadsFrameOr : (others : Type 0) {L : Type 0} (hears : L → ReadFault → L → Type 0) (limit : ℕ) → List ℕ × L → Option Message → List ℕ × L → Type 0
 ReadsFrameOr others hears limit old (Some m) new = ReadsFrame hears limit old (Some m) new
 ReadsFrameOr others hears limit old None new = (others × (new ≡ old)) ⊎ PassesOver hears limit old new
 
--- what an inbox gives that passes over content parts, and that others wake, where they can
+-- what an inbox gives that passes over content parts, and that others wake, if they can
 abbrev pub GivesOr : (others : Type 0) {L : Type 0} (hears : L → ReadFault → L → Type 0) (limit : ℕ) → Stream × L → Event → Stream × L → Type 0
 GivesOr others hears limit old woken new = (others × (old.0.end ≡ None) × (new ≡ old)) ⊎ TolerantGives hears limit old woken new
 GivesOr others hears limit old event new = TolerantGives hears limit old event new
@@ -53,8 +53,8 @@ abbrev pub ReadsFrames : (others : Type 0) {L : Type 0} (hears : L → ReadFault
 ReadsFrames others hears limit = FoldsTo (ReadsFrameOr others hears limit)
 
 -- the messages of what came
-abbrev letters_in : List (Option Message) → List Message
-letters_in came = filter_map (λ (c : Option Message). c) came
+abbrev messages_in : List (Option Message) → List Message
+messages_in came = filter_map (λ (c : Option Message). c) came
 
 module _ (others : Type 0) {L : Type 0} (hears : L → ReadFault → L → Type 0) (limit : ℕ) where
   abbrev Gives : Stream × L → Event → Stream × L → Type 0
@@ -115,7 +115,7 @@ module _ (others : Type 0) {L : Type 0} (hears : L → ReadFault → L → Type 
     at : List ℕ
     read : ReadsFrames others hears limit (text, first) came (at, new.1)
     left : new.0.remaining ≡ Some at
-    end : new.0.end ≡ (if list_all is_no_exit (letters_in came) then None else Some Exit)
+    end : new.0.end ≡ (if list_all is_no_exit (messages_in came) then None else Some Exit)
 
   module _ (m : Message) (text : List ℕ) (first : L) (mid new : Stream × L) (events : List Event)
       (run : FoldsTo Gives mid events new) (still_open : list_all is_open events ≡ true) where
@@ -191,7 +191,7 @@ module _ (others : Type 0) {L : Type 0} (hears : L → ReadFault → L → Type 
 
     closed_at : (earlier : List Event) (came : List (Option Message)) → events ≡ earlier ++ closed ∷ [] → list_all is_open earlier ≡ true
         → filter_map came_in events ≡ came
-        → list_all is_no_exit (letters_in came) ≡ true → ClosedAt came
+        → list_all is_no_exit (messages_in came) ≡ true → ClosedAt came
     closed_at earlier came cut still_open brings no_exit =
         let last = last_event earlier closed old new (rw cut at run) in
         let same : filter_map came_in earlier ≡ came = rw (sym brings, cut, filter_map-append came_in earlier (closed ∷ []), append-nil) refl in
@@ -223,7 +223,7 @@ module _ (others : Type 0) {L : Type 0} (hears : L → ReadFault → L → Type 
         (before, read, inr (at, passes), ([], left ∙ ap (λ (r : Reading Message). Some r.rest) (sym passes.2)))
 
     -- the frames that were used, and what is left after them
-    left_within : (came : List (Option Message)) (stop : Stop) → Brings events came stop → Facts stop (letters_in came) → Reached came stop Within
+    left_within : (came : List (Option Message)) (stop : Stop) → Brings events came stop → Facts stop (messages_in came) → Reached came stop Within
     left_within came no_more brought facts = elim brought.1 [
       | inl last ↦ let c = closed_at last.0 came last.1 last.2 brought.0 facts in
           ((c.at, new.1), c.read, refl, reads_within limit c.at new.0.end new.0.remaining c.reads)
@@ -241,8 +241,8 @@ module _ (others : Type 0) {L : Type 0} (hears : L → ReadFault → L → Type 
         (parts.0, parts.1, inl step.1, ([], all.left ∙ ap (λ (r : Reading Message). Some r.rest) (sym step.0)))
     left_within came stop brought facts = let all = open_brought came brought.0 brought.1 in ((all.at, new.1), all.read, refl, open_within came all)
 
-    -- what is left where a write or an allocation failed
-    pub left_after : (came : List (Option Message)) (stop : Stop) → Brings events came stop → Facts stop (letters_in came)
+    -- what is left if a write or an allocation failed
+    pub left_after : (came : List (Option Message)) (stop : Stop) → Brings events came stop → Facts stop (messages_in came)
         → Reached came stop (λ at. LeftWithin limit stop at.0 new.0.remaining)
     left_after came decided brought facts = let all = open_brought came brought.0 brought.1 in ((all.at, new.1), all.read, refl, all.left)
     left_after came (refused fault) brought facts = let all = open_brought came brought.0 brought.1 in ((all.at, new.1), all.read, refl, all.left)
@@ -250,23 +250,23 @@ module _ (others : Type 0) {L : Type 0} (hears : L → ReadFault → L → Type 
     left_after came timed_out brought facts = absurd (no_timeout brought.1.0 old new (rw brought.1.1 at run))
     left_after came exhausted brought facts = left_within came exhausted brought facts
 
-    module _ (came : List (Option Message)) (null : Option Message) (answer : SessionAnswer) (sends : List Message) (a b : Option (List ℕ))
+    module _ (came : List (Option Message)) (shutdown_reply : Option Message) (answer : SessionAnswer) (sends : List Message) (a b : Option (List ℕ))
         (wrote : GetsFrames sends a b) where
       abbrev pub Ended : Stop → List ℕ → Type 0
-      Ended stop at = EndsSo limit null answer sends a b wrote stop new.0.end new.0.remaining at
+      Ended stop at = EndsSo limit shutdown_reply answer sends a b wrote stop new.0.end new.0.remaining at
 
       -- as many were taken as can be counted
-      many_ends : (all : Brought text old.1 came new) → Facts no_more (letters_in came) → Ended no_more all.at
+      many_ends : (all : Brought text old.1 came new) → Facts no_more (messages_in came) → Ended no_more all.at
       many_ends all facts = rw (all.end, facts) ((refl, open_within came all), wrote)
 
       -- no write failed
-      pub frames_end : (stop : Stop) → Brings events came stop → NotRefused stop → Facts stop (letters_in came) → Reached came stop (λ at. Ended stop at.0)
+      pub frames_end : (stop : Stop) → Brings events came stop → NotRefused stop → Facts stop (messages_in came) → Reached came stop (λ at. Ended stop at.0)
       frames_end decided brought taken facts =
           let all = open_brought came brought.0 brought.1 in
-          ((all.at, new.1), all.read, refl, decided_ends limit null answer sends a b wrote new.0.end new.0.remaining all.at all.left)
+          ((all.at, new.1), all.read, refl, decided_ends limit shutdown_reply answer sends a b wrote new.0.end new.0.remaining all.at all.left)
       frames_end no_more brought taken facts = elim brought.1 [
         | inl last ↦ let c = closed_at last.0 came last.1 last.2 brought.0 facts in
-            ((c.at, new.1), c.read, refl, closed_ends limit null answer sends a b wrote new.0.end new.0.remaining c.at c.reads)
+            ((c.at, new.1), c.read, refl, closed_ends limit shutdown_reply answer sends a b wrote new.0.end new.0.remaining c.at c.reads)
         | inr many ↦ let all = open_brought came brought.0 many.1 in ((all.at, new.1), all.read, refl, many_ends all facts)
       ]
       frames_end timed_out brought taken facts = absurd (no_timeout brought.1.0 old new (rw brought.1.1 at run))
@@ -287,8 +287,8 @@ module _ {L : Type 0} (hears : L → ReadFault → L → Type 0) (limit : ℕ) w
   ]
 
   module _ {R W : Type 0} (remaining : R → Option (List ℕ)) (contents : W → Option (List ℕ)) (P Q : SessionPart) (reason : StopReason)
-      (knows : (xs : List Exchange) (stop : Stop) (null : Option Message) (answer : SessionAnswer) → P xs stop null answer
-      → Q xs stop null answer × StopsFor reason xs stop null answer × Facts stop (letters_of xs))
+      (knows : (xs : List Exchange) (stop : Stop) (shutdown_reply : Option Message) (answer : SessionAnswer) → P xs stop shutdown_reply answer
+      → Q xs stop shutdown_reply answer × StopsFor reason xs stop shutdown_reply answer × Facts stop (messages_of xs))
       (inbox inbox' : TolerantInbox R L) (outbox outbox' : FrameOutbox W) (unended : inbox.end ≡ None) (limited : inbox.limit ≡ limit)
       (unfailed : outbox.fault ≡ None)
       (answer : SessionAnswer) (runs : Runs (TolerantInboxGives remaining hears) (FrameOutboxSends contents) P (inbox, outbox) answer (inbox', outbox')) where
@@ -311,26 +311,26 @@ module _ {L : Type 0} (hears : L → ReadFault → L → Type 0) (limit : ℕ) w
         (session_answer reason answer inbox'.end outbox'.fault)
     runs_give text known =
         at outbox'.fault (subst (λ sends. MatchOption outbox'.fault (NotRefused runs.stop × GetsFrames sends old new)
-        (λ f. IsUnsent runs.stop runs.null × GetsPart f sends old new)) runs.all (gets_written contents outbox outbox' runs.output runs.null unfailed runs.stop runs.got))
+        (λ f. IsUnsent runs.stop runs.shutdown_reply × GetsPart f sends old new)) runs.all (gets_written contents outbox outbox' runs.output runs.shutdown_reply unfailed runs.stop runs.got))
       where
         run : FoldsTo (GivesOr ⊥ hears limit) before runs.events after
         run = (seen_all ⊥ hears limit remaining runs.events inbox inbox' limited runs.received).0
 
-        known_of : Q runs.exchanges runs.stop runs.null answer × StopsFor reason runs.exchanges runs.stop runs.null answer × Facts runs.stop (letters_of runs.exchanges)
-        known_of = knows runs.exchanges runs.stop runs.null answer runs.part
+        known_of : Q runs.exchanges runs.stop runs.shutdown_reply answer × StopsFor reason runs.exchanges runs.stop runs.shutdown_reply answer × Facts runs.stop (messages_of runs.exchanges)
+        known_of = knows runs.exchanges runs.stop runs.shutdown_reply answer runs.part
 
         gives : (result : Result SessionEnd SessionFault)
             → (at : List ℕ × L) × ReadsFrames ⊥ hears limit (text, inbox.listener.now) (came_of runs.exchanges) at
             × HearsLast hears limit runs.stop at inbox'.listener.now
-            × Ends limit (remaining inbox'.reader.now) result answer runs.stop runs.null at.0
-            → Wrote old new result runs.stop runs.null (sends_of runs.exchanges)
+            × Ends limit (remaining inbox'.reader.now) result answer runs.stop runs.shutdown_reply at.0
+            → Wrote old new result runs.stop runs.shutdown_reply (sends_of runs.exchanges)
             → GivesAndTells hears limit Q text (remaining inbox'.reader.now) inbox.listener.now inbox'.listener.now old new result
         gives result reached wrote = record {
           exchanges = runs.exchanges;
           at = reached.0;
           read = alone (came_of runs.exchanges) (text, inbox.listener.now) reached.0 reached.1;
           stop = runs.stop;
-          null = runs.null;
+          shutdown_reply = runs.shutdown_reply;
           answer = answer;
           part = known_of.0;
           ends = (reached.3, reached.2);
@@ -338,12 +338,12 @@ module _ {L : Type 0} (hears : L → ReadFault → L → Type 0) (limit : ℕ) w
         }
 
         at : (fault : Option WriteFault)
-            → MatchOption fault (NotRefused runs.stop × GetsFrames (sends_of runs.exchanges) old new) (λ f. IsUnsent runs.stop runs.null
+            → MatchOption fault (NotRefused runs.stop × GetsFrames (sends_of runs.exchanges) old new) (λ f. IsUnsent runs.stop runs.shutdown_reply
             × GetsPart f (sends_of runs.exchanges) old new)
             → GivesAndTells hears limit Q text (remaining inbox'.reader.now) inbox.listener.now inbox'.listener.now old new
             (session_answer reason answer inbox'.end fault)
         at None written =
-            let all = frames_end ⊥ hears limit text before after unended known runs.events run (came_of runs.exchanges) runs.null answer
+            let all = frames_end ⊥ hears limit text before after unended known runs.events run (came_of runs.exchanges) runs.shutdown_reply answer
             (sends_of runs.exchanges) old new written.1
             runs.stop runs.brought written.0 known_of.2 in
             rw known_of.1 (gives (session_answer (reason_of runs.stop) answer inbox'.end None) (all.0, all.1, all.2, all.3.0) all.3.1)
@@ -365,7 +365,7 @@ module _ {L : Type 0} (hears : L → ReadFault → L → Type 0) (limit : ℕ) w
         (session_answer reason answer inbox'.end outbox'.fault))
     session_gives first last first' last' heard heard' same same' untold named hearing named' =
         let seen = seen_all ⊥ hears limit remaining runs.events inbox inbox' limited runs.received in
-        rw (named seen.1, hearing seen.2, named' (gets_keeps contents outbox outbox' runs.output runs.null runs.stop runs.got), sym same, sym same', sym untold)
+        rw (named seen.1, hearing seen.2, named' (gets_keeps contents outbox outbox' runs.output runs.shutdown_reply runs.stop runs.got), sym same, sym same', sym untold)
         (at (remaining inbox.reader.now) refl)
       where
         at : (known : Option (List ℕ)) → remaining inbox.reader.now ≡ known
@@ -390,22 +390,22 @@ module _ {L : Type 0} (hears : L → ReadFault → L → Type 0) (never : Passes
     at = g.at.0;
     read = reads_messages (came_of g.exchanges) (text, first) g.at g.read;
     stop = g.stop;
-    null = g.null;
+    shutdown_reply = g.shutdown_reply;
     answer = g.answer;
     part = g.part;
     ends = g.ends.0;
     wrote = g.wrote;
   }
 
-  -- where the bytes are known
+  -- if the bytes are known
   pub untold : (P : SessionPart) (known left : Option (List ℕ)) (first last : L) (before after : Option (List ℕ)) (result : Result SessionEnd SessionFault)
       → IfSome known (λ text. GivesAndTells hears limit P text left first last before after result) → IfSome known (λ text. SessionGives limit P text left before after result)
   untold P None left first last before after result gives = tt
   untold P (Some text) left first last before after result g = none_passed P text left first last before after result g
 
--- A session that is described otherwise, where the bytes are known.
+-- A session that is described otherwise, if the bytes are known.
 pub told_as : (P Q : SessionPart)
-    (to : (xs : List Exchange) (stop : Stop) (null : Option Message) (answer : SessionAnswer) → P xs stop null answer → Q xs stop null answer)
+    (to : (xs : List Exchange) (stop : Stop) (shutdown_reply : Option Message) (answer : SessionAnswer) → P xs stop shutdown_reply answer → Q xs stop shutdown_reply answer)
     {L : Type 0} (hears : L → ReadFault → L → Type 0) (limit : ℕ) (known left : Option (List ℕ)) (first last : L) (before after : Option (List ℕ)) (result : Result SessionEnd SessionFault)
     → IfSome known (λ text. GivesAndTells hears limit P text left first last before after result) → IfSome known (λ text. GivesAndTells hears limit Q text left first last before after result)
 told_as P Q to hears limit None left first last before after result gives = tt

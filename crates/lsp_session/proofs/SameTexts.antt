@@ -1,4 +1,4 @@
--- Two protocol errors are equal where both parts of their texts are.
+-- Two protocol errors are equal if both parts of their texts are.
 use Rattle.std.proofs.Common.{refl}
 use Rattle.std.specs.Prelude.{◌≡◌, Bool, true, false, ◌&&◌}
 use Rattle.std.specs.Str.{bytes_eq}

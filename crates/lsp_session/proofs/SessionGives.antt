@@ -62,7 +62,7 @@ no_timeout limit old new gives = at old.end gives
     at None gives = gives
     at (Some end) gives = cc (gives.0)
 
--- what is written of messages where the write of the last one failed
+-- what is written of messages if the write of the last one failed
 abbrev pub GetsPart : WriteFault → List Message → Option (List ℕ) → Option (List ℕ) → Type 0
 GetsPart (Output kind) ms old new = (whole : List Message) × (last : Message) × (ms ≡ whole ++ last ∷ []) × GetsFramesAndPart whole last old new
 GetsPart NoMemory ms old new = GetsAllButLast ms old new
@@ -102,42 +102,42 @@ module _ {W : Type 0} (contents : W → Option (List ℕ)) where
       pick None both = (took both.0, both.1)
       pick (Some f) part = (lost, part)
 
-  module _ (old new : FrameOutbox W) (output : List Message) (null : Option Message) (unfailed : old.fault ≡ None) where
-    -- the output is written, or a part of it where a write failed
+  module _ (old new : FrameOutbox W) (output : List Message) (shutdown_reply : Option Message) (unfailed : old.fault ≡ None) where
+    -- the output is written, or a part of it if a write failed
     abbrev pub IsWritten : Stop → Type 0
     IsWritten stop =
-        MatchOption new.fault (NotRefused stop × GetsFrames (all_of output null) (at old) (at new)) (λ f. IsUnsent stop null × GetsPart f (all_of output null) (at old) (at new))
+        MatchOption new.fault (NotRefused stop × GetsFrames (all_of output shutdown_reply) (at old) (at new)) (λ f. IsUnsent stop shutdown_reply × GetsPart f (all_of output shutdown_reply) (at old) (at new))
 
-    taken_written : (stop : Stop) (mid : FrameOutbox W) → FoldsTo (Takes (FrameOutboxSends contents)) old output mid → OffersLast (FrameOutboxSends contents) mid null new
-        → MatchOption new.fault (Unit {0} × GetsFrames (all_of output null) (at old) (at new)) (λ f. IsUnsent stop null × GetsPart f (all_of output null) (at old) (at new))
-    taken_written stop mid taken offers = last null offers
+    taken_written : (stop : Stop) (mid : FrameOutbox W) → FoldsTo (Takes (FrameOutboxSends contents)) old output mid → OffersLast (FrameOutboxSends contents) mid shutdown_reply new
+        → MatchOption new.fault (Unit {0} × GetsFrames (all_of output shutdown_reply) (at old) (at new)) (λ f. IsUnsent stop shutdown_reply × GetsPart f (all_of output shutdown_reply) (at old) (at new))
+    taken_written stop mid taken offers = last shutdown_reply offers
       where
         frames : (mid.fault ≡ None) × GetsFrames output (at old) (at mid)
         frames = taken_frames contents old output mid unfailed taken
 
-        last : (null : Option Message) → OffersLast (FrameOutboxSends contents) mid null new
-            → MatchOption new.fault (Unit {0} × GetsFrames (all_of output null) (at old) (at new)) (λ f. IsUnsent stop null × GetsPart f (all_of output null) (at old) (at new))
+        last : (shutdown_reply : Option Message) → OffersLast (FrameOutboxSends contents) mid shutdown_reply new
+            → MatchOption new.fault (Unit {0} × GetsFrames (all_of output shutdown_reply) (at old) (at new)) (λ f. IsUnsent stop shutdown_reply × GetsPart f (all_of output shutdown_reply) (at old) (at new))
         last None same = rw (same, frames.0) (tt, frames.1)
-        last (Some null) offers = sent_after output null (at old) (at mid) mid new offers.outcome frames.0 refl frames.1 offers.sent (λ e. tt) tt
+        last (Some shutdown_reply) offers = sent_after output shutdown_reply (at old) (at mid) mid new offers.outcome frames.0 refl frames.1 offers.sent (λ e. tt) tt
 
-    refused_written : (fault : SendFault) → RefusesLast (FrameOutboxSends contents) old output fault new → null ≡ None → IsWritten (refused fault)
+    refused_written : (fault : SendFault) → RefusesLast (FrameOutboxSends contents) old output fault new → shutdown_reply ≡ None → IsWritten (refused fault)
     refused_written fault last none =
         let frames = taken_frames contents old last.0 last.2 unfailed last.4 in
         rw (none, last.3) (sent_after last.0 last.1 (at old) (at last.2) last.2 new (Err fault) frames.0 refl frames.1 last.5 (λ e. cc (e)) tt)
 
-    pub gets_written : (stop : Stop) → Gets (FrameOutboxSends contents) old output null stop new → IsWritten stop
+    pub gets_written : (stop : Stop) → Gets (FrameOutboxSends contents) old output shutdown_reply stop new → IsWritten stop
     gets_written (refused fault) got = refused_written fault got.0 got.1
     gets_written stop got = taken_written stop got.0 got.1 got.2
 
-  last_keeps : (null : Option Message) (mid new : FrameOutbox W) → OffersLast (FrameOutboxSends contents) mid null new → new.writer.ghost_name ≡ mid.writer.ghost_name
+  last_keeps : (shutdown_reply : Option Message) (mid new : FrameOutbox W) → OffersLast (FrameOutboxSends contents) mid shutdown_reply new → new.writer.ghost_name ≡ mid.writer.ghost_name
   last_keeps None mid new same = ap (λ (o : FrameOutbox W). o.writer.ghost_name) same
-  last_keeps (Some null) mid new offers = offers.sent.1
+  last_keeps (Some shutdown_reply) mid new offers = offers.sent.1
 
   -- an outbox keeps the writer that it was lent
-  pub gets_keeps : (old new : FrameOutbox W) (output : List Message) (null : Option Message) (stop : Stop) → Gets (FrameOutboxSends contents) old output null stop new
+  pub gets_keeps : (old new : FrameOutbox W) (output : List Message) (shutdown_reply : Option Message) (stop : Stop) → Gets (FrameOutboxSends contents) old output shutdown_reply stop new
       → new.writer.ghost_name ≡ old.writer.ghost_name
-  gets_keeps old new output null (refused fault) got = got.0.5.1 ∙ taken_keeps contents old got.0.0 got.0.2 got.0.4
-  gets_keeps old new output null stop got = last_keeps null got.0 new got.2 ∙ taken_keeps contents old output got.0 got.1
+  gets_keeps old new output shutdown_reply (refused fault) got = got.0.5.1 ∙ taken_keeps contents old got.0.0 got.0.2 got.0.4
+  gets_keeps old new output shutdown_reply stop got = last_keeps shutdown_reply got.0 new got.2 ∙ taken_keeps contents old output got.0 got.1
 
 module _ (limit : ℕ) where
   -- a reading that failed
@@ -145,10 +145,10 @@ module _ (limit : ℕ) where
   unread_at fault at is = ap (λ o. record { outcome = o; rest = (reading_within limit at).rest }) is
 
   -- What is left, and what was written, of a session that stopped so, whose messages ended so, and of which no write failed.
-  module _ (null : Option Message) (answer : SessionAnswer) (sends : List Message) (a b : Option (List ℕ)) (wrote : GetsFrames sends a b) where
+  module _ (shutdown_reply : Option Message) (answer : SessionAnswer) (sends : List Message) (a b : Option (List ℕ)) (wrote : GetsFrames sends a b) where
     abbrev pub EndsSo : Stop → Option ReadEnd → Option (List ℕ) → List ℕ → Type 0
     EndsSo stop end left at =
-        Ends limit left (session_answer (reason_of stop) answer end None) answer stop null at × Wrote a b (session_answer (reason_of stop) answer end None) stop null sends
+        Ends limit left (session_answer (reason_of stop) answer end None) answer stop shutdown_reply at × Wrote a b (session_answer (reason_of stop) answer end None) stop shutdown_reply sends
 
     fault_ends : (fault : ReadFault) (left : Option (List ℕ)) (at : List ℕ) → Answers (λ (m : Message). m) (Err fault) left (reading_within limit at)
         → EndsSo no_more (Some (Fault fault)) left at
@@ -163,7 +163,7 @@ module _ (limit : ℕ) where
         by_answer answer ((reading_within limit at).rest, ap (λ o. record { outcome = o; rest = (reading_within limit at).rest }) reads.0.0, reads.0.1)
       where
         by_answer : (answer : SessionAnswer) → LeftAfter limit no_more at left
-            → Ends limit left (session_answer NoMore answer (Some End) None) answer no_more null at × Wrote a b (session_answer NoMore answer (Some End) None) no_more null sends
+            → Ends limit left (session_answer NoMore answer (Some End) None) answer no_more shutdown_reply at × Wrote a b (session_answer NoMore answer (Some End) None) no_more shutdown_reply sends
         by_answer (Ok end) after = ((refl, after), wrote)
         by_answer (Err fault) after = ((refl, after), wrote)
     closed_ends (Some (Fault fault)) left at reads = fault_ends fault left at reads.0
@@ -174,7 +174,7 @@ module _ (limit : ℕ) where
     decided_ends end left at after = by_answer answer
       where
         by_answer : (answer : SessionAnswer)
-            → Ends limit left (session_answer Decided answer end None) answer decided null at × Wrote a b (session_answer Decided answer end None) decided null sends
+            → Ends limit left (session_answer Decided answer end None) answer decided shutdown_reply at × Wrote a b (session_answer Decided answer end None) decided shutdown_reply sends
         by_answer (Ok end) = ((refl, after), wrote)
         by_answer (Err fault) = ((refl, after), wrote)
 

@@ -23,7 +23,7 @@ use Rattle.lsp_session.specs.declared.loops.tolerant_inbox.TolerantInbox.{Tolera
 use Rattle.std.proofs.Common.{◌≡◌, refl, sym, ◌∙◌, ap, subst, ℕ, List, ◌++◌, map, Option}
 
 module _ {R W L : Type 0} (remaining : R → Option (List ℕ)) (hears : L → ReadFault → L → Type 0) (contents : W → Option (List ℕ)) where
-  -- the line adds each act to its account where it is done
+  -- the line adds each act to its account when it is done
   pub keeps_account : KeepsAccount {L = StreamLine R W L} (StreamLineGives remaining hears) (StreamLineSends contents) (λ line. account_of line)
   keeps_account = record { receiving = λ old event new gives. gives.2; offering = λ old m outcome new sends. sends.2 }
 
@@ -55,7 +55,7 @@ module _ {R W L : Type 0} (remaining : R → Option (List ℕ)) (hears : L → R
     -- a session over a line, in bytes
     pub gives_in_turn : GivesInTurn remaining hears contents (SessionOut may s s') old (session_answer reason answer new.inbox.end new.outbox.fault) new
     gives_in_turn = session_gives hears old.inbox.limit remaining contents (Turns (account_of new)) (Both (SessionOut may s s') (InTurn (account_of new))) reason
-        (λ xs stop null answer both. ((both.0.0, both.1), both.0.1, session_facts may starting s s' refl xs stop null answer both.0.0))
+        (λ xs stop shutdown_reply answer both. ((both.0.0, both.1), both.0.1, session_facts may starting s s' refl xs stop shutdown_reply answer both.0.0))
         old.inbox new.inbox old.outbox new.outbox unused.0 refl unused.1 answer ran.0
         old.inbox.reader.now new.inbox.reader.now old.outbox.writer.now new.outbox.writer.now old.inbox.listener.now new.inbox.listener.now
         refl refl refl (λ same. refl) (λ same. refl) (λ same. refl)

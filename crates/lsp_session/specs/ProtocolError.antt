@@ -7,7 +7,7 @@ use Rattle.lsp_session.specs.declared.error.ProtocolRepr.TheVariants as variant
 use Rattle.lsp_session.specs.declared.lifecycle.SendFault.{SendFault}
 use Rattle.lsp_session.specs.declared.lifecycle.SendFault.TheVariants.{Closed, Memory}
 
--- the list of bytes, where there is one, is the end of the text, which shows the message that came
+-- the list of bytes, if there is one, is the end of the text, which shows the message that came
 pub data ProtocolFault : Type 0 where
   disconnected : ProtocolFault
   expected_initialize : List ℕ → ProtocolFault
@@ -82,7 +82,7 @@ Shows fault answer = (shown : List ℕ) × (answer ≡ fault shown)
 abbrev pub ShowsUnallowed : ProtocolFault → Type 0
 ShowsUnallowed fault = Shows expected_initialized fault ⊎ Shows unexpected_in_shutdown fault
 
--- the fault where the outbox refuses a message
+-- the fault if the outbox refuses a message
 abbrev pub fault_of_refusal : SendFault → ProtocolFault
 fault_of_refusal (Closed back) = refused_closed
 fault_of_refusal (Memory back) = refused_memory

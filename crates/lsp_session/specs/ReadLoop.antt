@@ -2,7 +2,7 @@
 use Rattle.std.specs.List.{FoldsTo}
 use Rattle.std.specs.Prelude.{◌≡◌, ℕ, List, Option, Some, Err}
 use Rattle.lsp_message.specs.Frame.{reading_within}
-use Rattle.lsp_message.specs.Letters.{Begins, PassesAll, Ending, exited, ended, failed, Letters}
+use Rattle.lsp_message.specs.Messages.{Begins, PassesAll, Ending, exited, ended, failed, Messages}
 use Rattle.lsp_message.specs.Message.{Message}
 use Rattle.lsp_message.specs.Reading.{StopsWithin}
 use Rattle.lsp_message.specs.declared.frame.ReadFault.TheVariants.{Input, Memory as NoMemory}
@@ -13,7 +13,7 @@ use Rattle.lsp_session.specs.declared.lifecycle.SendFault.TheVariants.{Closed as
 use Rattle.lsp_session.specs.declared.loops.ReadEnd.{ReadEnd}
 use Rattle.lsp_session.specs.declared.loops.ReadEnd.TheVariants.{Exit, End, Fault, Closed, Memory}
 
--- how reading ends where a message is refused
+-- how reading ends if a message is refused
 abbrev pub refused_end : SendFault → ReadEnd
 refused_end (IsClosed back) = Closed
 refused_end (IsFull back) = Memory
@@ -32,7 +32,7 @@ module _ (limit : ℕ) where
   -- These are the messages of the text so far. The rest follows them, and the one that comes next,
   -- if one is named.
   abbrev pub HasRead : Extent → List ℕ → List Message → List ℕ → Type 0
-  HasRead (to_end ending) text ms rest = Letters limit text ms ending rest
+  HasRead (to_end ending) text ms rest = Messages limit text ms ending rest
   HasRead in_part text ms rest = PassesAll limit text ms rest
   HasRead (up_to next) text ms rest =
       (at : List ℕ) × PassesAll limit text ms at × Begins limit at next rest

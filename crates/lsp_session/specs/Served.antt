@@ -15,7 +15,7 @@ reason_of exhausted = Exhausted
 
 -- the session stopped for this reason
 abbrev pub StopsFor : StopReason → SessionPart
-StopsFor reason exchanges stop null answer = reason ≡ reason_of stop
+StopsFor reason exchanges stop shutdown_reply answer = reason ≡ reason_of stop
 
 -- For private clauses: why a session stopped that ends with this fault.
 abbrev pub reason_of_fault : ProtocolFault → StopReason

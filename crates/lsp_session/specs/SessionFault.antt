@@ -16,7 +16,7 @@ use Rattle.lsp_session.specs.declared.loops.stream_session.SessionFault.{Session
 use Rattle.lsp_session.specs.declared.loops.stream_session.SessionFault.TheVariants.{Protocol, Read, Write, Memory}
 
 -- Of a session that stopped so with this answer, whose messages ended so, and whose output failed
--- so. The first row that fits counts. Where no more came and nothing ended the messages, it had taken
+-- so. The first row that fits counts. If no more came and nothing ended the messages, it had taken
 -- as many as it can count.
 abbrev pub session_answer : StopReason → SessionAnswer → Option ReadEnd → Option WriteFault
     → Result SessionEnd SessionFault

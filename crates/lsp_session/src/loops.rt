@@ -96,7 +96,7 @@ pub fn read_loop_within<R: BufRead, O: Outbox>(
     ReadEnd::Fault(ReadFault::Input(ErrorKind::Other))
 }
 
-/// How reading ends where a message is refused.
+/// How reading ends if a message is refused.
 fn end_at(fault: SendFault) -> ReadEnd
     ensures { result ≡ refused_end fault }
 {

@@ -22,7 +22,7 @@ collects_then a b c x y z first second = (
   ap (λ l. x ++ l) (contents_of-append first.0 second.0) ∙ sym (append_assoc x (contents_of first.0) (contents_of second.0)) ∙ ap (λ l. l ++ contents_of second.0) first.2 ∙ second.2,
 )
 
--- one parcel, where no content part waits
+-- one parcel, if no content part waits
 pub collects_parcel : (taken new : List (Parcel Contents)) (waiting items : List (Vec ℕ Global)) (contents : Contents) → waiting ≡ [] → new ≡ taken ++ parcel.Message contents ∷ []
     → items ≡ contents.items → Collects taken (bytes_of waiting) new (bytes_of items)
 collects_parcel taken new waiting items contents none grown same =

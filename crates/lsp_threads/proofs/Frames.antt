@@ -37,7 +37,7 @@ parcel_bytes-push sent text = parcel_bytes-append sent (parcel.Message text ∷ 
 pub parcel_bytes-end : (sent : List (Parcel (String Global))) → parcel_bytes (sent ++ parcel.End ∷ []) ≡ parcel_bytes sent
 parcel_bytes-end sent = parcel_bytes-append sent (parcel.End ∷ []) ∙ append-nil (parcel_bytes sent)
 
--- where no End was sent, texts were
+-- if no End was sent, texts were
 open_texts : (sent : List (Parcel (String Global))) → IsOpen sent → (texts : List (String Global)) × (sent ≡ map parcel.Message texts)
 open_texts [] still_open = ([], refl)
 open_texts (parcel.Message text ∷ rest) still_open = let more = open_texts rest still_open in (text ∷ more.0, ap (λ l. parcel.Message text ∷ l) more.1)

@@ -3,7 +3,7 @@ use Rattle.std.proofs.Common.{◌≡◌, ℕ, Bool, true, false, List, [], ◌�
 use Rattle.std.specs.Bool.{MatchBool}
 use Rattle.std.specs.List.{FoldsTo}
 use Rattle.lsp_message.specs.Frame.{reading_within}
-use Rattle.lsp_message.specs.Letters.{Begins, PassesAll, is_exit, exited, ended, failed}
+use Rattle.lsp_message.specs.Messages.{Begins, PassesAll, is_exit, exited, ended, failed}
 use Rattle.lsp_message.specs.Message.{Message}
 use Rattle.lsp_message.specs.declared.frame.ReadFault.TheVariants.{Input, Memory as NoMemory}
 use Rattle.lsp_message.specs.declared.msg.Message as msg
@@ -27,7 +27,7 @@ IsNotClosed Closed = ⊥
 IsNotClosed end = Unit {0}
 
 module _ (limit : ℕ) where
-  -- reading may end so at this text; where an outbox was full, nothing is said
+  -- reading may end so at this text; if an outbox was full, nothing is said
   abbrev pub EndsAt : List ℕ → ReadEnd → Type 0
   EndsAt text Exit = ⊥
   EndsAt text End = (rest : List ℕ) × (reading_within limit text ≡ record { outcome = Ok None; rest = rest })

@@ -14,7 +14,7 @@ use Rattle.lsp_session.proofs.Passing.{frames_end, GivesOr, left_after, ReadsFra
 use Rattle.lsp_session.proofs.SessionGives.{NotRefused}
 use Rattle.lsp_session.specs.Boxes.{Sends, Receives, Takes}
 use Rattle.lsp_session.specs.PassingBytes.{HearsLast}
-use Rattle.lsp_session.specs.Session.{came_of, letters_of, sends_of, Exchange, SessionAnswer, SessionPart, Stop, refused}
+use Rattle.lsp_session.specs.Session.{came_of, messages_of, sends_of, Exchange, SessionAnswer, SessionPart, Stop, refused}
 use Rattle.lsp_session.specs.SessionBytes.{LeftWithin, Wrote}
 use Rattle.lsp_session.specs.Served.{reason_of, StopsFor}
 use Rattle.lsp_session.specs.SessionFault.{session_answer}
@@ -108,18 +108,18 @@ module _ (old mid new : Replying) (ms : List Message) (run : FoldsTo (Takes Repl
         whole = λ none. (refl, whole);
       }
 
-  last_replied : (stop : Stop) → IsWhole stop → (null : Option Message) → OffersLast RepliesSend mid null new → Replied old new stop (all_of ms null)
+  last_replied : (stop : Stop) → IsWhole stop → (shutdown_reply : Option Message) → OffersLast RepliesSend mid shutdown_reply new → Replied old new stop (all_of ms shutdown_reply)
   last_replied stop whole None same = all_taken stop whole same
-  last_replied stop whole (Some null) offers = one_offered null stop whole offers.outcome offers.sent
+  last_replied stop whole (Some shutdown_reply) offers = one_offered shutdown_reply stop whole offers.outcome offers.sent
 
-refused_replied : (old new : Replying) (output : List Message) (fault : SendFault) (null : Option Message) → RefusesLast RepliesSend old output fault new → null ≡ None
-    → Replied old new (refused fault) (all_of output null)
-refused_replied old new output fault null last none = rw (none, last.3) (one_refused old last.2 new last.0 last.4 last.1 (refused fault) fault last.5)
+refused_replied : (old new : Replying) (output : List Message) (fault : SendFault) (shutdown_reply : Option Message) → RefusesLast RepliesSend old output fault new → shutdown_reply ≡ None
+    → Replied old new (refused fault) (all_of output shutdown_reply)
+refused_replied old new output fault shutdown_reply last none = rw (none, last.3) (one_refused old last.2 new last.0 last.4 last.1 (refused fault) fault last.5)
 
-pub all_replied : (old new : Replying) (output : List Message) (null : Option Message) (stop : Stop) → Gets RepliesSend old output null stop new
-    → Replied old new stop (all_of output null)
-all_replied old new output null (refused fault) got = refused_replied old new output fault null got.0 got.1
-all_replied old new output null stop got = last_replied old got.0 new output got.1 stop tt null got.2
+pub all_replied : (old new : Replying) (output : List Message) (shutdown_reply : Option Message) (stop : Stop) → Gets RepliesSend old output shutdown_reply stop new
+    → Replied old new stop (all_of output shutdown_reply)
+all_replied old new output shutdown_reply (refused fault) got = refused_replied old new output fault shutdown_reply got.0 got.1
+all_replied old new output shutdown_reply stop got = last_replied old got.0 new output got.1 stop tt shutdown_reply got.2
 
 -- ---- what was written
 module _ (stop : Stop) (ms : List Message) (a b : Option (List ℕ)) where
@@ -154,26 +154,26 @@ module _ (stop : Stop) (ms : List Message) (a b : Option (List ℕ)) where
 
 -- ---- a session over such an outbox
 -- what was written of a session over bytes, as one in threads says it
-wrote_so : (a b : Option (List ℕ)) (result : Result SessionEnd SessionFault) (stop : Stop) (null : Option Message) (sends : List Message) → Wrote a b result stop null sends
-    → WroteInThreads a b result stop null sends
-wrote_so a b (Err (Write fault)) stop null sends (output, unsent, whole, last, cut, got) =
+wrote_so : (a b : Option (List ℕ)) (result : Result SessionEnd SessionFault) (stop : Stop) (shutdown_reply : Option Message) (sends : List Message) → Wrote a b result stop shutdown_reply sends
+    → WroteInThreads a b result stop shutdown_reply sends
+wrote_so a b (Err (Write fault)) stop shutdown_reply sends (output, unsent, whole, last, cut, got) =
     (output, (whole, last, [], cut, got))
-wrote_so a b (Err Memory) stop null sends (inl wrote) = (sends, [], sym (append-nil sends), wrote)
-wrote_so a b (Err Memory) stop null sends (inr most) = (most.1.0, most.1.1 ∷ [], most.1.2, most.1.3)
-wrote_so a b result stop null sends wrote = wrote
+wrote_so a b (Err Memory) stop shutdown_reply sends (inl wrote) = (sends, [], sym (append-nil sends), wrote)
+wrote_so a b (Err Memory) stop shutdown_reply sends (inr most) = (most.1.0, most.1.1 ∷ [], most.1.2, most.1.3)
+wrote_so a b result stop shutdown_reply sends wrote = wrote
 
 not_refused : (stop : Stop) → IsWhole stop → NotRefused stop
 not_refused (refused fault) whole = absurd whole
 not_refused stop whole = tt
 
 module _ {I O L : Type 0} (receives : Receives I) (sends : Sends O) (wakeable : Bool) (hears : L → ReadFault → L → Type 0) (limit : ℕ) (P Q : SessionPart) (reason : StopReason)
-    (knows : (xs : List Exchange) (stop : Stop) (null : Option Message) (answer : SessionAnswer) → P xs stop null answer
-    → Q xs stop null answer × StopsFor reason xs stop null answer × Facts stop (letters_of xs))
+    (knows : (xs : List Exchange) (stop : Stop) (shutdown_reply : Option Message) (answer : SessionAnswer) → P xs stop shutdown_reply answer
+    → Q xs stop shutdown_reply answer × StopsFor reason xs stop shutdown_reply answer × Facts stop (messages_of xs))
     (a b : Option (List ℕ)) (old new : I × O) (answer : SessionAnswer) (runs : Runs receives sends P old answer new) where
-  known_of : Q runs.exchanges runs.stop runs.null answer × StopsFor reason runs.exchanges runs.stop runs.null answer × Facts runs.stop (letters_of runs.exchanges)
-  known_of = knows runs.exchanges runs.stop runs.null answer runs.part
+  known_of : Q runs.exchanges runs.stop runs.shutdown_reply answer × StopsFor reason runs.exchanges runs.stop runs.shutdown_reply answer × Facts runs.stop (messages_of runs.exchanges)
+  known_of = knows runs.exchanges runs.stop runs.shutdown_reply answer runs.part
 
-  -- others wake it only where they can
+  -- others wake it only if they can
   abbrev Others : Type 0
   Others = wakeable ≡ true
 
@@ -190,14 +190,14 @@ module _ {I O L : Type 0} (receives : Receives I) (sends : Sends O) (wakeable : 
     start = (record { remaining = Some text; end = None }, first)
 
     over : (result : Result SessionEnd SessionFault) (at : List ℕ × L) → ReadsFrames Others hears limit (text, first) (came_of runs.exchanges) at
-        → HearsLast hears limit runs.stop at s.1 → EndsInThreads limit result answer runs.stop runs.null at.0
-        → WroteInThreads a b result runs.stop runs.null (sends_of runs.exchanges) → ThreadsTellOver wakeable hears limit Q text first s.1 a b result
+        → HearsLast hears limit runs.stop at s.1 → EndsInThreads limit result answer runs.stop runs.shutdown_reply at.0
+        → WroteInThreads a b result runs.stop runs.shutdown_reply (sends_of runs.exchanges) → ThreadsTellOver wakeable hears limit Q text first s.1 a b result
     over result at read heard ends wrote = record {
       exchanges = runs.exchanges;
       at = at;
       read = reads_all (came_of runs.exchanges) (text, first) at read;
       stop = runs.stop;
-      null = runs.null;
+      shutdown_reply = runs.shutdown_reply;
       answer = answer;
       part = known_of.0;
       ends = (ends, heard);
@@ -211,9 +211,9 @@ module _ {I O L : Type 0} (receives : Receives I) (sends : Sends O) (wakeable : 
     pub session_gives : (fault : Option WriteFault) → WritesReplies runs.stop (sends_of runs.exchanges) fault a b
         → ThreadsTellOver wakeable hears limit Q text first s.1 a b (session_answer reason answer s.0.end fault)
     session_gives None (whole, written) =
-        let all = frames_end Others hears limit text start s refl refl runs.events run (came_of runs.exchanges) runs.null answer (sends_of runs.exchanges) a b written
+        let all = frames_end Others hears limit text start s refl refl runs.events run (came_of runs.exchanges) runs.shutdown_reply answer (sends_of runs.exchanges) a b written
         runs.stop runs.brought (not_refused runs.stop whole) known_of.2 in
         let result = session_answer (reason_of runs.stop) answer s.0.end None in
-        rw known_of.1 (over result all.0 all.1 all.2 (s.0.remaining, all.3.0) (wrote_so a b result runs.stop runs.null (sends_of runs.exchanges) all.3.1))
+        rw known_of.1 (over result all.0 all.1 all.2 (s.0.remaining, all.3.0) (wrote_so a b result runs.stop runs.shutdown_reply (sends_of runs.exchanges) all.3.1))
     session_gives (Some (Output kind)) broken = over (Err (Write (Output kind))) read.0 read.1 read.2 (s.0.remaining, read.3) (tt, broken)
     session_gives (Some NoMemory) first' = over (Err Memory) read.0 read.1 read.2 (s.0.remaining, read.3) first'

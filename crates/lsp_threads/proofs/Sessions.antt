@@ -13,7 +13,7 @@ use Rattle.lsp_session.proofs.Lending.{over_as}
 use Rattle.lsp_session.proofs.Ran.{Facts}
 use Rattle.lsp_session.specs.Event.{Event}
 use Rattle.lsp_session.specs.PassingBytes.{PassesNothingOver}
-use Rattle.lsp_session.specs.Session.{came_of, Exchange, letters_of, SessionAnswer, SessionPart, sends_of, Stop}
+use Rattle.lsp_session.specs.Session.{came_of, Exchange, messages_of, SessionAnswer, SessionPart, sends_of, Stop}
 use Rattle.lsp_session.specs.Served.{StopsFor}
 use Rattle.lsp_session.specs.SessionFault.{session_answer}
 use Rattle.lsp_session.specs.SessionRun.{Runs}
@@ -39,8 +39,8 @@ seen_all hears (event ∷ events) old new run =
     ((seen_of run.0, run.1.0, rest.0), (rest.1.0 ∙ run.1.1.0, rest.1.1 ∙ run.1.1.1))
 
 module _ {L : Type 0} (hears : L → ReadFault → L → Type 0) (limit : ℕ) (P Q : SessionPart) (reason : StopReason)
-    (knows : (xs : List Exchange) (stop : Stop) (null : Option Sent) (answer : SessionAnswer) → P xs stop null answer
-    → Q xs stop null answer × StopsFor reason xs stop null answer × Facts stop (letters_of xs))
+    (knows : (xs : List Exchange) (stop : Stop) (shutdown_reply : Option Sent) (answer : SessionAnswer) → P xs stop shutdown_reply answer
+    → Q xs stop shutdown_reply answer × StopsFor reason xs stop shutdown_reply answer × Facts stop (messages_of xs))
     (a b : Option (List ℕ)) {R : Type 0} (inbox inbox' : ContentInbox R L) (outbox outbox' : Replying) (answer : SessionAnswer)
     (runs : Runs (InboxGives hears) RepliesSend P (inbox, outbox) answer (inbox', outbox')) where
   -- what the threads of a session come to in bytes
@@ -54,7 +54,7 @@ module _ {L : Type 0} (hears : L → ReadFault → L → Type 0) (limit : ℕ) (
     output_written : WritesReplies runs.stop (sends_of runs.exchanges) (reply_fault fault outbox'.failed) a b
     output_written =
         subst (λ ms. WritesReplies runs.stop ms (reply_fault fault outbox'.failed) a b) runs.all
-        (replies_written runs.stop _ a b outbox outbox' unsent (all_replied outbox outbox' runs.output runs.null runs.stop runs.got) replies_taken replies all finished replies_settled fault written)
+        (replies_written runs.stop _ a b outbox outbox' unsent (all_replied outbox outbox' runs.output runs.shutdown_reply runs.stop runs.got) replies_taken replies all finished replies_settled fault written)
 
     -- a wake that was taken was given by others
     woke : (wakeable : Bool) → (wakeable ≡ false → (seen_of inbox').0.wakes ≡ 0) → 1 ≤ (seen_of inbox').0.wakes → wakeable ≡ true
@@ -76,8 +76,8 @@ module _ {L : Type 0} (hears : L → ReadFault → L → Type 0) (limit : ℕ) (
 
 -- A session in threads that is described otherwise.
 module _ (P Q : SessionPart)
-    (to : (xs : List Exchange) (stop : Stop) (null : Option Sent) (answer : SessionAnswer) → P xs stop null answer → Q xs stop null answer) (wakeable : Bool) (limit : ℕ) where
-  -- where the bytes are known, and both threads were started
+    (to : (xs : List Exchange) (stop : Stop) (shutdown_reply : Option Sent) (answer : SessionAnswer) → P xs stop shutdown_reply answer → Q xs stop shutdown_reply answer) (wakeable : Bool) (limit : ℕ) where
+  -- if the bytes are known, and both threads were started
   pub started_as : {T F : Type 0} (contents : T → Option (List ℕ)) (answer_of : T → Result SessionEnd SessionFault) (known old : Option (List ℕ)) (result : Result T F)
       → IfSome known (λ text. IfOk result (λ done. ThreadsGiveOver wakeable limit P text old (contents done) (answer_of done)))
       → IfSome known (λ text. IfOk result (λ done. ThreadsGiveOver wakeable limit Q text old (contents done) (answer_of done)))
@@ -88,7 +88,7 @@ module _ (P Q : SessionPart)
 -- The same of one that asks a listener.
 module _ (wakeable : Bool) {L : Type 0} (hears : L → ReadFault → L → Type 0) (limit : ℕ) (first last : L) where
   pub started_told_as : (P Q : SessionPart)
-      (to : (xs : List Exchange) (stop : Stop) (null : Option Sent) (answer : SessionAnswer) → P xs stop null answer → Q xs stop null answer)
+      (to : (xs : List Exchange) (stop : Stop) (shutdown_reply : Option Sent) (answer : SessionAnswer) → P xs stop shutdown_reply answer → Q xs stop shutdown_reply answer)
       {T F : Type 0} (contents : T → Option (List ℕ)) (answer_of : T → Result SessionEnd SessionFault) (known old : Option (List ℕ)) (result : Result T F)
       → IfSome known (λ text. IfOk result (λ done. ThreadsTellOver wakeable hears limit P text first last old (contents done) (answer_of done)))
       → IfSome known (λ text. IfOk result (λ done. ThreadsTellOver wakeable hears limit Q text first last old (contents done) (answer_of done)))
@@ -114,14 +114,14 @@ module _ (wakeable : Bool) {L : Type 0} (hears : L → ReadFault → L → Type 
       at = tells.at.0;
       read = reads_or_wakes (came_of tells.exchanges) (text, first) tells.at tells.read;
       stop = tells.stop;
-      null = tells.null;
+      shutdown_reply = tells.shutdown_reply;
       answer = tells.answer;
       part = tells.part;
       ends = tells.ends.0;
       wrote = tells.wrote;
     }
 
-    -- where the bytes are known, and both threads were started
+    -- if the bytes are known, and both threads were started
     pub started_untold : (P : SessionPart) {T F : Type 0} (contents : T → Option (List ℕ)) (answer_of : T → Result SessionEnd SessionFault) (known old : Option (List ℕ)) (result : Result T F)
         → IfSome known (λ text. IfOk result (λ done. ThreadsTellOver wakeable hears limit P text first last old (contents done) (answer_of done)))
         → IfSome known (λ text. IfOk result (λ done. ThreadsGiveOver wakeable limit P text old (contents done) (answer_of done)))

@@ -2,7 +2,7 @@
 use Rattle.std.specs.Io.KnownBytes.{Keeps}
 use Rattle.std.specs.Prelude.{◌⊎◌, ℕ, List, Option, Some, None, Result, Ok, Err, codes}
 use Rattle.lsp_message.specs.Faults.{read_fault_text, write_fault_text}
-use Rattle.lsp_message.specs.Letters.{exited, ended, failed}
+use Rattle.lsp_message.specs.Messages.{exited, ended, failed}
 use Rattle.lsp_message.specs.Message.{Message}
 use Rattle.lsp_message.specs.Written.{GetsFrames, GetsFramesAndPart}
 use Rattle.lsp_message.specs.declared.frame.ReadFault.TheVariants.{Input, Memory}
@@ -27,7 +27,8 @@ module _ (limit : ℕ) (text : List ℕ) (old new : Option (List ℕ)) where
   abbrev pub BreaksOff : Type 0
   BreaksOff =
       (next : Message)
-      × ReadsOver limit (up_to next) text (λ ms. GetsFramesAndPart ms next old new) (λ rest. Unit {0})
+      × ReadsOver limit (up_to next) text (λ ms. GetsFramesAndPart ms next old new) (λ rest.
+      Unit {0})
 
   abbrev pub Pumps : Result (Unit {0}) PumpFault → Type 0
   Pumps (Ok done) = PassesOn (to_end exited) ⊎ PassesOn (to_end ended)

@@ -1,4 +1,4 @@
-// A pool by hand: `pool WORKERS STEP; STEP ..`, or `WORKERS:WAITING` where only so many jobs may wait. A step is one of these, with what is
+// A pool by hand: `pool WORKERS STEP; STEP ..`, or `WORKERS:WAITING` if only so many jobs may wait. A step is one of these, with what is
 // told of it:
 //
 // - `take ID VALUE SCRIPT`: takes a job on (`jobs.rt`), which comes to the list of the value: `taken`, `full` or `no memory`.

@@ -133,7 +133,7 @@ impl Talker {
         Ok(Some(Request { id, method, params }))
     }
 
-    /// What it does at a notification that is no push: nothing comes back where it is one.
+    /// What it does at a notification that is no push: nothing comes back if it is one.
     fn note(&mut self, notification: &Notification) -> Result<Option<Acts>, AllocError> {
         let method = notification.method.as_str();
         let acts = Vec::new(self.alloc);

@@ -49,7 +49,7 @@ pub struct Signals {
     late: AtomicU64,
 }
 
-/// How often a wait looks for its signal, before it is given up: for a minute or so, and longer where the machine is busy.
+/// How often a wait looks for its signal, before it is given up: for a minute or so, and longer if the machine is busy.
 pub const LOOKS: u64 = 100_000_000;
 
 impl Signals {

@@ -32,7 +32,8 @@ pub fn finish_over_reader<R: BufRead, O: Outbox>(
     id: RequestId,
     initialize_result: Value,
 ) -> Result<(), ProtocolError>
-    ensures { (end : Option ReadEndType) × FinishesAt (StreamGives no_limit) O.sends (ok_reply id (view initialize_result))
+    ensures { (end : Option ReadEndType)
+        × FinishesAt (StreamGives no_limit) O.sends (ok_reply id (view initialize_result))
         (record { remaining = R.remaining reader.old; end = None }, outbox.old) result
         (record { remaining = R.remaining reader.new; end = end }, outbox.new) }
 {
@@ -44,13 +45,14 @@ pub fn finish_over_reader<R: BufRead, O: Outbox>(
 /// and "Server lifecycle"): a fact of each session that `serve_line` ran over a `StreamLine`, whose answer is `StreamLine::answer`. The
 /// line keeps its reader, its writer and its listener.
 ///
-/// All that is said for a message is written before the next message is read: the result of `initialize` before `initialized`, and the
-/// null of `shutdown` before `exit`. So a client may wait for it before it sends on. That the writer is also flushed before the next
+/// All that is to be sent for a message is written before the next message is read: the result of `initialize` before `initialized`, and the
+/// reply to `shutdown` before `exit`. So a client may wait for it before it sends on. That the writer is also flushed before the next
 /// message is read is tested, and no part of the contract.
 pub fn line_gives_in_turn<R: BufRead, W: Write, L: Listener, S: Service>()
     ensures { (old new : S) (before after : LineOf R W L) (reason : Reason) (answer : SessionAnswer)
         → IsUnused before
-        → Talks (StreamLineGives R.remaining L.hears) (StreamLineListens L.ends) (StreamLineSends W.contents)
+        → Talks (StreamLineGives R.remaining L.hears) (StreamLineListens L.ends)
+        (StreamLineSends W.contents)
         starting (Both (SessionOut S.behavior old new) (StopsFor reason)) before answer after
         → GivesInTurn R.remaining L.hears W.contents (SessionOut S.behavior old new) before
         (session_answer_spec reason answer after.inbox.end after.outbox.fault) after

@@ -19,7 +19,7 @@ use std::snapshot::Snapshot;
 enum Noted {
     /// The line gave this event.
     Gave(Snapshot<Event>),
-    /// It gave this, where it could be a wake.
+    /// It gave this, if it could be a wake.
     Came(Snapshot<Arrival>),
     /// It took this message.
     Took(Snapshot<Message>),
@@ -83,17 +83,19 @@ impl<'a, R: BufRead, W: Write, L: Listener> StreamLine<'a, R, W, L> {
         self.outbox.fault()
     }
 
-    /// The answer of a session over this line, where `serve_line` gave this: of several faults that fit it is the first of `Write`,
+    /// The answer of a session over this line, if `serve_line` gave this: of several faults that fit it is the first of `Write`,
     /// `Memory`, `Read` and `Protocol`.
     pub fn answer(&self, served: Served) -> Result<SessionEnd, SessionFault>
-        ensures { result ≡ session_answer_spec served.stop served.answer self.now.inbox.end self.now.outbox.fault }
+        ensures { result ≡ session_answer_spec served.stop served.answer self.now.inbox.end
+            self.now.outbox.fault }
     {
         session_answer(served, self.end(), self.fault())
     }
 
     /// What one wait gives that also gives wakes.
     fn next_arrival(&mut self) -> Arrival
-        ensures gives { StreamLineGives R.remaining L.hears self.old (arrival_view result) self.new }
+        ensures gives { StreamLineGives R.remaining L.hears self.old (arrival_view result)
+            self.new }
         ensures reads_on { StreamLineListens L.ends self.old (arrival_view result) self.new }
     {
         let arrival = self.inbox.next_arrival();
@@ -107,7 +109,7 @@ impl<'a, R: BufRead, W: Write, L: Listener> Inbox for StreamLine<'a, R, W, L> {
 
     ghost receives = { StreamLineGives R.remaining L.hears };
 
-    // Where a wake can tell of a content part that is no message, it ends the messages only if the listener says so.
+    // If a wake can tell of a content part that is no message, it ends the messages only if the listener says so.
     ghost listens = { StreamLineListens L.ends };
 
     /// It has no timeouts: a receive waits as the reader does.

@@ -60,8 +60,8 @@ impl Error for SessionFault {}
 ///
 /// What follows the last message that the session used is left in the reader: what comes after the `exit` of a session
 /// that was shut down, for one. After a failed write that holds too, and all of the output but its last message was written,
-/// and a beginning of that one. Where memory ran out, the output's first messages were written, each whole. There, and where
-/// the null of `shutdown` was not written, the next message may have been taken too. Each reply is written, and the writer
+/// and a beginning of that one. If memory ran out, the output's first messages were written, each whole. There, and where
+/// the reply to `shutdown` was not written, the next message may have been taken too. Each reply is written, and the writer
 /// flushed, before the next message is read: that is tested, and no part of the contract.
 pub fn session<R: BufRead, W: Write, H: Handler>(
     alloc: Global,
@@ -71,7 +71,8 @@ pub fn session<R: BufRead, W: Write, H: Handler>(
     handler: &mut H,
 ) -> Result<SessionEnd, SessionFault>
     ensures { IfSome (R.remaining reader.old) (λ text.
-        Gives no_limit (SessionOut (of_handler H.answers H.notes (view capabilities)) handler.old handler.new)
+        Gives no_limit
+        (SessionOut (of_handler H.answers H.notes (view capabilities)) handler.old handler.new)
         text (R.remaining reader.new) (W.contents writer.old) (W.contents writer.new) result) }
 {
     session_within(alloc, reader, writer, capabilities, handler, u64::MAX)
@@ -88,7 +89,8 @@ pub fn session_within<R: BufRead, W: Write, H: Handler>(
     limit: u64,
 ) -> Result<SessionEnd, SessionFault>
     ensures { IfSome (R.remaining reader.old) (λ text.
-        Gives limit (SessionOut (of_handler H.answers H.notes (view capabilities)) handler.old handler.new)
+        Gives limit (SessionOut (of_handler H.answers H.notes (view capabilities)) handler.old
+        handler.new)
         text (R.remaining reader.new) (W.contents writer.old) (W.contents writer.new) result) }
 {
     let mut capabilities = capabilities;
@@ -99,8 +101,8 @@ pub fn session_within<R: BufRead, W: Write, H: Handler>(
 /// `serve_service` from bytes to bytes (LSP 3.17, "Base Protocol" and "Server lifecycle"), as `session` is `serve`, over messages whose
 /// content part has at most `limit` bytes. A longer one is `SessionFault::Read` of `ReadFault::TooLong`, and is unread.
 ///
-/// At a content part that is no message (see `is_of_body`) the listener `bad_bodies` is asked. Where it reads on, nothing is answered,
-/// the service is woken, and the next frame follows. That is so from `initialized` up to `shutdown`, where a service can be woken. Where
+/// At a content part that is no message (see `is_of_body`) the listener `bad_bodies` is asked. If it reads on, nothing is answered,
+/// the service is woken, and the next frame follows. That is so from `initialized` up to `shutdown`, if a service can be woken. Where
 /// the listener ends the session, and before and after in any case, such a part is `SessionFault::Read`, and so is each other fault at any
 /// time. With `EndSession` nothing is ever passed over (`laws::listeners::nothing_is_passed_over`). `TolerantInbox::receive_or_woken` asks
 /// the listener at each such part. That a session calls it from `initialized` up to `shutdown` is no part of this contract, since a reader
@@ -116,7 +118,8 @@ pub fn session_of_service<R: BufRead, W: Write, S: Service, L: Listener>(
     limit: u64,
 ) -> Result<SessionEnd, SessionFault>
     ensures { IfSome (R.remaining reader.old) (λ text.
-        GivesAndTells L.hears limit (SessionOut S.behavior service.old service.new) text (R.remaining reader.new)
+        GivesAndTells L.hears limit (SessionOut S.behavior service.old service.new) text
+        (R.remaining reader.new)
         bad_bodies.old bad_bodies.new (W.contents writer.old) (W.contents writer.new) result) }
 {
     let mut inbox = TolerantInbox::within(alloc, reader, bad_bodies, limit);

@@ -24,7 +24,7 @@ settle_all-requires g c =
 pub settle_all-requires-2 : goal.settle_all-requires-2
 settle_all-requires-2 g c =
     let runs = c.serve_service-served.ensures in
-    let replied = all_replied _ _ runs.output runs.null runs.stop runs.got in
+    let replied = all_replied _ _ runs.output runs.shutdown_reply runs.stop runs.got in
     c.join-replies_rx.ensures.0 ∙ c.requires.writing.1
     ∙ sym (c.finish-replies.ensures.relay ∙ replied.same_relay ∙ ap (λ (r : Replying). r.relay) c.new-outbox.ensures)
 
@@ -45,7 +45,7 @@ returns g c =
     let answer = c.session_answer-answer.ensures ∙ (λ i. session_answer served.stop served.answer (ended i) (fault i)) in
     rw (answer, told, sym c.new-inbox.ensures.untold) (threads_tell hears c.args.workers.reading.promise.limit (Both (SessionOut g.S.Service.behavior old new) (StopsFor served.stop))
     (SessionOut g.S.Service.behavior old new) served.stop
-    (λ xs stop null answer both. (both.0, both.1, session_facts g.S.Service.behavior starting old new refl xs stop null answer both.0))
+    (λ xs stop shutdown_reply answer both. (both.0, both.1, session_facts g.S.Service.behavior starting old new refl xs stop shutdown_reply answer both.0))
     _ _ c.new-inbox.result c.serve_service-served.new.inbox c.new-outbox.result c.serve_service-served.new.outbox served.answer runs
     (ap (λ (t : Taking). t.taken) first ∙ c.requires.reading.0) (ap (λ (t : Taking). t.waiting) first) c.new-inbox.ensures.unended
     (ap (λ (r : Replying). r.bytes) c.new-outbox.ensures)

@@ -2,7 +2,7 @@ use Rattle.serde_json.specs.View.{view}
 use Rattle.std.proofs.Common.{arith, ◌≡◌, ◌-◌, ◌^◌, Err}
 use Rattle.std.proofs.lemmas.Result.{err_from_is_err_and}
 use Rattle.lsp_message.specs.View.{error_view}
-use Rattle.lsp_session.proofs.Line.{goes_none, goes_both, goes_run, goes_count, early_goes, start_failed, was_asked, ask_starved, declined, unanswered, finish_failed, open_starved, open_refused, opened}
+use Rattle.lsp_session.proofs.Line.{goes_none, goes_both, goes_run, goes_count, early_goes, start_failed, was_asked, ask_without_memory, declined, unanswered, finish_failed, open_without_memory, open_refused, opened}
 use Rattle.lsp_session.specs.Session.{starting}
 use Rattle.lsp_session.proofs.loops.line.run_line.Goals as goal
 
@@ -25,7 +25,7 @@ returns-in_err-result g c =
     let p = err_from_is_err_and c.from_residual-in_err-result.result c.from_residual-in_err-result.ensures.1 in
     let ask = was_asked g.S.Service.behavior g.L.Inbox.receives g.L.Inbox.listens g.L.Outbox.sends _ _ _ _ c.in_ok-id-in-Some.id (view c.in_ok-id-in-Some.params) (c.receive-event.ensures.receives, tt) (rw c.in_ok-id-in-Some.was at c.in-Some.ensures) in
     rw (p.1, p.2) (goes_run g.S.Service.behavior g.L.Inbox.receives g.L.Inbox.listens g.L.Outbox.sends _ _ _ _ _ _ _ _ _ _ c.loop-attempt.invariant
-    (ask_starved g.S.Service.behavior g.L.Inbox.receives g.L.Inbox.listens g.L.Outbox.sends c.loop-attempt.service _ _ _ _ _ ask c.in_err-result.ensures.err))
+    (ask_without_memory g.S.Service.behavior g.L.Inbox.receives g.L.Inbox.listens g.L.Outbox.sends c.loop-attempt.service _ _ _ _ _ ask c.in_err-result.ensures.err))
 
 pub returns-in_err-finish_line-in-Ok : goal.returns-in_err-finish_line-in-Ok
 returns-in_err-finish_line-in-Ok g c =
@@ -41,7 +41,7 @@ returns-in_err-first-in-Ok g c =
     let ask = was_asked g.S.Service.behavior g.L.Inbox.receives g.L.Inbox.listens g.L.Outbox.sends _ _ _ _ c.in_ok-id-in-Some.id (view c.in_ok-id-in-Some.params) (c.receive-event.ensures.receives, tt) (rw c.in_ok-id-in-Some.was at c.in-Some.ensures) in
     let answered = rw c.in-Ok.is at c.in_ok-result.ensures.outcome in
     rw (p.1, p.2) (goes_run g.S.Service.behavior g.L.Inbox.receives g.L.Inbox.listens g.L.Outbox.sends _ _ _ _ _ _ _ _ _ _ c.loop-attempt.invariant
-    (open_starved g.S.Service.behavior g.L.Inbox.receives g.L.Inbox.listens g.L.Outbox.sends c.loop-attempt.service _ _ _ _ _ ask (view c.in-Ok.result) answered _ c.in_ok-finish_line-in-Ok.ensures _ c.in_err-first-in-Ok.ensures.err))
+    (open_without_memory g.S.Service.behavior g.L.Inbox.receives g.L.Inbox.listens g.L.Outbox.sends c.loop-attempt.service _ _ _ _ _ ask (view c.in-Ok.result) answered _ c.in_ok-finish_line-in-Ok.ensures _ c.in_err-first-in-Ok.ensures.err))
 
 pub returns-in_err-send_output-in-Ok : goal.returns-in_err-send_output-in-Ok
 returns-in_err-send_output-in-Ok g c =

@@ -1,7 +1,7 @@
 use Rattle.std.proofs.Common.{arith, refl, Some, None, rules, ◌≡◌, ◌-◌, ◌^◌, true, false}
 use Rattle.std.specs.Prelude.{Ok, Err}
 use Rattle.std.proofs.lemmas.Result.{err_from_is_err_and}
-use Rattle.lsp_message.specs.Letters.{is_exit}
+use Rattle.lsp_message.specs.Messages.{is_exit}
 use Rattle.lsp_message.specs.View.{message_view}
 use Rattle.lsp_session.proofs.Line.{goes_none, goes_step, goes_both, goes_run, goes_count, ends_closed, ends_exhausted, ends_refused, shuts_down, is_served_by, ends_at_exit}
 use Rattle.lsp_session.specs.Session.{serving}
