@@ -17,13 +17,12 @@
 //! - `jobs`: threads of a pool search, beside the threads that read and write. So all else is answered while a search runs, and a search
 //!   tells how far it is, if the client gave a token for that (`$/progress`), and can be cancelled.
 //! - `jobs ADDRESS`: the same for the first client that connects to an address, as `127.0.0.1:9257`.
-//!
-//! Sixteen notifications of a job can wait to be sent, and further ones are dropped. A search makes twelve at most, so none is lost.
 #![tactic(auto)]
 
 mod search;
 mod server;
 mod sessions;
+mod shared;
 mod sums;
 
 use anyhow::{Result, bail};
@@ -60,13 +59,13 @@ fn main(rt: HostRuntime) -> Result<()> {
     let mut reader = BufReader::with_capacity(alloc, READ_AHEAD, rt.reader())?;
     let mut writer = Output(rt);
     let answer = match words.as_slice() {
-        [] => serve(alloc, &mut reader, &mut writer, Sums::new(alloc, false)).1,
+        [] => serve(alloc, &mut reader, &mut writer, Sums::new(alloc)).1,
         [word] if word.as_str() == "threads" => {
-            let (_, done) = serve_in_threads(&rt, alloc, reader, writer, Sums::new(alloc, false));
+            let (_, done) = serve_in_threads(&rt, alloc, reader, writer, Sums::new(alloc));
             done?.answer
         }
         [word] if word.as_str() == "jobs" => {
-            let (_, done) = serve_with_jobs(&rt, alloc, reader, writer, Sums::new(alloc, true));
+            let (_, done) = serve_with_jobs(&rt, alloc, reader, writer, Sums::new(alloc));
             done?.answer
         }
         [word, address] if word.as_str() == "jobs" => serve_socket(&rt, address.as_str())?,
@@ -95,6 +94,6 @@ where
     let (stream, _) = listener.accept()?;
     let writer = stream.try_clone()?;
     let reader = BufReader::with_capacity(alloc, READ_AHEAD, stream)?;
-    let (_, done) = serve_with_jobs(rt, alloc, reader, writer, Sums::new(alloc, true));
+    let (_, done) = serve_with_jobs(rt, alloc, reader, writer, Sums::new(alloc));
     Ok(done?.answer)
 }

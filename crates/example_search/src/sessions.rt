@@ -82,8 +82,8 @@ where
     R: BufRead + Drop + Send + 'static,
     W: Write + Drop + Send + 'static,
     ensures { IfSome (R.remaining reader) (λ text. IfOk result.1 (λ done.
-        ThreadsGiveOver true no_limit (LawfulJobSession T ⟦<Sums as Server>⟧ ⟦<Sums as JobServer<Search>>⟧.starts
-        ⟦<Sums as JobServer<Search>>⟧.finishes ⟦<Search as Job>⟧.answers sums result.0)
+        ThreadsGiveOver true no_limit (LawfulJobSession T ⟦<Sums as Server>⟧ ⟦<Sums as JobServer<Search>>⟧.own
+        ⟦<Search as Job>⟧ sums result.0)
         text (W.contents writer) (W.contents done.writer) done.answer)) }
 {
     session_with_jobs_keeps_laws::<T, Sums, Search>();

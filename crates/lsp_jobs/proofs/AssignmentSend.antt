@@ -104,4 +104,5 @@ module _ (J R : RattleType) where
         sending_send _
         (rows_send (badge_row.the_row (key.the_row it)) (doing.the_row it (option.the_row J)) (rounds_row.the_row rule.the_row) (option.the_row it) (key.the_row it) (lockers_row.the_row whole.the_row) turns slots send_key send_slot)
         (rows_sync (badge_row.the_row (key.the_row it)) (doing.the_row it (option.the_row J)) (rounds_row.the_row rule.the_row) (option.the_row it) (key.the_row it) (lockers_row.the_row whole.the_row) turns slots send_key send_slot) in
-        struct_send (shape (assignment.the_type J R G)) (s, (sender, (seat.the_send _ _ send_key, (sender, (seat.the_send _ _ send_key, tt)))))
+        struct_send (shape (assignment.the_type J R G))
+        (s, (sender, (seat.the_send _ _ send_key, (sender, (seat.the_send _ _ send_key, (search (crosses, sendable) depth 80, tt))))))

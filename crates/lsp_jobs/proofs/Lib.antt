@@ -1,5 +1,5 @@
+mod Answering
 pub mod AssignmentSend
-mod Giving
 mod JobSessions
 mod OneTask
 pub mod OrderSend

@@ -1,15 +1,20 @@
 -- Tables of jobs, as maps from ids.
-use Rattle.std.proofs.Common.{◌≡◌, ◌∙◌, ap, sym, refl, Bool, true, false, cond, Option, Some, None, option_map, Result, Ok, Err, OnErr}
+use Rattle.serde_json.specs.Data.{Data}
+use Rattle.serde_json.specs.declared.value.Value.{Value}
+use Rattle.std.proofs.Common.{◌≡◌, ◌∙◌, ap, sym, subst, refl, inl, inr, ℕ, Bool, true, false, cond, List, [], ◌∷◌, ◌++◌, append-nil, arith, length, Option, Some, None, option_map, Result, Ok, Err, OnErr}
 use Rattle.std.specs.FinMap.{FinMap, get-empty, get-insert, get-remove}
 use Rattle.std.specs.FinMap as map
 use Rattle.std.specs.Ordering.{eq_by_cmp}
-use Rattle.std.specs.Prelude.{if◌then◌else◌, IfNone, IfSome, IsSome}
+use Rattle.std.specs.Prelude.{if◌then◌else◌, is_ok, IfNone, IfOk}
+use Rattle.std.specs.declared.alloc.AllocError.{AllocError}
 use Rattle.lsp_message.specs.Id.{Id, id_cmp}
 use Rattle.lsp_message.specs.IdLaws.{id_total, id_decides}
-use Rattle.lsp_jobs.specs.PoolView.{news_view}
-use Rattle.lsp_jobs.specs.Table.{Table, Outcome, IsReport, Tells, no_jobs, without, with_job}
-use Rattle.lsp_jobs.specs.declared.pool.JobNews.{JobNews}
-use Rattle.lsp_jobs.specs.declared.pool.JobNews.TheVariants.{Report, Outcome as Ended}
+use Rattle.lsp_message.specs.View.{outcome_view}
+use Rattle.lsp_message.specs.declared.msg.ResponseError.{ResponseError}
+use Rattle.lsp_jobs.specs.Ends.{Outcome}
+use Rattle.lsp_jobs.specs.PoolView.{CameTo}
+use Rattle.lsp_jobs.specs.Table.{Table, ComesTo, no_jobs, without, with_job}
+use Rattle.lsp_jobs.specs.declared.job.Job.{Ghosts as OfJob}
 
 pub on_err : {T E P : Type 0} (r : Result T E) → P → OnErr r P
 on_err (Ok x) p = tt
@@ -19,15 +24,22 @@ pub if_none : {A P : Type 0} (o : Option A) → P → IfNone o P
 if_none None p = p
 if_none (Some x) p = tt
 
-pub is_some : {A : Type 0} (o : Option A) (x : A) → o ≡ Some x → IsSome o
-is_some o x is = rw is refl
+-- what was taken, when none is left
+pub all_taken : {A : Type 0} (taken rest all : List A) → taken ++ rest ≡ all → length rest ≡ 0 → taken ≡ all
+all_taken taken [] all is none = sym (append-nil taken) ∙ is
+all_taken taken (x ∷ rest) all is none = absurd (omega (arith, none))
 
--- a report, which leaves the table
-pub reported : {J : Type 0} (answers : J → Outcome → Type 0) (id : Id) (old new : Table J) (o : Option JobNews) → IsSome (old id) → new ≡ old
-    → IfSome o (λ news. IsReport (news_view news)) → IfSome o (λ news. Tells answers id old (news_view news) new)
-reported answers id old new None waits same report = tt
-reported answers id old new (Some (Report n)) waits same report = (waits, same)
-reported answers id old new (Some (Ended outcome)) waits same report = absurd report
+-- more was appended, where that did not fail
+pub appended : {A T E Q : Type 0} (r : Result T E) (new old more : List A) → new ≡ (if is_ok r then old ++ more else old) → (new ≡ old ++ more → Q) → IfOk r (λ _. Q)
+appended (Ok x) new old more is holds = holds is
+appended (Err e) new old more is holds = tt
+
+-- what a job came to, as its request gets it
+pub came : {J : Type 0} (may : OfJob J) (job : J) (ran : Result (Result Value ResponseError) AllocError) (got : Outcome)
+    → IfOk ran (λ outcome. (method : List ℕ) (params : Data) → may.is_for job method params → may.answers method params (outcome_view outcome))
+    → CameTo ran got → ComesTo may job got
+came may job (Ok outcome) got all is = inl (λ method params for. subst (λ o. may.answers method params o) (sym is) (all method params for))
+came may job (Err failed) got all is = inr is
 
 module _ {E J : Type 0} (f : E → J) where
   mapped_if : (b : Bool) (x y : Option E) → option_map f (cond b x y) ≡ cond b (option_map f x) (option_map f y)

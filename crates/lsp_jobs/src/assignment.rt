@@ -1,5 +1,7 @@
 // The way from the thread that works to the pool of what a task says: an outcome that comes out is one of the very task that went in.
-ghost use Rattle.std.specs.Prelude.{◌≡◌, IfOk, IfSome, Some};
+ghost use Rattle.serde_json.specs.Data.{Data};
+ghost use Rattle.serde_json.specs.View.{view};
+ghost use Rattle.std.specs.Prelude.{◌≡◌, ℕ, List, IfOk, IfSome, Some, string_bytes};
 ghost use Rattle.crossbeam_channel.specs.Claims.{IsSeatAt, view as knows};
 ghost use Rattle.crossbeam_channel.specs.Ends.{sends_on};
 ghost use Rattle.lsp_jobs.specs.Outcomes.{MaySay};
@@ -7,20 +9,28 @@ ghost use Rattle.lsp_jobs.specs.Outcomes.{MaySay};
 use crate::bell::Bell;
 use crate::cancellation::CancellationToken;
 use crate::job::Progress;
+use crate::unread::Unread;
 use crossbeam_channel::protocol::{Lesson, Outcome, Protocol, Split};
 use crossbeam_channel::{Pass, RuledReceiver, RuledSender, bounded_with};
 use lsp_message::{Notification, RequestId};
 use std::alloc::{AllocError, Global};
-use std::marker::Model;
+use std::marker::{Brand, Model, PhantomData};
 use std::snapshot::Snapshot;
 use std::sync::Wait;
 
 /// What a worker does, and what may come of it.
 pub(crate) trait Task<R>: Drop {
+    ghost use Rattle.serde_json.specs.Data.{Data};
+    ghost use Rattle.std.specs.Prelude.{ℕ, List};
+
     /// It may come to this.
     ghost comes_to: { Self → R → Type 0 };
 
+    /// It may report this.
+    ghost reports: { Self → List ℕ → Data → Type 0 };
+
     fn perform<P: Progress>(self, token: &CancellationToken, progress: &mut P) -> R
+        requires { (method : List ℕ) (params : Data) → reports «self» method params → P.may method params }
         ensures { comes_to «self» result };
 }
 
@@ -46,6 +56,9 @@ pub(crate) struct Slip<J, R> {
 /// How many slips of a task may wait for the pool.
 const SLIPS: usize = 16;
 
+/// How many of them may be reports that can be dropped: one place is kept for what can't.
+const REPORTS: usize = 15;
+
 /// The rule of the channel: all its slips are of one task, which each pass knows.
 pub(crate) struct OneTask;
 
@@ -53,7 +66,7 @@ impl<J: Task<R>, R> Protocol<Slip<J, R>, Option<J>> for OneTask {
     ghost use Rattle.std.specs.Prelude.{None};
     ghost use Rattle.lsp_jobs.specs.Outcomes.{AreOfOneTask};
 
-    ghost holds = { AreOfOneTask J.comes_to };
+    ghost holds = { AreOfOneTask J.comes_to J.reports };
 
     ghost first = { None };
 }
@@ -91,7 +104,7 @@ impl<J: Task<R>, R> Outcome<Slip<J, R>, Option<J>> for Taking {
     ghost use Rattle.std.specs.Prelude.{◌≡◌, IfSome};
     ghost use Rattle.lsp_jobs.specs.Outcomes.{IsOf};
 
-    ghost then = { λ before slip after. (after ≡ before) × IfSome before (λ task. IsOf J.comes_to task slip) };
+    ghost then = { λ before slip after. (after ≡ before) × IfSome before (λ task. IsOf J.comes_to J.reports task slip) };
 }
 
 impl<J, R> Lesson<Slip<J, R>, Option<J>> for Taking {
@@ -115,6 +128,7 @@ pub(crate) struct Assignment<J: Task<R>, R: Drop> {
     pass: Pass<Slip<J, R>, Option<J>>,
     report_sender: RuledSender<Slip<J, R>, Option<J>, OneTask>,
     report_pass: Pass<Slip<J, R>, Option<J>>,
+    unread: Unread,
     ghost known: { IsSeatAt (sends_on sender) pass × (knows pass ≡ Some task) × IsSeatAt (sends_on report_sender) report_pass × (knows report_pass ≡ Some task) },
 }
 
@@ -124,6 +138,7 @@ pub(crate) struct Awaited<J: Task<R>, R: Drop> {
     task: Snapshot<J>,
     receiver: RuledReceiver<Slip<J, R>, Option<J>, OneTask>,
     pass: Pass<Slip<J, R>, Option<J>>,
+    unread: Unread,
 }
 
 impl<J: Task<R>, R: Drop> Model for Awaited<J, R> {
@@ -146,6 +161,8 @@ pub(crate) fn assign<T: Wait, J: Task<R>, R: Drop>(
 ) -> Result<(Assignment<J, R>, Awaited<J, R>), AllocError>
     ensures { IfOk result (λ ends. ends.1 ≡ «task») }
 {
+    let unread = Unread::new(alloc)?;
+    let theirs = unread.share()?;
     let (sender, receiver, mut pass) = bounded_with(alloc, SLIPS)?;
     let name = Slip {
         task: Snapshot::of(&Snapshot::of(&task)),
@@ -163,6 +180,7 @@ pub(crate) fn assign<T: Wait, J: Task<R>, R: Drop>(
         task: Snapshot::of(&task),
         receiver,
         pass: takes,
+        unread,
     };
     let assignment = Assignment {
         task,
@@ -170,6 +188,7 @@ pub(crate) fn assign<T: Wait, J: Task<R>, R: Drop>(
         pass,
         report_sender,
         report_pass,
+        unread: theirs,
     };
     Ok((assignment, awaited))
 }
@@ -190,20 +209,13 @@ impl<J: Task<R>, R: Drop> Assignment<J, R> {
             mut pass,
             report_sender,
             report_pass,
+            unread,
         } = self;
         let name = Snapshot::of(&task);
-        let mut reporter = Reporter {
-            rt,
-            id,
-            bell,
-            reports: Reports {
-                task: Snapshot::of(&task),
-                sender: report_sender,
-                pass: report_pass,
-            },
-        };
-        let outcome = task.perform(token, &mut reporter);
-        let Reporter { id, mut bell, .. } = reporter;
+        let ends = (report_sender, report_pass);
+        let (outcome, id, mut bell) = perform_telling::<Brand, T, J, R, M>(
+            task, token, ends, unread, rt, id, bell,
+        );
         let slip = Slip {
             task: Snapshot::of(&name),
             saying: Saying::Outcome(outcome),
@@ -214,16 +226,69 @@ impl<J: Task<R>, R: Drop> Assignment<J, R> {
     }
 }
 
+/// What a task may report, picked for each.
+trait Reportable {
+    ghost use Rattle.serde_json.specs.Data.{Data};
+    ghost use Rattle.std.specs.Prelude.{ℕ, List};
+
+    ghost what: { List ℕ → Data → Type 0 };
+}
+
+impl Reportable for Brand {
+    ghost what = { λ _ _. ⊥ };
+}
+
+/// Performs a task, and sends what it reports meanwhile.
+fn perform_telling<W: Reportable, T: Wait + Drop, J: Task<R>, R: Drop, M: Drop>(
+    task: J,
+    token: &CancellationToken,
+    ends: (
+        RuledSender<Slip<J, R>, Option<J>, OneTask>,
+        Pass<Slip<J, R>, Option<J>>,
+    ),
+    unread: Unread,
+    rt: T,
+    id: RequestId,
+    bell: Bell<M>,
+) -> (R, RequestId, Bell<M>)
+    requires seat { IsSeatAt (sends_on ends.0) ends.1 }
+    requires task { knows ends.1 ≡ Some «task» }
+    requires asks { (method : List ℕ) (params : Data) → J.reports «task» method params → W.what method params }
+    requires allows { (method : List ℕ) (params : Data) → W.what method params → J.reports «task» method params }
+    ensures { J.comes_to «task» result.0 }
+{
+    let (sender, pass) = ends;
+    let reports: Reports<W, J, R> = Reports {
+        what: PhantomData,
+        task: Snapshot::of(&task),
+        sender,
+        pass,
+        unread,
+    };
+    let mut reporter = Reporter {
+        rt,
+        id,
+        bell,
+        reports,
+    };
+    let outcome = task.perform(token, &mut reporter);
+    let Reporter { id, bell, .. } = reporter;
+    (outcome, id, bell)
+}
+
 /// The end of the channel that takes a task's reports. Contracts see the task.
 #[derive(Drop)]
-struct Reports<J: Task<R>, R: Drop> {
+struct Reports<W: Reportable, J: Task<R>, R: Drop> {
+    what: PhantomData<W>,
     task: Snapshot<J>,
     sender: RuledSender<Slip<J, R>, Option<J>, OneTask>,
     pass: Pass<Slip<J, R>, Option<J>>,
+    unread: Unread,
 }
 
-impl<J: Task<R>, R: Drop> Model for Reports<J, R> {
-    ghost use Rattle.std.specs.Prelude.{◌≡◌, Some};
+impl<W: Reportable, J: Task<R>, R: Drop> Model for Reports<W, J, R> {
+    ghost use Rattle.serde_json.specs.Data.{Data};
+    ghost use Rattle.std.specs.Prelude.{◌≡◌, ℕ, List, Some};
     ghost use Rattle.crossbeam_channel.specs.Claims.{IsSeatAt, view as knows};
     ghost use Rattle.crossbeam_channel.specs.Ends.{sends_on};
 
@@ -231,37 +296,70 @@ impl<J: Task<R>, R: Drop> Model for Reports<J, R> {
 
     ghost view = { λ r. r.task.value };
 
-    ghost invariant = { λ r. IsSeatAt (sends_on r.sender) r.pass × (knows r.pass ≡ Some r.task.value) };
+    ghost invariant = { λ r. IsSeatAt (sends_on r.sender) r.pass × (knows r.pass ≡ Some r.task.value)
+        × ((method : List ℕ) (params : Data) → W.what method params → ⟦<J as Task<R>>⟧.reports r.task.value method params) };
 }
 
-impl<J: Task<R>, R: Drop> Reports<J, R> {
-    /// Sends a report, where there is room.
-    fn send<T: Wait>(&mut self, rt: &T, notification: Notification) -> bool {
+impl<W: Reportable, J: Task<R>, R: Drop> Reports<W, J, R> {
+    /// Sends a report, where more than one place is free.
+    fn try_send<T: Wait>(&mut self, rt: &T, notification: Notification) -> bool
+        requires { W.what (string_bytes notification.method) (view notification.params) }
+    {
+        if self.unread.count() >= REPORTS {
+            return false;
+        }
         let slip = Slip {
             task: Snapshot::of(&self.task),
             saying: Saying::Report(notification),
         };
-        self.sender
+        self.unread.add();
+        let is_sent = self
+            .sender
             .try_send_as::<Further, T>(rt, &mut self.pass, slip)
+            .is_ok();
+        if !is_sent {
+            self.unread.remove();
+        }
+        is_sent
+    }
+
+    /// Sends a notification, and waits for room. False where nobody takes it any more.
+    fn send<T: Wait>(&mut self, rt: &T, notification: Notification) -> bool
+        requires { W.what (string_bytes notification.method) (view notification.params) }
+    {
+        let slip = Slip {
+            task: Snapshot::of(&self.task),
+            saying: Saying::Report(notification),
+        };
+        self.unread.add();
+        self.sender
+            .send_as::<Further, T>(rt, &mut self.pass, slip)
             .is_ok()
     }
 }
 
 /// Tells how far a task is while it is performed.
 #[derive(Drop)]
-struct Reporter<T: Wait + Drop, J: Task<R>, R: Drop, M: Drop> {
+struct Reporter<W: Reportable, T: Wait + Drop, J: Task<R>, R: Drop, M: Drop> {
     rt: T,
     id: RequestId,
     bell: Bell<M>,
-    reports: Reports<J, R>,
+    reports: Reports<W, J, R>,
 }
 
-impl<T: Wait + Drop, J: Task<R>, R: Drop, M: Drop> Progress for Reporter<T, J, R, M> {
+impl<W: Reportable, T: Wait + Drop, J: Task<R>, R: Drop, M: Drop> Progress
+    for Reporter<W, T, J, R, M> {
+    ghost may = { W.what };
+
     fn report(&mut self, notification: Notification) -> bool {
         let Ok(id) = self.id.clone() else {
             return false;
         };
-        self.reports.send(&self.rt, notification) && self.bell.ring(&self.rt, id)
+        self.reports.try_send(&self.rt, notification) && self.bell.ring(&self.rt, id)
+    }
+
+    fn send(&mut self, notification: Notification) -> bool {
+        self.reports.send(&self.rt, notification) && self.bell.ring_again(&self.rt, &self.id)
     }
 }
 
@@ -269,10 +367,15 @@ impl<J: Task<R>, R: Drop> Awaited<J, R> {
     /// What the task said next, where that was sent and not taken yet.
     pub fn take<T: Wait>(&mut self, rt: &T) -> Option<Saying<R>>
         ensures task { self.new ≡ self.old }
-        ensures saying { IfSome result (λ saying. MaySay J.comes_to self.old saying) }
+        ensures saying { IfSome result (λ saying. MaySay J.comes_to J.reports self.old saying) }
     {
         match self.receiver.try_recv_as::<Taking, T>(rt, &mut self.pass) {
-            Ok(slip) => Some(slip.saying),
+            Ok(slip) => {
+                if let Saying::Report(_) = &slip.saying {
+                    self.unread.remove();
+                }
+                Some(slip.saying)
+            }
             Err(_) => None,
         }
     }

@@ -60,6 +60,20 @@ impl<M: Drop> Bell<M> {
         }
     }
 
+    /// The same of an id that is kept. While memory for its copy is missing, it waits until there is some or the pool ends.
+    pub fn ring_again<T: Wait>(&mut self, rt: &T, id: &RequestId) -> bool {
+        for _ in rt.forever() {
+            if let Ok(id) = id.clone() {
+                return self.ring(rt, id);
+            }
+            if self.pool.is_cancelled() {
+                return false;
+            }
+            yield_now();
+        }
+        unreachable!()
+    }
+
     /// Puts the id into its channel. While the channel cannot grow, it waits until an earlier id is taken or the pool ends.
     fn say<T: Wait>(&self, rt: &T, id: RequestId) -> bool {
         let mut id = id;

@@ -10,12 +10,15 @@ pub mod laws;
 mod line;
 mod pool;
 mod pooled_server;
+mod progress;
 mod run;
+mod unread;
 mod workers;
 
 pub use cancellation::CancellationToken;
 pub use job::{Job, Progress};
-pub use job_server::{JobServer, Start};
-pub use pool::{JobNews, JobPool, PoolSize, TakeFault};
+pub use job_server::{AnsweredBy, JobEnd, JobServer, NewJob};
+pub use pool::{JobMessage, JobPool, PoolSize, SubmitFault};
 pub use pooled_server::PooledServer;
+pub use progress::{PartialResults, WorkDone};
 pub use run::run_jobs;

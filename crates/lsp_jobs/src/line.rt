@@ -1,9 +1,22 @@
 // The errands that wait for a worker. One that is taken back gives its place to another at once.
-use crate::pool::TakeFault;
 use crossbeam_channel::{Receiver, Sender, unbounded};
 use std::alloc::{AllocError, Global};
 use std::collections::BTreeMap;
 use std::sync::{Arc, Mutex, Wait};
+
+/// Why an errand was not added.
+pub(crate) enum OrderFault {
+    /// 1: as many wait as may.
+    Full,
+    /// 2: an allocation failed.
+    Memory,
+}
+
+impl From<AllocError> for OrderFault {
+    fn from(_: AllocError) -> OrderFault {
+        OrderFault::Memory
+    }
+}
 
 /// Errands under the numbers of their places. An older one has a smaller number.
 #[derive(Drop)]
@@ -73,21 +86,21 @@ impl<E: Drop> Line<E> {
 
 impl<E: Drop> WaitingErrands<E> {
     /// Adds an errand behind all others, and gives the number of its place.
-    pub fn add<T: Wait>(&self, rt: &T, errand: E) -> Result<u64, TakeFault> {
+    pub fn add<T: Wait>(&self, rt: &T, errand: E) -> Result<u64, OrderFault> {
         let mut line = self.line.lock(rt);
         if let Some(room) = self.room {
             if line.errands.len() >= room {
-                return Err(TakeFault::Full);
+                return Err(OrderFault::Full);
             }
         }
         if self.tickets.send(rt, ()).is_err() {
-            return Err(TakeFault::Memory);
+            return Err(OrderFault::Memory);
         }
         match line.add(errand) {
             Ok(place) => Ok(place),
             Err(_) => {
                 let _ = self.given.try_recv(rt);
-                Err(TakeFault::Memory)
+                Err(OrderFault::Memory)
             }
         }
     }

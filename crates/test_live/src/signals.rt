@@ -27,6 +27,8 @@ pub enum Signal {
     Stopped,
     /// So many jobs came to the end of their script.
     Ended,
+    /// So many times a job was done with its reports.
+    Reported,
     /// A server was asked so often whether to go on.
     Turns,
 }
@@ -44,6 +46,7 @@ pub struct Signals {
     begun: AtomicU64,
     stopped: AtomicU64,
     ended: AtomicU64,
+    reported: AtomicU64,
     turns: AtomicU64,
     /// How many waits were given up.
     late: AtomicU64,
@@ -66,6 +69,7 @@ impl Signals {
             begun: AtomicU64::new(0),
             stopped: AtomicU64::new(0),
             ended: AtomicU64::new(0),
+            reported: AtomicU64::new(0),
             turns: AtomicU64::new(0),
             late: AtomicU64::new(0),
         }
@@ -83,6 +87,7 @@ impl Signals {
             Signal::Begun => &self.begun,
             Signal::Stopped => &self.stopped,
             Signal::Ended => &self.ended,
+            Signal::Reported => &self.reported,
             Signal::Turns => &self.turns,
         }
     }

@@ -4,8 +4,9 @@ use Rattle.std.specs.Prelude.{map}
 use Rattle.std.specs.Vec.Iter.{into_iter_items}
 use Rattle.lsp_service.specs.View.{act_view}
 use Rattle.lsp_jobs.specs.Pooled.{StartsOne}
-use Rattle.lsp_jobs.specs.PoolView.{start_view, table_of}
-use Rattle.lsp_jobs.proofs.pooled_server.PooledServer.start_all.Given as goal
+use Rattle.lsp_jobs.specs.PoolView.{table_of}
+use Rattle.lsp_jobs.specs.ServerView.{new_job_view}
+use Rattle.lsp_jobs.proofs.pooled_server.«PooledServer+T+S+J+S+Key».start_all.Given as goal
 
 -- the jobs so far are started
 abbrev pub invariant-loop-start : goal.invariant-loop-start
@@ -13,5 +14,6 @@ invariant-loop-start g l =
     (goal.iterator-loop-start g).can_next l.start-iterator
     × (goal.iterator-loop-start g).is_finite l.start-iterator
     × (l.yielded ++ into_iter_items l.start-iterator ≡ l.fn.jobs.items)
-    × (l.self.server ≡ l.initial.self.server)
-    × FoldsTo StartsOne (table_of l.initial.self.pool, map act_view l.initial.acts.items) (map start_view l.yielded) (table_of l.self.pool, map act_view l.acts.items)
+    × FoldsTo (StartsOne g.S.JobServer)
+    (l.initial.self.server, table_of l.initial.self.pool, map act_view l.initial.acts.items)
+    (map new_job_view l.yielded) (l.self.server, table_of l.self.pool, map act_view l.acts.items)
