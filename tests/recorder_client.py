@@ -102,8 +102,8 @@ def piped_recorder(server_port, log):
     return Started([RECORDER, "record", "-", f"{HOST}:{server_port}", log], stdin=subprocess.PIPE)
 
 
-def replay(log, demo):
-    return Started([RECORDER, "replay", log, f"{HOST}:{demo.port}"])
+def replay(log, port):
+    return Started([RECORDER, "replay", log, f"{HOST}:{port}"])
 
 
 def receive(client, wanted):
@@ -198,15 +198,42 @@ def check_pipes(log):
 def check_replay(log):
     print("a recording is compared, and another answer is told")
     log.write_bytes(lines_of(SESSION))
-    with server() as demo, replay(log, demo) as replayed:
+    with server() as demo, replay(log, demo.port) as replayed:
         expect("the replay", replayed.end(), (0, b"3 answers, each as recorded\n", b""))
         expect("the end of the server", demo.end(), (0, b"", b""))
     other = b'{"jsonrpc":"2.0","id":1,"result":{"capabilities":{"hoverProvider":true}}}'
     log.write_bytes(lines_of([(INITIALIZE, other)]))
-    with server() as demo, replay(log, demo) as replayed:
+    with server() as demo, replay(log, demo.port) as replayed:
         told = b"recorded: %s\nfound: %s\n" % (other, INITIALIZE_REPLY)
         expect("the replay", replayed.end(), (1, told, b"Error: not as recorded\n"))
         expect("the status of the server", demo.end()[0], 1)
+
+
+# Two requests that take long, a notification of the server's own, and the replies in the order of the requests.
+SLOW = [b'{"jsonrpc":"2.0","id":%d,"method":"demo/slow"}' % number for number in (1, 2)]
+SLOW_REPLIES = [b'{"jsonrpc":"2.0","id":%d,"result":"%d"}' % (number, number) for number in (1, 2)]
+NOTICES = [b'{"jsonrpc":"2.0","method":"first"}', b'{"jsonrpc":"2.0","method":"second"}']
+
+
+def check_replay_in_another_order(log):
+    print("replies may come in another order, and notifications may not")
+    recorded = [b"-> " + it for it in SLOW] + [b"<- " + it for it in [SLOW_REPLIES[0], *NOTICES, SLOW_REPLIES[1]]]
+    log.write_bytes(b"".join(line + b"\n" for line in recorded))
+    good = (0, b"4 answers, each as recorded\n", b"")
+    told = b"recorded: %s\nfound: %s\n" % (NOTICES[0], NOTICES[1])
+    for said, wanted in [
+        ([SLOW_REPLIES[0], *NOTICES, SLOW_REPLIES[1]], good),
+        ([SLOW_REPLIES[1], *NOTICES, SLOW_REPLIES[0]], good),
+        ([*NOTICES, *SLOW_REPLIES], good),
+        ([*SLOW_REPLIES, *reversed(NOTICES)], (1, told, b"Error: not as recorded\n")),
+    ]:
+        with socket.create_server((HOST, 0)) as listener, replay(log, listener.getsockname()[1]) as replayed:
+            listener.settimeout(PATIENCE)
+            with listener.accept()[0] as theirs:
+                receive(theirs, b"".join(map(frame, SLOW)))
+                theirs.sendall(b"".join(map(frame, said)))
+                theirs.shutdown(socket.SHUT_WR)
+                expect("the replay", replayed.end(), wanted)
 
 
 def main():
@@ -216,7 +243,7 @@ def main():
             return 2
     try:
         with tempfile.TemporaryDirectory() as folder:
-            for check in [check_session, check_early_close, check_last_words, check_pipes, check_replay]:
+            for check in [check_session, check_early_close, check_last_words, check_pipes, check_replay, check_replay_in_another_order]:
                 check(Path(folder) / "session.log")
     except Difference as difference:
         print(f"recorder_client.py: FAILED: {difference}", file=sys.stderr)

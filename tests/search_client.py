@@ -61,14 +61,26 @@ def begin(client):
         expect("what is wrong with a text", marks["params"], {"uri": document["uri"], "diagnostics": []})
 
 
+def look_at_progress(notices):
+    """A begin, reports of which each may be dropped, and an end (LSP 3.17, "Work Done Progress")."""
+    expect("the tokens of the notices", {notice["token"] for notice in notices}, {"t"})
+    begin, *reports, end = (notice["value"] for notice in notices)
+    expect("the first and the last notice", [begin["kind"], end["kind"]], ["begin", "end"])
+    expect("the kinds of the other notices", {report["kind"] for report in reports} <= {"report"}, True)
+    documents = [f"file:///{number}.sums" for number in range(DOCUMENTS)]
+    expect("whether each names another document", len({report["message"] for report in reports}), len(reports))
+    expect("whether each names a document", {report["message"] for report in reports} <= set(documents), True)
+    percentages = [notice["percentage"] for notice in [begin, *reports]]
+    expect("whether percentages rise", percentages == sorted(percentages) and percentages[-1] <= 100, True)
+
+
 def is_hovered_meanwhile(client):
     """A search and a hover: whether the hover was answered first. What the search tells and finds is looked at."""
     search = client.asks("workspace/symbol", {"query": "one", "workDoneToken": "t"})
     hover = client.asks("textDocument/hover", {"textDocument": {"uri": "file:///0.sums"}, "position": {"line": 0, "character": 0}})
     came = client.read_to_all([search, hover])
     replies = {message["id"]: message for message in came if "id" in message}
-    kinds = [message["params"]["value"]["kind"] for message in came if message.get("method") == "$/progress"]
-    expect("the notices of progress", kinds, ["begin", *["report"] * 10, "end"])
+    look_at_progress([message["params"] for message in came if message.get("method") == "$/progress"])
     expect("the hover", replies[hover]["result"]["contents"], "price = 3")
     found = sorted((it["location"]["uri"], it["location"]["range"]["start"]["line"], it["name"]) for it in replies[search]["result"])
     wanted = sorted((f"file:///{number}.sums", 1 + 2 * line, "heading one") for number in range(DOCUMENTS) for line in range(HEADINGS))
@@ -182,6 +194,33 @@ UNREADABLE = [
 ]
 
 
+def finds(client, word, *places):
+    """Searches a word, which stands in these headings of the note."""
+    search = client.asks("workspace/symbol", {"query": word})
+    *notices, reply = client.read_to_all([search])
+    found = [(it["name"], it["location"]["range"]["start"]["line"]) for it in reply["result"] if it["location"]["uri"] == NOTE]
+    expect(f"where {word} stands", found, list(places))
+
+
+def finds_what_is_there_now(client):
+    """Searches share a text until it is edited."""
+    opens(client, 1, "# alpha\n")
+    finds(client, "alpha", ("alpha", 0))
+    finds(client, "alpha", ("alpha", 0))
+    changes(client, 2, edit(0, 2, 7, "beta"))
+    finds(client, "alpha")
+    finds(client, "beta", ("beta", 0))
+    opens(client, 1, "\n# gamma\n")
+    finds(client, "beta")
+    finds(client, "gamma", ("gamma", 1))
+    client.sends(method="textDocument/didChange", params={"textDocument": {"uri": NOTE, "version": 2}, "contentChanges": [{"text": 1}]})
+    finds(client, "gamma")
+    saves(client, text="# delta")
+    finds(client, "delta", ("delta", 0))
+    client.sends(method="textDocument/didClose", params={"textDocument": {"uri": NOTE}})
+    finds(client, "delta")
+
+
 def is_refused(client, name, params, back):
     """A change that can't be read, edits behind it, and a way back: no text is shown that is not the client's."""
     client.sends(method="textDocument/didClose", params={"textDocument": {"uri": NOTE}})
@@ -214,6 +253,8 @@ def check_all(program):
         begin(client)
         comes_true("a hover is answered while a search runs", lambda: is_hovered_meanwhile(client))
         comes_true("a search is cancelled", lambda: is_cancelled(client))
+        finds_what_is_there_now(client)
+        print("a search finds what is there after each edit")
         is_opened_twice(client)
         print("a document is opened twice, and its text is the client's")
         for name, params in UNREADABLE:

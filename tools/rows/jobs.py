@@ -6,73 +6,93 @@ library of this repository."""
 import json
 import random
 
-from rules import AT_END, AT_WRONG_TIME, CANCELED, GREATEST, OF_BODY, Talker, debug_message, frame, is_note, is_request, ordered, read, shown
+from rules import AT_END, AT_WRONG_TIME, CANCELED, GREATEST, OF_BODY, Talker, debug_message, frame, is_id, is_note, is_request, ordered, read, shown
 
+# The tokens that the params of a job in a pool by hand have.
+TOKENS = {"workDoneToken": "w", "partialResultToken": 7}
 # In how many orders the parts of a row with jobs take their steps.
 ORDERS = 50
-# So many things that a job says may wait.
-SLIPS = 16
+# So many messages of a job may wait. The last place is not for reports.
+PLACES = 16
 TOO_MANY = {"code": -32803, "message": "too many requests are waiting"}
 FAILED = {"code": -32803, "message": "it failed"}
+NO_MEMORY = {"code": -32603, "message": "out of memory"}
+# What a script's words say by a token of the request (LSP 3.17, "Work Done Progress" and "Partial Result Progress"), and the member of
+# its params that has the token.
+TOLD = {
+    "begins": ("workDoneToken", lambda number: {"kind": "begin", "title": "Working", "percentage": 0}),
+    "steps": ("workDoneToken", lambda number: {"kind": "report", "message": f"step {number}", "percentage": number}),
+    "ends": ("workDoneToken", lambda number: {"kind": "end", "message": "done"}),
+    "parts": ("partialResultToken", lambda number: [number]),
+}
 
 
 class Job:
-    def __init__(self, name, script, value):
-        self.name, self.words, self.value = name, script.split(", "), value
+    """A job, what its server keeps for it, its value, and the params that may have tokens."""
+
+    def __init__(self, script, key, value, params):
+        self.words, self.key, self.value, self.params = script.split(", "), key, value, params
         self.is_cancelled = self.is_dropped = False
-        self.slips, self.made, self.taken, self.ending = [], 0, 0, None
+        self.waiting, self.made, self.taken, self.told, self.ending = [], 0, 0, 0, None
+
+    def token(self, member):
+        """A text or a whole number of 32 bits. Else there is none."""
+        token = self.params.get(member) if isinstance(self.params, dict) else None
+        return token if is_id(token) else None
 
 
 class Pool:
-    """Threads that run jobs. `ring` is called with the id of a job that said something."""
+    """Threads that run jobs. `wake` is called with the id of a job that has a message."""
 
-    def __init__(self, workers, waiting, ring):
-        self.workers, self.waiting, self.ring = [None] * max(workers, 1), waiting, ring
-        self.orders, self.table, self.is_ended = [], {}, False
-        self.counts = {"begun": 0, "stopped": 0, "ended": 0, "messages": 0}
+    def __init__(self, workers, waiting, wake):
+        self.workers, self.waiting, self.wake = [None] * max(workers, 1), waiting, wake
+        self.queue, self.table, self.is_ended = [], {}, False
+        self.counts = {"begun": 0, "stopped": 0, "ended": 0, "reported": 0, "messages": 0}
 
     def forget(self, name):
         job = self.table.pop(name, None)
         if job:
             job.is_cancelled = job.is_dropped = True
-            self.orders = [it for it in self.orders if it is not job]
+            self.queue = [it for it in self.queue if it is not job]
 
-    def take_on(self, name, script, value):
+    def submit(self, name, job):
         self.forget(name)
-        if self.waiting is not None and len(self.orders) >= max(self.waiting, 1):
+        if self.waiting is not None and len(self.queue) >= max(self.waiting, 1):
             return False
-        self.table[name] = Job(name, script, value)
-        self.orders.append(self.table[name])
+        job.name = name
+        self.table[name] = job
+        self.queue.append(job)
         return True
 
     def end(self):
-        for job in [*self.table.values(), *self.orders, *filter(None, self.workers)]:
+        for job in [*self.table.values(), *self.queue, *filter(None, self.workers)]:
             job.is_cancelled = job.is_dropped = True
         self.table, self.is_ended = {}, True
 
-    def say(self, job, slip):
+    def say(self, job, message):
         if not job.is_dropped:
-            job.slips.append(slip)
-        self.ring(job.name)
+            job.waiting.append(message)
+        self.wake(job.name)
 
     def steps(self):
         """What the workers can do next."""
         for number, job in enumerate(self.workers):
-            if job is None and self.orders:
+            if job is None and self.queue:
                 yield lambda number=number: self.begin(number)
             elif job is not None and self.can_go_on(job):
                 yield lambda number=number, job=job: self.go_on(number, job)
 
     def begin(self, number):
-        job = self.orders.pop(0)
+        job = self.queue.pop(0)
         if not job.is_cancelled:
             self.counts["begun"] += 1
             self.workers[number] = job
 
     def can_go_on(self, job):
-        if not job.words:
-            return job.is_dropped or len(job.slips) < SLIPS
-        name, _, number = job.words[0].partition(" ")
+        """What is not to be dropped waits for room: an outcome, and all but reports."""
+        name, _, number = job.words[0].partition(" ") if job.words else ("outcome", "", "")
+        if name in ("outcome", "sends") or name in ("begins", "ends", "parts") and job.token(TOLD[name][0]) is not None:
+            return job.is_dropped or len(job.waiting) < PLACES
         if name == "after":
             return self.counts["messages"] >= int(number)
         return name != "cancelled" or job.is_cancelled
@@ -85,51 +105,71 @@ class Pool:
         name, _, words = job.words.pop(0).partition(" ")
         if name == "cancelled":
             self.counts["stopped"] += 1
-        elif name == "reports" and int(words):
-            self.report(job)
-            if int(words) > 1:
-                job.words.insert(0, f"reports {int(words) - 1}")
+        elif name in ("reports", "sends", "begins", "steps", "ends", "parts"):
+            self.tell(job, name)
+            if int(words or 1) > 1:
+                job.words.insert(0, f"{name} {int(words) - 1}")
+            elif name in ("reports", "steps"):
+                self.counts["reported"] += 1
         elif name in ("counted", "fails", "starves"):
             job.ending = name
         if not job.words:
             self.counts["ended"] += 1
-            endings = {"counted": {"result": job.taken}, "fails": {"error": FAILED}, "starves": None}
+            endings = {"counted": {"result": job.taken}, "fails": {"error": FAILED}, "starves": {"error": NO_MEMORY}}
             job.ending = endings.get(job.ending, {"result": job.value})
 
-    def report(self, job):
-        job.made += 1
-        if not job.is_dropped and len(job.slips) < SLIPS:
-            job.taken += 1
-            self.say(job, ("report", {"method": "$/progress", "params": {"token": "job", "value": job.made}}))
+    def tell(self, job, name):
+        """A notification of progress. It is dropped if nobody waits for the job; and a report is, if there is no room for it."""
+        if name in TOLD:
+            token, value = job.token(TOLD[name][0]), TOLD[name][1]
+            if token is None:
+                return
+            job.told += name in ("steps", "parts")
+            params = {"token": token, "value": value(job.told)}
+        else:
+            job.made += 1
+            params = {"token": "job", "value": job.made}
+        room = PLACES - 1 if name in ("reports", "steps") else PLACES
+        if not job.is_dropped and len(job.waiting) < room:
+            job.taken += name in ("reports", "sends")
+            self.say(job, ("report", {"method": "$/progress", "params": params}))
 
-    def news(self, name):
-        """What the job under this id said next, which is None where it said nothing."""
+    def message(self, name):
+        """What the job under this id said next, which is None where it said nothing, and the job's key."""
         job = self.table.get(name)
-        if not job or not job.slips:
+        if not job or not job.waiting:
             return None
-        kind, said = job.slips.pop(0)
+        kind, said = job.waiting.pop(0)
         if kind == "outcome":
             del self.table[name]
-        return kind, said
+        return kind, said, job.key
 
 
 class Working(Talker):
-    """The server that speaks, with jobs."""
+    """The server that speaks, with jobs. What it keeps for a job is the job's number."""
 
     def __init__(self):
         super().__init__()
-        self.starts, self.later = [], []
+        self.numbered, self.starts, self.later = 0, [], []
+
+    def make(self, script, params):
+        self.numbered += 1
+        return Job(script, self.numbered, params, params)
+
+    def job(self, came):
+        """The job that a request gives, if it gives one."""
+        if "id" in came and came.get("method", "").startswith("job "):
+            return self.make(came["method"][4:], came.get("params"))
+        return None
 
     def heard(self, came):
         method, params = came.get("method", ""), came.get("params")
-        if "id" in came and method.startswith("job "):
-            self.starts.append((came["id"], method[4:], params))
-        elif "id" in came and method.startswith("later "):
-            self.later.append((came["id"], method[6:], params))
+        if "id" in came and method.startswith("later "):
+            self.later.append((came["id"], self.make(method[6:], params)))
         elif is_note(came, "start"):
             self.starts, self.later = self.later, []
         elif "id" not in came and method.startswith("job "):
-            self.starts.append(("own", method[4:], params))
+            self.starts.append(("own", self.make(method[4:], params)))
         elif is_note(came, "answer"):
             return [{"id": params[0], "result": "by the server"}]
         elif "id" in came or not method.startswith("$/"):
@@ -144,14 +184,14 @@ class JobSession:
         # How many content parts of each kind are passed over, if that is asked.
         self.passed = dict.fromkeys(OF_BODY, 0) if passes else {}
         self.data, self.pauses, self.at, self.limit, self.room = data, list(pauses), 0, limit, room
-        self.pool = Pool(*pool, self.rung)
+        self.pool = Pool(*pool, self.wake)
         self.server, self.state, self.end = Working(), "new", None
         # What comes to the server: messages, faults and wakes. What goes to the writer, and what it wrote.
-        self.queue, self.news, self.outbox, self.written = [], [], [], b""
+        self.queue, self.woken, self.outbox, self.written = [], [], [], b""
         self.is_failed, self.is_read, self.pending, self.finished = False, False, set(), ""
 
-    def rung(self, name):
-        self.news.append(name)
+    def wake(self, name):
+        self.woken.append(name)
         self.queue.append("wake")
 
     def steps(self):
@@ -203,16 +243,24 @@ class JobSession:
                 self.pending.remove(it["id"])
                 self.send(it)
         starts, self.server.starts = self.server.starts, []
-        for name, script, value in starts:
-            if not self.pool.take_on(name, script, value) and name in self.pending:
-                self.pending.remove(name)
-                self.send({"id": name, "error": TOO_MANY})
+        for name, job in starts:
+            self.submit(name, job)
+
+    def submit(self, name, job):
+        """A job without room is refused: its server sees that, and then the request has its reply."""
+        if self.pool.submit(name, job):
+            return
+        self.finished += f" {json.dumps(name)}:{job.key} refused"
+        self.send({"method": "refused", "params": [job.key]})
+        if name in self.pending:
+            self.pending.remove(name)
+            self.send({"id": name, "error": TOO_MANY})
 
     def serve_next(self):
         came = self.queue.pop(0)
         if came == "wake":
-            name = self.news.pop(0) if self.state == "open" else None
-            said = self.pool.news(name)
+            name = self.woken.pop(0) if self.state == "open" else None
+            said = self.pool.message(name)
             return self.hear(name, *said) if said else None
         if self.state == "open" and self.may_pass(came):
             self.passed[came] += 1
@@ -246,17 +294,17 @@ class JobSession:
         elif "id" in came and "method" in came:
             self.pool.forget(came["id"])
             self.pending.add(came["id"])
-        self.act(self.server.heard(came))
+        job = self.server.job(came)
+        if job:
+            self.submit(came["id"], job)
+        self.act([] if job else self.server.heard(came))
         if cancels is not False and cancels in self.pending:
             self.act([{"id": cancels, "error": CANCELED}])
 
-    def hear(self, name, kind, said):
+    def hear(self, name, kind, said, key):
         if kind == "report":
             return self.send(said)
-        if said is None:
-            self.end = "out of memory"
-            return None
-        self.finished += f" {json.dumps(name)}"
+        self.finished += f" {json.dumps(name)}:{key}"
         published = [{"method": "published", "params": said["result"]}] if name == "own" and "result" in said else []
         return self.act([*published, {"id": name, **said}])
 
@@ -284,23 +332,24 @@ class HandPool:
             yield self.go
 
     def is_ready(self, verb, words):
-        if verb in ("begun", "ended"):
+        if verb in ("begun", "ended", "reported"):
             return self.pool.counts[verb] >= int(words)
         return verb not in ("hear", "listen") or bool(self.heard)
 
     def go(self):
         verb, _, words = self.todo.pop(0).partition(" ")
-        if verb == "take":
-            name, value, script = words.split(" ", 2)
-            self.told += "taken, " if self.pool.take_on(int(name), script, [int(value)]) else "full, "
+        if verb == "submit":
+            name, key, script = words.split(" ", 2)
+            job = Job(script, int(key), [int(key)], TOKENS)
+            self.told += "taken, " if self.pool.submit(int(name), job) else f"full {key}, "
         elif verb == "hear":
             self.told += f"heard {self.heard.pop(0)}, "
         elif verb == "listen":
-            self.told += self.news(self.heard.pop(0))
+            self.told += self.message(self.heard.pop(0))
             if int(words) > 1:
                 self.todo.insert(0, f"listen {int(words) - 1}")
-        elif verb == "news":
-            self.told += self.news(int(words))
+        elif verb == "message":
+            self.told += self.message(int(words))
         elif verb == "waits":
             self.told += "waits, " if int(words) in self.pool.table else "free, "
         elif verb == "forget":
@@ -308,16 +357,15 @@ class HandPool:
         if not self.todo:
             self.pool.end()
 
-    def news(self, name):
-        found = self.pool.news(name)
+    def message(self, name):
+        found = self.pool.message(name)
         if found is None:
             return "nothing, "
-        kind, said = found
+        kind, said, key = found
         if kind == "report":
             return f"report {ordered(said['params'])}, "
-        if said is None:
-            return "no memory, "
-        return f"error {said['error']['code']}, " if "error" in said else f"outcome {ordered(said['result'])}, "
+        came = f"error {said['error']['code']}" if "error" in said else f"outcome {ordered(said['result'])}"
+        return f"{came} of {key}, "
 
     def answer(self):
         counts = self.pool.counts

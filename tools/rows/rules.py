@@ -343,6 +343,30 @@ class Echo:
         return []
 
 
+def typed(came):
+    """What comes of a message whose params are a place in a document (LSP 3.17, "TextDocumentPositionParams"). Params that lack a key
+    are refused (JSON-RPC 2.0, section 5.1), in the words of the Rust crate `serde_json`. Types of messages: LSP 3.17, "MessageType"."""
+    params, id = came["params"], came.get("id")
+    document, at = (params.get(it, {}) for it in ["textDocument", "position"])
+    wanted = [(params, "textDocument"), (document, "uri"), (params, "position"), (at, "line"), (at, "character")]
+    missing = [f"missing field `{key}`" for where, key in wanted if key not in where]
+    if id is None:
+        if missing:
+            return [{"method": "window/logMessage", "params": {"message": f"{came['method']}: {missing[0]}", "type": 1}}]
+        return [{"method": "typed/told", "params": at}, {"method": "window/logMessage", "params": {"message": "told", "type": 2}}]
+    if came["method"] == "typed/none":
+        return [{"id": id, "error": NOT_FOUND}]
+    if missing:
+        return [{"id": id, "error": {"code": -32602, "message": missing[0]}}]
+    if came["method"] == "typed/uri":
+        return [{"id": id, "result": document["uri"]}]
+    if came["method"] == "typed/show":
+        return [{"method": "window/showMessage", "params": {"message": "here", "type": 3}}, {"id": id, "result": None}]
+    if at["line"] == 0:
+        return [{"id": id, "error": {"code": -32803, "message": "no line above"}}]
+    return [{"id": id, "result": {**at, "line": at["line"] - 1}}]
+
+
 class Talker:
     """The server that pushes, asks and answers late."""
 
@@ -363,6 +387,8 @@ class Talker:
     def heard(self, came):
         if "method" not in came:
             return self.replied(came)
+        if came["method"].startswith("typed/"):
+            return typed(came)
         if "id" not in came:
             pushed = {"method": "demo/pushed", **({} if came.get("params") is None else {"params": came["params"]})}
             return [pushed, self.configuration(), *self.released()]

@@ -1,10 +1,10 @@
 //! A server that drops all that it is given, on one thread and on three: it answers each request with a value of its own. What that costs
 //! tells whether one thread frees what another one allocated.
-use crate::threads::{Output, ended};
+use crate::threads::ended;
 use anyhow::{Result, bail};
 use lsp_server::{
-    Connection, Handler, Message, Notification, Request, Response, ResponseError, run_threads,
-    session,
+    Connection, Handler, Message, Notification, Request, Response, ResponseError, StandardOutput,
+    run_threads, session,
 };
 use serde_json::{Map, Value, json};
 use std::alloc::{AllocError, Global};
@@ -70,7 +70,14 @@ where
 {
     let capabilities = Value::Object(Map::new(alloc));
     let mut fixed = Fixed { reply };
-    ended(run_threads(rt, alloc, reader, Output(*rt), capabilities, &mut fixed))
+    ended(run_threads(
+        rt,
+        alloc,
+        reader,
+        StandardOutput::new(*rt),
+        capabilities,
+        &mut fixed,
+    ))
 }
 
 /// A loop over a connection.
@@ -79,7 +86,7 @@ where
     T: Threads + Wait + Print + Clock + AllocGlobal + Copy + Drop + Send + 'static,
     R: BufRead + Drop + Send + 'static,
 {
-    let (connection, threads) = Connection::over(rt, reader, Output(*rt), u64::MAX)?;
+    let (connection, threads) = Connection::over(rt, reader, StandardOutput::new(*rt), u64::MAX)?;
     answer_all(rt, connection, &reply)?;
     threads.join(rt)?;
     Ok(())

@@ -1,14 +1,21 @@
 //! A session whose requests are jobs, each of which gets its params back: what a job costs, and what more workers gain.
-use crate::threads::{Output, ended};
-use anyhow::Result;
-use lsp_jobs::{CancellationToken, Job, JobServer, PoolSize, Progress, Start, run_jobs};
+ghost use Rattle.std.specs.Prelude.{true, IfOk, IfSome};
+ghost use Rattle.lsp_message.specs.Frame.{no_limit};
+ghost use Rattle.lsp_threads.specs.Threads.{ThreadsGiveOver};
+ghost use Rattle.bench.specs.Echo.{EchoesAtWakes};
+
+use crate::threads::ended;
+use lsp_jobs::laws::session_with_jobs_keeps_laws;
+use lsp_jobs::{
+    AnsweredBy, CancellationToken, Job, JobEnd, JobServer, NewJob, PoolSize, Progress, run_jobs,
+};
 use lsp_server::{
-    Act, EndSession, Notification, Request, RequestId, ResponseError, Server, ThreadOptions,
+    Act, EndSession, Notification, Request, RequestId, ResponseError, Server, StandardOutput,
+    StartFault, ThreadOptions, Threaded,
 };
 use serde_json::{Map, Value, put};
 use std::alloc::{AllocError, Global};
-use std::io::BufRead;
-use std::mem;
+use std::io::{BufRead, Write};
 use std::sync::Wait;
 use std::thread::Threads;
 
@@ -16,7 +23,6 @@ use std::thread::Threads;
 #[derive(Drop)]
 struct Jobs {
     alloc: Global,
-    starting: Vec<Start<Computation>>,
 }
 
 /// Computes for as many turns as `turns` in the params says, and gives the params back.
@@ -42,13 +48,9 @@ impl Server for Jobs {
     }
 
     fn request(&mut self, request: Request) -> Result<Acts, AllocError> {
-        self.starting.push(Start {
-            id: request.id,
-            job: Computation {
-                params: request.params,
-            },
-        })?;
-        Ok(Vec::new(self.alloc))
+        let mut acts = Vec::new(self.alloc);
+        acts.push(Act::method_not_found(self.alloc, request.id)?)?;
+        Ok(acts)
     }
 
     fn notification(&mut self, _notification: Notification) -> Result<Acts, AllocError> {
@@ -69,20 +71,38 @@ impl Server for Jobs {
 }
 
 impl JobServer<Computation> for Jobs {
-    fn take_jobs(&mut self) -> Result<Vec<Start<Computation>>, AllocError> {
-        Ok(mem::replace(&mut self.starting, Vec::new(self.alloc)))
+    type Key = ();
+
+    fn job(&mut self, request: Request) -> Result<AnsweredBy<Computation, ()>, AllocError> {
+        let job = Computation {
+            params: request.params,
+        };
+        Ok(AnsweredBy::Job(job, ()))
+    }
+
+    fn take_jobs(&mut self, alloc: Global) -> Result<Vec<NewJob<Computation, ()>>, AllocError> {
+        Ok(Vec::new(alloc))
     }
 
     fn finished(
         &mut self,
         _id: &RequestId,
-        _outcome: &Result<Value, ResponseError>,
+        _key: (),
+        _end: &JobEnd,
+        alloc: Global,
     ) -> Result<Acts, AllocError> {
-        Ok(Vec::new(self.alloc))
+        Ok(Vec::new(alloc))
     }
 }
 
 impl Job for Computation {
+    ghost use Rattle.serde_json.specs.View.{view};
+    ghost use Rattle.std.specs.Prelude.{◌≡◌, Ok};
+
+    ghost is_for = { λ job _ params. view job.params ≡ params };
+
+    ghost answers = { λ _ _ params outcome. outcome ≡ Ok params };
+
     fn run<P: Progress>(
         self,
         _token: &CancellationToken,
@@ -95,7 +115,7 @@ impl Job for Computation {
             .unwrap_or(0);
         // It never comes to 0, but the compiler has to compute it to know.
         if computed(turns) == 0 {
-            return Ok(Ok(Value::Null));
+            return Err(AllocError);
         }
         Ok(Ok(self.params))
     }
@@ -112,20 +132,28 @@ fn computed(turns: u64) -> u64 {
     state
 }
 
-/// The whole session.
-pub fn serve<T, R>(rt: &T, alloc: Global, reader: R, workers: usize) -> Result<()>
+/// Runs a session whose requests are jobs. Its author knows by the law of jobs, from what `Computation` states: each result that is sent at
+/// a wake under an id is the params of the last request under that id, since which no reply under it was sent, and no cancellation came.
+fn echo_with_jobs<T, R, W>(
+    rt: &T,
+    alloc: Global,
+    reader: R,
+    writer: W,
+    workers: usize,
+) -> Result<Threaded<W>, StartFault>
 where
-    T: Threads + Wait + Print + Copy + Drop + Send + 'static,
+    T: Threads + Wait + Copy + Drop + Send + 'static,
     R: BufRead + Drop + Send + 'static,
+    W: Write + Drop + Send + 'static,
+    ensures { IfSome (R.remaining reader) (λ text. IfOk result (λ done.
+        ThreadsGiveOver true no_limit (λ exchanges stop shutdown_reply answer. EchoesAtWakes exchanges)
+        text (W.contents writer) (W.contents done.writer) done.answer)) }
 {
-    let jobs = Jobs {
-        alloc,
-        starting: Vec::new(alloc),
-    };
+    session_with_jobs_keeps_laws::<T, Jobs, Computation>();
+    let jobs = Jobs { alloc };
     let size = PoolSize::from(workers);
     let options = ThreadOptions::new();
-    let writer = Output(*rt);
-    let done = run_jobs(
+    let (_, done) = run_jobs(
         rt,
         alloc,
         reader,
@@ -135,5 +163,14 @@ where
         &mut EndSession,
         options,
     );
-    ended(done.1)
+    done
+}
+
+/// The whole session.
+pub fn serve<T, R>(rt: &T, alloc: Global, reader: R, workers: usize) -> anyhow::Result<()>
+where
+    T: Threads + Wait + Print + Copy + Drop + Send + 'static,
+    R: BufRead + Drop + Send + 'static,
+{
+    ended(echo_with_jobs(rt, alloc, reader, StandardOutput::new(*rt), workers))
 }

@@ -5,7 +5,7 @@ use serde_json::Value;
 use std::alloc::Global;
 use std::time::{Clock, Instant};
 
-/// How many requests are registered and completed where no number is given, and no time is printed.
+/// How many requests are registered and completed if no number is given, and no time is printed.
 const FEW: u32 = 1000;
 
 /// Registers and completes so many requests for each word, and prints the nanoseconds that a call took. Without words it says how
@@ -64,7 +64,7 @@ fn complete_all(queue: &mut Outgoing<u64>, count: u32) -> u32 {
     found
 }
 
-/// The nanoseconds of a call, where so many took this long.
+/// The nanoseconds of a call, if so many took this long.
 fn per_call(nanoseconds: u128, count: u32) -> u128 {
     nanoseconds / u128::from(count.max(1))
 }

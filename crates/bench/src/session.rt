@@ -16,7 +16,8 @@ impl Handler for Echo {
     ghost use Rattle.serde_json.specs.Data.{null};
     ghost use Rattle.std.specs.Prelude.{◌≡◌, Ok, if◌then◌else◌};
 
-    ghost answers = { λ old id method params outcome new. (new ≡ old) × (outcome ≡ Ok (if old.is_null then null else params)) };
+    ghost answers = { λ old id method params outcome new. (new ≡ old)
+        × (outcome ≡ Ok (if old.is_null then null else params)) };
 
     ghost notes = { λ old method params new. new ≡ old };
 

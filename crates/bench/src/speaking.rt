@@ -17,15 +17,17 @@ type Acts = Vec<Act<()>>;
 impl Server for Speaking {
     ghost use Rattle.serde_json.specs.Data.{null, object, member, no_members};
     ghost use Rattle.std.specs.Prelude.{◌≡◌, ◌∷◌, [], Ok, codes, if◌then◌else◌};
-    ghost use Rattle.lsp_service.specs.Desk.{replies};
+    ghost use Rattle.lsp_service.specs.Acts.{replies};
 
     type Payload = ();
 
-    ghost initializes = { λ old _ outcome new. (new ≡ old) × (outcome ≡ Ok (object (member (codes "capabilities") (object no_members) no_members))) };
+    ghost initializes = { λ old _ outcome new. (new ≡ old)
+        × (outcome ≡ Ok (object (member (codes "capabilities") (object no_members) no_members))) };
 
-    ghost begins = { λ old acts new. (new ≡ old) × (acts ≡ []) };
+    ghost at_initialized = { λ old acts new. (new ≡ old) × (acts ≡ []) };
 
-    ghost requested = { λ old id _ params acts new. (new ≡ old) × (acts ≡ replies id (Ok (if old.is_null then null else params)) ∷ []) };
+    ghost requested = { λ old id _ params acts new. (new ≡ old)
+        × (acts ≡ replies id (Ok (if old.is_null then null else params)) ∷ []) };
 
     ghost notified = { λ old _ _ acts new. (new ≡ old) × (acts ≡ []) };
 

@@ -6,7 +6,7 @@ use std::time::{Clock, Instant};
 
 const LINES: u32 = 25_000;
 
-/// How many keystrokes are made where no number is given, and no time is printed.
+/// How many keystrokes are made if no number is given, and no time is printed.
 const FEW: u32 = 10;
 
 const UTF16: PositionEncoding = PositionEncoding::Utf16;

@@ -3,12 +3,11 @@ use crate::session::Echo;
 use crate::speaking::Speaking;
 use anyhow::{Result, bail};
 use lsp_server::{
-    EndSession, FrameOutbox, ReadEnd, StartFault, ThreadOptions, Threaded, pump, read_loop,
-    run_threads, run_threads_with,
+    EndSession, FrameOutbox, ReadEnd, StandardOutput, StartFault, ThreadOptions, Threaded, pump,
+    read_loop, run_threads, run_threads_with,
 };
 use serde_json::{Map, Value};
 use std::alloc::Global;
-use std::io;
 use std::io::{BufRead, Write};
 use std::sync::Wait;
 use std::thread::Threads;
@@ -35,20 +34,6 @@ where
     }
 }
 
-/// Standard output, in a thread.
-#[derive(Drop)]
-pub struct Output<R>(pub R);
-
-impl<R: Print> Write for Output<R> {
-    fn write(&mut self, buf: &[u8]) -> io::Result<usize> {
-        io::writer(&self.0).write(buf)
-    }
-
-    fn flush(&mut self) -> io::Result<()> {
-        io::writer(&self.0).flush()
-    }
-}
-
 /// A whole session on three threads, whose requests get their params back.
 pub fn serve<T, R>(rt: &T, alloc: Global, reader: R) -> Result<()>
 where
@@ -57,7 +42,14 @@ where
 {
     let capabilities = Value::Object(Map::new(alloc));
     let mut echo = Echo { is_null: false };
-    ended(run_threads(rt, alloc, reader, Output(*rt), capabilities, &mut echo))
+    ended(run_threads(
+        rt,
+        alloc,
+        reader,
+        StandardOutput::new(*rt),
+        capabilities,
+        &mut echo,
+    ))
 }
 
 /// The same of a server that speaks.
@@ -75,7 +67,7 @@ where
         rt,
         alloc,
         reader,
-        Output(*rt),
+        StandardOutput::new(*rt),
         speaking,
         &mut EndSession,
         options,

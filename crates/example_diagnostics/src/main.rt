@@ -1,26 +1,26 @@
-//! A language server by types: `example_diagnostics [ADDRESS]`, over standard input and output, or over a socket.
+//! A language server by types: `example_diagnostics [--stdio | ADDRESS]`, over standard input and output, or over a socket, where it
+//! serves one client after another.
 //!
 //! It marks the lines of a document that are too long, as the user types. A hover says how long a line is, and a definition leads
-//! to the heading that a line stands under (`# ..`). How long a line may be it asks its client for, where the client can be
-//! asked (`workspace/configuration`, section `lines`, a number; 80 where there is none). Until the answer comes hovers wait, so
+//! to the heading that a line stands under (`# ..`). How long a line may be it asks its client for, if the client can be
+//! asked (`workspace/configuration`, section `lines`, a number; 80 if there is none). Until the answer comes hovers wait, so
 //! they can be cancelled.
 #![tactic(auto)]
 
 use anyhow::{Result as Answer, bail};
 use lsp_server::{
-    Act, EndSession, Notification, Request, RequestId, ResponseError, Server, SessionEnd,
-    SessionFault, read_as, session_with, write_as,
+    Act, EndSession, Notification, Request, ResponseError, Server, SessionEnd, read_as,
+    session_with, write_as,
 };
 use lsp_types::{
     ConfigurationParams, Diagnostic, DiagnosticSeverity, DidChangeTextDocumentParams,
     DidCloseTextDocumentParams, DidOpenTextDocumentParams, Hover, InitializeParams,
-    InitializeResult, Location, MarkupKind, MessageType, Position, PublishDiagnosticsParams, Range,
-    ServerCapabilities, ShowMessageParams, TextDocumentPositionParams, TextDocumentSyncKind,
-    methods,
+    InitializeResult, Location, MarkupKind, Position, PublishDiagnosticsParams, Range,
+    ServerCapabilities, TextDocumentPositionParams, TextDocumentSyncKind, methods,
 };
 use serde_json::Value;
 use std::alloc::{AllocError, Global};
-use std::io::BufReader;
+use std::io::{BufRead, BufReader, Write};
 use std::net::{Net, TcpListener, TcpStream};
 use std::{env, io, mem};
 
@@ -34,8 +34,9 @@ struct Checker {
     configures: bool,
     /// Whether it was asked, and has not answered yet.
     is_asking: bool,
-    open: Vec<Document>,
-    waiting: Vec<Waiting>,
+    documents: Vec<Document>,
+    /// The hovers that wait for the configuration.
+    waiting: Vec<Request>,
 }
 
 /// A document that the client opened.
@@ -44,13 +45,6 @@ struct Document {
     uri: String,
     version: i32,
     text: String,
-}
-
-/// A hover that waits for the configuration.
-#[derive(Drop)]
-struct Waiting {
-    id: RequestId,
-    params: TextDocumentPositionParams,
 }
 
 /// What a request of the server's own was for.
@@ -62,6 +56,16 @@ enum Asked {
 type Acts = Vec<Act<Asked>>;
 
 impl Server for Checker {
+    ghost use Rattle.std.specs.Prelude.{◌≡◌, ◌≢◌, ◌∷◌, [], Err, codes};
+    ghost use Rattle.lsp_message.specs.Converted.{method_not_found};
+    ghost use Rattle.lsp_service.specs.Acts.{replies};
+
+    // A request changes no document. One that is neither a hover nor a definition gets the error -32601 alone.
+    ghost requested = { λ old id method _ acts new.
+        (new.documents ≡ old.documents)
+        × (method ≢ codes "textDocument/hover" → method ≢ codes "textDocument/definition"
+        → acts ≡ replies id (Err method_not_found) ∷ []) };
+
     type Payload = Asked;
 
     fn initialize(&mut self, params: Value) -> Result<Result<Value, ResponseError>, AllocError> {
@@ -95,40 +99,31 @@ impl Server for Checker {
     }
 
     fn request(&mut self, request: Request) -> Result<Acts, AllocError> {
+        let alloc = self.alloc;
         match request.method.as_str() {
-            methods::HOVER => {
-                let (id, params) = request.params_as(self.alloc)?;
-                match params {
-                    Ok(params) => self.answer_hover(id, params),
-                    Err(error) => one(self.alloc, Act::Reply(id, Err(error))),
-                }
+            methods::HOVER if self.is_asking => {
+                self.waiting.push(request)?;
+                Ok(Vec::new(alloc))
             }
-            methods::DEFINITION => {
-                let (id, params) = request.params_as(self.alloc)?;
-                match params {
-                    Ok(params) => self.answer_definition(id, params),
-                    Err(error) => one(self.alloc, Act::Reply(id, Err(error))),
-                }
-            }
-            _ => one(self.alloc, Act::method_not_found(self.alloc, request.id)?),
+            methods::HOVER => self.answer_hover(request),
+            methods::DEFINITION => Act::answer(alloc, request, |params| self.definition(&params)),
+            _ => Act::one(alloc, Act::method_not_found(alloc, request.id)?),
         }
     }
 
     fn notification(&mut self, notification: Notification) -> Result<Acts, AllocError> {
+        let alloc = self.alloc;
         match notification.method.as_str() {
-            methods::DID_OPEN => match notification.params_as(self.alloc)? {
-                Ok(params) => self.did_open(params),
-                Err(error) => self.complain(error),
-            },
-            methods::DID_CHANGE => match notification.params_as(self.alloc)? {
-                Ok(params) => self.did_change(params),
-                Err(error) => self.complain(error),
-            },
-            methods::DID_CLOSE => match notification.params_as(self.alloc)? {
-                Ok(params) => self.did_close(params),
-                Err(error) => self.complain(error),
-            },
-            _ => Ok(Vec::new(self.alloc)),
+            methods::DID_OPEN => {
+                Act::of_notification(alloc, notification, |params| self.did_open(params))
+            }
+            methods::DID_CHANGE => {
+                Act::of_notification(alloc, notification, |params| self.did_change(params))
+            }
+            methods::DID_CLOSE => {
+                Act::of_notification(alloc, notification, |params| self.did_close(params))
+            }
+            _ => Ok(Vec::new(alloc)),
         }
     }
 
@@ -143,12 +138,11 @@ impl Server for Checker {
             self.configure(values)?;
         }
         let mut acts = Vec::new(self.alloc);
-        for document in self.open.iter() {
+        for document in self.documents.iter() {
             self.mark(&mut acts, document)?;
         }
-        for waiting in mem::replace(&mut self.waiting, Vec::new(self.alloc)) {
-            let hover = self.hover(&waiting.params)?;
-            acts.push(Act::reply(self.alloc, waiting.id, &hover)?)?;
+        for request in mem::replace(&mut self.waiting, Vec::new(self.alloc)) {
+            acts.append(&mut self.answer_hover(request)?)?;
         }
         Ok(acts)
     }
@@ -166,12 +160,12 @@ impl Checker {
             longest: 80,
             configures: false,
             is_asking: false,
-            open: Vec::new(alloc),
+            documents: Vec::new(alloc),
             waiting: Vec::new(alloc),
         }
     }
 
-    /// Takes the client's configuration: a list with one value, which is null where the user set none.
+    /// Takes the client's configuration: a list with one value, which is null if the user set none.
     fn configure(&mut self, values: Value) -> Result<(), AllocError> {
         if let Ok(values) = read_as::<Vec<Option<u32>>>(self.alloc, values)?
             && let Some(Some(longest)) = values.first()
@@ -181,26 +175,8 @@ impl Checker {
         Ok(())
     }
 
-    fn answer_hover(
-        &mut self,
-        id: RequestId,
-        params: TextDocumentPositionParams,
-    ) -> Result<Acts, AllocError> {
-        if self.is_asking {
-            self.waiting.push(Waiting { id, params })?;
-            return Ok(Vec::new(self.alloc));
-        }
-        let hover = self.hover(&params)?;
-        one(self.alloc, Act::reply(self.alloc, id, &hover)?)
-    }
-
-    fn answer_definition(
-        &self,
-        id: RequestId,
-        params: TextDocumentPositionParams,
-    ) -> Result<Acts, AllocError> {
-        let definition = self.definition(&params)?;
-        one(self.alloc, Act::reply(self.alloc, id, &definition)?)
+    fn answer_hover(&self, request: Request) -> Result<Acts, AllocError> {
+        Act::answer(self.alloc, request, |params| self.hover(&params))
     }
 
     fn did_open(&mut self, params: DidOpenTextDocumentParams) -> Result<Acts, AllocError> {
@@ -234,11 +210,11 @@ impl Checker {
             version: None,
             diagnostics: Vec::new(self.alloc),
         };
-        let mut acts = Vec::new(self.alloc);
-        if let Ok(tells) = Act::tell(self.alloc, methods::PUBLISH_DIAGNOSTICS, &params)? {
-            acts.push(tells)?;
-        }
-        Ok(acts)
+        let alloc = self.alloc;
+        Act::one(
+            alloc,
+            Act::tell(alloc, methods::PUBLISH_DIAGNOSTICS, &params)?,
+        )
     }
 
     /// Keeps a document in the place of its older text, and marks it.
@@ -246,16 +222,17 @@ impl Checker {
         let mut acts = Vec::new(self.alloc);
         self.mark(&mut acts, &document)?;
         self.forget(document.uri.as_str());
-        self.open.push(document)?;
+        self.documents.push(document)?;
         Ok(acts)
     }
 
     fn forget(&mut self, uri: &str) {
-        self.open.retain(|document| document.uri.as_str() != uri);
+        self.documents
+            .retain(|document| document.uri.as_str() != uri);
     }
 
     fn find(&self, uri: &str) -> Option<&Document> {
-        self.open
+        self.documents
             .iter()
             .find(|document| document.uri.as_str() == uri)
     }
@@ -267,23 +244,8 @@ impl Checker {
             version: Some(document.version),
             diagnostics: long_lines(self.alloc, document.text.as_str(), self.longest)?,
         };
-        if let Ok(tells) = Act::tell(self.alloc, methods::PUBLISH_DIAGNOSTICS, &params)? {
-            acts.push(tells)?;
-        }
+        acts.push(Act::tell(self.alloc, methods::PUBLISH_DIAGNOSTICS, &params)?)?;
         Ok(())
-    }
-
-    /// Has the client log why a notification was not taken.
-    fn complain(&self, error: ResponseError) -> Result<Acts, AllocError> {
-        let params = ShowMessageParams {
-            typ: MessageType::ERROR,
-            message: error.message,
-        };
-        let mut acts = Vec::new(self.alloc);
-        if let Ok(tells) = Act::tell(self.alloc, methods::LOG_MESSAGE, &params)? {
-            acts.push(tells)?;
-        }
-        Ok(acts)
     }
 
     /// How long a line is (LSP 3.17, "Hover Request").
@@ -318,11 +280,6 @@ impl Checker {
     }
 }
 
-/// A list of one act.
-fn one(alloc: Global, act: Act<Asked>) -> Result<Acts, AllocError> {
-    Ok(vec![in alloc; act]?)
-}
-
 /// A warning for each line with more characters than are allowed.
 fn long_lines(alloc: Global, text: &str, longest: u32) -> Result<Vec<Diagnostic>, AllocError> {
     let mut found = Vec::new(alloc);
@@ -355,51 +312,51 @@ fn heading_above(text: &str, line: u32) -> Option<u32> {
     heading
 }
 
+/// How many bytes are read at once.
+const READ_AHEAD: usize = 65536;
+
 fn main(rt: HostRuntime) -> Answer<()> {
     let alloc: Global = rt.alloc();
-    let answer = match env::args(&rt)?.nth(1) {
-        Some(address) => serve_socket(&rt, address.as_str())?,
+    // Many clients pass `--stdio`: it asks for what comes without an address.
+    let address = env::args(&rt)?
+        .skip(1)
+        .find(|word| word.as_str() != "--stdio");
+    match address {
+        Some(address) => serve_socket(&rt, address.as_str()),
         None => {
-            let mut reader = BufReader::with_capacity(alloc, 65536, rt.reader())?;
-            let mut writer = io::writer(&rt);
-            let server = Checker::new(alloc);
-            session_with(
-                alloc,
-                &mut reader,
-                &mut writer,
-                server,
-                &mut EndSession,
-                u64::MAX,
-            )
-            .1
+            let mut reader = BufReader::with_capacity(alloc, READ_AHEAD, rt.reader())?;
+            serve(alloc, &mut reader, &mut io::writer(&rt))
         }
-    };
+    }
+}
+
+/// Serves one client. The error says why its session did not end as it should.
+fn serve<R: BufRead, W: Write>(alloc: Global, reader: &mut R, writer: &mut W) -> Answer<()> {
+    let server = Checker::new(alloc);
+    let (_server, answer) = session_with(alloc, reader, writer, server, &mut EndSession, u64::MAX);
     match answer? {
         SessionEnd::ShutDown => Ok(()),
         SessionEnd::Closed => bail!("the client left without a shutdown"),
     }
 }
 
-/// Serves the first client that connects to an address, as `127.0.0.1:9257`.
-fn serve_socket<R>(rt: &R, address: &str) -> Answer<Result<SessionEnd, SessionFault>>
+/// Serves the clients that connect to an address, as `127.0.0.1:9257`, one after another, until it is stopped. What goes wrong with one
+/// of them is printed.
+fn serve_socket<R>(rt: &R, address: &str) -> Answer<()>
 where
-    R: Net<Listener = TcpListener, Stream = TcpStream> + AllocGlobal,
+    R: Net<Listener = TcpListener, Stream = TcpStream> + AllocGlobal + Eprint,
 {
-    let alloc = rt.alloc();
     let listener = TcpListener::bind(rt, address)?;
-    let (stream, _) = listener.accept()?;
+    for stream in listener.incoming() {
+        if let Err(error) = serve_stream(rt.alloc(), stream?) {
+            eprintln!(rt; "{error:#}")?;
+        }
+    }
+    Ok(())
+}
+
+fn serve_stream(alloc: Global, stream: TcpStream) -> Answer<()> {
     let mut writer = stream.try_clone()?;
-    let mut reader = BufReader::with_capacity(alloc, 65536, stream)?;
-    let server = Checker::new(alloc);
-    Ok(
-        session_with(
-            alloc,
-            &mut reader,
-            &mut writer,
-            server,
-            &mut EndSession,
-            u64::MAX,
-        )
-        .1,
-    )
+    let mut reader = BufReader::with_capacity(alloc, READ_AHEAD, stream)?;
+    serve(alloc, &mut reader, &mut writer)
 }

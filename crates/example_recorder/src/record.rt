@@ -31,7 +31,7 @@ enum Entry {
 ///
 /// A message is in the log before it is sent on, so an answer never stands before its request. Each way ends by itself: when
 /// a side has closed, the rest of what it sent is passed on, and then the other side reads the end. So nothing is lost, also
-/// where one side closes first. What is sent to a side that is gone is only logged.
+/// if one side closes first. What is sent to a side that is gone is only logged.
 pub fn record<R, W: Write>(
     rt: &R,
     (client, client_threads): (Connection, IoThreads),

@@ -5,14 +5,16 @@ use Rattle.lsp_message.specs.Message.{Message}
 use Rattle.lsp_service.specs.Law.{how_many, is_request_under, IsWhole, NeverMore, OnceOrEnded}
 use Rattle.lsp_service.specs.QueuedServer.{ServerSession, held_by}
 use Rattle.lsp_service.specs.Stated.{Stated}
-use Rattle.lsp_session.specs.Session.{Exchange, letters_of, SessionAnswer, Stop}
+use Rattle.lsp_session.specs.Session.{Exchange, messages_of, SessionAnswer, Stop}
 
 -- A session of this server, from its first state to its last. At no beginning of the session had the client got more replies under
 -- an id than it had sent requests. A request whose id it used once has exactly one reply. Or it has none: the server still keeps it, or the session ended
--- at it, since the lifecycle does not allow it. Where a write or an allocation failed, replies may be missing.
+-- at it, since the lifecycle does not allow it. If a write or an allocation failed, replies may be missing.
 pub record AnswersOnce {S P : Type 0} (may : Stated S P) (first last : S)
-    (exchanges : List Exchange) (stop : Stop) (null : Option Message) (answer : SessionAnswer) : Type 0 where
-  pub session : ServerSession may first last exchanges stop null answer
+    (exchanges : List Exchange) (stop : Stop) (shutdown_reply : Option Message)
+    (answer : SessionAnswer) : Type 0 where
+  pub session : ServerSession may first last exchanges stop shutdown_reply answer
   pub no_more : (id : Id) → NeverMore id exchanges
-  pub answered : IsWhole stop → (id : Id) → how_many (is_request_under id) (letters_of exchanges) ≡ 1
+  pub answered : IsWhole stop → (id : Id)
+      → how_many (is_request_under id) (messages_of exchanges) ≡ 1
       → OnceOrEnded id exchanges stop (held_by may session) answer

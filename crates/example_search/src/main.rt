@@ -17,56 +17,41 @@
 //! - `jobs`: threads of a pool search, beside the threads that read and write. So all else is answered while a search runs, and a search
 //!   tells how far it is, if the client gave a token for that (`$/progress`), and can be cancelled.
 //! - `jobs ADDRESS`: the same for the first client that connects to an address, as `127.0.0.1:9257`.
-//!
-//! Sixteen notifications of a job can wait to be sent, and further ones are dropped. A search makes twelve at most, so none is lost.
 #![tactic(auto)]
 
 mod search;
 mod server;
 mod sessions;
+mod shared;
 mod sums;
 
 use anyhow::{Result, bail};
-use lsp_server::{SessionEnd, SessionFault};
+use lsp_server::{SessionEnd, SessionFault, StandardOutput};
 use server::Sums;
 use sessions::{serve, serve_in_threads, serve_with_jobs};
 use std::alloc::Global;
-use std::io::{BufReader, Write};
+use std::env;
+use std::io::BufReader;
 use std::net::{Net, TcpListener, TcpStream};
 use std::sync::Wait;
 use std::thread::Threads;
-use std::{env, io};
 
 /// How many bytes of the input are asked for at once.
 const READ_AHEAD: usize = 65536;
-
-/// Standard output, for a thread that writes.
-#[derive(Drop)]
-struct Output<R>(R);
-
-impl<R: Print> Write for Output<R> {
-    fn write(&mut self, buf: &[u8]) -> io::Result<usize> {
-        io::writer(&self.0).write(buf)
-    }
-
-    fn flush(&mut self) -> io::Result<()> {
-        io::writer(&self.0).flush()
-    }
-}
 
 fn main(rt: HostRuntime) -> Result<()> {
     let alloc: Global = rt.alloc();
     let words: Vec<String> = env::args(&rt)?.skip(1).collect(alloc)?;
     let mut reader = BufReader::with_capacity(alloc, READ_AHEAD, rt.reader())?;
-    let mut writer = Output(rt);
+    let mut writer = StandardOutput::new(rt);
     let answer = match words.as_slice() {
-        [] => serve(alloc, &mut reader, &mut writer, Sums::new(alloc, false)).1,
+        [] => serve(alloc, &mut reader, &mut writer, Sums::new(alloc)).1,
         [word] if word.as_str() == "threads" => {
-            let (_, done) = serve_in_threads(&rt, alloc, reader, writer, Sums::new(alloc, false));
+            let (_, done) = serve_in_threads(&rt, alloc, reader, writer, Sums::new(alloc));
             done?.answer
         }
         [word] if word.as_str() == "jobs" => {
-            let (_, done) = serve_with_jobs(&rt, alloc, reader, writer, Sums::new(alloc, true));
+            let (_, done) = serve_with_jobs(&rt, alloc, reader, writer, Sums::new(alloc));
             done?.answer
         }
         [word, address] if word.as_str() == "jobs" => serve_socket(&rt, address.as_str())?,
@@ -95,6 +80,6 @@ where
     let (stream, _) = listener.accept()?;
     let writer = stream.try_clone()?;
     let reader = BufReader::with_capacity(alloc, READ_AHEAD, stream)?;
-    let (_, done) = serve_with_jobs(rt, alloc, reader, writer, Sums::new(alloc, true));
+    let (_, done) = serve_with_jobs(rt, alloc, reader, writer, Sums::new(alloc));
     Ok(done?.answer)
 }

@@ -1,10 +1,19 @@
 // A search of all texts for their headings, as a job: it runs while the texts change.
+ghost use Rattle.serde_json.specs.Data.{Data};
+ghost use Rattle.serde_json.specs.View.{view};
+ghost use Rattle.std.specs.List.{All};
+ghost use Rattle.std.specs.Prelude.{◌≡◌, ℕ, List, IfOk, IfSome, string_bytes};
+ghost use Rattle.example_search.specs.Found.{IsFoundIn, IsHeading, symbol_at};
+ghost use Rattle.example_search.specs.Sources.{AreFound};
+
+use crate::shared::Source;
 use crate::sums::{line_count, line_of};
-use lsp_jobs::{CancellationToken, Job, Progress};
+use lsp_jobs::{CancellationToken, Job, Progress, WorkDone};
 use lsp_server::{Notification, ResponseError};
 use lsp_text::Text;
 use serde_json::{Value, json};
 use std::alloc::{AllocError, Global};
+use std::sync::Arc;
 
 /// A search, with all that it needs.
 #[derive(Drop)]
@@ -14,18 +23,9 @@ pub struct Search {
     /// The word that a heading is to contain.
     pub query: String,
     /// The texts that are searched.
-    pub sources: Vec<Source>,
-    /// Under which token the client wants to hear how far it is.
-    pub progress: Option<Value>,
-}
-
-/// A text as it was when the search was asked for.
-#[derive(Drop)]
-pub struct Source {
-    /// Where the client has it.
-    pub uri: String,
-    /// The whole text.
-    pub text: String,
+    pub sources: Vec<Arc<Source>>,
+    /// Tells the client how far it is.
+    pub work: WorkDone,
 }
 
 /// Nobody hears how far a search is.
@@ -36,80 +36,138 @@ impl Progress for Silence {
     fn report(&mut self, _notification: Notification) -> bool {
         false
     }
+
+    fn send(&mut self, _notification: Notification) -> bool {
+        false
+    }
 }
 
 impl Job for Search {
+    ghost use Rattle.serde_json.specs.Data.{string};
+    ghost use Rattle.serde_json.specs.Find.{get};
+    ghost use Rattle.std.specs.Prelude.{◌≡◌, Some, codes, string_bytes};
+    ghost use Rattle.example_search.specs.Sources.{AnswersSearch};
+
+    ghost is_for = { λ search _ params.
+        get (codes "query") params ≡ Some (string (string_bytes search.query)) };
+
+    ghost answers = { λ search _ params outcome.
+        AnswersSearch search.sources.items params outcome };
+
     fn run<P: Progress>(
         self,
         token: &CancellationToken,
         progress: &mut P,
     ) -> Result<Result<Value, ResponseError>, AllocError> {
-        let mut found = Vec::new(self.alloc);
-        self.tell(progress, "begin", "title", "Searching")?;
-        let mut told = usize::MAX;
-        for (number, source) in self.sources.iter().enumerate() {
-            if token.is_cancelled() {
-                break;
-            }
-            let tenths = number.saturating_mul(10).checked_div(self.sources.len());
-            let tenth = tenths.unwrap_or(0);
-            if told != tenth {
-                self.tell(progress, "report", "message", source.uri.as_str())?;
-                told = tenth;
-            }
-            self.find(source, token, &mut found)?;
-        }
-        self.tell(progress, "end", "message", "Searched")?;
+        let Search {
+            alloc,
+            query,
+            sources,
+            work,
+        } = self;
+        let found = find_all(
+            alloc,
+            sources.as_slice(),
+            query.as_str(),
+            &work,
+            token,
+            progress,
+        )?;
+        work.end(progress, Some("Searched"))?;
         Ok(Ok(Value::Array(found)))
     }
 }
 
-impl Search {
-    /// Tells how far the search is (LSP 3.17, "Work Done Progress").
-    fn tell<P: Progress>(
-        &self,
-        progress: &mut P,
-        kind: &str,
-        key: &str,
-        text: &str,
-    ) -> Result<(), AllocError> {
-        let Some(token) = &self.progress else {
-            return Ok(());
-        };
-        let token = token.clone()?;
-        let value = json!(in self.alloc; { "kind": kind, (key): text })?;
-        progress.report(Notification {
-            method: String::from_str(self.alloc, "$/progress")?,
-            params: json!(in self.alloc; { "token": token, "value": value })?,
-        });
-        Ok(())
-    }
-
-    /// Adds the headings of a text that contain the word, up to where the search is cancelled.
-    fn find(
-        &self,
-        source: &Source,
-        token: &CancellationToken,
-        found: &mut Vec<Value>,
-    ) -> Result<(), AllocError> {
-        let text = Text::new(self.alloc, source.text.as_str())?;
-        for number in 0..line_count(&text) {
-            if token.is_cancelled() {
-                break;
-            }
-            if let Some(heading) = line_of(&text, number).strip_prefix("# ")
-                && heading.contains(self.query.as_str())
-            {
-                let place = json!(in self.alloc; { "line": number, "character": 0 })?;
-                let end = place.clone()?;
-                let symbol = json!(in self.alloc; {
-                    "name": heading,
-                    "kind": 15,
-                    "location": { "uri": source.uri.as_str(), "range": { "start": place, "end": end } }
-                })?;
-                found.push(symbol)?;
-            }
+/// The headings of these documents that have the word, up to where the search is cancelled. It tells how far it is.
+fn find_all<P: Progress>(
+    alloc: Global,
+    sources: &[Arc<Source>],
+    word: &str,
+    work: &WorkDone,
+    token: &CancellationToken,
+    progress: &mut P,
+) -> Result<Vec<Value>, AllocError>
+    requires { (method : List ℕ) (params : Data) → P.may method params }
+    ensures { IfOk result (λ found. AreFound sources.now word.now found.items) }
+{
+    work.begin(progress, "Searching", None, Some(0))?;
+    let mut found = Vec::new(alloc);
+    for (number, source) in sources.iter().enumerate() {
+        if token.is_cancelled() {
+            break;
         }
-        Ok(())
+        let done = percentage(number, sources.len());
+        work.report(progress, Some(source.uri.as_str()), done)?;
+        let mut headings = headings_with(alloc, source, word, token)?;
+        found.append(&mut headings)?;
     }
+    Ok(found)
+}
+
+/// How much of so many are done, if there are any.
+fn percentage(done: usize, count: usize) -> Option<u32> {
+    let percentage = done.saturating_mul(100).checked_div(count)?;
+    u32::try_from(percentage).ok()
+}
+
+/// The headings of a document that have the word, up to where the search is cancelled.
+fn headings_with(
+    alloc: Global,
+    source: &Source,
+    word: &str,
+    token: &CancellationToken,
+) -> Result<Vec<Value>, AllocError>
+    ensures { IfOk result (λ found. All (λ symbol.
+        IsFoundIn (string_bytes source.now.uri) source.now.text word.now (view symbol))
+        found.items) }
+{
+    let mut found = Vec::new(alloc);
+    for line in 0..line_count(&source.text) {
+        if token.is_cancelled() {
+            break;
+        }
+        if let Some(symbol) = found_in(alloc, source, line, word)? {
+            found.push(symbol)?;
+        }
+    }
+    Ok(found)
+}
+
+/// The heading in a line of a document, if there is one that has the word.
+fn found_in(
+    alloc: Global,
+    source: &Source,
+    line: u32,
+    word: &str,
+) -> Result<Option<Value>, AllocError>
+    ensures { IfOk result (λ found. IfSome found (λ symbol.
+        IsFoundIn (string_bytes source.now.uri) source.now.text word.now (view symbol))) }
+{
+    let Some(name) = heading_at(&source.text, line) else {
+        return Ok(None);
+    };
+    if !name.contains(word) {
+        return Ok(None);
+    }
+    Ok(Some(symbol(alloc, name, source.uri.as_str(), line)?))
+}
+
+/// The name of the heading that a line is, if it is one.
+fn heading_at(text: &Text, line: u32) -> Option<&str>
+    ensures { IfSome result (λ name. IsHeading text.now line name.now) }
+{
+    line_of(text, line)?.strip_prefix("# ")
+}
+
+/// A heading of a document (LSP 3.17, "Workspace Symbols Request").
+fn symbol(alloc: Global, name: &str, uri: &str, line: u32) -> Result<Value, AllocError>
+    ensures { IfOk result (λ symbol. view symbol ≡ symbol_at name.now uri.now line) }
+{
+    let start = json!(in alloc; { "line": line, "character": 0 })?;
+    let end = start.clone()?;
+    json!(in alloc; {
+        "name": name,
+        "kind": 15,
+        "location": { "uri": uri, "range": { "start": start, "end": end } }
+    })
 }

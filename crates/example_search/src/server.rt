@@ -1,8 +1,14 @@
 // The server: the texts that are open, what the client is told, and what it asks.
-use crate::search::{Search, Silence, Source};
+ghost use Rattle.serde_json.specs.Data.{string};
+ghost use Rattle.serde_json.specs.Find.{get};
+ghost use Rattle.serde_json.specs.View.{view};
+ghost use Rattle.std.specs.Prelude.{◌≡◌, Some, IfNone, IfOk, IfSome, codes, string_bytes};
+
+use crate::search::{Search, Silence};
+use crate::shared::SharedTexts;
 use crate::sums::{Named, Span, sheet_of, value_of, words_of};
 use lsp_documents::{DocumentFault, Made, NotMade, TextDocuments, position_encoding, position_in};
-use lsp_jobs::{CancellationToken, Job, JobServer, Start};
+use lsp_jobs::{AnsweredBy, CancellationToken, Job, JobEnd, JobServer, NewJob, WorkDone};
 use lsp_server::{Act, ErrorCode, Notification, Request, RequestId, ResponseError, Server};
 use lsp_text::{Position, PositionEncoding, Text, TextDocument};
 use serde_json::{Value, json};
@@ -18,11 +24,9 @@ pub struct Sums {
     /// Whether the client can be asked for its configuration.
     configures: bool,
     documents: TextDocuments,
+    /// Their texts, as searches have them.
+    texts: SharedTexts,
     waiting: Vec<Waiting>,
-    /// Whether threads of a pool search. Else the server does, at once.
-    has_pool: bool,
-    /// The searches that are to start now.
-    starting: Vec<Start<Search>>,
 }
 
 /// A request that is answered when nothing is wrong with a text.
@@ -123,36 +127,49 @@ impl Server for Sums {
     }
 }
 
+/// In `run_jobs` a job answers each search. All else is answered by `Server::request`.
 impl JobServer<Search> for Sums {
-    fn take_jobs(&mut self) -> Result<Vec<Start<Search>>, AllocError> {
-        Ok(mem::replace(&mut self.starting, Vec::new(self.alloc)))
+    type Key = ();
+
+    fn job(&mut self, request: Request) -> Result<AnsweredBy<Search, ()>, AllocError> {
+        if request.method.as_str() != "workspace/symbol" {
+            return Ok(AnsweredBy::Server(request));
+        }
+        match self.search_in(&request.params)? {
+            Some(search) => Ok(AnsweredBy::Job(search, ())),
+            None => Ok(AnsweredBy::Server(request)),
+        }
+    }
+
+    fn take_jobs(&mut self, alloc: Global) -> Result<Vec<NewJob<Search, ()>>, AllocError> {
+        Ok(Vec::new(alloc))
     }
 
     fn finished(
         &mut self,
         _id: &RequestId,
-        _outcome: &Result<Value, ResponseError>,
+        _key: (),
+        _end: &JobEnd,
+        alloc: Global,
     ) -> Result<Acts, AllocError> {
-        Ok(Vec::new(self.alloc))
+        Ok(Vec::new(alloc))
     }
 }
 
 impl Sums {
-    /// A server before its session. With a pool its searches are jobs.
-    pub fn new(alloc: Global, has_pool: bool) -> Sums {
+    /// A server before its session.
+    pub fn new(alloc: Global) -> Sums {
         Sums {
             alloc,
             largest: i64::MAX,
             configures: false,
             documents: TextDocuments::new(alloc, PositionEncoding::Utf16),
+            texts: SharedTexts::new(alloc),
             waiting: Vec::new(alloc),
-            has_pool,
-            starting: Vec::new(alloc),
         }
     }
 
-    /// Finds the headings of all texts that contain a word (LSP 3.17, "Workspace Symbols Request"). A job answers the request, if
-    /// there is a pool.
+    /// Finds the headings of all texts that contain a word, at once (LSP 3.17, "Workspace Symbols Request").
     fn search(&mut self, request: Request) -> Result<Acts, AllocError> {
         let mut acts = Vec::new(self.alloc);
         let Some(search) = self.search_in(&request.params)? else {
@@ -160,47 +177,35 @@ impl Sums {
             acts.push(Act::refuse(self.alloc, request.id, code, "which word?")?)?;
             return Ok(acts);
         };
-        if self.has_pool {
-            self.starting.push(Start {
-                id: request.id,
-                job: search,
-            })?;
-            return Ok(acts);
-        }
         let outcome = search.run(&CancellationToken::new(self.alloc)?, &mut Silence)?;
         acts.push(Act::Reply(request.id, outcome))?;
         Ok(acts)
     }
 
-    /// The search that a client asks for, over the texts as they are now.
-    fn search_in(&self, params: &Value) -> Result<Option<Search>, AllocError> {
+    /// The search that a client asks for, over the texts as they are now. Without a word there is none, and nothing changes.
+    fn search_in(&mut self, params: &Value) -> Result<Option<Search>, AllocError>
+        ensures some { IfOk result (λ found. IfSome found (λ search.
+            get (codes "query") (view params.now) ≡ Some (string (string_bytes search.query)))) }
+        ensures none { IfOk result (λ found. IfNone found (self.new ≡ self.old)) }
+    {
         let Some(query) = query_in(params) else {
             return Ok(None);
         };
         let mut sources = Vec::new(self.alloc);
         for (uri, kept) in self.documents.iter() {
             if let Some(document) = kept.document() {
-                sources.push(Source {
-                    uri: uri.clone()?,
-                    text: String::from_str(self.alloc, document.text().as_str())?,
-                })?;
+                sources.push(self.texts.share(uri.as_str(), document.text().as_str())?)?;
             }
         }
-        let progress = match params.get("workDoneToken") {
-            Some(token) if token.as_str().is_some() || token.as_i64().is_some() => {
-                Some(token.clone()?)
-            }
-            _ => None,
-        };
         Ok(Some(Search {
             alloc: self.alloc,
             query: String::from_str(self.alloc, query)?,
             sources,
-            progress,
+            work: WorkDone::of(self.alloc, params)?,
         }))
     }
 
-    /// Asks for the configuration, where the client can be asked.
+    /// Asks for the configuration, if the client can be asked.
     fn ask_configuration(&self) -> Result<Acts, AllocError> {
         let mut acts = Vec::new(self.alloc);
         if self.configures {
@@ -236,6 +241,7 @@ impl Sums {
 
     /// What the client is told after a notification that was made: what there is to say of it, and what is wrong with the text.
     fn hear(&mut self, made: Made<'_>) -> Result<Acts, AllocError> {
+        self.texts.forget(made.uri);
         let mut acts = Vec::new(self.alloc);
         if let Some(remark) = made.remark {
             let uri = made.uri;
@@ -247,7 +253,7 @@ impl Sums {
         Ok(acts)
     }
 
-    /// Shows what is wrong with each text that is open: nothing, where the text is lost.
+    /// Shows what is wrong with each text that is open: nothing, if the text is lost.
     fn mark_all(&self, acts: &mut Acts) -> Result<(), AllocError> {
         for (uri, kept) in self.documents.iter() {
             let told = match kept.document() {
@@ -260,20 +266,22 @@ impl Sums {
     }
 
     /// What the client is told after a notification that was not made: why, and no marks of a text that was lost by it. Each may
-    /// be, where no URI is named.
-    fn complain(&self, missed: NotMade<'_>) -> Result<Acts, AllocError> {
+    /// be, if no URI is named.
+    fn complain(&mut self, missed: NotMade<'_>) -> Result<Acts, AllocError> {
         let mut acts = Vec::new(self.alloc);
         let fault = missed.fault;
         if matches!(fault, DocumentFault::Memory) {
             return Err(AllocError);
         }
         let Some(uri) = missed.uri else {
+            self.texts.forget_all();
             acts.push(self.log(1, format!(in self.alloc; "{fault}")?)?)?;
             self.mark_all(&mut acts)?;
             return Ok(acts);
         };
         acts.push(self.log(1, format!(in self.alloc; "{uri}: {fault}")?)?)?;
         if missed.lost {
+            self.texts.forget(uri);
             acts.push(diagnostics(self.alloc, uri, Vec::new(self.alloc))?)?;
         }
         Ok(acts)
@@ -312,7 +320,7 @@ impl Sums {
         Ok(Value::String(text))
     }
 
-    /// The document that params name, where its text is known.
+    /// The document that params name, if its text is known.
     fn document_in(&self, params: &Value) -> Option<&TextDocument> {
         self.documents.get(uri_in(params)?)
     }
@@ -406,7 +414,10 @@ fn place_in(params: &Value) -> Option<Position> {
     position_in(params.get("position")?)
 }
 
-fn query_in(params: &Value) -> Option<&str> {
+fn query_in(params: &Value) -> Option<&str>
+    ensures { IfSome result (λ query. get (codes "query") (view params.now)
+        ≡ Some (string query.now)) }
+{
     params.get("query")?.as_str()
 }
 

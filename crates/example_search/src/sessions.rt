@@ -25,7 +25,7 @@ use std::thread::Threads;
 ///
 /// Its author knows by a law of the library, with no word about what `Sums` does: at no beginning of the session has a client got more
 /// replies under an id than it sent requests. A request whose id it used once has exactly one reply. Or it has none: the server keeps it, as a
-/// `sums/solved` whose text still has an error; or the session ended at it, since the lifecycle does not allow it. Where a write or an
+/// `sums/solved` whose text still has an error; or the session ended at it, since the lifecycle does not allow it. If a write or an
 /// allocation failed, replies may be missing.
 pub fn serve<R: BufRead, W: Write>(
     alloc: Global,
@@ -82,8 +82,12 @@ where
     R: BufRead + Drop + Send + 'static,
     W: Write + Drop + Send + 'static,
     ensures { IfSome (R.remaining reader) (λ text. IfOk result.1 (λ done.
-        ThreadsGiveOver true no_limit (LawfulJobSession T ⟦<Sums as Server>⟧ ⟦<Sums as JobServer<Search>>⟧.starts
-        ⟦<Sums as JobServer<Search>>⟧.finishes ⟦<Search as Job>⟧.answers sums result.0)
+        ThreadsGiveOver true no_limit (LawfulJobSession T ⟦<Sums as Server>⟧
+        (record {
+          gives = ⟦<Sums as JobServer<Search>>⟧.gives;
+          starts = ⟦<Sums as JobServer<Search>>⟧.starts;
+          finishes = ⟦<Sums as JobServer<Search>>⟧.finishes;
+        }) ⟦<Search as Job>⟧ sums result.0)
         text (W.contents writer) (W.contents done.writer) done.answer)) }
 {
     session_with_jobs_keeps_laws::<T, Sums, Search>();

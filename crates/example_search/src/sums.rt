@@ -1,4 +1,10 @@
 // The language: what its words are, what its names stand for, and what is wrong with a text.
+ghost use Rattle.std.specs.Prelude.{◌≡◌, IfSome};
+ghost use Rattle.std.specs.String.Boundary.{IsSplitPoint};
+ghost use Rattle.lsp_text.specs.Columns.{offset_of as place_of};
+ghost use Rattle.lsp_text.specs.declared.position.PositionEncoding.TheVariants.{Utf8};
+ghost use Rattle.example_search.specs.Found.{line_of as plain_line};
+
 use lsp_text::{Position, PositionEncoding, Text};
 use std::alloc::{AllocError, Global};
 
@@ -51,7 +57,8 @@ pub struct Sheet {
 pub fn words_of(alloc: Global, text: &Text) -> Result<Vec<Vec<Word>>, AllocError> {
     let mut lines = Vec::new(alloc);
     for line in 0..line_count(text) {
-        let words = words_in(alloc, line_of(text, line), span_of(text, line).start)?;
+        let shown = line_of(text, line).unwrap_or("");
+        let words = words_in(alloc, shown, offset_of(text, line, 0))?;
         if !words.is_empty() {
             lines.push(words)?;
         }
@@ -65,20 +72,18 @@ pub fn line_count(text: &Text) -> u32 {
 }
 
 /// A line without its end, which is `\n`, `\r\n` or `\r` (LSP 3.17, "Text Documents"). The last one may be empty.
-pub fn line_of(text: &Text, line: u32) -> &str {
-    let span = span_of(text, line);
-    text.as_str().get(span.start..span.end).unwrap_or("")
+pub fn line_of(text: &Text, line: u32) -> Option<&str>
+    ensures { IfSome result (λ found. found.now ≡ plain_line text.now line) }
+{
+    let (start, end) = (offset_of(text, line, 0), offset_of(text, line, u32::MAX));
+    text.as_str().get(start..end)
 }
 
-/// The place of a line without its end.
-fn span_of(text: &Text, line: u32) -> Span {
-    Span {
-        start: offset_of(text, line, 0),
-        end: offset_of(text, line, u32::MAX),
-    }
-}
-
-fn offset_of(text: &Text, line: u32, character: u32) -> usize {
+/// Where a position is in a text, in bytes.
+fn offset_of(text: &Text, line: u32, character: u32) -> usize
+    ensures value { result ≡ place_of Utf8 text.now line character }
+    ensures boundary { IsSplitPoint text.now result }
+{
     text.offset_at(Position { line, character }, PositionEncoding::Utf8)
 }
 
@@ -200,7 +205,7 @@ fn sum_of(
     terms: &[Word],
 ) -> Result<Result<i64, Problem>, AllocError> {
     let mut sum: i64 = 0;
-    // The sign of the number that comes next. There is none where a sign is to come.
+    // The sign of the number that comes next. There is none if a sign is to come.
     let mut sign: Option<i64> = Some(1);
     let mut last = equals;
     for term in terms {

@@ -22,7 +22,8 @@ impl Handler for Documents {
 
     // A request changes nothing, and the count is told who asks for it. A notification opens at most one document.
     ghost answers = { λ old _ method _ outcome new.
-        (new ≡ old) × (method ≡ codes "demo/openDocuments" → outcome ≡ Ok (number (unsigned old.open_count))) };
+        (new ≡ old) × (method ≡ codes "demo/openDocuments"
+        → outcome ≡ Ok (number (unsigned old.open_count))) };
 
     ghost notes = { λ old _ _ new. new.open_count ≤ old.open_count + 1 };
 

@@ -4,7 +4,7 @@
 //! A registers p 10 [1,2]      a request `p` of A's, with the payload 10; without params they are null
 //! A tells p [1,2]             a notification `p` of A's
 //! B gets 59                   up to 59 bytes arrive at B
-//! B takes 2                   B takes a message; where it is a request, B holds it as 2
+//! B takes 2                   B takes a message; if it is a request, B holds it as 2
 //! B answers 0 true            B answers the request 0 with this result
 //! B refuses 0 -32601 text     B answers the request 0 with the error of this code and text
 //! B cancels 0                 B replies that the request 0 was cancelled

@@ -68,7 +68,8 @@ fn has_come_to_end(world: &World) -> bool
 
 /// Whether the client has its replies, and the server holds no request and took `exit` last.
 fn has_ended(world: &World) -> bool
-    ensures replied { result ≡ true → map.len (pending_of (seen_at Side.A world.now).queue.outgoing) ≡ 0 }
+    ensures replied { result ≡ true
+        → map.len (pending_of (seen_at Side.A world.now).queue.outgoing) ≡ 0 }
     ensures settled { result ≡ true → map.len (seen_at Side.B world.now).queue.incoming ≡ 0 }
     ensures exited { result ≡ true → last_is_exit (seen_at Side.B world.now).taken ≡ true }
 {

@@ -10,8 +10,10 @@ use Rattle.lsp_threads.specs.declared.pumping.PumpFault.{PumpFault}
 -- the word `pump`, and perhaps the greatest length of a content part
 abbrev pub asked_limit : List (String Global) → Option ℕ
 asked_limit [] = None
-asked_limit (word ∷ []) = if bytes_eq (string_bytes word) (codes "pump") then Some no_limit else None
-asked_limit (word ∷ limit ∷ []) = if bytes_eq (string_bytes word) (codes "pump") then number (string_bytes limit) else None
+asked_limit (word ∷ []) = if bytes_eq (string_bytes word) (codes "pump") then Some no_limit
+    else None
+asked_limit (word ∷ limit ∷ []) = if bytes_eq (string_bytes word) (codes "pump")
+    then number (string_bytes limit) else None
 asked_limit (word ∷ limit ∷ next ∷ more) = None
 
 -- no word, or the one word `serve`
@@ -24,14 +26,16 @@ asks_serve (word ∷ next ∷ more) = false
 abbrev pub asked_address : List (String Global) → Option (List ℕ)
 asked_address [] = None
 asked_address (word ∷ []) = None
-asked_address (word ∷ addr ∷ []) = if bytes_eq (string_bytes word) (codes "tcp") then Some (string_bytes addr) else None
+asked_address (word ∷ addr ∷ []) = if bytes_eq (string_bytes word) (codes "tcp")
+    then Some (string_bytes addr) else None
 asked_address (word ∷ addr ∷ next ∷ more) = None
 
--- 0 exactly where all messages were passed on
+-- 0 exactly if all messages were passed on
 abbrev pub status_of : Result (Unit {0}) PumpFault → ℕ
 status_of (Ok done) = 0
 status_of (Err fault) = 1
 
 -- the messages of the text, whose content parts have at most so many bytes, were passed on as far as the status says
 abbrev pub PumpsTo : ℕ → List ℕ → Option (List ℕ) → Option (List ℕ) → ℕ → Type 0
-PumpsTo limit text old new status = (answer : Result (Unit {0}) PumpFault) × Pumps limit text old new answer × (status ≡ status_of answer)
+PumpsTo limit text old new status = (answer : Result (Unit {0}) PumpFault)
+    × Pumps limit text old new answer × (status ≡ status_of answer)

@@ -3,13 +3,18 @@ use Rattle.serde_json.specs.Data.{Data}
 use Rattle.std.specs.Prelude.{ℕ, List, Bool, None, Result, Ok, Err, codes, if◌then◌else◌}
 use Rattle.std.specs.Str.{bytes_eq}
 use Rattle.lsp_server.specs.DispatchAnswers.{Answer, unknown, work, cancelled_work, finished_work, note, nothing}
-use Rattle.lsp_server.specs.DispatchTable.{Held, delivered, finished}
+use Rattle.lsp_server.specs.DispatchPending.{Held, delivered, finished}
 use Rattle.lsp_server.specs.ErrorCode.{number_of}
 use Rattle.lsp_server.specs.Message.{ErrorObject, Message, request, notification, response}
 use Rattle.lsp_message.specs.declared.msg.code.ErrorCode.TheVariants.{MethodNotFound}
 
 abbrev pub not_found : ErrorObject
-not_found = record { code = number_of MethodNotFound; message = codes "method not found"; details = None }
+not_found = record {
+  code = number_of MethodNotFound;
+  message = codes "method not found";
+  details =
+      None;
+}
 
 -- `demo/hold` is kept
 abbrev pub is_kept : List ℕ → Bool
@@ -17,7 +22,8 @@ is_kept method = bytes_eq method (codes "demo/hold")
 
 -- what comes of a request that is finished at once: the result of `demo/echo` is its params
 abbrev pub demo_outcome : List ℕ → Data → Result Data ErrorObject
-demo_outcome method params = if bytes_eq method (codes "demo/echo") then Ok params else Err not_found
+demo_outcome method params = if bytes_eq method (codes "demo/echo") then Ok params
+    else Err not_found
 
 -- work is begun: a request is kept, or finished at once
 abbrev pub begun : Message → ℕ → Held → Answer × Held

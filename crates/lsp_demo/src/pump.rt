@@ -13,7 +13,7 @@ use std::thread::Threads;
 /// Runs the program on its words, and gives the exit status.
 ///
 /// `pump` writes each message of the reader again, as a frame; a word after it is the greatest length of a content part. The
-/// status is 0 where all were passed on, and 1 after a fault, whose text goes to `errors`. Other words, and none, are answered
+/// status is 0 if all were passed on, and 1 after a fault, whose text goes to `errors`. Other words, and none, are answered
 /// by how the program is called, and status 1.
 /// A fault of `errors` is ignored. `main` comes here with all words that do not ask for the server.
 pub fn pump_words<T, R, W, E>(
@@ -44,7 +44,7 @@ where
     }
 }
 
-/// The greatest length of a content part, where the words ask for messages to be passed on.
+/// The greatest length of a content part, if the words ask for messages to be passed on.
 fn pump_limit(words: &[String]) -> Option<u64>
     ensures { result ≡ asked_limit words.now }
 {

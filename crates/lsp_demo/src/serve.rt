@@ -24,12 +24,12 @@ enum ServeEnd {
     Failed(WorkFault),
 }
 
-/// Serves one connection, and gives the exit status: 0 after `shutdown` and `exit`, where the threads of the connection
+/// Serves one connection, and gives the exit status: 0 after `shutdown` and `exit`, if the threads of the connection
 /// ended without a fault, and else 1. Why it is 1 goes to `errors`, whose faults are ignored.
 ///
 /// The request `demo/echo` is answered with its params at once, and `demo/hold` is kept: it is answered with its params at
 /// the notification `demo/release`, with the others that are kept and in the order in which they came, or with code -32800
-/// where the notification `$/cancelRequest` names it before. Every other request is answered with code -32601. A request
+/// if the notification `$/cancelRequest` names it before. Every other request is answered with code -32601. A request
 /// under the id of one that is kept replaces it, which then gets no reply, and neither does what is kept at `shutdown`. Other
 /// notifications than these and `exit`, and responses, are dropped. Without threads nothing is waited for at the end.
 pub fn serve_on<R: Threads + Wait + Clock + AllocGlobal, E: Write>(

@@ -4,7 +4,7 @@ ghost use Rattle.std.specs.BTreeMap.{IsEmpty, Updates};
 ghost use Rattle.std.specs.Ordering.{nat_cmp};
 ghost use Rattle.serde_json.specs.View.{view};
 ghost use Rattle.lsp_server.specs.DispatchAnswers.{answer_view};
-ghost use Rattle.lsp_server.specs.DispatchTable.{finished};
+ghost use Rattle.lsp_server.specs.DispatchPending.{finished};
 ghost use Rattle.lsp_server.specs.View.{outcome_view, request_view, message_view};
 ghost use Rattle.lsp_demo.specs.Server.{begun, demo_outcome, is_kept, served};
 
@@ -44,7 +44,8 @@ impl Work {
 
     /// Takes a message, does what it asks for, and gives what is left to do: to send a reply, or to see to a notification.
     pub fn take(&mut self, message: Message) -> Result<Answer, WorkFault>
-        ensures { IfOk result (λ answer. (answer_view answer, self.new.dispatcher) ≡ served self.old.dispatcher (message_view message)) }
+        ensures { IfOk result (λ answer. (answer_view answer, self.new.dispatcher)
+            ≡ served self.old.dispatcher (message_view message)) }
     {
         let pending = match &message {
             Message::Request(request) => self.dispatcher.ticket_of(&request.id),
@@ -71,8 +72,10 @@ impl Work {
 
     /// Keeps a request that asks for it, and finishes any other at once.
     fn start(&mut self, request: Request, ticket: u64) -> Result<Answer, WorkFault>
-        ensures begun { IfOk result (λ answer. (answer_view answer, self.new.dispatcher) ≡ begun (request_view request) ticket self.old.dispatcher) }
-        ensures kept { is_kept (string_bytes request.method) ≡ true → OnOk result (Updates nat_cmp self.old.held self.new.held ticket (Some request)) }
+        ensures begun { IfOk result (λ answer. (answer_view answer, self.new.dispatcher)
+            ≡ begun (request_view request) ticket self.old.dispatcher) }
+        ensures kept { is_kept (string_bytes request.method) ≡ true
+            → OnOk result (Updates nat_cmp self.old.held self.new.held ticket (Some request)) }
     {
         if request.method.as_str() == "demo/hold" {
             return match self.held.insert(ticket, request) {
@@ -100,7 +103,8 @@ impl Work {
 
     /// Finishes a request with its params for its result.
     pub fn finish(&mut self, ticket: u64, request: Request) -> Answer
-        ensures { (answer_view result, self.new.dispatcher) ≡ finished self.old.dispatcher request.id ticket (Ok (view request.params)) }
+        ensures { (answer_view result, self.new.dispatcher)
+            ≡ finished self.old.dispatcher request.id ticket (Ok (view request.params)) }
     {
         self.dispatcher
             .finish(request.id, ticket, Ok(request.params))
@@ -113,7 +117,8 @@ fn outcome_of(
     method: &str,
     params: Value,
 ) -> Result<Result<Value, ResponseError>, AllocError>
-    ensures { IfOk result (λ outcome. outcome_view outcome ≡ demo_outcome method.now (view params)) }
+    ensures { IfOk result (λ outcome.
+        outcome_view outcome ≡ demo_outcome method.now (view params)) }
 {
     if method == "demo/echo" {
         return Ok(Ok(params));

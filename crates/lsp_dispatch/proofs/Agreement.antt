@@ -5,7 +5,7 @@ use Rattle.lsp_message.specs.Id.{Id}
 use Rattle.lsp_queue.specs.Queue.{pending_of, count_of}
 use Rattle.lsp_dispatch.specs.DispatchCalls.{Call}
 use Rattle.lsp_dispatch.specs.Dispatch.{asked, IsLive}
-use Rattle.lsp_dispatch.specs.DispatchTable.{Held}
+use Rattle.lsp_dispatch.specs.DispatchPending.{Held}
 
 -- exactly the live tickets are pending, each under its id
 pub record Agrees (before : List Call) (held : Held) : Type 0 where

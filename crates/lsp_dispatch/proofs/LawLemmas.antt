@@ -8,12 +8,13 @@ use Rattle.serde_json.specs.Data.{Data}
 use Rattle.lsp_message.specs.Id.{Id}
 use Rattle.lsp_message.specs.Message.{ErrorObject, request, notification, response}
 use Rattle.lsp_dispatch.specs.DispatchAnswers.{Answer}
-use Rattle.lsp_dispatch.specs.DispatchCalls.{Call, delivers, finishes, is_own, named_id, asked_by, cancelled_by, ends}
+use Rattle.lsp_queue.specs.Queue.{cancelled_id}
+use Rattle.lsp_dispatch.specs.DispatchCalls.{Call, delivers, finishes, is_own, asked_by, cancelled_by, ends}
 use Rattle.lsp_dispatch.specs.Dispatch.{asked, IsLive, CancelAnswer, FinishAnswer, CallAnswer, Dispatches, AnswersEach}
 use Rattle.lsp_dispatch.specs.DispatchLaw.{reply_in, work_in, RepliesTo, RepliesOnce}
-use Rattle.lsp_dispatch.proofs.Keys.{same_own}
+use Rattle.lsp_message.proofs.Ids.{same_own}
 use Rattle.lsp_dispatch.proofs.Live.{ends_asked, ends_cancelled, ends_finished}
-use Rattle.lsp_dispatch.proofs.Lists.{nothing_in}
+use Rattle.lsp_dispatch.proofs.Lists.{nothing_in, none_some}
 
 -- ---- a run in parts
 
@@ -90,9 +91,6 @@ at_call start (d ∷ calls) (b ∷ answers) (f ∷ earlier) c since run place =
 
 -- ---- what an answer says of its call
 
-none_some : {X : Type 0} (o : Option X) (x : X) → o ≡ None → o ≡ Some x → ⊥
-none_some o x a b = cc
-
 some_pair : {X Y : Type 0} (x x' : X) (y y' : Y) → ◌≡◌ {A = Option (X × Y)} (Some (x, y)) (Some (x', y')) → (x ≡ x') × (y ≡ y')
 some_pair {X} {Y} x x' y y' e = let p : ◌≡◌ {A = X × Y} (x, y) (x', y') = cc in (ap (λ (q : X × Y). q.0) p, ap (λ (q : X × Y). q.1) p)
 
@@ -144,7 +142,7 @@ ended : (before : List Call) (c : Call) (a : Answer) (i : Option Id) (t : ℕ) �
 ended before (delivers (request id method params)) a i t right reply = absurd (none_some (reply_in a) (i, t) (no_reply_own (is_own method) _ _ a right refl refl) reply)
 ended before (delivers (notification method params)) a i t right reply =
     ⊎_elim
-    (λ cancel. ended_cancel before (delivers (notification method params)) (named_id params) a i t (cond-true _ _ _ cancel) (MatchBool-at_true _ _ cancel right) reply)
+    (λ cancel. ended_cancel before (delivers (notification method params)) (cancelled_id params) a i t (cond-true _ _ _ cancel) (MatchBool-at_true _ _ cancel right) reply)
     (λ other. absurd (none_some (reply_in a) (i, t) (no_reply_own (is_own method) _ _ a (MatchBool-at_false _ _ other right) refl refl) reply))
     (cases_Bool (bytes_eq method (codes "$/cancelRequest")))
 ended before (delivers (response id outcome)) a i t right reply = absurd (none_some (reply_in a) (i, t) (ap reply_in right) reply)
@@ -183,7 +181,7 @@ work_brings before (delivers (request key method params)) a id t right is =
     (cases_Bool (is_own method))
 work_brings before (delivers (notification method params)) a id t right is =
     ⊎_elim
-    (λ cancel. absurd (none_some (work_in a) (Some id, t) (no_work_cancel before (named_id params) a (MatchBool-at_true _ _ cancel right)) is))
+    (λ cancel. absurd (none_some (work_in a) (Some id, t) (no_work_cancel before (cancelled_id params) a (MatchBool-at_true _ _ cancel right)) is))
     (λ other. absurd (none_some (work_in a) (Some id, t) (no_work_own (is_own method) _ _ a (MatchBool-at_false _ _ other right) refl refl) is))
     (cases_Bool (bytes_eq method (codes "$/cancelRequest")))
 work_brings before (delivers (response key outcome)) a id t right is = absurd (none_some (work_in a) (Some id, t) (ap work_in right) is)

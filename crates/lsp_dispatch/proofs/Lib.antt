@@ -1,8 +1,7 @@
 mod Agreement
-mod Keys
 mod LawLemmas
 mod Lists
 mod Live
 mod Refused
-mod Rows
+mod Cases
 mod Runs

@@ -4,7 +4,7 @@ use Rattle.std.proofs.lemmas.List.Elements.{filter_map-append}
 use Rattle.lsp_message.specs.Id.{Id}
 use Rattle.lsp_dispatch.specs.DispatchCalls.{Call, asked_by, cancelled_by, is_finished_by, is_id, ends}
 use Rattle.lsp_dispatch.specs.Dispatch.{asked, IsLive}
-use Rattle.lsp_dispatch.proofs.Keys.{same_own}
+use Rattle.lsp_message.proofs.Ids.{same_own}
 use Rattle.lsp_dispatch.proofs.Lists.{nothing_in, split_push}
 
 -- the id of a request, as a list

@@ -1,6 +1,6 @@
 -- Answers of a dispatcher that do not reply once, whatever stands before or after them.
 use Rattle.lsp_message.specs.Id.{Id}
-use Rattle.lsp_message.specs.Message.{Message, ErrorObject, request, response}
+use Rattle.lsp_message.specs.Message.{ErrorObject, request, response}
 use Rattle.lsp_dispatch.specs.DispatchAnswers.{Answer, work, cancelled_work, finished_work}
 use Rattle.lsp_dispatch.specs.DispatchLaw.{RepliesOnce, RepliesTo, reply_in, work_in}
 use Rattle.lsp_dispatch.proofs.Lists.{nothing_in}
@@ -16,7 +16,7 @@ asking id method params ticket = work (request id method params) ticket
 abbrev done : Id → Result Data ErrorObject → ℕ → Answer
 done id outcome ticket = finished_work (response id outcome) ticket
 
--- where one answer came before, it is the work of the reply
+-- if one answer came before, it is the work of the reply
 only_one : (a : Answer) (id : Id) (ticket : ℕ) → RepliesTo (a ∷ []) id ticket → work_in a ≡ Some (Some id, ticket)
 only_one a id ticket to = at to.earlier to.asked to.since to.place to.its_work
   where

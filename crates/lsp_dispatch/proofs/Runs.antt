@@ -1,5 +1,5 @@
 -- A list of calls goes on by one.
-use Rattle.std.proofs.Common.{◌≡◌, ◌≢◌, ℕ, ◌+◌, ◌≤◌, List, [], ◌∷◌, ◌++◌, length, Option, None, Some, refl, sym, ap, ◌∙◌, subst, append_assoc, append-nil, arith, map as each}
+use Rattle.std.proofs.Common.{◌≡◌, ℕ, ◌+◌, ◌≤◌, List, [], ◌∷◌, ◌++◌, length, Option, None, Some, refl, sym, ap, ◌∙◌, subst, append_assoc, append-nil, arith, map as each}
 use Rattle.std.proofs.lemmas.List.{map-append, length-map}
 use Rattle.std.specs.FinMap as map
 use Rattle.std.specs.List.{cons_option}
@@ -11,8 +11,8 @@ use Rattle.lsp_dispatch.specs.declared.answer.Answer as code
 use Rattle.lsp_dispatch.specs.declared.calls.Call as code_call
 use Rattle.lsp_dispatch.proofs.Agreement.{Agrees}
 use Rattle.lsp_dispatch.specs.Dispatch.{asked, CallAnswer, Dispatches}
-use Rattle.lsp_dispatch.specs.DispatchTable.{Held, answered, no_work, answers_from}
-use Rattle.lsp_dispatch.proofs.Rows.{row, new_agrees}
+use Rattle.lsp_dispatch.specs.DispatchPending.{Held, answered, no_work, answers_from}
+use Rattle.lsp_dispatch.proofs.Cases.{call_case, new_agrees}
 
 dispatches_push : (start calls : List Call) (answers : List Answer) (c : Call) (a : Answer) → Dispatches start calls answers → CallAnswer (start ++ calls) c a → Dispatches start (calls ++ c ∷ []) (answers ++ a ∷ [])
 dispatches_push start [] [] c a run right = (subst (λ (l : List Call). CallAnswer l c a) (append-nil start) right, tt)
@@ -27,7 +27,7 @@ pub record Replayed (calls : List code_call.Call) (answers : List code.Answer) (
 
 pub replayed_push : (calls : List code_call.Call) (answers : List code.Answer) (old new : Held) (c : code_call.Call) (a : code.Answer) (more : List code.Answer) → Replayed calls answers old → (answer_view a, new) ≡ answered old (call_view c) → more ≡ answers ++ a ∷ [] → Replayed (calls ++ c ∷ []) more new
 replayed_push calls answers old new c a more so made pushed =
-    let r = row (each call_view calls) old so.agrees (call_view c) in
+    let r = call_case (each call_view calls) old so.agrees (call_view c) in
     let cs : each call_view calls ++ call_view c ∷ [] ≡ each call_view (calls ++ c ∷ []) = sym (map-append call_view calls (c ∷ [])) in
     let xs : each answer_view answers ++ answer_view a ∷ [] ≡ each answer_view more = sym (ap (each answer_view) pushed ∙ map-append answer_view answers (a ∷ [])) in
     record {
@@ -50,11 +50,6 @@ asked_most (c ∷ calls) = omega (arith, cons_most (asked_by c) (asked calls) (l
 pub tickets_most : (calls : List code_call.Call) (answers : List code.Answer) (held : Held) → Replayed calls answers held → count_of held ≤ length calls
 tickets_most calls answers held so = omega (arith, so.agrees.count, asked_most (each call_view calls), length-map calls call_view)
 
--- nothing is left
-pub all_taken : {X : Type 0} (xs ys zs : List X) → xs ++ ys ≡ zs → length ys ≡ 0 → xs ≡ zs
-all_taken xs [] zs same none = sym (append-nil xs) ∙ same
-all_taken xs (y ∷ ys) zs same none = absurd (omega arith)
-
 pub replayed_new : (answers : List code.Answer) (held : Held) → answers ≡ [] → held ≡ (map.empty, 0) → Replayed [] answers held
 replayed_new answers held none new = record {
   run = subst (λ (l : List code.Answer). Dispatches [] [] (each answer_view l)) (sym none) tt;
@@ -64,7 +59,7 @@ replayed_new answers held none new = record {
 -- the answers by the table are right for their places
 pub dispatches_from : (before : List Call) (held : Held) → Agrees before held → (calls : List Call) → Dispatches before calls (answers_from held calls)
 dispatches_from before held agrees [] = tt
-dispatches_from before held agrees (c ∷ calls) = let r = row before held agrees c in (r.right, dispatches_from (before ++ c ∷ []) (answered held c).1 r.agrees calls)
+dispatches_from before held agrees (c ∷ calls) = let r = call_case before held agrees c in (r.right, dispatches_from (before ++ c ∷ []) (answered held c).1 r.agrees calls)
 
 pub dispatches_all : (calls : List Call) → Dispatches [] calls (answers_from no_work calls)
 dispatches_all calls = dispatches_from [] no_work (new_agrees no_work refl) calls

@@ -5,9 +5,9 @@ use Rattle.std.specs.Str.{bytes_eq}
 use Rattle.serde_json.specs.Data.{Data}
 use Rattle.lsp_message.specs.Id.{Id}
 use Rattle.lsp_message.specs.Message.{Message, ErrorObject, request, notification, response}
-use Rattle.lsp_queue.specs.Queue.{cancelled}
+use Rattle.lsp_queue.specs.Queue.{cancelled, cancelled_id}
 use Rattle.lsp_dispatch.specs.DispatchAnswers.{Answer, unknown, work, cancelled_work, finished_work, note, nothing}
-use Rattle.lsp_dispatch.specs.DispatchCalls.{Call, delivers, finishes, is_own, named_id, not_found_reply, asked_by, ends}
+use Rattle.lsp_dispatch.specs.DispatchCalls.{Call, delivers, finishes, is_own, not_found_reply, asked_by, ends}
 
 -- the ids of the requests that these calls bring, in order: the tickets are their places, 0, 1, 2, ..
 abbrev pub asked : List Call → List Id
@@ -24,7 +24,7 @@ pub record IsLive (before : List Call) (id : Id) (ticket : ℕ) : Type 0 where
   pub brings : asked_by call ≡ Some id
   pub unended : (x y : List Call) (c : Call) → since ≡ x ++ c ∷ y → ends id ticket c ≡ false
 
--- a reply where the ticket is live, and nothing where no ticket is
+-- a reply if the ticket is live, and nothing if no ticket is
 abbrev pub CancelAnswer : List Call → Option Id → Answer → Type 0
 CancelAnswer before None answer = answer ≡ nothing
 CancelAnswer before (Some id) answer =
@@ -39,10 +39,11 @@ FinishAnswer before id ticket outcome answer =
 -- the answer to a message, after these calls
 abbrev pub DeliverAnswer : List Call → Message → Answer → Type 0
 DeliverAnswer before (request id method params) answer =
-    answer ≡ (if is_own method then unknown (not_found_reply id) else work (request id method params) (length (asked before)))
+    answer ≡ (if is_own method then unknown (not_found_reply id)
+    else work (request id method params) (length (asked before)))
 DeliverAnswer before (notification method params) answer =
     MatchBool (bytes_eq method (codes "$/cancelRequest"))
-    (CancelAnswer before (named_id params) answer)
+    (CancelAnswer before (cancelled_id params) answer)
     (answer ≡ (if is_own method then nothing else note (notification method params)))
 DeliverAnswer before (response id outcome) answer = answer ≡ nothing
 
@@ -53,7 +54,8 @@ CallAnswer before (finishes id ticket outcome) answer = FinishAnswer before id t
 -- each call, after those before it, has its answer
 abbrev pub Dispatches : List Call → List Call → List Answer → Type 0
 Dispatches before [] [] = Unit {0}
-Dispatches before (call ∷ calls) (answer ∷ answers) = CallAnswer before call answer × Dispatches (before ++ call ∷ []) calls answers
+Dispatches before (call ∷ calls) (answer ∷ answers) = CallAnswer before call answer
+    × Dispatches (before ++ call ∷ []) calls answers
 Dispatches before [] (answer ∷ answers) = ⊥
 Dispatches before (call ∷ calls) [] = ⊥
 

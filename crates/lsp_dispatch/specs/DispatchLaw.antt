@@ -36,10 +36,13 @@ pub record RepliesTo (before : List Answer) (id : Id) (ticket : ℕ) : Type 0 wh
   pub since : List Answer
   pub place : before ≡ earlier ++ asked ∷ since
   pub its_work : work_in asked ≡ Some (Some id, ticket)
-  pub once : (x y : List Answer) (a : Answer) (i : Option Id) → since ≡ x ++ a ∷ y → reply_in a ≢ Some (i, ticket)
-  pub unreplaced : (x y : List Answer) (a : Answer) (t : ℕ) → since ≡ x ++ a ∷ y → work_in a ≢ Some (Some id, t)
+  pub once : (x y : List Answer) (a : Answer) (i : Option Id) → since ≡ x ++ a ∷ y
+      → reply_in a ≢ Some (i, ticket)
+  pub unreplaced : (x y : List Answer) (a : Answer) (t : ℕ) → since ≡ x ++ a ∷ y
+      → work_in a ≢ Some (Some id, t)
 
 -- each reply among the answers
 abbrev pub RepliesOnce : List Answer → Type 0
 RepliesOnce answers = (before after : List Answer) (answer : Answer) (id : Id) (ticket : ℕ)
-    → answers ≡ before ++ answer ∷ after → reply_in answer ≡ Some (Some id, ticket) → RepliesTo before id ticket
+    → answers ≡ before ++ answer ∷ after → reply_in answer ≡ Some (Some id, ticket)
+    → RepliesTo before id ticket

@@ -3,4 +3,4 @@ pub mod DispatchAnswers
 pub mod DispatchCalls
 pub mod DispatchFaults
 pub mod DispatchLaw
-pub mod DispatchTable
+pub mod DispatchPending

@@ -4,7 +4,7 @@ ghost use Rattle.lsp_dispatch.specs.DispatchAnswers.{answer_view, call_view};
 ghost use Rattle.lsp_dispatch.specs.Dispatch.{Dispatches, AnswersEach};
 ghost use Rattle.lsp_dispatch.specs.DispatchFaults.{dispatch_fault_number};
 ghost use Rattle.lsp_dispatch.specs.DispatchLaw.{RepliesOnce};
-ghost use Rattle.lsp_dispatch.specs.DispatchTable.{answered, all_tickets};
+ghost use Rattle.lsp_dispatch.specs.DispatchPending.{answered, all_tickets};
 ghost use Rattle.lsp_queue.specs.Queue.{count_of};
 
 use crate::answer::{Answer, DispatchFault};
@@ -34,9 +34,11 @@ pub enum Call {
 /// That number is always 1, a failed allocation: no `Vec` has as many calls as there are tickets.
 pub fn replay(alloc: Global, calls: Vec<Call>) -> Result<Vec<Answer>, u8>
     // Each answer is right for its place in the list of calls.
-    ensures ok { IfOk result (λ answers. Dispatches [] (each call_view calls.items) (each answer_view answers.items)) }
+    ensures ok { IfOk result (λ answers.
+        Dispatches [] (each call_view calls.items) (each answer_view answers.items)) }
     // The same by places: there is one answer for each call, and it is what the calls before it ask for.
-    ensures places { IfOk result (λ answers. AnswersEach (each call_view calls.items) (each answer_view answers.items)) }
+    ensures places { IfOk result (λ answers.
+        AnswersEach (each call_view calls.items) (each answer_view answers.items)) }
     // Each request gets at most one reply, and none after it was replaced.
     ensures once { IfOk result (λ answers. RepliesOnce (each answer_view answers.items)) }
     // A failed allocation is the only fault.
@@ -58,7 +60,8 @@ pub fn replay(alloc: Global, calls: Vec<Call>) -> Result<Vec<Answer>, u8>
 
 /// One call. A fault is told by its number.
 fn step(dispatcher: &mut Dispatcher, call: Call) -> Result<Answer, u8>
-    ensures ok { IfOk result (λ answer. (answer_view answer, dispatcher.new) ≡ answered dispatcher.old (call_view call)) }
+    ensures ok { IfOk result (λ answer. (answer_view answer, dispatcher.new)
+        ≡ answered dispatcher.old (call_view call)) }
     ensures memory { count_of dispatcher.old ≢ all_tickets → IfErr result (λ number. number ≡ 1) }
 {
     match call {

@@ -4,16 +4,15 @@ ghost use Rattle.std.specs.FinMap as map;
 ghost use Rattle.serde_json.specs.View.{view};
 ghost use Rattle.lsp_message.specs.Id.{Id};
 ghost use Rattle.lsp_message.specs.View.{request_view, notification_view, response_view, message_view, outcome_view};
-ghost use Rattle.lsp_queue.specs.Queue.{pending_of, count_of};
+ghost use Rattle.lsp_queue.specs.Queue.{cancelled_id, pending_of, count_of};
 ghost use Rattle.lsp_dispatch.specs.DispatchAnswers.{answer_view};
-ghost use Rattle.lsp_dispatch.specs.DispatchCalls.{asked_in, not_found_reply, named_id as named_spec};
-ghost use Rattle.lsp_dispatch.specs.DispatchTable.{delivered, cancelling, finished, all_tickets, is_pending_with as pending_with};
+ghost use Rattle.lsp_dispatch.specs.DispatchCalls.{asked_in, not_found_reply, is_own as own_spec};
+ghost use Rattle.lsp_dispatch.specs.DispatchPending.{delivered, cancelling, finished, all_tickets, is_pending_with as pending_with};
 ghost use Rattle.lsp_dispatch.specs.DispatchFaults.{handed_back, IsSpent};
 
 use crate::answer::{Answer, DispatchFault};
-use crate::params::{is_own, named_id};
 use lsp_message::{Message, Notification, Request, RequestId, Response, ResponseError};
-use lsp_queue::ReqQueue;
+use lsp_queue::{ReqQueue, id_to_cancel};
 use serde_json::Value;
 use std::alloc::{AllocError, Global};
 use std::marker::Model;
@@ -37,7 +36,7 @@ impl Model for Dispatcher {
     ghost use Rattle.std.specs.Coded.{coded×, coded_ℕ};
     ghost use Rattle.std.specs.FinMap as map;
     ghost use Rattle.lsp_message.specs.IdKeys.{coded_id};
-    ghost use Rattle.lsp_dispatch.specs.DispatchTable.{Held};
+    ghost use Rattle.lsp_dispatch.specs.DispatchPending.{Held};
 
     ghost Value = { Held };
 
@@ -86,11 +85,14 @@ impl Dispatcher {
     /// A good id is a text, or a whole number that fits an `i32`. `DispatchFault::Memory` means that an allocation failed, and
     /// `DispatchFault::Spent` that no ticket is left for the request. Both give the message back, and nothing has changed.
     pub fn deliver(&mut self, message: Message) -> Result<Answer, DispatchFault>
-        ensures ok { IfOk result (λ answer. (answer_view answer, self.new) ≡ delivered self.old (message_view message)) }
+        ensures ok { IfOk result (λ answer.
+            (answer_view answer, self.new) ≡ delivered self.old (message_view message)) }
         ensures err { OnErr result (self.new ≡ self.old) }
         ensures handed_back { IfErr result (λ fault. handed_back fault ≡ message) }
         ensures spent { IfErr result (λ fault. IsSpent fault → count_of self.old ≡ all_tickets) }
-        ensures full { (id : Id) → count_of self.old ≡ all_tickets → asked_in (message_view message) ≡ Some id → result ≡ Err (DispatchFault.Spent message) }
+        ensures full { (id : Id) → count_of self.old ≡ all_tickets
+            → asked_in (message_view message) ≡ Some id
+            → result ≡ Err (DispatchFault.Spent message) }
     {
         match message {
             Message::Request(request) => self.deliver_request(request),
@@ -100,11 +102,14 @@ impl Dispatcher {
     }
 
     fn deliver_request(&mut self, request: Request) -> Result<Answer, DispatchFault>
-        ensures ok { IfOk result (λ answer. (answer_view answer, self.new) ≡ delivered self.old (request_view request)) }
+        ensures ok { IfOk result (λ answer.
+            (answer_view answer, self.new) ≡ delivered self.old (request_view request)) }
         ensures err { OnErr result (self.new ≡ self.old) }
         ensures handed_back { IfErr result (λ fault. handed_back fault ≡ Message.Request request) }
         ensures spent { IfErr result (λ fault. IsSpent fault → count_of self.old ≡ all_tickets) }
-        ensures full { (id : Id) → count_of self.old ≡ all_tickets → asked_in (request_view request) ≡ Some id → result ≡ Err (DispatchFault.Spent (Message.Request request)) }
+        ensures full { (id : Id) → count_of self.old ≡ all_tickets
+            → asked_in (request_view request) ≡ Some id
+            → result ≡ Err (DispatchFault.Spent (Message.Request request)) }
     {
         if is_own(request.method.as_str()) {
             return match not_found(self.alloc, &request.id) {
@@ -127,7 +132,8 @@ impl Dispatcher {
 
     /// Makes a request pending with this ticket.
     fn keep(&mut self, id: &RequestId, ticket: u64) -> Result<(), AllocError>
-        ensures ok { IfOk result (λ _. self.new ≡ (map.insert (pending_of self.old) id.now ticket, count_of self.old)) }
+        ensures ok { IfOk result (λ _.
+            self.new ≡ (map.insert (pending_of self.old) id.now ticket, count_of self.old)) }
         ensures err { OnErr result (self.new ≡ self.old) }
     {
         let id = id.clone()?;
@@ -138,9 +144,11 @@ impl Dispatcher {
     }
 
     fn deliver_notification(&mut self, notification: Notification) -> Result<Answer, DispatchFault>
-        ensures ok { IfOk result (λ answer. (answer_view answer, self.new) ≡ delivered self.old (notification_view notification)) }
+        ensures ok { IfOk result (λ answer.
+            (answer_view answer, self.new) ≡ delivered self.old (notification_view notification)) }
         ensures err { OnErr result (self.new ≡ self.old) }
-        ensures handed_back { IfErr result (λ fault. fault ≡ DispatchFault.Memory (Message.Notification notification)) }
+        ensures handed_back { IfErr result (λ fault.
+            fault ≡ DispatchFault.Memory (Message.Notification notification)) }
     {
         if notification.method.as_str() == "$/cancelRequest" {
             return match self.cancel(&notification.params) {
@@ -154,12 +162,13 @@ impl Dispatcher {
         Ok(Answer::Note(notification))
     }
 
-    /// Cancels the request that the params name, where it is pending.
+    /// Cancels the request that the params name, if it is pending.
     fn cancel(&mut self, params: &Value) -> Result<Answer, AllocError>
-        ensures ok { IfOk result (λ answer. (answer_view answer, self.new) ≡ cancelling self.old (named_spec (view params.now))) }
+        ensures ok { IfOk result (λ answer.
+            (answer_view answer, self.new) ≡ cancelling self.old (cancelled_id (view params.now))) }
         ensures err { OnErr result (self.new ≡ self.old) }
     {
-        let Some(id) = named_id(params)? else {
+        let Some(id) = id_to_cancel(params)? else {
             return Ok(Answer::Nothing);
         };
         let Some(ticket) = self.ticket_of(&id) else {
@@ -179,7 +188,8 @@ impl Dispatcher {
         ticket: u64,
         outcome: Result<Value, ResponseError>,
     ) -> Answer
-        ensures { (answer_view result, self.new) ≡ finished self.old id ticket (outcome_view outcome) }
+        ensures { (answer_view result, self.new)
+            ≡ finished self.old id ticket (outcome_view outcome) }
     {
         if !self.is_pending_with(&id, ticket) {
             return Answer::Nothing;
@@ -207,4 +217,11 @@ fn not_found(alloc: Global, id: &RequestId) -> Result<Response, AllocError>
     ensures { IfOk result (λ reply. response_view reply ≡ not_found_reply id.now) }
 {
     Response::method_not_found(alloc, id.clone()?)
+}
+
+/// Whether the method is one of the protocol's own, whose names begin with `$/`.
+fn is_own(method: &str) -> bool
+    ensures { result ≡ own_spec method.now }
+{
+    method.starts_with("$/")
 }

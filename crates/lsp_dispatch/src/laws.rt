@@ -3,7 +3,7 @@ ghost use Rattle.std.specs.Prelude.{List, []};
 ghost use Rattle.lsp_dispatch.specs.DispatchCalls.{Call};
 ghost use Rattle.lsp_dispatch.specs.Dispatch.{Dispatches};
 ghost use Rattle.lsp_dispatch.specs.DispatchLaw.{RepliesOnce};
-ghost use Rattle.lsp_dispatch.specs.DispatchTable.{answers_from, no_work};
+ghost use Rattle.lsp_dispatch.specs.DispatchPending.{answers_from, no_work};
 
 /// Whatever calls are made on a new dispatcher: each answer is right for its place, and each request gets at most one reply,
 /// and none after it was replaced.

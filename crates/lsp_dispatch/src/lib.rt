@@ -6,7 +6,6 @@ mod answer;
 mod calls;
 mod dispatcher;
 pub mod laws;
-mod params;
 
 pub use answer::{Answer, DispatchFault};
 pub use calls::{Call, replay};

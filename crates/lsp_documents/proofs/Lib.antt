@@ -1,2 +1,2 @@
-pub mod SessionLemmas
+pub mod NoticeLemmas
 pub mod Refused

@@ -10,7 +10,7 @@ use Rattle.lsp_documents.specs.declared.kept.Open.TheVariants.{Known, Lost}
 use Rattle.lsp_documents.specs.declared.fault.DocumentFault.{DocumentFault}
 use Rattle.lsp_documents.specs.declared.fault.DocumentFault.TheVariants.{OutOfStep, Memory}
 use Rattle.lsp_documents.specs.declared.fault.Remark.TheVariants.{OpenAlready}
-use Rattle.lsp_documents.specs.Session.{Event, Event.opened, Event.changed, Event.saved, Event.closed, Notice, Sent.made, Sent.unmade, Sent.unread, Documents, Takes, Took, Refused, after, missed, changed_in, change_fault, fault_of, needs_memory, remark_of, has_whole, has_changes, shown, opens, edits, saves, closes, document}
+use Rattle.lsp_documents.specs.Notices.{NoticeKind, NoticeKind.opened, NoticeKind.changed, NoticeKind.saved, NoticeKind.closed, Notice, Sent.made, Sent.unmade, Sent.unread, Documents, Takes, Took, Refused, after, missed, changed_in, change_fault, fault_of, needs_memory, remark_of, has_whole, has_changes, shown, opens, edits, saves, closes, document}
 
 never : {P : Type 0} → false ≡ true → P
 never h = grind (arith, h)
@@ -80,7 +80,7 @@ no_memory_lost : (w : Bool) → (if w then None else Some OutOfStep) ≡ Some Me
 no_memory_lost true h = grind (arith, h)
 no_memory_lost false h = grind (arith, h)
 
-no_memory : (before : Option Open) (event : Event) → fault_of before event ≡ Some Memory → ⊥
+no_memory : (before : Option Open) (kind : NoticeKind) → fault_of before kind ≡ Some Memory → ⊥
 no_memory before (opened d) h = grind (arith, h)
 no_memory None (changed version list) h = grind (arith, h)
 no_memory (Some (Known d)) (changed version list) h = grind (arith, h)
@@ -91,8 +91,8 @@ no_memory None closed h = grind (arith, h)
 no_memory (Some o) closed h = grind (arith, h)
 
 -- `Memory` from a call that takes no memory
-needless : (before now : Documents) (n : Notice) → needs_memory (before.held n.uri) n.event ≡ false → Refused before n Memory now → ⊥
-needless before now n h (inl f) = no_memory (before.held n.uri) n.event f.0
+needless : (before now : Documents) (n : Notice) → needs_memory (before.held n.uri) n.kind ≡ false → Refused before n Memory now → ⊥
+needless before now n h (inl f) = no_memory (before.held n.uri) n.kind f.0
 needless before now n h (inr s) = never (sym h ∙ s.needed)
 
 -- so at a close, at a save without a text, and at no changes
@@ -110,11 +110,11 @@ unchanged_memory : (before now : Documents) (uri : List ℕ) (version : Option �
 unchanged_memory before now uri version h = needless before now (edits uri version []) (without_changes (before.held uri) version) h
 
 -- `Memory` in the place of another fault
-right_memory : (before now : Documents) (n : Notice) (fault : DocumentFault) → fault_of (before.held n.uri) n.event ≡ Some fault → Refused before n Memory now → ⊥
-right_memory before now n fault w (inl f) = no_memory (before.held n.uri) n.event f.0
+right_memory : (before now : Documents) (n : Notice) (fault : DocumentFault) → fault_of (before.held n.uri) n.kind ≡ Some fault → Refused before n Memory now → ⊥
+right_memory before now n fault w (inl f) = no_memory (before.held n.uri) n.kind f.0
 right_memory before now n fault w (inr s) = never (ap is_some (sym s.right ∙ w))
 
 -- `Memory`, and a text that is shown
 memory_shown : (before now : Documents) (n : Notice) (d : Document) → Refused before n Memory now → now.held n.uri ≡ Some (Known d) → ⊥
-memory_shown before now n d (inl f) k = no_memory (before.held n.uri) n.event f.0
+memory_shown before now n d (inl f) k = no_memory (before.held n.uri) n.kind f.0
 memory_shown before now n d (inr s) k = never (sym (missed_shows (before.held n.uri)) ∙ ap shows (sym s.misses.own ∙ k))

@@ -3,7 +3,7 @@ use Rattle.std.specs.Prelude.{ℕ, Bool, not, ◌&&◌, is_some, List, Option, S
 use Rattle.std.specs.List.{list_any}
 use Rattle.std.specs.BTreeMap.{get_by_text, values}
 use Rattle.lsp_documents.specs.declared.documents.TextDocuments.{TextDocuments}
-use Rattle.lsp_documents.specs.Session.{Documents, shown, is_known}
+use Rattle.lsp_documents.specs.Notices.{Documents, shown, is_known}
 
 abbrev pub documents_of : TextDocuments → Documents
 documents_of t = record { encoding = t.encoding; held = λ uri. get_by_text t.documents uri }
@@ -12,7 +12,8 @@ documents_of t = record { encoding = t.encoding; held = λ uri. get_by_text t.do
 abbrev pub has_known : TextDocuments → Bool
 has_known t = list_any (λ o. is_some (shown o)) (values t.documents)
 
--- whether a text was known that is lost now: the one of the URI that is named, or where none is named any of them
+-- whether a text was known that is lost now: the one of the URI that is named, or if none is named any of them
 abbrev pub loses : TextDocuments → Option (List ℕ) → TextDocuments → Bool
 loses before None now = has_known before
-loses before (Some uri) now = is_known (documents_of before) uri && not (is_known (documents_of now) uri)
+loses before (Some uri) now =
+    is_known (documents_of before) uri && not (is_known (documents_of now) uri)

@@ -1,4 +1,4 @@
 pub mod Params
-pub mod Session
+pub mod Notices
 pub mod Fault
 pub mod Held

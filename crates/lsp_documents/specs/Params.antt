@@ -10,7 +10,7 @@ use Rattle.lsp_text.specs.declared.position.Position.{Position}
 use Rattle.lsp_text.specs.declared.position.Range.{Range}
 use Rattle.lsp_text.specs.declared.position.PositionEncoding.{PositionEncoding}
 use Rattle.lsp_text.specs.declared.position.PositionEncoding.TheVariants.{Utf8, Utf16, Utf32}
-use Rattle.lsp_documents.specs.Session.{Notice, document, opens, edits, saves, closes}
+use Rattle.lsp_documents.specs.Notices.{Notice, document, opens, edits, saves, closes}
 
 -- ---- members
 
@@ -22,11 +22,14 @@ abbrev pub small : ℕ → Option ℕ
 small n = if nat_lt n 0x1_0000_0000 then Some n else None
 
 abbrev pub count_in : List ℕ → Data → Option ℕ
-count_in name d = option_and_then small (option_and_then as_u64 (option_and_then as_number (get name d)))
+count_in name d =
+    option_and_then small (option_and_then as_u64 (option_and_then as_number (get name d)))
 
 -- whether a number is an integer below 0, if the value is one
 abbrev pub is_negative : Option Data → Bool
-is_negative d = unwrap_or (option_map (λ z. int_lt z (pos 0)) (option_and_then as_i64 (option_and_then as_number d))) false
+is_negative d =
+    unwrap_or (option_map (λ z. int_lt z (pos 0))
+    (option_and_then as_i64 (option_and_then as_number d))) false
 
 -- the line of a position: a negative one counts as 0
 abbrev pub line_in : Data → Option ℕ
@@ -44,10 +47,16 @@ version_in d = given_version (get (codes "version") d)
 -- ---- changes
 
 abbrev pub position_in : Data → Option Position
-position_in d = option_and_then (λ line. option_map (λ character. record { line = line; character = character }) (count_in (codes "character") d)) (line_in d)
+position_in d =
+    option_and_then (λ line.
+    option_map (λ character. record { line = line; character = character })
+    (count_in (codes "character") d)) (line_in d)
 
 abbrev pub range_in : Data → Option Range
-range_in d = option_and_then (λ start. option_map (λ end. record { start = start; end = end }) (option_and_then position_in (get (codes "end") d))) (option_and_then position_in (get (codes "start") d))
+range_in d = option_and_then (λ start.
+    option_map (λ end. record { start = start; end = end })
+    (option_and_then position_in (get (codes "end") d)))
+    (option_and_then position_in (get (codes "start") d))
 
 -- the range of a change. None may be given, and `null` is none
 abbrev pub given_range : Option Data → Option (Option Range)
@@ -56,11 +65,15 @@ given_range (Some null) = Some None
 given_range (Some d) = option_map Some (range_in d)
 
 abbrev pub change_in : Data → Option Change
-change_in d = option_and_then (λ text. option_map (λ range. record { range = range; text = text }) (given_range (get (codes "range") d))) (text_in (codes "text") d)
+change_in d =
+    option_and_then (λ text.
+    option_map (λ range. record { range = range; text = text })
+    (given_range (get (codes "range") d))) (text_in (codes "text") d)
 
 abbrev pub changes_in : Items → Option (List Change)
 changes_in no_items = Some []
-changes_in (item d ds) = option_and_then (λ c. option_map (λ cs. c ∷ cs) (changes_in ds)) (change_in d)
+changes_in (item d ds) =
+    option_and_then (λ c. option_map (λ cs. c ∷ cs) (changes_in ds)) (change_in d)
 
 -- ---- params
 
@@ -72,19 +85,29 @@ uri_in params = option_and_then (text_in (codes "uri")) (document_in params)
 
 -- the document that `textDocument/didOpen` tells of
 abbrev pub item_in : Data → Option Document
-item_in d = option_and_then (λ language_id. option_and_then (λ version. option_map (document language_id version) (text_in (codes "text") d)) (version_in d)) (text_in (codes "languageId") d)
+item_in d = option_and_then (λ language_id.
+    option_and_then (λ version.
+    option_map (document language_id version) (text_in (codes "text") d)) (version_in d))
+    (text_in (codes "languageId") d)
 
 abbrev pub opened_in : Data → Option Document
 opened_in params = option_and_then item_in (document_in params)
 
 abbrev pub did_open_in : Data → Option Notice
-did_open_in params = option_and_then (λ uri. option_map (λ d. opens uri d.language_id d.version d.text) (opened_in params)) (uri_in params)
+did_open_in params =
+    option_and_then (λ uri.
+    option_map (λ d. opens uri d.language_id d.version d.text) (opened_in params))
+    (uri_in params)
 
 abbrev pub changes_given : Data → Option (List Change)
-changes_given params = option_and_then changes_in (option_and_then as_array (get (codes "contentChanges") params))
+changes_given params =
+    option_and_then changes_in (option_and_then as_array (get (codes "contentChanges") params))
 
 abbrev pub did_change_in : Data → Option Notice
-did_change_in params = option_and_then (λ uri. option_and_then (λ version. option_map (edits uri version) (changes_given params)) (option_and_then version_in (document_in params))) (uri_in params)
+did_change_in params =
+    option_and_then (λ uri.
+    option_and_then (λ version. option_map (edits uri version) (changes_given params))
+    (option_and_then version_in (document_in params))) (uri_in params)
 
 abbrev pub did_save_in : Data → Option Notice
 did_save_in params = option_map (λ uri. saves uri (text_in (codes "text") params)) (uri_in params)
@@ -96,16 +119,22 @@ did_close_in params = option_map closes (uri_in params)
 
 abbrev pub encoding_named : List ℕ → Option PositionEncoding
 encoding_named name =
-    if bytes_eq name (codes "utf-8") then Some Utf8 else (if bytes_eq name (codes "utf-16") then Some Utf16 else (if bytes_eq name (codes "utf-32") then Some Utf32 else None))
+    if bytes_eq name (codes "utf-8") then Some Utf8
+    else (if bytes_eq name (codes "utf-16") then Some Utf16
+    else (if bytes_eq name (codes "utf-32") then Some Utf32 else None))
 
 -- the first of the encodings that is one of the three
 abbrev pub first_named : Items → Option PositionEncoding
 first_named no_items = None
-first_named (item d ds) = if is_some (option_and_then encoding_named (as_str d)) then option_and_then encoding_named (as_str d) else first_named ds
+first_named (item d ds) = if is_some (option_and_then encoding_named (as_str d))
+    then option_and_then encoding_named (as_str d) else first_named ds
 
 abbrev pub offered_in : Data → Option Items
-offered_in params = option_and_then as_array (option_and_then (get (codes "positionEncodings")) (option_and_then (get (codes "general")) (get (codes "capabilities") params)))
+offered_in params =
+    option_and_then as_array
+    (option_and_then (get (codes "positionEncodings"))
+    (option_and_then (get (codes "general")) (get (codes "capabilities") params)))
 
--- the encoding that is agreed on: UTF-16 where the client offers none of the three
+-- the encoding that is agreed on: UTF-16 if the client offers none of the three
 abbrev pub agreed_in : Data → PositionEncoding
 agreed_in params = unwrap_or (option_and_then first_named (offered_in params)) Utf16

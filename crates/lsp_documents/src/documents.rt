@@ -4,7 +4,7 @@ ghost use Rattle.std.specs.Option.{option_copied};
 ghost use Rattle.std.specs.Str.{bytes_eq};
 ghost use Rattle.serde_json.specs.View.{view};
 ghost use Rattle.lsp_documents.specs.Held.{documents_of, has_known, loses};
-ghost use Rattle.lsp_documents.specs.Session.{document, opens, edits, closes, saves, shown, lost, missed, is_not_higher as not_higher, changed_in, saved_in, change_fault, has_whole as has_whole_text, has_changes, is_known, MissesAll, Took, Refused, Failed, FailedSave};
+ghost use Rattle.lsp_documents.specs.Notices.{document, opens, edits, closes, saves, shown, lost, missed, is_not_higher as not_higher, changed_in, saved_in, change_fault, has_whole as has_whole_text, has_changes, is_known, MissesAll, Took, Refused, Failed, FailedSave};
 ghost use Rattle.lsp_documents.specs.declared.kept.Open.TheVariants.{Known};
 ghost use Rattle.lsp_documents.specs.declared.fault.DocumentFault.TheVariants.{Params};
 ghost use Rattle.lsp_documents.specs.Params.{uri_in, did_open_in, did_change_in, did_save_in, did_close_in};
@@ -20,7 +20,7 @@ use std::collections::BTreeMap;
 use std::collections::btree_map::Iter;
 use std::mem;
 
-/// The documents that a client has opened, by their URIs. Two URIs are the same where they are the same text. Where something that
+/// The documents that a client has opened, by their URIs. Two URIs are the same if they are the same text. If something that
 /// the client told of a document was missed, its text is lost, and not to be had until the client tells it whole. Contracts see
 /// the encoding that was agreed on, and what is kept of each URI.
 ///
@@ -52,9 +52,10 @@ impl TextDocuments {
         self.encoding
     }
 
-    /// The document of a URI, where it is open and its text is known.
+    /// The document of a URI, if it is open and its text is known.
     pub fn get(&self, uri: &str) -> Option<&TextDocument>
-        ensures { option_copied result ≡ option_and_then shown ((documents_of self.now).held uri.now) }
+        ensures { option_copied result
+            ≡ option_and_then shown ((documents_of self.now).held uri.now) }
     {
         self.documents.get(uri)?.document()
     }
@@ -89,7 +90,7 @@ impl TextDocuments {
             .any(|open| open.document().is_some())
     }
 
-    /// Opens a document. Where the URI has one already, this one takes its place, and the remark is `OpenAlready`. Where memory
+    /// Opens a document. If the URI has one already, this one takes its place, and the remark is `OpenAlready`. If memory
     /// runs out, the text of the one that it had is lost.
     pub fn open(
         &mut self,
@@ -98,8 +99,12 @@ impl TextDocuments {
         version: Option<i32>,
         text: &str,
     ) -> Result<Option<Remark>, DocumentFault>
-        ensures ok { IfOk result (λ remark. Took (documents_of self.old) (opens uri.now language_id.now version text.now) remark (documents_of self.new)) }
-        ensures err { IfErr result (λ fault. Refused (documents_of self.old) (opens uri.now language_id.now version text.now) fault (documents_of self.new)) }
+        ensures ok { IfOk result (λ remark.
+            Took (documents_of self.old) (opens uri.now language_id.now version text.now) remark
+            (documents_of self.new)) }
+        ensures err { IfErr result (λ fault.
+            Refused (documents_of self.old) (opens uri.now language_id.now version text.now) fault
+            (documents_of self.new)) }
     {
         let remark = if self.documents.contains_key(uri) {
             Some(Remark::OpenAlready)
@@ -115,7 +120,7 @@ impl TextDocuments {
         }
     }
 
-    /// Puts the document of a URI in. Where memory runs out, nothing is changed.
+    /// Puts the document of a URI in. If memory runs out, nothing is changed.
     fn insert(
         &mut self,
         uri: &str,
@@ -123,9 +128,12 @@ impl TextDocuments {
         version: Option<i32>,
         text: &str,
     ) -> Result<(), AllocError>
-        ensures own { OnOk result ((documents_of self.new).held uri.now ≡ Some (Known (document language_id.now version text.now))) }
-        ensures others { OnOk result ((q : List ℕ) → bytes_eq q uri.now ≡ false → (documents_of self.new).held q ≡ (documents_of self.old).held q) }
-        ensures err { OnErr result ((q : List ℕ) → (documents_of self.new).held q ≡ (documents_of self.old).held q) }
+        ensures own { OnOk result ((documents_of self.new).held uri.now
+            ≡ Some (Known (document language_id.now version text.now))) }
+        ensures others { OnOk result ((q : List ℕ) → bytes_eq q uri.now ≡ false
+            → (documents_of self.new).held q ≡ (documents_of self.old).held q) }
+        ensures err { OnErr result ((q : List ℕ)
+            → (documents_of self.new).held q ≡ (documents_of self.old).held q) }
         ensures encoding { self.new.encoding ≡ self.old.encoding }
     {
         let document = TextDocument::new(self.alloc, language_id, version, text)?;
@@ -151,9 +159,9 @@ impl TextDocuments {
         }
     }
 
-    /// Makes the changes of one notification in a document, each in the text that the one before it left. Where the version is
+    /// Makes the changes of one notification in a document, each in the text that the one before it left. If the version is
     /// the document's or a lower one the remark is `VersionNotHigher`. Without a document of the URI the fault is `NotOpen`, and
-    /// `OutOfStep` where its text is lost and no change is of the whole text: nothing is changed then. Where memory runs out, the
+    /// `OutOfStep` if its text is lost and no change is of the whole text: nothing is changed then. If memory runs out, the
     /// text is lost. Without a change no memory is needed.
     pub fn change(
         &mut self,
@@ -161,8 +169,12 @@ impl TextDocuments {
         version: Option<i32>,
         changes: &[ContentChange],
     ) -> Result<Option<Remark>, DocumentFault>
-        ensures ok { IfOk result (λ remark. Took (documents_of self.old) (edits uri.now version changes.now) remark (documents_of self.new)) }
-        ensures err { IfErr result (λ fault. Refused (documents_of self.old) (edits uri.now version changes.now) fault (documents_of self.new)) }
+        ensures ok { IfOk result (λ remark.
+            Took (documents_of self.old) (edits uri.now version changes.now) remark
+            (documents_of self.new)) }
+        ensures err { IfErr result (λ fault.
+            Refused (documents_of self.old) (edits uri.now version changes.now) fault
+            (documents_of self.new)) }
     {
         if let Some(fault) = self.refusal(uri, has_whole(changes)) {
             return Err(fault);
@@ -176,9 +188,11 @@ impl TextDocuments {
         Ok(remark)
     }
 
-    /// The version of a document whose text is known, where it has one.
+    /// The version of a document whose text is known, if it has one.
     fn version_of(&self, uri: &str) -> Option<i32>
-        ensures { result ≡ option_and_then (λ d. d.version) (option_and_then shown ((documents_of self.now).held uri.now)) }
+        ensures { result
+            ≡ option_and_then (λ d. d.version)
+            (option_and_then shown ((documents_of self.now).held uri.now)) }
     {
         self.get(uri)?.version()
     }
@@ -191,11 +205,17 @@ impl TextDocuments {
         version: Option<i32>,
         changes: &[ContentChange],
     ) -> Result<(), AllocError>
-        requires { change_fault ((documents_of self.old).held uri.now) (has_whole_text changes.now) ≡ None }
-        ensures own { OnOk result ((documents_of self.new).held uri.now ≡ option_map (λ o. changed_in self.old.encoding o version changes.now) ((documents_of self.old).held uri.now)) }
-        ensures err { OnErr result ((documents_of self.new).held uri.now ≡ missed ((documents_of self.old).held uri.now)) }
-        ensures needed { OnErr result (is_some ((documents_of self.old).held uri.now) && has_changes changes.now ≡ true) }
-        ensures others { (q : List ℕ) → bytes_eq q uri.now ≡ false → (documents_of self.new).held q ≡ (documents_of self.old).held q }
+        requires { change_fault ((documents_of self.old).held uri.now) (has_whole_text changes.now)
+            ≡ None }
+        ensures own { OnOk result ((documents_of self.new).held uri.now
+            ≡ option_map (λ o. changed_in self.old.encoding o version changes.now)
+            ((documents_of self.old).held uri.now)) }
+        ensures err { OnErr result ((documents_of self.new).held uri.now
+            ≡ missed ((documents_of self.old).held uri.now)) }
+        ensures needed { OnErr result (is_some ((documents_of self.old).held uri.now)
+            && has_changes changes.now ≡ true) }
+        ensures others { (q : List ℕ) → bytes_eq q uri.now ≡ false
+            → (documents_of self.new).held q ≡ (documents_of self.old).held q }
         ensures encoding { self.new.encoding ≡ self.old.encoding }
     {
         if let Some(open) = self.documents.get_mut(uri) {
@@ -207,8 +227,10 @@ impl TextDocuments {
     /// Makes the text of the document of a URI unknown, if there is one: something that the client told of it was missed. It comes
     /// back by a `didOpen`, by a change of the whole text, or by the text of a `didSave`.
     pub fn lose(&mut self, uri: &str)
-        ensures own { (documents_of self.new).held uri.now ≡ missed ((documents_of self.old).held uri.now) }
-        ensures others { (q : List ℕ) → bytes_eq q uri.now ≡ false → (documents_of self.new).held q ≡ (documents_of self.old).held q }
+        ensures own { (documents_of self.new).held uri.now
+            ≡ missed ((documents_of self.old).held uri.now) }
+        ensures others { (q : List ℕ) → bytes_eq q uri.now ≡ false
+            → (documents_of self.new).held q ≡ (documents_of self.old).held q }
         ensures encoding { self.new.encoding ≡ self.old.encoding }
     {
         if let Some(open) = self.documents.get_mut(uri) {
@@ -220,7 +242,8 @@ impl TextDocuments {
     /// reads on after a body which is no message, the server is woken for each such body, and its `woken` calls this: nobody knows
     /// which document the body named.
     pub fn lose_all(&mut self)
-        ensures held { (q : List ℕ) → (documents_of self.new).held q ≡ missed ((documents_of self.old).held q) }
+        ensures held { (q : List ℕ)
+            → (documents_of self.new).held q ≡ missed ((documents_of self.old).held q) }
         ensures encoding { self.new.encoding ≡ self.old.encoding }
     {
         let alloc = self.alloc;
@@ -230,11 +253,15 @@ impl TextDocuments {
         });
     }
 
-    /// Hears that a document was saved. A text that is given is taken only where the document's own is lost. Without a document of
-    /// the URI the fault is `NotOpen`, and nothing is changed. Where memory runs out, the text stays lost.
+    /// Hears that a document was saved. A text that is given is taken only if the document's own is lost. Without a document of
+    /// the URI the fault is `NotOpen`, and nothing is changed. If memory runs out, the text stays lost.
     pub fn save(&mut self, uri: &str, text: Option<&str>) -> Result<(), DocumentFault>
-        ensures ok { OnOk result (Took (documents_of self.old) (saves uri.now (option_map (λ s. s.now) text.entry)) None (documents_of self.new)) }
-        ensures err { IfErr result (λ fault. Refused (documents_of self.old) (saves uri.now (option_map (λ s. s.now) text.entry)) fault (documents_of self.new)) }
+        ensures ok { OnOk result
+            (Took (documents_of self.old) (saves uri.now (option_map (λ s. s.now) text.entry)) None
+            (documents_of self.new)) }
+        ensures err { IfErr result (λ fault.
+            Refused (documents_of self.old) (saves uri.now (option_map (λ s. s.now) text.entry))
+            fault (documents_of self.new)) }
     {
         if !self.documents.contains_key(uri) {
             return Err(DocumentFault::NotOpen);
@@ -247,10 +274,14 @@ impl TextDocuments {
 
     /// Puts a text into the document of a URI, if there is one whose text is lost.
     fn renew(&mut self, uri: &str, text: &str) -> Result<(), AllocError>
-        ensures own { OnOk result ((documents_of self.new).held uri.now ≡ option_map (λ o. saved_in o text.now) ((documents_of self.old).held uri.now)) }
-        ensures err { OnErr result ((documents_of self.new).held uri.now ≡ (documents_of self.old).held uri.now) }
-        ensures lost { OnErr result (option_and_then shown ((documents_of self.old).held uri.now) ≡ None) }
-        ensures others { (q : List ℕ) → bytes_eq q uri.now ≡ false → (documents_of self.new).held q ≡ (documents_of self.old).held q }
+        ensures own { OnOk result ((documents_of self.new).held uri.now
+            ≡ option_map (λ o. saved_in o text.now) ((documents_of self.old).held uri.now)) }
+        ensures err { OnErr result ((documents_of self.new).held uri.now
+            ≡ (documents_of self.old).held uri.now) }
+        ensures lost { OnErr result (option_and_then shown ((documents_of self.old).held uri.now)
+            ≡ None) }
+        ensures others { (q : List ℕ) → bytes_eq q uri.now ≡ false
+            → (documents_of self.new).held q ≡ (documents_of self.old).held q }
         ensures encoding { self.new.encoding ≡ self.old.encoding }
     {
         if let Some(open) = self.documents.get_mut(uri) {
@@ -261,8 +292,10 @@ impl TextDocuments {
 
     /// Closes a document. Without one of the URI the fault is `NotOpen`.
     pub fn close(&mut self, uri: &str) -> Result<(), DocumentFault>
-        ensures ok { OnOk result (Took (documents_of self.old) (closes uri.now) None (documents_of self.new)) }
-        ensures err { IfErr result (λ fault. Refused (documents_of self.old) (closes uri.now) fault (documents_of self.new)) }
+        ensures ok { OnOk result
+            (Took (documents_of self.old) (closes uri.now) None (documents_of self.new)) }
+        ensures err { IfErr result (λ fault.
+            Refused (documents_of self.old) (closes uri.now) fault (documents_of self.new)) }
     {
         match self.remove(uri) {
             Some(_) => Ok(()),
@@ -274,20 +307,27 @@ impl TextDocuments {
     fn remove(&mut self, uri: &str) -> Option<Open>
         ensures value { result ≡ (documents_of self.old).held uri.now }
         ensures own { (documents_of self.new).held uri.now ≡ None }
-        ensures others { (q : List ℕ) → bytes_eq q uri.now ≡ false → (documents_of self.new).held q ≡ (documents_of self.old).held q }
+        ensures others { (q : List ℕ) → bytes_eq q uri.now ≡ false
+            → (documents_of self.new).held q ≡ (documents_of self.old).held q }
         ensures encoding { self.new.encoding ≡ self.old.encoding }
     {
         self.documents.remove(uri)
     }
 
     /// Opens the document that the params of `textDocument/didOpen` tell of (LSP 3.17, `DidOpenTextDocumentParams`), as `open` does.
-    /// Where they are of another shape the fault is `Params`, and the text of the URI that they name is lost. Where they name none
+    /// If they are of another shape the fault is `Params`, and the text of the URI that they name is lost. If they name none
     /// that is each text.
     pub fn did_open<'v>(&mut self, params: &'v Value) -> Result<Made<'v>, NotMade<'v>>
-        ensures ok { IfOk result (λ m. IsSomeAnd (did_open_in (view params.now)) (λ n. (m.uri.now ≡ n.uri) × Took (documents_of self.old) n m.remark (documents_of self.new))) }
-        ensures err { IfErr result (λ m. Failed (documents_of self.old) (did_open_in (view params.now)) (uri_in (view params.now)) m.fault (documents_of self.new)) }
-        ensures named { IfErr result (λ m. option_map (λ s. s.now) m.uri ≡ uri_in (view params.now)) }
-        ensures lost { IfErr result (λ m. m.lost ≡ loses self.old (uri_in (view params.now)) self.new) }
+        ensures ok { IfOk result (λ m.
+            IsSomeAnd (did_open_in (view params.now)) (λ n. (m.uri.now ≡ n.uri)
+            × Took (documents_of self.old) n m.remark (documents_of self.new))) }
+        ensures err { IfErr result (λ m.
+            Failed (documents_of self.old) (did_open_in (view params.now))
+            (uri_in (view params.now)) m.fault (documents_of self.new)) }
+        ensures named { IfErr result (λ m.
+            option_map (λ s. s.now) m.uri ≡ uri_in (view params.now)) }
+        ensures lost { IfErr result (λ m.
+            m.lost ≡ loses self.old (uri_in (view params.now)) self.new) }
     {
         let Some(uri) = params::uri_in(params) else {
             return Err(self.missed_all());
@@ -303,13 +343,19 @@ impl TextDocuments {
     }
 
     /// Makes the changes that the params of `textDocument/didChange` tell of (LSP 3.17, `DidChangeTextDocumentParams`), as `change`
-    /// does. Where they are of another shape the fault is `Params`, and the text of the URI that they name is lost. Where they name
+    /// does. If they are of another shape the fault is `Params`, and the text of the URI that they name is lost. If they name
     /// none that is each text.
     pub fn did_change<'v>(&mut self, params: &'v Value) -> Result<Made<'v>, NotMade<'v>>
-        ensures ok { IfOk result (λ m. IsSomeAnd (did_change_in (view params.now)) (λ n. (m.uri.now ≡ n.uri) × Took (documents_of self.old) n m.remark (documents_of self.new))) }
-        ensures err { IfErr result (λ m. Failed (documents_of self.old) (did_change_in (view params.now)) (uri_in (view params.now)) m.fault (documents_of self.new)) }
-        ensures named { IfErr result (λ m. option_map (λ s. s.now) m.uri ≡ uri_in (view params.now)) }
-        ensures lost { IfErr result (λ m. m.lost ≡ loses self.old (uri_in (view params.now)) self.new) }
+        ensures ok { IfOk result (λ m.
+            IsSomeAnd (did_change_in (view params.now)) (λ n. (m.uri.now ≡ n.uri)
+            × Took (documents_of self.old) n m.remark (documents_of self.new))) }
+        ensures err { IfErr result (λ m.
+            Failed (documents_of self.old) (did_change_in (view params.now))
+            (uri_in (view params.now)) m.fault (documents_of self.new)) }
+        ensures named { IfErr result (λ m.
+            option_map (λ s. s.now) m.uri ≡ uri_in (view params.now)) }
+        ensures lost { IfErr result (λ m.
+            m.lost ≡ loses self.old (uri_in (view params.now)) self.new) }
     {
         let Some(uri) = params::uri_in(params) else {
             return Err(self.missed_all());
@@ -335,12 +381,17 @@ impl TextDocuments {
     }
 
     /// Hears that the document was saved that the params of `textDocument/didSave` tell of (LSP 3.17,
-    /// `DidSaveTextDocumentParams`), as `save` does. A text that is no string is none. Where the params name no URI the fault is
+    /// `DidSaveTextDocumentParams`), as `save` does. A text that is no string is none. If the params name no URI the fault is
     /// `Params`, and nothing is changed: a save changes no text.
     pub fn did_save<'v>(&mut self, params: &'v Value) -> Result<Made<'v>, NotMade<'v>>
-        ensures ok { IfOk result (λ m. IsSomeAnd (did_save_in (view params.now)) (λ n. (m.uri.now ≡ n.uri) × Took (documents_of self.old) n m.remark (documents_of self.new))) }
-        ensures err { IfErr result (λ m. FailedSave (documents_of self.old) (did_save_in (view params.now)) m.fault (documents_of self.new)) }
-        ensures named { IfErr result (λ m. option_map (λ s. s.now) m.uri ≡ uri_in (view params.now)) }
+        ensures ok { IfOk result (λ m.
+            IsSomeAnd (did_save_in (view params.now)) (λ n. (m.uri.now ≡ n.uri)
+            × Took (documents_of self.old) n m.remark (documents_of self.new))) }
+        ensures err { IfErr result (λ m.
+            FailedSave (documents_of self.old) (did_save_in (view params.now)) m.fault
+            (documents_of self.new)) }
+        ensures named { IfErr result (λ m.
+            option_map (λ s. s.now) m.uri ≡ uri_in (view params.now)) }
         ensures lost { IfErr result (λ m. m.lost ≡ false) }
     {
         let Some(uri) = params::uri_in(params) else {
@@ -353,12 +404,18 @@ impl TextDocuments {
     }
 
     /// Closes the document that the params of `textDocument/didClose` tell of (LSP 3.17, `DidCloseTextDocumentParams`), as `close`
-    /// does. Where they name no URI the fault is `Params`, and each text is lost: one of them is closed.
+    /// does. If they name no URI the fault is `Params`, and each text is lost: one of them is closed.
     pub fn did_close<'v>(&mut self, params: &'v Value) -> Result<Made<'v>, NotMade<'v>>
-        ensures ok { IfOk result (λ m. IsSomeAnd (did_close_in (view params.now)) (λ n. (m.uri.now ≡ n.uri) × Took (documents_of self.old) n m.remark (documents_of self.new))) }
-        ensures err { IfErr result (λ m. Failed (documents_of self.old) (did_close_in (view params.now)) (uri_in (view params.now)) m.fault (documents_of self.new)) }
-        ensures named { IfErr result (λ m. option_map (λ s. s.now) m.uri ≡ uri_in (view params.now)) }
-        ensures lost { IfErr result (λ m. m.lost ≡ loses self.old (uri_in (view params.now)) self.new) }
+        ensures ok { IfOk result (λ m.
+            IsSomeAnd (did_close_in (view params.now)) (λ n. (m.uri.now ≡ n.uri)
+            × Took (documents_of self.old) n m.remark (documents_of self.new))) }
+        ensures err { IfErr result (λ m.
+            Failed (documents_of self.old) (did_close_in (view params.now))
+            (uri_in (view params.now)) m.fault (documents_of self.new)) }
+        ensures named { IfErr result (λ m.
+            option_map (λ s. s.now) m.uri ≡ uri_in (view params.now)) }
+        ensures lost { IfErr result (λ m.
+            m.lost ≡ loses self.old (uri_in (view params.now)) self.new) }
     {
         let Some(uri) = params::uri_in(params) else {
             return Err(self.missed_all());
@@ -376,8 +433,10 @@ impl TextDocuments {
         ensures named { option_map (λ s. s.now) result.uri ≡ Some uri.now }
         ensures why { result.fault ≡ fault }
         ensures lost { result.lost ≡ loses self.old (Some uri.now) self.new }
-        ensures own { (documents_of self.new).held uri.now ≡ missed ((documents_of self.old).held uri.now) }
-        ensures others { (q : List ℕ) → bytes_eq q uri.now ≡ false → (documents_of self.new).held q ≡ (documents_of self.old).held q }
+        ensures own { (documents_of self.new).held uri.now
+            ≡ missed ((documents_of self.old).held uri.now) }
+        ensures others { (q : List ℕ) → bytes_eq q uri.now ≡ false
+            → (documents_of self.new).held q ≡ (documents_of self.old).held q }
         ensures encoding { self.new.encoding ≡ self.old.encoding }
     {
         self.lose(uri);
@@ -417,7 +476,7 @@ fn lose_text(alloc: Global, kept: &mut Open)
     *kept = before.into_lost();
 }
 
-/// Makes changes in what is kept of a document. Where memory runs out, its text is lost.
+/// Makes changes in what is kept of a document. If memory runs out, its text is lost.
 fn change_open(
     alloc: Global,
     kept: &mut Open,
@@ -448,7 +507,7 @@ fn change_open(
     }
 }
 
-/// Puts a text into what is kept of a document, where its own is lost. Where memory runs out, nothing is changed.
+/// Puts a text into what is kept of a document, if its own is lost. If memory runs out, nothing is changed.
 fn renew_open(alloc: Global, kept: &mut Open, text: &str) -> Result<(), AllocError>
     ensures ok { OnOk result (kept.new ≡ saved_in kept.old text.now) }
     ensures err { OnErr result (kept.new ≡ kept.old) }

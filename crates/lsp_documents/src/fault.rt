@@ -83,10 +83,10 @@ pub struct Made<'v> {
 /// A notification that was not made.
 #[derive(Clone, Copy, Debug, PartialEq, Eq, Drop)]
 pub struct NotMade<'v> {
-    /// The document's URI, where the params name one.
+    /// The document's URI, if the params name one.
     pub uri: Option<&'v str>,
     /// Why.
     pub fault: DocumentFault,
-    /// Whether the text was known and is lost now. Where no URI is named, that may be each document's.
+    /// Whether the text was known and is lost now. If no URI is named, that may be each document's.
     pub lost: bool,
 }

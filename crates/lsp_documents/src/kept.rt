@@ -1,7 +1,7 @@
 // What a server keeps of a document that is open.
 ghost use Rattle.std.specs.Prelude.{◌≡◌};
 ghost use Rattle.std.specs.Option.{option_copied};
-ghost use Rattle.lsp_documents.specs.Session.{shown, language_of, lost};
+ghost use Rattle.lsp_documents.specs.Notices.{shown, language_of, lost};
 
 use crate::lost::LostDocument;
 use lsp_text::TextDocument;
@@ -16,7 +16,7 @@ pub enum Open {
 }
 
 impl Open {
-    /// The document, where its text is known.
+    /// The document, if its text is known.
     pub fn document(&self) -> Option<&TextDocument>
         ensures { option_copied result ≡ shown self.now }
     {
@@ -36,7 +36,7 @@ impl Open {
         }
     }
 
-    /// What is left of it where its text is lost.
+    /// What is left of it if its text is lost.
     pub(crate) fn into_lost(self) -> Open
         ensures { result ≡ lost self }
     {

@@ -3,7 +3,7 @@ ghost use Rattle.std.specs.Prelude.{◌≡◌, ℕ, ℤ, List, ◌∷◌, Option
 ghost use Rattle.lsp_text.specs.Documents.{Document};
 ghost use Rattle.lsp_documents.specs.declared.fault.DocumentFault.{DocumentFault};
 ghost use Rattle.lsp_documents.specs.declared.kept.Open.TheVariants.{Known};
-ghost use Rattle.lsp_documents.specs.Session.{Documents, Notice, Sent, made, opens, document, fault_of, Keeps, Makes, TakesAll, Agrees, SavesItsText, kept_after_all, events_of, told_all, is_current};
+ghost use Rattle.lsp_documents.specs.Notices.{Documents, Notice, Sent, made, opens, document, fault_of, Keeps, Makes, TakesAll, Agrees, SavesItsText, kept_after_all, kinds_of, told_all, is_current};
 
 /// A document that may be looked at is the client's: after any list of notifications, of which some were made, of some the URI
 /// alone was known, and of some nothing at all, each URI whose text is known has the text of the client's own document, and its
@@ -13,8 +13,21 @@ ghost use Rattle.lsp_documents.specs.Session.{Documents, Notice, Sent, made, ope
 /// of which all was made since, is known, and is the client's in each part (`current`). A call that refuses by name has made the
 /// notification, as what is wrong changes nothing (`refused`).
 pub fn documents_are_the_clients()
-    ensures each { (before : Documents) (client : List ℕ → Option Document) (sent : List Sent) (now : Documents) → TakesAll before sent now → (uri : List ℕ) → Agrees (client uri) (before.held uri) → SavesItsText before.encoding (client uri) (events_of uri sent) → Agrees (told_all before.encoding (client uri) (events_of uri sent)) (now.held uri) }
-    ensures kept { (before : Documents) (sent : List Sent) (now : Documents) → TakesAll before sent now → (uri : List ℕ) → now.held uri ≡ kept_after_all before.encoding uri (before.held uri) sent }
-    ensures current { (before : Documents) (uri language_id : List ℕ) (version : Option ℤ) (text : List ℕ) (sent : List Sent) (now : Documents) → TakesAll before (made (opens uri language_id version text) ∷ sent) now → is_current uri sent ≡ true → (d : Document) × (told_all before.encoding (Some (document language_id version text)) (events_of uri sent) ≡ Some d) × (now.held uri ≡ Some (Known d)) }
-    ensures refused { (before : Documents) (n : Notice) (now : Documents) (fault : DocumentFault) → fault_of (before.held n.uri) n.event ≡ Some fault → Keeps before now → Makes before n now }
+    ensures each { (before : Documents) (client : List ℕ
+        → Option Document) (sent : List Sent) (now : Documents) → TakesAll before sent now
+        → (uri : List ℕ) → Agrees (client uri) (before.held uri)
+        → SavesItsText before.encoding (client uri) (kinds_of uri sent)
+        → Agrees (told_all before.encoding (client uri) (kinds_of uri sent)) (now.held uri) }
+    ensures kept { (before : Documents) (sent : List Sent) (now : Documents)
+        → TakesAll before sent now → (uri : List ℕ)
+        → now.held uri ≡ kept_after_all before.encoding uri (before.held uri) sent }
+    ensures current { (before : Documents) (uri language_id : List ℕ) (version : Option ℤ)
+        (text : List ℕ) (sent : List Sent) (now : Documents)
+        → TakesAll before (made (opens uri language_id version text) ∷ sent) now
+        → is_current uri sent ≡ true → (d : Document)
+        × (told_all before.encoding (Some (document language_id version text)) (kinds_of uri sent)
+        ≡ Some d) × (now.held uri ≡ Some (Known d)) }
+    ensures refused { (before : Documents) (n : Notice) (now : Documents) (fault : DocumentFault)
+        → fault_of (before.held n.uri) n.kind ≡ Some fault → Keeps before now
+        → Makes before n now }
 {}

@@ -3,7 +3,7 @@ ghost use Rattle.std.specs.Prelude.{◌≡◌, ℕ, List, Option, option_map, op
 ghost use Rattle.serde_json.specs.Find.{get, as_array};
 ghost use Rattle.serde_json.specs.View.{view, items_view};
 ghost use Rattle.lsp_text.specs.Documents.{Change, Document};
-ghost use Rattle.lsp_documents.specs.Session.{has_whole, has_changes};
+ghost use Rattle.lsp_documents.specs.Notices.{has_whole, has_changes};
 ghost use Rattle.lsp_documents.specs.Params.{text_in as text_of, count_in as count_of, line_in as line_of, is_negative as is_below, version_in as version_from, position_in as position_of, range_in as range_of, given_range as range_given, change_in as change_of, changes_in as changes_of, document_in as document_of, uri_in as uri_of, opened_in, changes_given, encoding_named as named, first_named as first_of, offered_in as offers, agreed_in};
 
 use lsp_text::{ContentChange, Position, PositionEncoding, Range};
@@ -51,7 +51,7 @@ fn line_in(position: &Value) -> Option<u32>
     }
 }
 
-/// The version of a document, where one is given.
+/// The version of a document, if one is given.
 fn version_in(document: &Value) -> Option<Option<i32>>
     ensures { result ≡ version_from (view document.now) }
 {
@@ -83,7 +83,7 @@ pub fn range_in(range: &Value) -> Option<Range>
     Some(Range { start, end })
 }
 
-/// The range of a change, where one is given.
+/// The range of a change, if one is given.
 fn given_range(change: &Value) -> Option<Option<Range>>
     ensures { result ≡ range_given (get (codes "range") (view change.now)) }
 {
@@ -130,7 +130,8 @@ fn whole_among(values: &[Value]) -> Option<bool>
 
 /// The list of changes that a notification has.
 fn listed_in(params: &Value) -> Option<&Vec<Value>>
-    ensures { option_map (λ v. items_view v.now.items) result ≡ option_and_then as_array (get (codes "contentChanges") (view params.now)) }
+    ensures { option_map (λ v. items_view v.now.items) result
+        ≡ option_and_then as_array (get (codes "contentChanges") (view params.now)) }
 {
     params.get("contentChanges")?.as_array()
 }
@@ -143,10 +144,12 @@ pub fn whole_in(params: &Value) -> Option<bool>
 }
 
 /// The changes of a list, if each value is one. For none no memory is needed.
-#[tactic(auto, using(crate::proofs::SessionLemmas::some_changes))]
+#[tactic(auto, using(crate::proofs::NoticeLemmas::some_changes))]
 fn changes_in(alloc: Global, values: &[Value]) -> Result<Option<Vec<ContentChange>>, AllocError>
-    ensures value { IfOk result (λ o. option_map (λ v. v.items) o ≡ changes_of (items_view values.now)) }
-    ensures needed { OnErr result (IfSome (changes_of (items_view values.now)) (λ cs. has_changes cs ≡ true)) }
+    ensures value { IfOk result (λ o.
+        option_map (λ v. v.items) o ≡ changes_of (items_view values.now)) }
+    ensures needed { OnErr result
+        (IfSome (changes_of (items_view values.now)) (λ cs. has_changes cs ≡ true)) }
 {
     let mut changes = Vec::new(alloc);
     for value in values {
@@ -163,8 +166,10 @@ pub fn content_changes(
     alloc: Global,
     params: &Value,
 ) -> Result<Option<Vec<ContentChange>>, AllocError>
-    ensures value { IfOk result (λ o. option_map (λ v. v.items) o ≡ changes_given (view params.now)) }
-    ensures needed { OnErr result (IfSome (changes_given (view params.now)) (λ cs. has_changes cs ≡ true)) }
+    ensures value { IfOk result (λ o.
+        option_map (λ v. v.items) o ≡ changes_given (view params.now)) }
+    ensures needed { OnErr result
+        (IfSome (changes_given (view params.now)) (λ cs. has_changes cs ≡ true)) }
 {
     match listed_in(params) {
         Some(values) => changes_in(alloc, values.as_slice()),
@@ -179,7 +184,7 @@ pub fn uri_in(params: &Value) -> Option<&str>
     text_in(params.get("textDocument")?, "uri")
 }
 
-/// The version of the document that params tell of, where they give one.
+/// The version of the document that params tell of, if they give one.
 pub fn version_of(params: &Value) -> Option<Option<i32>>
     ensures { result ≡ option_and_then version_from (document_of (view params.now)) }
 {
@@ -191,7 +196,7 @@ pub fn version_of(params: &Value) -> Option<Option<i32>>
 pub struct Item<'v> {
     /// Its language.
     pub language_id: &'v str,
-    /// Its version, where the client gives one.
+    /// Its version, if the client gives one.
     pub version: Option<i32>,
     /// Its text.
     pub text: &'v str,
@@ -199,7 +204,9 @@ pub struct Item<'v> {
 
 /// The document that a client opens, as the params of `textDocument/didOpen` tell of it.
 pub fn item_in(params: &Value) -> Option<Item<'_>>
-    ensures { option_map (λ i. record { language_id = i.language_id.now; version = i.version; text = i.text.now }) result ≡ opened_in (view params.now) }
+    ensures { option_map (λ i.
+        record { language_id = i.language_id.now; version = i.version; text = i.text.now }) result
+        ≡ opened_in (view params.now) }
 {
     let document = params.get("textDocument")?;
     Some(Item {
@@ -209,7 +216,7 @@ pub fn item_in(params: &Value) -> Option<Item<'_>>
     })
 }
 
-/// The text of a document that was saved, where a string is given.
+/// The text of a document that was saved, if a string is given.
 pub fn saved_text(params: &Value) -> Option<&str>
     ensures { option_map (λ s. s.now) result ≡ text_of (codes "text") (view params.now) }
 {
@@ -244,8 +251,8 @@ fn first_named(names: &[Value]) -> Option<PositionEncoding>
 }
 
 /// The encoding that the params of `initialize` agree on (LSP 3.17, `general.positionEncodings` of the client's capabilities):
-/// the first of the client's that is UTF-8, UTF-16 or UTF-32, and UTF-16 where there is none. Say it to the client as
-/// `positionEncoding` of the server's capabilities, where it is not UTF-16.
+/// the first of the client's that is UTF-8, UTF-16 or UTF-32, and UTF-16 if there is none. Say it to the client as
+/// `positionEncoding` of the server's capabilities, if it is not UTF-16.
 pub fn position_encoding(params: &Value) -> PositionEncoding
     ensures { result ≡ agreed_in (view params.now) }
 {

@@ -1,38 +1,40 @@
--- A session of a server with its pool, put to its desk and taken away again.
+-- A session of a server with its pool, put beside its queues and taken out again.
 use Rattle.std.proofs.Common.{◌≡◌, refl, List, Option}
-use Rattle.lsp_message.specs.Id.{Id}
 use Rattle.lsp_message.specs.Message.{Message}
 use Rattle.lsp_session.specs.Session.{Exchange, SessionAnswer, SessionOut, Stop}
 use Rattle.lsp_service.proofs.Taking.{keeps_laws, woken_session_of}
-use Rattle.lsp_service.specs.Desk.{Act, empty_desk}
-use Rattle.lsp_service.specs.QueuedServer.{at_woken_desk}
-use Rattle.lsp_service.specs.View as desk
-use Rattle.lsp_service.specs.declared.desk.WokenQueuedServer.{WokenQueuedServer}
+use Rattle.lsp_service.specs.Acts.{empty_queues}
+use Rattle.lsp_service.specs.QueuedServer.{woken_with_queues}
+use Rattle.lsp_service.specs.View as queues
+use Rattle.lsp_service.specs.declared.queued_server.WokenQueuedServer.{WokenQueuedServer}
 use Rattle.lsp_service.specs.declared.server.Server.{Ghosts as Plain}
+use Rattle.lsp_jobs.proofs.Answering.{answers_by_jobs}
 use Rattle.lsp_jobs.specs.JobLaw.{LawfulJobSession}
 use Rattle.lsp_jobs.specs.JobSession.{JobSession, seen_with_jobs}
-use Rattle.lsp_jobs.specs.PoolView.{seen}
-use Rattle.lsp_jobs.specs.Table.{Outcome, no_jobs}
+use Rattle.lsp_jobs.specs.Seen.{seen}
+use Rattle.lsp_jobs.specs.PendingJobs.{no_jobs}
+use Rattle.lsp_jobs.specs.declared.job.Job.{Ghosts as OfJob}
+use Rattle.lsp_jobs.specs.declared.job_server.JobServer.{Ghosts as WithJobs}
 use Rattle.lsp_jobs.specs.declared.pooled_server.PooledServer.{PooledServer}
 
-module _ (T : Type 0) {S J P : Type 0} (may : Plain S P) (may_start : S → List (Id × J) → S → Type 0) (may_finish : S → Id → Outcome → List (Act P) → S → Type 0)
-    (answers : J → Outcome → Type 0) where
-  pub job_session : (old new : WokenQueuedServer (PooledServer T S J) P) (pooled : PooledServer T S J) (first last : S)
-      → desk.seen old.queued ≡ (pooled, empty_desk) → seen pooled ≡ (first, no_jobs) → last ≡ new.queued.server.server
-      → (xs : List Exchange) (stop : Stop) (null : Option Message) (answer : SessionAnswer)
-      → SessionOut (at_woken_desk (seen_with_jobs T may may_start may_finish answers)) old new xs stop null answer
-      → JobSession T may may_start may_finish answers first last xs stop null answer
-  job_session old new pooled first last put began left xs stop null answer out = record {
+module _ (T : Type 0) {S J K P : Type 0} (plain : Plain S P) (may : WithJobs S J K P) (of_job : OfJob J) where
+  pub job_session : (old new : WokenQueuedServer (PooledServer T S J K) P) (pooled : PooledServer T S J K) (first last : S)
+      → queues.seen old.queued ≡ (pooled, empty_queues) → seen pooled ≡ (first, no_jobs) → last ≡ new.queued.server.server
+      → (xs : List Exchange) (stop : Stop) (shutdown_reply : Option Message) (answer : SessionAnswer)
+      → SessionOut (woken_with_queues (seen_with_jobs T plain may of_job)) old new xs stop shutdown_reply answer
+      → JobSession T plain may of_job first last xs stop shutdown_reply answer
+  job_session old new pooled first last put began left xs stop shutdown_reply answer out = record {
     old = pooled;
     new = new.queued.server;
     from_first = began;
     to_last = left;
-    session = woken_session_of (seen_with_jobs T may may_start may_finish answers) old new pooled new.queued.server put refl xs stop null answer out;
+    session = woken_session_of (seen_with_jobs T plain may of_job) old new pooled new.queued.server put refl xs stop shutdown_reply answer out;
   }
 
-  pub lawful_jobs : (first last : S) (xs : List Exchange) (stop : Stop) (null : Option Message) (answer : SessionAnswer)
-      → JobSession T may may_start may_finish answers first last xs stop null answer → LawfulJobSession T may may_start may_finish answers first last xs stop null answer
-  lawful_jobs first last xs stop null answer session = record {
+  pub lawful_jobs : (first last : S) (xs : List Exchange) (stop : Stop) (shutdown_reply : Option Message) (answer : SessionAnswer)
+      → JobSession T plain may of_job first last xs stop shutdown_reply answer → LawfulJobSession T plain may of_job first last xs stop shutdown_reply answer
+  lawful_jobs first last xs stop shutdown_reply answer session = record {
     session = session;
-    laws = keeps_laws (seen_with_jobs T may may_start may_finish answers) session.old session.new xs stop null answer session.session;
+    laws = keeps_laws (seen_with_jobs T plain may of_job) session.old session.new xs stop shutdown_reply answer session.session;
+    jobs = answers_by_jobs T plain may of_job first last xs stop shutdown_reply answer session;
   }

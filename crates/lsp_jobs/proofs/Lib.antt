@@ -1,8 +1,9 @@
-pub mod AssignmentSend
-mod Giving
+mod Answering
+pub mod JobSenderSend
 mod JobSessions
-mod OneTask
-pub mod OrderSend
-mod Refused
-pub mod SayingSend
-pub mod Tables
+mod OneJob
+mod Owed
+pub mod QueuedJobSend
+pub mod Refused
+pub mod MessageSend
+pub mod PendingLemmas

@@ -1,143 +1,153 @@
--- Wakes, turns and sessions that the laws of jobs refuse, whatever the server states. Events stand with the latest first.
+-- Wakes and sessions that the laws of jobs refuse, where a server starts no job at another time than its request, and does nothing when a
+-- job ended.
 use Rattle.serde_json.specs.Data.{Data}
-use Rattle.std.proofs.Common.{◌≡◌, refl, sym, ◌∙◌, ap, subst, inl, inr, ℕ, ◌≤◌, Bool, true, false, List, [], ◌∷◌, ◌++◌, map, append-nil, arith, Option, Some, None}
-use Rattle.std.specs.Bool.{MatchBool}
+use Rattle.std.proofs.Common.{◌≡◌, ◌⊎◌, refl, sym, ◌∙◌, ap, subst, inl, inr, ℕ, ◌+◌, ◌≤◌, Bool, true, false, List, [], ◌∷◌, ◌++◌, append-nil, arith, Option, Some}
+use Rattle.std.specs.FinMap as map
 use Rattle.std.specs.Ordering.{eq_by_cmp}
+use Rattle.std.specs.Prelude.{Err, if◌then◌else◌}
 use Rattle.lsp_message.specs.Id.{Id, id_cmp}
 use Rattle.lsp_message.specs.IdLaws.{id_decides}
-use Rattle.lsp_message.specs.Message.{Message, request, notification}
-use Rattle.lsp_session.specs.Session.{Exchange, SessionAnswer, Stop, letters_of, sends_of}
-use Rattle.lsp_service.specs.Desk.{Act, replies, cancelled_by}
-use Rattle.lsp_service.specs.Law.{TakesTurns, Turn, how_many, is_reply_under, is_request_under}
+use Rattle.lsp_message.specs.Message.{Message, request, notification, response}
+use Rattle.lsp_session.proofs.Ran.{messages_both}
+use Rattle.lsp_session.specs.Session.{Exchange, SessionAnswer, Stop, messages_of, sends_of}
+use Rattle.lsp_service.proofs.Counting.{how_many-append}
+use Rattle.lsp_service.specs.Acts.{Act, replies, cancelled_by}
+use Rattle.lsp_service.specs.Law.{how_many, is_reply_under, is_request_under, one_if}
 use Rattle.lsp_service.specs.declared.server.Server.{Ghosts as Plain}
-use Rattle.lsp_jobs.specs.JobLaw.{Event, comes, does, starts, concerns, WaitsFor, after, ActsByJobs, LawfulJobSession, WakesActByJobs, refuses, started_at, is_that}
-use Rattle.lsp_jobs.specs.JobSession.{seen_with_jobs}
-use Rattle.lsp_jobs.specs.Table.{Outcome}
-use Rattle.lsp_jobs.specs.declared.pooled_server.PooledServer.{PooledServer}
+use Rattle.lsp_jobs.specs.Ends.{Outcome, came_to, no_memory, too_many}
+use Rattle.lsp_jobs.specs.JobLaw.{concerns, is_that, AnswersLater, AnswersRequest, IsQuiet, IsStarted, LastRequest, LawfulJobSession, Refusal, refuse, SendsSo, SilentServer, WakeSends}
+use Rattle.lsp_jobs.specs.declared.job.Job.{Ghosts as OfJob}
+use Rattle.lsp_jobs.specs.declared.job_server.JobServer.{Ghosts as WithJobs}
 
 same : (id : Id) → eq_by_cmp id_cmp id id ≡ true
 same id = (id_decides id id).1 refl
 
-module _ {P : Type 0} where
-  not_empty : {A : Type 0} (acts rest : List (Act P)) (act : Act P) → [] ≡ acts ++ act ∷ rest → A
-  not_empty [] rest act e = absurd (cc (e))
-  not_empty (first ∷ acts) rest act e = absurd (cc (e))
+not_empty : {A B : Type 0} (xs rest : List A) (x : A) → [] ≡ xs ++ x ∷ rest → B
+not_empty [] rest x e = absurd (cc (e))
+not_empty (first ∷ xs) rest x e = absurd (cc (e))
 
-module _ {P J : Type 0} where
-  -- what concerned the request last was not the start of this job
-  concerned : (event : Event P J) (events : List (Event P J)) (id : Id) (job : J) → concerns id event ≡ true → (event ≡ starts id job → ⊥) → WaitsFor (event ∷ events) id job → ⊥
-  concerned event events id job is other waits = other (subst (λ (b : Bool). MatchBool b (event ≡ starts id job) (WaitsFor events id job)) is waits)
+-- the last of a list is the one that is named, or follows it
+last_of : (xs : List Exchange) (x : Exchange) (before : List Exchange) (r : Exchange) (since : List Exchange) → xs ++ x ∷ [] ≡ before ++ r ∷ since
+    → (x ≡ r) ⊎ ((more : List Exchange) × (since ≡ more ++ x ∷ []))
+last_of [] x [] r since e = inl (cc (e))
+last_of [] x (b ∷ before) r since e = let rest : [] ≡ before ++ r ∷ since = cc (e) in not_empty before since r rest
+last_of (y ∷ xs) x [] r since e = let rest : xs ++ x ∷ [] ≡ since = cc (e) in inr (xs, sym rest)
+last_of (y ∷ xs) x (b ∷ before) r since e = last_of xs x before r since (cc (e))
 
-  used_again : (events : List (Event P J)) (id : Id) (job : J) (method : List ℕ) (params : Data) → WaitsFor (comes (Some (request id method params)) ∷ events) id job → ⊥
-  used_again events id job method params = concerned (comes (Some (request id method params))) events id job (same id) (λ e. absurd (cc (e)))
+-- the last of quiet exchanges is quiet
+quiet_last : (id : Id) (xs : List Exchange) (x : Exchange) → IsQuiet id (xs ++ x ∷ []) → (concerns id x.came ≡ false) × (how_many (is_reply_under id) x.sent ≡ 0)
+quiet_last id [] x quiet = (quiet.0, quiet.1)
+quiet_last id (y ∷ xs) x quiet = quiet_last id xs x quiet.2
 
-  cancelled : (events : List (Event P J)) (id : Id) (job : J) (method : List ℕ) (params : Data) → cancelled_by method params ≡ Some id
-      → WaitsFor (comes (Some (notification method params)) ∷ events) id job → ⊥
-  cancelled events id job method params is = concerned (comes (Some (notification method params))) events id job (ap (is_that id) is ∙ same id) (λ e. absurd (cc (e)))
+-- the latest exchange came with this very request, or is quiet, and sent no reply under the id
+latest : (xs : List Exchange) (x : Exchange) (id : Id) (method : List ℕ) (params : Data) → LastRequest (xs ++ x ∷ []) id method params
+    → ((x.came ≡ Some (request id method params)) ⊎ (concerns id x.came ≡ false)) × (how_many (is_reply_under id) x.sent ≡ 0)
+latest xs x id method params l =
+    elim (last_of xs x l.before (record { came = Some (request id method params); sent = l.sent }) l.since l.came) [
+      | inl is ↦ (inl (ap (λ (y : Exchange). y.came) is), ap (λ (y : Exchange). how_many (is_reply_under id) y.sent) is ∙ l.unanswered)
+      | inr later ↦ (let q = quiet_last id later.0 x (subst (IsQuiet id) later.1 l.quiet) in (inr q.0, q.1))
+    ]
 
-  answered : (events : List (Event P J)) (id : Id) (job : J) (outcome : Outcome) → WaitsFor (does (replies id outcome) ∷ events) id job → ⊥
-  answered events id job outcome = concerned (does (replies id outcome)) events id job (same id) (λ e. absurd (cc (e)))
+module _ {S J K P : Type 0} (plain : Plain S P) (may : WithJobs S J K P) (of_job : OfJob J) where
+  -- at a wake, after these exchanges, one reply is sent, and no more
+  abbrev Gives : List Exchange → Id → Outcome → Type 0
+  Gives earlier id outcome = WakeSends plain may of_job earlier (response id outcome ∷ [])
 
-  replaced : (events : List (Event P J)) (id : Id) (job other : J) → (job ≡ other → ⊥) → WaitsFor (starts id other ∷ events) id job → ⊥
-  replaced events id job other differ = concerned (starts id other) events id job (same id) (λ e. let it : job ≡ other = cc (e) in differ it)
+  pub none_started : {B : Type 0} → SilentServer may → {came : Option Message} (id : Id) (job : J) (key : K) → IsStarted plain may came id job key → B
+  none_started silent id job key s = not_empty s.first s.others (id, job, key) (sym (silent.0 s.old (s.first ++ (id, job, key) ∷ s.others) s.new s.starts))
 
-  -- no job was started for a request under this id
-  abbrev IsNotStarted : Id → List (Event P J) → Type 0
-  IsNotStarted id [] = Unit {0}
-  IsNotStarted id (comes letter ∷ events) = IsNotStarted id events
-  IsNotStarted id (does act ∷ events) = IsNotStarted id events
-  IsNotStarted id (starts i job ∷ events) = (eq_by_cmp id_cmp id i ≡ false) × IsNotStarted id events
+  pub none_refused : SilentServer may → {came : Option Message} (refused : List (Refusal plain may came)) → refused ≡ []
+  none_refused silent [] = refl
+  none_refused silent (r ∷ refused) = none_started silent r.id r.job r.key r.started
 
-  earlier : (event : Event P J) (events : List (Event P J)) (id : Id) (job : J) → (event ≡ starts id job → ⊥) → (WaitsFor events id job → ⊥) → (b : Bool)
-      → MatchBool b (event ≡ starts id job) (WaitsFor events id job) → ⊥
-  earlier event events id job other never true e = other e
-  earlier event events id job other never false waits = never waits
-
-  never_started : (events : List (Event P J)) (id : Id) (job : J) → IsNotStarted id events → WaitsFor events id job → ⊥
-  never_started [] id job none waits = waits
-  never_started (comes letter ∷ events) id job none waits =
-      let came : Event P J = comes letter in
-      earlier came events id job (λ e. absurd (cc (e))) (never_started events id job none) (concerns id came) waits
-  never_started (does act ∷ events) id job none waits =
-      let came : Event P J = does act in
-      earlier came events id job (λ e. absurd (cc (e))) (never_started events id job none) (concerns id came) waits
-  never_started (starts i other ∷ events) id job none waits =
-      let came : Event P J = starts i other in
-      never_started events id job none.1 (subst (λ (b : Bool). MatchBool b (came ≡ starts id job) (WaitsFor events id job)) none.0 waits)
-
-module _ (T : Type 0) {S J P : Type 0} (may : Plain S P) (may_start : S → List (Id × J) → S → Type 0) (may_finish : S → Id → Outcome → List (Act P) → S → Type 0)
-    (answers : J → Outcome → Type 0) where
-  -- at a wake, after these events, one reply is given, and no more is done
-  abbrev Gives : List (Event P J) → S → Id → Outcome → Type 0
-  Gives events old id outcome = ActsByJobs T may may_start may_finish answers events old (replies id outcome ∷ [])
-
-  -- so its request waits for a job that may come to it
-  waited : (events : List (Event P J)) (old : S) (id : Id) (outcome : Outcome) → Gives events old id outcome → (job : J) × WaitsFor events id job × answers job outcome
-  waited events old id outcome (inl none) = absurd (cc (none))
-  waited events old id outcome (inr (inl told)) = let e = told.2 in absurd (cc (e))
-  waited events old id outcome (inr (inr given)) = at given.first given.all
+  -- so it is what a job came to for the last request under its id
+  pub its_own : SilentServer may → (earlier : List Exchange) (id : Id) (outcome : Outcome) → Gives earlier id outcome → AnswersRequest of_job earlier id outcome
+  its_own silent earlier id outcome (inl none) = absurd (cc (none))
+  its_own silent earlier id outcome (inr (inl report)) = let e = report.sent.2 in absurd (cc (e))
+  its_own silent earlier id outcome (inr (inr o)) = by o.by
     where
-      at : (acts : List (Act P)) → replies id outcome ∷ [] ≡ acts ++ replies given.id given.outcome ∷ map refuses given.refused → (job : J) × WaitsFor events id job × answers job outcome
-      at [] e =
-          let its_id : id ≡ given.id = cc (e) in
-          let its_outcome : outcome ≡ given.outcome = cc (e) in
-          (given.job, subst (λ (i : Id). WaitsFor events i given.job) (sym its_id) given.waits, subst (λ (o : Outcome). answers given.job o) (sym its_outcome) given.reached)
-      at (act ∷ acts) e =
-          let none : [] ≡ acts ++ replies given.id given.outcome ∷ map refuses given.refused = cc (e) in not_empty acts (map refuses given.refused) (replies given.id given.outcome) none
+      sent : SendsSo {P = P} (replies o.id o.outcome ∷ []) (response id outcome ∷ [])
+      sent = subst (λ (acts : List (Act P)). SendsSo acts (response id outcome ∷ []))
+          (λ k. silent.1 o.old o.id o.key (came_to o.outcome) o.first o.new o.saw k ++ replies o.id o.outcome ∷ refuse plain may (none_refused silent o.refused k)) o.sent
 
-  -- a later request that uses the id again gets the outcome of an earlier job
-  earlier_outcome : (events : List (Event P J)) (old : S) (id : Id) (outcome : Outcome) (method : List ℕ) (params : Data)
-      → Gives (comes (Some (request id method params)) ∷ events) old id outcome → ⊥
-  earlier_outcome events old id outcome method params gives =
-      let by = waited (comes (Some (request id method params)) ∷ events) old id outcome gives in used_again events id by.0 method params by.1
+      those : (b : Bool) → (if b then response o.id o.outcome ∷ [] else []) ++ [] ≡ response id outcome ∷ sent.1 → (o.id ≡ id) × (o.outcome ≡ outcome)
+      those true e = (cc (e), cc (e))
+      those false e = absurd (cc (e))
 
-  -- a reply comes after the cancellation
-  reply_after_cancellation : (events : List (Event P J)) (old : S) (id : Id) (outcome : Outcome) (method : List ℕ) (params : Data) → cancelled_by method params ≡ Some id
-      → Gives (comes (Some (notification method params)) ∷ events) old id outcome → ⊥
-  reply_after_cancellation events old id outcome method params is gives =
-      let by = waited (comes (Some (notification method params)) ∷ events) old id outcome gives in cancelled events id by.0 method params is by.1
+      by : AnswersRequest of_job earlier o.id o.outcome ⊎ AnswersLater plain may of_job earlier o.id o.outcome → AnswersRequest of_job earlier id outcome
+      by (inl r) =
+          let it = those (map.contains_key sent.0.held o.id) sent.2 in
+          subst (λ (x : Id × Outcome). AnswersRequest of_job earlier x.0 x.1) (λ k. (it.0 k, it.1 k)) r
+      by (inr later) = none_started silent o.id later.job later.started.key later.started.started
 
-  -- a second reply comes
-  second_reply : (events : List (Event P J)) (old : S) (id : Id) (one other : Outcome) → Gives (does (replies id one) ∷ events) old id other → ⊥
-  second_reply events old id one other gives = let by = waited (does (replies id one) ∷ events) old id other gives in answered events id by.0 one by.1
+  module _ (silent : SilentServer may) where
+    -- an outcome that `answers` forbids for the last request under the id, be it that of an earlier or another one
+    forbidden : (xs : List Exchange) (id : Id) (method : List ℕ) (params : Data) (output : List Message) (outcome : Outcome)
+        → ((job : J) → of_job.is_for job method params → of_job.answers job method params outcome → ⊥) → (outcome ≡ Err no_memory → ⊥)
+        → Gives (xs ++ record { came = Some (request id method params); sent = output } ∷ []) id outcome → ⊥
+    forbidden xs id method params output outcome never other gives =
+        let r = its_own silent (xs ++ record { came = Some (request id method params); sent = output } ∷ []) id outcome gives in
+        at r (latest xs (record { came = Some (request id method params); sent = output }) id r.method r.params r.waits).0
+      where
+        at : (r : AnswersRequest of_job (xs ++ record { came = Some (request id method params); sent = output } ∷ []) id outcome)
+            → (◌≡◌ {A = Option Message} (Some (request id method params)) (Some (request id r.method r.params))) ⊎ (eq_by_cmp id_cmp id id ≡ false) → ⊥
+        at r (inl is) =
+            let m : method ≡ r.method = cc (is) in
+            let p : params ≡ r.params = cc (is) in
+            elim r.allowed [
+              | inl may ↦ never r.job (subst (λ (x : List ℕ × Data). of_job.is_for r.job x.0 x.1) (λ k. (sym m k, sym p k)) r.is_for)
+                  (subst (λ (x : List ℕ × Data). of_job.answers r.job x.0 x.1 outcome) (λ k. (sym m k, sym p k)) may)
+              | inr failed ↦ other failed
+            ]
+        at r (inr calm) = let e : true ≡ false = sym (same id) ∙ calm in absurd (cc (e))
 
-  -- the outcome is of a job that was never started
-  outcome_of_nobody : (events : List (Event P J)) (old : S) (id : Id) (outcome : Outcome) → IsNotStarted id events → Gives events old id outcome → ⊥
-  outcome_of_nobody events old id outcome none gives = let by = waited events old id outcome gives in never_started events id by.0 none by.1
+    -- a reply after the request's cancellation
+    after_cancellation : (xs : List Exchange) (id : Id) (method : List ℕ) (params : Data) (output : List Message) (outcome : Outcome) → cancelled_by method params ≡ Some id
+        → Gives (xs ++ record { came = Some (notification method params); sent = output } ∷ []) id outcome → ⊥
+    after_cancellation xs id method params output outcome is gives =
+        let r = its_own silent (xs ++ record { came = Some (notification method params); sent = output } ∷ []) id outcome gives in
+        elim (latest xs (record { came = Some (notification method params); sent = output }) id r.method r.params r.waits).0 [
+          | inl wrong ↦ absurd (cc (wrong))
+          | inr calm ↦ (let e : true ≡ false = sym (same id) ∙ sym (ap (is_that id) is) ∙ calm in absurd (cc (e)))
+        ]
 
-  -- the outcome is none that the job may come to which was started last
-  outcome_of_another : (events : List (Event P J)) (old : S) (id : Id) (job : J) (outcome : Outcome) → (answers job outcome → ⊥) → Gives (starts id job ∷ events) old id outcome → ⊥
-  outcome_of_another events old id job outcome never gives =
-      let by = waited (starts id job ∷ events) old id outcome gives in
-      replaced events id by.0 job (λ e. never (subst (λ (j : J). answers j outcome) e by.2)) by.1
+    -- a second reply; and the outcome of a job after its request was refused
+    second_reply : (xs : List Exchange) (id : Id) (came : Option Message) (one outcome : Outcome)
+        → Gives (xs ++ record { came = came; sent = response id one ∷ [] } ∷ []) id outcome → ⊥
+    second_reply xs id came one outcome gives =
+        let r = its_own silent (xs ++ record { came = came; sent = response id one ∷ [] } ∷ []) id outcome gives in
+        let none : one_if (eq_by_cmp id_cmp id id) + 0 ≡ 0 = (latest xs (record { came = came; sent = response id one ∷ [] }) id r.method r.params r.waits).1 in
+        let some : one_if (eq_by_cmp id_cmp id id) ≡ 1 = ap one_if (same id) in
+        omega (arith, none, some)
 
-  -- In these turns a cancellation comes, at which the server does nothing, and then the request is answered by a job.
-  cancelled_then_answered : (events : List (Event P J)) (count : ℕ) (old new : PooledServer T S J) (id : Id) (outcome : Outcome) (method : List ℕ) (params : Data) (turns : List (Turn P))
-      → cancelled_by method params ≡ Some id
-      → (took : TakesTurns (seen_with_jobs T may may_start may_finish answers) count old (
-      record { letter = Some (notification method params); payload = None; acts = [] } ∷ record { letter = None; payload = None; acts = replies id outcome ∷ [] } ∷ turns
-      ) new)
-      → started_at T may may_start may_finish answers old took.0 (Some (notification method params)) None [] took.2 ≡ []
-      → WakesActByJobs T may may_start may_finish answers events count old (
-      record { letter = Some (notification method params); payload = None; acts = [] } ∷ record { letter = None; payload = None; acts = replies id outcome ∷ [] } ∷ turns
-      ) new took → ⊥
-  cancelled_then_answered events count old new id outcome method params turns is took none law =
-      let came : List (Event P J) = comes (Some (notification method params)) ∷ events in
-      reply_after_cancellation events took.1.server id outcome method params is
-      (subst (λ (jobs : List (Id × J)). Gives (after came [] jobs) took.1.server id outcome) none (law.1.0 refl))
+    after_refusal : (xs : List Exchange) (id : Id) (method : List ℕ) (params : Data) (outcome : Outcome)
+        → Gives (xs ++ record { came = Some (request id method params); sent = response id (Err too_many) ∷ [] } ∷ []) id outcome → ⊥
+    after_refusal xs id method params outcome = second_reply xs id (Some (request id method params)) (Err too_many) outcome
 
+    -- a reply, and no request under its id came
+    no_request : (earlier : List Exchange) (id : Id) (outcome : Outcome) → how_many (is_request_under id) (messages_of earlier) ≡ 0 → Gives earlier id outcome → ⊥
+    no_request earlier id outcome none gives =
+        let r = its_own silent earlier id outcome gives in
+        let l = r.waits in
+        let x : Exchange = record { came = Some (request id r.method r.params); sent = l.sent } in
+        let all : messages_of earlier ≡ messages_of l.before ++ request id r.method r.params ∷ messages_of l.since = ap messages_of l.came ∙ messages_both l.before (x ∷ l.since) in
+        let count = ap (how_many (is_request_under id)) all ∙ how_many-append (is_request_under id) (messages_of l.before) (request id r.method r.params ∷ messages_of l.since) in
+        let one : one_if (eq_by_cmp id_cmp id id) ≡ 1 = ap one_if (same id) in
+        omega (arith, none, count, one)
+
+module _ (T : Type 0) {S J K P : Type 0} (plain : Plain S P) (may : WithJobs S J K P) (of_job : OfJob J) where
   -- one request gets two replies
-  two_replies : (first last : S) (exchanges : List Exchange) (stop : Stop) (null : Option Message) (answer : SessionAnswer) (id : Id)
-      → how_many (is_request_under id) (letters_of exchanges) ≡ 1 → how_many (is_reply_under id) (sends_of exchanges) ≡ 2
-      → LawfulJobSession T may may_start may_finish answers first last exchanges stop null answer → ⊥
-  two_replies first last exchanges stop null answer id one two session =
-      let few : how_many (is_reply_under id) (sends_of exchanges) ≤ how_many (is_request_under id) (letters_of exchanges) = session.laws.never_more id exchanges [] (sym (append-nil exchanges)) in
+  two_replies : (first last : S) (exchanges : List Exchange) (stop : Stop) (shutdown_reply : Option Message) (answer : SessionAnswer) (id : Id)
+      → how_many (is_request_under id) (messages_of exchanges) ≡ 1 → how_many (is_reply_under id) (sends_of exchanges) ≡ 2
+      → LawfulJobSession T plain may of_job first last exchanges stop shutdown_reply answer → ⊥
+  two_replies first last exchanges stop shutdown_reply answer id one two session =
+      let few : how_many (is_reply_under id) (sends_of exchanges) ≤ how_many (is_request_under id) (messages_of exchanges) = session.laws.never_more id exchanges [] (sym (append-nil exchanges)) in
       absurd (omega (arith, one, two, few))
 
   -- a reply goes to a request that never came
-  reply_to_nobody : (first last : S) (exchanges : List Exchange) (stop : Stop) (null : Option Message) (answer : SessionAnswer) (id : Id)
-      → how_many (is_request_under id) (letters_of exchanges) ≡ 0 → how_many (is_reply_under id) (sends_of exchanges) ≡ 1
-      → LawfulJobSession T may may_start may_finish answers first last exchanges stop null answer → ⊥
-  reply_to_nobody first last exchanges stop null answer id none one session =
-      let few : how_many (is_reply_under id) (sends_of exchanges) ≤ how_many (is_request_under id) (letters_of exchanges) = session.laws.never_more id exchanges [] (sym (append-nil exchanges)) in
+  reply_to_nobody : (first last : S) (exchanges : List Exchange) (stop : Stop) (shutdown_reply : Option Message) (answer : SessionAnswer) (id : Id)
+      → how_many (is_request_under id) (messages_of exchanges) ≡ 0 → how_many (is_reply_under id) (sends_of exchanges) ≡ 1
+      → LawfulJobSession T plain may of_job first last exchanges stop shutdown_reply answer → ⊥
+  reply_to_nobody first last exchanges stop shutdown_reply answer id none one session =
+      let few : how_many (is_reply_under id) (sends_of exchanges) ≤ how_many (is_request_under id) (messages_of exchanges) = session.laws.never_more id exchanges [] (sym (append-nil exchanges)) in
       absurd (omega (arith, none, one, few))

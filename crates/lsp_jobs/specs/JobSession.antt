@@ -1,36 +1,40 @@
 -- A session of a server whose long requests are jobs.
 use Rattle.std.specs.Prelude.{◌≡◌, List, Option}
-use Rattle.lsp_message.specs.Id.{Id}
 use Rattle.lsp_message.specs.Message.{Message}
 use Rattle.lsp_session.specs.Session.{Exchange, SessionAnswer, Stop}
-use Rattle.lsp_service.specs.Desk.{Act}
 use Rattle.lsp_service.specs.QueuedServer.{ServerSession}
 use Rattle.lsp_service.specs.Stated.{Stated}
 use Rattle.lsp_service.specs.declared.server.Server.{Ghosts as Plain}
 use Rattle.lsp_jobs.specs.Pooled.{with_jobs}
-use Rattle.lsp_jobs.specs.PoolView.{seen}
-use Rattle.lsp_jobs.specs.Table.{Outcome, no_jobs}
+use Rattle.lsp_jobs.specs.Seen.{seen}
+use Rattle.lsp_jobs.specs.PendingJobs.{no_jobs}
+use Rattle.lsp_jobs.specs.declared.job.Job.{Ghosts as OfJob}
+use Rattle.lsp_jobs.specs.declared.job_server.JobServer.{Ghosts as WithJobs}
 use Rattle.lsp_jobs.specs.declared.pooled_server.PooledServer.{PooledServer}
 
-module _ (T : Type 0) {S J P : Type 0} (may : Plain S P) (may_start : S → List (Id × J) → S → Type 0) (may_finish : S → Id → Outcome → List (Act P) → S → Type 0)
-    (answers : J → Outcome → Type 0) where
+module _ (T : Type 0) {S J K P : Type 0} (plain : Plain S P) (may : WithJobs S J K P)
+    (of_job : OfJob J) where
   -- `with_jobs`, of what is seen of a server with its pool
-  abbrev pub seen_with_jobs : Stated (PooledServer T S J) P
+  abbrev pub seen_with_jobs : Stated (PooledServer T S J K) P
   seen_with_jobs =
-      let w = with_jobs may_start may_finish may answers in record {
+      let w = with_jobs may of_job plain in record {
         initializes = λ old params outcome new. w.initializes (seen old) params outcome (seen new);
-        begins = λ old acts new. w.begins (seen old) acts (seen new);
-        requested = λ old id method params acts new. w.requested (seen old) id method params acts (seen new);
-        notified = λ old method params acts new. w.notified (seen old) method params acts (seen new);
-        replied = λ old payload outcome acts new. w.replied (seen old) payload outcome acts (seen new);
+        at_initialized = λ old acts new. w.at_initialized (seen old) acts (seen new);
+        requested = λ old id method params acts new.
+            w.requested (seen old) id method params acts (seen new);
+        notified = λ old method params acts new.
+            w.notified (seen old) method params acts (seen new);
+        replied = λ old payload outcome acts new.
+            w.replied (seen old) payload outcome acts (seen new);
         wakes = λ old acts new. w.wakes (seen old) acts (seen new);
         takes_back = λ old payload new. w.takes_back (seen old) payload (seen new);
       }
 
   -- It is a session of the server with its jobs. No request waits for a job at first.
-  pub record JobSession (first last : S) (exchanges : List Exchange) (stop : Stop) (null : Option Message) (answer : SessionAnswer) : Type 0 where
-    pub old : PooledServer T S J
-    pub new : PooledServer T S J
+  pub record JobSession (first last : S) (exchanges : List Exchange) (stop : Stop)
+      (shutdown_reply : Option Message) (answer : SessionAnswer) : Type 0 where
+    pub old : PooledServer T S J K
+    pub new : PooledServer T S J K
     pub from_first : seen old ≡ (first, no_jobs)
     pub to_last : last ≡ new.server
-    pub session : ServerSession seen_with_jobs old new exchanges stop null answer
+    pub session : ServerSession seen_with_jobs old new exchanges stop shutdown_reply answer

@@ -1,6 +1,10 @@
+pub mod Ends
 pub mod JobLaw
 pub mod JobSession
 pub mod Outcomes
 pub mod PoolView
 pub mod Pooled
-pub mod Table
+pub mod Progress
+pub mod Seen
+pub mod ServerView
+pub mod PendingJobs

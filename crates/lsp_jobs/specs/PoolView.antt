@@ -1,33 +1,46 @@
 -- What is seen of a pool.
 use Rattle.std.specs.FinMap as map
-use Rattle.std.specs.Prelude.{option_map, string_bytes}
+use Rattle.std.specs.Prelude.{◌≡◌, Result, Ok, Err, option_map, string_bytes}
+use Rattle.std.specs.declared.alloc.AllocError.{AllocError}
+use Rattle.serde_json.specs.declared.value.Value.{Value}
 use Rattle.serde_json.specs.View.{view}
-use Rattle.lsp_message.specs.Id.{Id}
 use Rattle.lsp_message.specs.View.{outcome_view}
-use Rattle.lsp_jobs.specs.Table.{Table, News, reports, finishes}
-use Rattle.lsp_jobs.specs.declared.job_server.Start.{Start}
+use Rattle.lsp_message.specs.declared.msg.ResponseError.{ResponseError}
+use Rattle.lsp_jobs.specs.Ends.{End, Outcome as Reply, came_to, no_memory, no_room}
+use Rattle.lsp_jobs.specs.PendingJobs.{PendingJobs, FromJob, reports, ends}
+use Rattle.lsp_jobs.specs.declared.job_server.JobEnd as rust_end
+use Rattle.lsp_jobs.specs.declared.job_server.JobEnd.TheVariants.{Outcome as Ended, Refused}
 use Rattle.lsp_jobs.specs.declared.pool.Entry.{Entry}
-use Rattle.lsp_jobs.specs.declared.pool.JobNews as rust
-use Rattle.lsp_jobs.specs.declared.pool.JobNews.TheVariants.{Report, Outcome}
+use Rattle.lsp_jobs.specs.declared.pool.JobMessage as rust
+use Rattle.lsp_jobs.specs.declared.pool.JobMessage.TheVariants.{Report, Outcome}
 use Rattle.lsp_jobs.specs.declared.pool.JobPool.{JobPool}
-use Rattle.lsp_jobs.specs.declared.pooled_server.PooledServer.{PooledServer}
+use Rattle.lsp_jobs.specs.declared.pool.SubmitFault as fault
+use Rattle.lsp_jobs.specs.declared.pool.SubmitFault.TheVariants.{Full, Memory}
 
--- the job of a request
-abbrev pub job_of : {J : Type 0} → Entry J → J
-job_of entry = entry.awaited
+module _ {J K : Type 0} where
+  -- the job of a request, and what is kept with it
+  abbrev pub job_of : Entry J K → J × K
+  job_of entry = (entry.job_receiver, entry.kept)
 
--- under each id the job that answers its request
-abbrev pub table_of : {T J : Type 0} → JobPool T J → Table J
-table_of pool = λ id. option_map job_of (map.get pool.jobs id)
+  -- under each id the job that answers its request, and what is kept with it
+  abbrev pub pending_jobs : {T : Type 0} → JobPool T J K → PendingJobs (J × K)
+  pending_jobs pool = λ id. option_map job_of (map.get pool.jobs id)
 
-abbrev pub news_view : rust.JobNews → News
-news_view (Report n) = reports (string_bytes n.method) (view n.params)
-news_view (Outcome outcome) = finishes (outcome_view outcome)
+module _ {K : Type 0} where
+  abbrev pub job_message_view : rust.JobMessage K → FromJob K
+  job_message_view (Report n) = reports (string_bytes n.method) (view n.params)
+  job_message_view (Outcome outcome kept) = ends (outcome_view outcome) kept
 
--- a job that is started, and the request that it answers
-abbrev pub start_view : {J : Type 0} → Start J → Id × J
-start_view start = (start.id, start.job)
+  -- if there was no room, the fault gives back what was to be kept
+  abbrev pub GivesBack : K → fault.SubmitFault K → Type 0
+  GivesBack kept (Full back) = back ≡ kept
+  GivesBack kept Memory = Unit {0}
 
--- a server with its pool
-abbrev pub seen : {T S J : Type 0} → PooledServer T S J → S × Table J
-seen pooled = (pooled.server, table_of pooled.pool)
+-- the request gets what its job came to, or an error if an allocation of the job failed
+abbrev pub CameTo : Result (Result Value ResponseError) AllocError → Reply → Type 0
+CameTo (Ok outcome) got = got ≡ outcome_view outcome
+CameTo (Err failed) got = got ≡ Err no_memory
+
+abbrev pub end_view : rust_end.JobEnd → End
+end_view (Ended outcome) = came_to (outcome_view outcome)
+end_view Refused = no_room

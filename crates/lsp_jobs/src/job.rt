@@ -1,47 +1,77 @@
 // The work of a long request.
-ghost use Rattle.std.specs.Prelude.{IfOk};
+ghost use Rattle.serde_json.specs.View.{view};
+ghost use Rattle.std.specs.Prelude.{IfOk, string_bytes};
 ghost use Rattle.lsp_message.specs.View.{outcome_view};
 
-use crate::assignment::Task;
 use crate::cancellation::CancellationToken;
+use crate::channel::AnyJob;
 use lsp_message::{Notification, ResponseError};
 use serde_json::Value;
 use std::alloc::AllocError;
 
 /// The work of one request, with all that it needs. It runs in a thread of a `JobPool`.
+///
+/// The ghost members say what a job is for, what comes of it, and what it reports. If an `impl` leaves one out, that may be
+/// anything.
 pub trait Job: Drop {
     ghost use Rattle.serde_json.specs.Data.{Data};
-    ghost use Rattle.std.specs.Prelude.{Result, ⊤};
+    ghost use Rattle.std.specs.Prelude.{ℕ, List, Result, ⊤};
     ghost use Rattle.lsp_message.specs.Message.{ErrorObject};
 
-    /// The job may come to this outcome. Where an `impl` leaves this out, it may come to any.
-    ghost answers: { Self → Result Data ErrorObject → Type 0 } = { λ _ _. ⊤ };
+    /// The job is for a request with this method and these params.
+    ghost is_for: { Self → List ℕ → Data → Type 0 } = { λ _ _ _. ⊤ };
+
+    /// A request with this method and these params may get this outcome from the job, if the job is for it.
+    ghost answers: { Self → List ℕ → Data → Result Data ErrorObject → Type 0 } = { λ _ _ _ _. ⊤ };
+
+    /// The job may send a notification with this method and these params while it runs.
+    ghost reports: { Self → List ℕ → Data → Type 0 } = { λ _ _ _. ⊤ };
 
     /// Comes to the outcome of the request. It may look at the token, and stop early with any outcome. It may tell by `progress` how
-    /// far it is. An outer `Err` is a failed allocation: see `JobPool::take_news`.
+    /// far it is. An outer `Err` is a failed allocation: its request gets the error -32603, `out of memory`, and all else goes on.
     fn run<P: Progress>(
         self,
         token: &CancellationToken,
         progress: &mut P,
     ) -> Result<Result<Value, ResponseError>, AllocError>
-        ensures { IfOk result (λ outcome. answers «self» (outcome_view outcome)) };
+        requires { (method : List ℕ) (params : Data) → reports «self» method params
+            → P.may method params }
+        ensures { IfOk result (λ outcome. (method : List ℕ) (params : Data)
+            → is_for «self» method params → answers «self» method params (outcome_view outcome)) };
 }
 
 /// Tells the client how far a job is.
 pub trait Progress {
-    /// Sends a notification while the job runs, such as `$/progress` (LSP 3.17, "Work Done Progress"). False means that it was not
-    /// sent: nobody waits for the job any more, 16 of its notifications wait to be taken, or an allocation failed. The job goes on.
-    fn report(&mut self, notification: Notification) -> bool;
+    ghost use Rattle.serde_json.specs.Data.{Data};
+    ghost use Rattle.std.specs.Prelude.{ℕ, List, ⊤};
+
+    /// A notification with this method and these params may be sent.
+    ghost may: { List ℕ → Data → Type 0 } = { λ _ _. ⊤ };
+
+    /// Sends a notification while the job runs, such as `$/progress` (LSP 3.17, "Work Done Progress"), if there is room for it. False
+    /// means that it was not sent: nobody waits for the job any more, 15 of its notifications wait to be taken, or an allocation
+    /// failed. The job goes on.
+    fn report(&mut self, notification: Notification) -> bool
+        requires { may (string_bytes notification.method) (view notification.params) };
+
+    /// Sends a notification that is not to be dropped. It waits while there is no room for it. False means that it was not sent,
+    /// since nobody waits for the job any more: its request was cancelled or answered otherwise, or the pool ended.
+    fn send(&mut self, notification: Notification) -> bool
+        requires { may (string_bytes notification.method) (view notification.params) };
 }
 
 /// What a job came to. The outer error is a failed allocation.
 pub(crate) type Ran = Result<Result<Value, ResponseError>, AllocError>;
 
-impl<J: Job> Task<Ran> for J {
-    ghost use Rattle.std.specs.Prelude.{IfOk};
+impl<J: Job> AnyJob<Ran> for J {
+    ghost use Rattle.serde_json.specs.Data.{Data};
+    ghost use Rattle.std.specs.Prelude.{ℕ, List, IfOk};
     ghost use Rattle.lsp_message.specs.View.{outcome_view};
 
-    ghost comes_to = { λ job ran. IfOk ran (λ outcome. J.answers job (outcome_view outcome)) };
+    ghost comes_to = { λ job ran. IfOk ran (λ outcome. (method : List ℕ) (params : Data)
+        → J.is_for job method params → J.answers job method params (outcome_view outcome)) };
+
+    ghost reports = { J.reports };
 
     fn perform<P: Progress>(self, token: &CancellationToken, progress: &mut P) -> Ran {
         self.run(token, progress)

@@ -1,21 +1,24 @@
 //! Long requests as jobs, which run in threads of their own: while a job runs, the loop of the server goes on.
 #![tactic(auto)]
 
-mod assignment;
-mod bell;
 mod cancellation;
+mod channel;
 mod job;
 mod job_server;
 pub mod laws;
-mod line;
+mod notifier;
 mod pool;
 mod pooled_server;
+mod progress;
 mod run;
+mod unread;
+mod waiting_jobs;
 mod workers;
 
 pub use cancellation::CancellationToken;
 pub use job::{Job, Progress};
-pub use job_server::{JobServer, Start};
-pub use pool::{JobNews, JobPool, PoolSize, TakeFault};
+pub use job_server::{AnsweredBy, JobEnd, JobServer, NewJob};
+pub use pool::{JobMessage, JobPool, PoolSize, SubmitFault};
 pub use pooled_server::PooledServer;
+pub use progress::{PartialResults, WorkDone};
 pub use run::run_jobs;

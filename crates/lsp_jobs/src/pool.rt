@@ -1,17 +1,18 @@
 //! The requests that wait for their jobs, each with the way of what its job says.
-ghost use Rattle.std.specs.Prelude.{◌≡◌, IfOk, IfNone, IfSome, OnErr, OnOk};
+ghost use Rattle.std.specs.Prelude.{◌≡◌, IfErr, IfOk, IfNone, IfSome, OnErr, OnOk};
 ghost use Rattle.std.specs.Option.{is_some};
-ghost use Rattle.lsp_jobs.specs.Table.{no_jobs, without, with_job, IsReport, Tells};
-ghost use Rattle.lsp_jobs.specs.PoolView.{job_of, news_view, table_of};
+ghost use Rattle.lsp_message.specs.View.{outcome_view};
+ghost use Rattle.lsp_jobs.specs.PendingJobs.{no_jobs, without, with_job, Tells};
+ghost use Rattle.lsp_jobs.specs.PoolView.{CameTo, GivesBack, job_of, job_message_view, pending_jobs};
 
-use crate::assignment::{Awaited, Saying, assign};
-use crate::bell::{Bell, channel_of_ids};
 use crate::cancellation::CancellationToken;
+use crate::channel::{JobReceiver, WorkerMessage, channel_of};
 use crate::job::{Job, Ran};
-use crate::line::{WaitingErrands, line_of_errands};
-use crate::workers::{Order, join_all, start_job_workers};
+use crate::notifier::{Notifier, channel_of_ids};
+use crate::waiting_jobs::{QueueFault, WaitingJobs, queue_of_jobs};
+use crate::workers::{QueuedJob, join_all, start_job_workers};
 use crossbeam_channel::Receiver;
-use lsp_message::{Notification, RequestId, ResponseError};
+use lsp_message::{ErrorCode, Notification, RequestId, ResponseError};
 use lsp_queue::{Incoming, RegisterFault, ReqQueue};
 use lsp_relay::RelayWaker;
 use lsp_threads::StartFault;
@@ -42,104 +43,103 @@ impl From<usize> for PoolSize {
     }
 }
 
-/// Why a pool did not take a job on.
+/// Why a job was not submitted.
 #[derive(Clone, Copy, Debug, PartialEq, Eq)]
-pub enum TakeFault {
-    /// 1: as many jobs wait for a thread as may.
-    Full,
+pub enum SubmitFault<K> {
+    /// 1: as many jobs wait for a thread as may. It gives back what was to be kept.
+    Full(K),
     /// 2: an allocation failed.
     Memory,
 }
 
-impl From<AllocError> for TakeFault {
-    fn from(_: AllocError) -> TakeFault {
-        TakeFault::Memory
-    }
-}
-
 /// What a job says.
 #[derive(Debug, Drop)]
-pub enum JobNews {
+pub enum JobMessage<K> {
     /// A notification to send while it runs.
     Report(Notification),
-    /// The outcome of its request.
-    Outcome(Result<Value, ResponseError>),
+    /// The outcome of its request, with what was kept for it.
+    Outcome(Result<Value, ResponseError>, K),
 }
 
 /// A request that waits for its job.
 #[derive(Drop)]
-pub(crate) struct Entry<J: Job> {
+pub(crate) struct Entry<J: Job, K: Drop> {
     pub(crate) token: CancellationToken,
-    pub(crate) awaited: Awaited<J, Ran>,
+    pub(crate) job_receiver: JobReceiver<J, Ran>,
     /// Where its job waits for a thread, if none took it yet.
     pub(crate) place: u64,
+    /// What the caller keeps for it.
+    pub(crate) kept: K,
 }
 
-/// Threads that run jobs, and the requests that wait for them. Contracts see a table: under the id of each such request, its job.
+/// Threads that run jobs, and the requests that wait for them. Contracts see the jobs that are pending: under the id of each such request, its job, and
+/// what the caller keeps with it, a `K`: `()` if that is nothing.
 ///
 /// No clause says that a job runs or comes to its end, nor that a token is cancelled.
 #[derive(Drop)]
-pub struct JobPool<T: Wait + Drop, J: Job> {
+pub struct JobPool<T: Wait + Drop, J: Job, K: Drop> {
     rt: T,
     alloc: Global,
     tokens: CancellationToken,
-    jobs: Incoming<Entry<J>>,
-    orders: WaitingErrands<Order<J, Ran>>,
+    jobs: Incoming<Entry<J, K>>,
+    waiting: WaitingJobs<QueuedJob<J, Ran>>,
     workers: Vec<JoinHandle<()>>,
 }
 
-impl<T, J> JobPool<T, J>
+impl<T, J, K> JobPool<T, J, K>
 where
     T: Threads + Wait + Copy + Drop + Send + 'static,
     J: Job + Send + 'static,
+    K: Drop,
 {
     /// Starts threads that run jobs. It gives the pool, with no job, and the end of a channel on which comes the id of a job that has
-    /// news: then ask `take_news`, once for each id. The channel has room for all ids, so no job waits for your loop. Only if memory for
-    /// one more id is missing, the job that has news waits until you take an earlier one, or memory is there again.
+    /// a message: then ask `take_message`, once for each id. The channel has room for all ids, so no job waits for your loop. Only if memory for
+    /// one more id is missing, the job that has a message waits until you take an earlier one, or memory is there again.
     ///
     /// After a fault no thread is left.
     pub fn start(
         rt: &T,
         alloc: Global,
         size: PoolSize,
-    ) -> Result<(JobPool<T, J>, Receiver<RequestId>), StartFault>
-        ensures { IfOk result (λ started. table_of started.0 ≡ no_jobs) }
+    ) -> Result<(JobPool<T, J, K>, Receiver<RequestId>), StartFault>
+        ensures { IfOk result (λ started. pending_jobs started.0 ≡ no_jobs) }
     {
-        start_pool::<T, J, ()>(rt, alloc, size, None)
+        start_pool::<T, J, K, ()>(rt, alloc, size, None)
     }
 
     /// Cancels all tokens, and waits until each thread has ended: a job that runs then goes on until it sees its token or ends, and one
-    /// that has not begun never does. A pool that is only dropped leaves its threads to run all jobs that it took on.
+    /// that has not begun never does. A pool that is only dropped leaves its threads to run all jobs that were submitted.
     pub fn end(self) {
         let JobPool {
             rt,
             tokens,
             jobs,
-            orders,
+            waiting,
             workers,
             ..
         } = self;
         tokens.cancel_all();
         drop(jobs);
-        drop(orders);
+        drop(waiting);
         join_all(&rt, workers);
     }
 }
 
 /// `JobPool::start`, for a loop that waits at a relay: with each id it wakes the relay.
-pub(crate) fn start_pool<T, J, M>(
+pub(crate) fn start_pool<T, J, K, M>(
     rt: &T,
     alloc: Global,
     size: PoolSize,
     waker: Option<RelayWaker<M>>,
-) -> Result<(JobPool<T, J>, Receiver<RequestId>), StartFault>
+) -> Result<(JobPool<T, J, K>, Receiver<RequestId>), StartFault>
 where
     T: Threads + Wait + Copy + Drop + Send + 'static,
     J: Job + Send + 'static,
+    K: Drop,
     M: Drop + Send + 'static,
-    ensures { IfOk result (λ started. table_of started.0 ≡ no_jobs) }
+    ensures { IfOk result (λ started. pending_jobs started.0 ≡ no_jobs) }
 {
-    let Ok((said, news)) = channel_of_ids(rt, alloc) else {
+    let Ok((ids, ready)) = channel_of_ids(rt, alloc) else {
         return Err(StartFault::Memory);
     };
     let Ok(tokens) = CancellationToken::new(alloc) else {
@@ -148,22 +148,28 @@ where
     let Ok(ended) = tokens.share() else {
         return Err(StartFault::Memory);
     };
-    let mut bell = Bell::new(said, ended, waker);
+    let mut notifier = Notifier::new(ids, ended, waker);
     let room = size.waiting.map(|waiting| waiting.max(1));
-    let Ok((orders, taken)) = line_of_errands(alloc, room) else {
+    let Ok((waiting, taken)) = queue_of_jobs(alloc, room) else {
         return Err(StartFault::Memory);
     };
-    let queue: ReqQueue<Entry<J>, ()> = ReqQueue::default(alloc);
+    let queue: ReqQueue<Entry<J, K>, ()> = ReqQueue::default(alloc);
     let mut pool = JobPool {
         rt: *rt,
         alloc,
         tokens,
         jobs: queue.incoming,
-        orders,
+        waiting,
         workers: Vec::new(alloc),
     };
-    match start_job_workers(rt, size.workers.max(1), taken, &mut bell, &mut pool.workers) {
-        Ok(()) => Ok((pool, news)),
+    match start_job_workers(
+        rt,
+        size.workers.max(1),
+        taken,
+        &mut notifier,
+        &mut pool.workers,
+    ) {
+        Ok(()) => Ok((pool, ready)),
         Err(fault) => {
             pool.end();
             Err(fault)
@@ -171,49 +177,72 @@ where
     }
 }
 
-impl<T: Wait + Drop, J: Job> JobPool<T, J> {
-    /// Gives the job of a request to the threads; it never waits for one. An earlier job under the id is forgotten. After a fault no job
-    /// is under the id. After `TakeFault::Memory` this one may run all the same, and nobody waits for it.
-    pub fn take_on(&mut self, id: RequestId, job: J) -> Result<(), TakeFault>
-        ensures ok { OnOk result (table_of self.new ≡ with_job id «job» (table_of self.old)) }
-        ensures err { OnErr result (table_of self.new ≡ without id (table_of self.old)) }
+impl<T: Wait + Drop, J: Job, K: Drop> JobPool<T, J, K> {
+    /// Gives the job of a request to the threads, and keeps `kept` with it; it never waits for one. An earlier job under the id is
+    /// forgotten, and what was kept with it is dropped. After a fault no job is under the id. After `SubmitFault::Memory` this one may run
+    /// all the same, and nobody waits for it.
+    pub fn submit(&mut self, id: RequestId, job: J, kept: K) -> Result<(), SubmitFault<K>>
+        ensures ok { OnOk result
+            (pending_jobs self.new ≡ with_job id («job», «kept») (pending_jobs self.old)) }
+        ensures err { OnErr result (pending_jobs self.new ≡ without id (pending_jobs self.old)) }
+        ensures back { IfErr result (GivesBack «kept») }
     {
         self.forget(&id);
-        let entry = self.hand_over(&id, job)?;
-        self.keep(id, entry)?;
-        Ok(())
+        let entry = self.hand_over(&id, job, kept)?;
+        match self.keep(id, entry) {
+            Ok(()) => Ok(()),
+            Err(_) => Err(SubmitFault::Memory),
+        }
     }
 
     /// Gives a job to the workers, and makes what stays here.
-    fn hand_over(&self, id: &RequestId, job: J) -> Result<Entry<J>, TakeFault>
-        ensures { IfOk result (λ entry. job_of entry ≡ «job») }
+    fn hand_over(&self, id: &RequestId, job: J, kept: K) -> Result<Entry<J, K>, SubmitFault<K>>
+        ensures ok { IfOk result (λ entry. job_of entry ≡ («job», «kept»)) }
+        ensures back { IfErr result (GivesBack «kept») }
+    {
+        match self.enqueue(id, job) {
+            Ok((token, job_receiver, place)) => Ok(Entry {
+                token,
+                job_receiver,
+                place,
+                kept,
+            }),
+            Err(QueueFault::Full) => Err(SubmitFault::Full(kept)),
+            Err(QueueFault::Memory) => Err(SubmitFault::Memory),
+        }
+    }
+
+    /// Gives a job to the workers.
+    fn enqueue(
+        &self,
+        id: &RequestId,
+        job: J,
+    ) -> Result<(CancellationToken, JobReceiver<J, Ran>, u64), QueueFault>
+        ensures { IfOk result (λ queued. queued.1 ≡ «job») }
     {
         let token = self.tokens.of_pool(self.alloc)?;
-        let (assignment, awaited) = assign(&self.rt, self.alloc, job)?;
-        let order = Order {
+        let (job_sender, job_receiver) = channel_of(&self.rt, self.alloc, job)?;
+        let queued = QueuedJob {
             id: id.clone()?,
-            assignment,
+            job_sender,
             token: token.share()?,
         };
-        let place = self.orders.add(&self.rt, order)?;
-        Ok(Entry {
-            token,
-            awaited,
-            place,
-        })
+        let place = self.waiting.add(&self.rt, queued)?;
+        Ok((token, job_receiver, place))
     }
 
     /// Whether the request with this id waits for its job.
     pub fn is_waiting(&self, id: &RequestId) -> bool
-        ensures { result ≡ is_some (table_of self.now id.now) }
+        ensures { result ≡ is_some (pending_jobs self.now id.now) }
     {
         self.jobs.data(id).is_some()
     }
 
     /// The request with this id needs no outcome any more, since it was cancelled or answered otherwise: cancels the job's token, and
-    /// what it says is dropped. A job that still waits for a thread is dropped at once, and another may wait in its place.
+    /// what it says is dropped, as is what was kept with it. A job that still waits for a thread is dropped at once, and another may wait
+    /// in its place.
     pub fn forget(&mut self, id: &RequestId)
-        ensures { table_of self.new ≡ without id.now (table_of self.old) }
+        ensures { pending_jobs self.new ≡ without id.now (pending_jobs self.old) }
     {
         if let Some(entry) = self.jobs.complete(id) {
             self.let_go(entry);
@@ -221,41 +250,59 @@ impl<T: Wait + Drop, J: Job> JobPool<T, J> {
     }
 
     /// Nobody waits for this job any more.
-    fn let_go(&self, entry: Entry<J>) {
+    fn let_go(&self, entry: Entry<J, K>) {
         entry.token.cancel();
-        self.orders.take_back(&self.rt, entry.place);
+        self.waiting.take_back(&self.rt, entry.place);
     }
 
-    /// What the job of this request said next: a report, and the request goes on waiting; or the outcome, and it waits no more. `None`
-    /// means that the request waits for no job, or that its job said nothing new.
+    /// What the job of this request said next: a report, and the request goes on waiting; or the outcome, with what was kept for it, and it
+    /// waits no more. If an allocation failed in the job, its outcome is the error -32603, `out of memory`. `None` means that the request
+    /// waits for no job, or that its job said nothing new.
     ///
-    /// The error is a failed allocation, here or in the job: the request has no job any more then, so it is still yours to answer.
-    pub fn take_news(&mut self, id: &RequestId) -> Result<Option<JobNews>, AllocError>
-        ensures some { IfOk result (λ found. IfSome found (λ news.
-            Tells J.answers id.now (table_of self.old) (news_view news) (table_of self.new))) }
-        ensures none { IfOk result (λ found. IfNone found (table_of self.new ≡ table_of self.old)) }
-        ensures err { OnErr result (table_of self.new ≡ without id.now (table_of self.old)) }
+    /// The error is a failed allocation: the request has no job any more then, so it is still yours to answer.
+    pub fn take_message(&mut self, id: &RequestId) -> Result<Option<JobMessage<K>>, AllocError>
+        ensures some { IfOk result (λ found. IfSome found (λ message.
+            Tells J.Job id.now (pending_jobs self.old) (job_message_view message) (pending_jobs self.new))) }
+        ensures none { IfOk result (λ found. IfNone found (pending_jobs self.new ≡ pending_jobs self.old)) }
+        ensures err { OnErr result (pending_jobs self.new ≡ without id.now (pending_jobs self.old)) }
     {
         let Some(mut entry) = self.jobs.complete(id) else {
             return Ok(None);
         };
-        match entry.awaited.take(&self.rt) {
-            Some(Saying::Outcome(ran)) => Ok(Some(JobNews::Outcome(ran?))),
-            said => {
-                let Ok(same) = id.clone() else {
-                    self.let_go(entry);
-                    return Err(AllocError);
-                };
-                self.keep(same, entry)?;
-                Ok(report_in(said))
+        match entry.job_receiver.take(&self.rt) {
+            Some(WorkerMessage::Outcome(ran)) => {
+                let outcome = outcome_of(self.alloc, ran)?;
+                Ok(Some(JobMessage::Outcome(outcome, entry.kept)))
+            }
+            Some(WorkerMessage::Report(notification)) => {
+                self.keep_on(id, entry)?;
+                Ok(Some(JobMessage::Report(notification)))
+            }
+            _ => {
+                self.keep_on(id, entry)?;
+                Ok(None)
             }
         }
     }
 
+    /// The request goes on waiting for its job.
+    fn keep_on(&mut self, id: &RequestId, entry: Entry<J, K>) -> Result<(), AllocError>
+        ensures ok { OnOk result
+            (pending_jobs self.new ≡ with_job id.now (job_of entry) (pending_jobs self.old)) }
+        ensures err { OnErr result (pending_jobs self.new ≡ pending_jobs self.old) }
+    {
+        let Ok(same) = id.clone() else {
+            self.let_go(entry);
+            return Err(AllocError);
+        };
+        self.keep(same, entry)
+    }
+
     /// A request waits for its job.
-    fn keep(&mut self, id: RequestId, entry: Entry<J>) -> Result<(), AllocError>
-        ensures ok { OnOk result (table_of self.new ≡ with_job id entry.awaited (table_of self.old)) }
-        ensures err { OnErr result (table_of self.new ≡ table_of self.old) }
+    fn keep(&mut self, id: RequestId, entry: Entry<J, K>) -> Result<(), AllocError>
+        ensures ok { OnOk result
+            (pending_jobs self.new ≡ with_job id (job_of entry) (pending_jobs self.old)) }
+        ensures err { OnErr result (pending_jobs self.new ≡ pending_jobs self.old) }
     {
         match self.jobs.register(id, entry) {
             Ok(()) => Ok(()),
@@ -271,12 +318,12 @@ impl<T: Wait + Drop, J: Job> JobPool<T, J> {
     }
 }
 
-/// The report that a job made, where it made one.
-fn report_in<R: Drop>(said: Option<Saying<R>>) -> Option<JobNews>
-    ensures { IfSome result (λ news. IsReport (news_view news)) }
+/// What a request gets when its job came to this.
+fn outcome_of(alloc: Global, ran: Ran) -> Result<Result<Value, ResponseError>, AllocError>
+    ensures { IfOk result (λ outcome. CameTo «ran» (outcome_view outcome)) }
 {
-    match said {
-        Some(Saying::Report(notification)) => Some(JobNews::Report(notification)),
-        _ => None,
+    match ran {
+        Ok(outcome) => Ok(outcome),
+        Err(_) => Ok(Err(ResponseError::new(alloc, ErrorCode::InternalError, "out of memory")?)),
     }
 }

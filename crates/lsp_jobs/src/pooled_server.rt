@@ -1,15 +1,20 @@
-// A server at its pool of jobs: what it does when a message or the news of a job comes.
+// A server at its pool of jobs: what it does when a message or the message of a job comes.
+ghost use Rattle.std.specs.Prelude.{◌≡◌, ◌∷◌, ◌++◌, [], ℕ, List, None, map, IfOk, string_bytes};
+ghost use Rattle.serde_json.specs.Data.{Data};
 ghost use Rattle.serde_json.specs.View.{view};
-ghost use Rattle.std.specs.Prelude.{◌≡◌, ◌∷◌, [], map, IfOk};
-ghost use Rattle.lsp_message.specs.View.{error_view, outcome_view};
-ghost use Rattle.lsp_service.specs.View.{act_view};
-ghost use Rattle.lsp_jobs.specs.PoolView.{seen, start_view, table_of};
 ghost use Rattle.std.specs.List.{FoldsTo};
-ghost use Rattle.lsp_jobs.specs.Pooled.{too_many, unanswered, Finishes, StartsOne, StartsJobs};
+ghost use Rattle.lsp_message.specs.View.{error_view, outcome_view};
+ghost use Rattle.lsp_service.specs.Acts.{cancelled_by};
+ghost use Rattle.lsp_service.specs.View.{act_view};
+ghost use Rattle.lsp_jobs.specs.Ends.{reply_of, too_many};
+ghost use Rattle.lsp_jobs.specs.PoolView.{end_view, pending_jobs};
+ghost use Rattle.lsp_jobs.specs.Pooled.{unanswered, without_cancelled, BeginsJob, Ends, StartsOne, StartsJobs};
+ghost use Rattle.lsp_jobs.specs.Seen.{seen};
+ghost use Rattle.lsp_jobs.specs.ServerView.{new_job_view};
 
 use crate::job::Job;
-use crate::job_server::{JobServer, Start};
-use crate::pool::{JobNews, JobPool, TakeFault};
+use crate::job_server::{AnsweredBy, JobEnd, JobServer, NewJob};
+use crate::pool::{JobMessage, JobPool, SubmitFault};
 use crossbeam_channel::Receiver;
 use lsp_message::{ErrorCode, Notification, Request, RequestId, ResponseError};
 use lsp_service::{Act, Server, WokenServer, cancelled_id};
@@ -17,47 +22,64 @@ use serde_json::Value;
 use std::alloc::{AllocError, Global};
 use std::sync::Wait;
 
-/// A server with the pool that runs its jobs. Contracts see the server, and under the id of each request that waits for a job, this job.
+/// A server with the pool that runs its jobs. Contracts see the server, and under the id of each request that waits for a job, this job
+/// and what is kept with it.
 #[derive(Drop)]
-pub struct PooledServer<T: Wait + Drop, S: Drop, J: Job> {
+pub struct PooledServer<T: Wait + Drop, S: Drop, J: Job, K: Drop> {
     rt: T,
     alloc: Global,
     server: S,
-    pool: JobPool<T, J>,
-    news: Receiver<RequestId>,
+    pool: JobPool<T, J, K>,
+    ready: Receiver<RequestId>,
 }
 
-impl<T: Wait + Drop, S: Drop, J: Job> PooledServer<T, S, J> {
-    /// A server with a pool that was started, and the ids of jobs that have news.
+impl<T: Wait + Drop, S: Drop, J: Job, K: Drop> PooledServer<T, S, J, K> {
+    /// A server with a pool that was started, and the ids of jobs that have a message.
     pub(crate) fn new(
         rt: T,
         alloc: Global,
         server: S,
-        pool: JobPool<T, J>,
-        news: Receiver<RequestId>,
+        pool: JobPool<T, J, K>,
+        ready: Receiver<RequestId>,
     ) -> Self
-        ensures { seen result ≡ (server, table_of pool) }
+        ensures { seen result ≡ (server, pending_jobs pool) }
     {
         PooledServer {
             rt,
             alloc,
             server,
             pool,
-            news,
+            ready,
         }
     }
 
     /// The server, and its pool.
-    pub(crate) fn into_parts(self) -> (S, JobPool<T, J>)
+    pub(crate) fn into_parts(self) -> (S, JobPool<T, J, K>)
         ensures { result.0 ≡ self.server }
     {
         let PooledServer { server, pool, .. } = self;
         (server, pool)
     }
 
+    /// A request that a notification cancels needs no job any more.
+    fn forget_cancelled(&mut self, notification: &Notification) -> Result<(), AllocError>
+        ensures { IfOk result (λ _. seen self.new ≡ (
+          self.old.server,
+          without_cancelled
+              (cancelled_by (string_bytes notification.now.method) (view notification.now.params))
+              (pending_jobs self.old.pool),
+        )) }
+    {
+        if let Some(id) = cancelled_id(notification)? {
+            self.pool.forget(&id);
+        }
+        Ok(())
+    }
+
     /// A request that the server answers by itself needs no job any more.
     fn forget_answered<P: Drop>(&mut self, acts: &[Act<P>])
-        ensures { seen self.new ≡ (self.old.server, unanswered (map act_view acts.now) (table_of self.old.pool)) }
+        ensures { seen self.new
+            ≡ (self.old.server, unanswered (map act_view acts.now) (pending_jobs self.old.pool)) }
     {
         for act in acts {
             if let Act::Reply(id, _) = act {
@@ -67,44 +89,67 @@ impl<T: Wait + Drop, S: Drop, J: Job> PooledServer<T, S, J> {
     }
 }
 
-impl<T, S, J> PooledServer<T, S, J>
+impl<T, S, J> PooledServer<T, S, J, S::Key>
 where
     T: Wait + Drop,
     S: JobServer<J> + Drop,
     J: Job,
 {
-    /// The request with this id gets its outcome, after what the server does when it sees that.
-    fn finish(
+    /// The job of the request with this id ended so: the request is answered, after what the server does when it sees that.
+    fn end_job(
         &mut self,
         id: RequestId,
-        outcome: Result<Value, ResponseError>,
+        key: S::Key,
+        end: JobEnd,
     ) -> Result<Vec<Act<S::Payload>>, AllocError>
-        ensures { IfOk result (λ all. Finishes S.starts S.finishes (seen self.old) id (outcome_view outcome) (map act_view all.items) (seen self.new)) }
+        ensures { IfOk result (λ acts.
+            Ends S.JobServer.own id «key» (end_view «end») (seen self.old) (map act_view acts.items)
+            (seen self.new)) }
     {
-        let mut acts = self.server.finished(&id, &outcome)?;
+        let mut acts = self.server.finished(&id, key, &end, self.alloc)?;
+        let outcome = reply_to(self.alloc, end)?;
         match acts.push(Act::Reply(id, outcome)) {
-            Ok(()) => self.start_jobs(acts),
+            Ok(()) => {
+                self.forget_answered(&acts);
+                Ok(acts)
+            }
             Err(_) => Err(AllocError),
         }
     }
 
-    /// Starts the jobs that the server starts now, after it did these acts. What is answered for a job that was not taken on follows them.
+    /// Starts the job of a request that came, and then the others that the server starts now.
+    fn begin_job(&mut self, start: NewJob<J, S::Key>) -> Result<Vec<Act<S::Payload>>, AllocError>
+        ensures { IfOk result (λ all.
+            BeginsJob S.JobServer.own (seen self.old) (new_job_view «start»)
+            (map act_view all.items) (seen self.new)) }
+    {
+        let mut acts = Vec::new(self.alloc);
+        self.start_one(start, &mut acts)?;
+        self.start_jobs(acts)
+    }
+
+    /// Starts the jobs that the server starts now, after it did these acts. What is done for a job that found no room follows them.
     fn start_jobs(&mut self, acts: Vec<Act<S::Payload>>) -> Result<Vec<Act<S::Payload>>, AllocError>
-        ensures { IfOk result (λ all. StartsJobs S.starts S.finishes (seen self.old) (map act_view acts.items) (map act_view all.items) (seen self.new)) }
+        ensures { IfOk result (λ all.
+            StartsJobs S.JobServer.own (seen self.old) (map act_view acts.items)
+            (map act_view all.items) (seen self.new)) }
     {
         self.forget_answered(&acts);
-        let jobs = self.server.take_jobs()?;
+        let jobs = self.server.take_jobs(self.alloc)?;
         self.start_all(jobs, acts)
     }
 
     /// Starts jobs, in order.
     fn start_all(
         &mut self,
-        jobs: Vec<Start<J>>,
+        jobs: Vec<NewJob<J, S::Key>>,
         acts: Vec<Act<S::Payload>>,
     ) -> Result<Vec<Act<S::Payload>>, AllocError>
-        ensures { IfOk result (λ all. (self.new.server ≡ self.old.server)
-            × FoldsTo StartsOne (table_of self.old.pool, map act_view acts.items) (map start_view jobs.items) (table_of self.new.pool, map act_view all.items)) }
+        ensures { IfOk result (λ all.
+            FoldsTo (StartsOne S.JobServer.own)
+            (self.old.server, pending_jobs self.old.pool, map act_view acts.items)
+            (map new_job_view jobs.items)
+            (self.new.server, pending_jobs self.new.pool, map act_view all.items)) }
     {
         let mut acts = acts;
         for start in jobs {
@@ -113,27 +158,37 @@ where
         Ok(acts)
     }
 
-    /// Starts a job, or answers its request where too many wait.
+    /// Starts a job, or answers its request if too many wait.
     fn start_one(
         &mut self,
-        start: Start<J>,
+        start: NewJob<J, S::Key>,
         acts: &mut Vec<Act<S::Payload>>,
     ) -> Result<(), AllocError>
-        ensures server { IfOk result (λ _. self.new.server ≡ self.old.server) }
-        ensures job { IfOk result (λ _. StartsOne (table_of self.old.pool, map act_view acts.old.items) (start_view start) (table_of self.new.pool, map act_view acts.new.items)) }
+        ensures { IfOk result (λ _.
+            StartsOne S.JobServer.own
+            (self.old.server, pending_jobs self.old.pool, map act_view acts.old.items)
+            (new_job_view «start»)
+            (self.new.server, pending_jobs self.new.pool, map act_view acts.new.items)) }
     {
-        let Start { id, job } = start;
-        match self.pool.take_on(id.clone()?, job) {
+        let NewJob { id, job, key } = start;
+        match self.pool.submit(id.clone()?, job, key) {
             Ok(()) => Ok(()),
-            Err(TakeFault::Full) => {
-                let refusal = refusal(self.alloc)?;
-                match acts.push(Act::Reply(id, Err(refusal))) {
-                    Ok(()) => Ok(()),
-                    Err(_) => Err(AllocError),
-                }
+            Err(SubmitFault::Full(key)) => {
+                let mut more = self.end_job(id, key, JobEnd::Refused)?;
+                acts.append(&mut more)
             }
-            Err(TakeFault::Memory) => Err(AllocError),
+            Err(SubmitFault::Memory) => Err(AllocError),
         }
+    }
+}
+
+/// What the request of a job gets that ended so.
+fn reply_to(alloc: Global, end: JobEnd) -> Result<Result<Value, ResponseError>, AllocError>
+    ensures { IfOk result (λ outcome. outcome_view outcome ≡ reply_of (end_view «end»)) }
+{
+    match end {
+        JobEnd::Outcome(outcome) => Ok(outcome),
+        JobEnd::Refused => Ok(Err(refusal(alloc)?)),
     }
 }
 
@@ -159,7 +214,7 @@ fn one_act<P: Drop>(alloc: Global, act: Act<P>) -> Result<Vec<Act<P>>, AllocErro
     }
 }
 
-impl<T, S, J> Server for PooledServer<T, S, J>
+impl<T, S, J> Server for PooledServer<T, S, J, S::Key>
 where
     T: Wait + Drop,
     S: JobServer<J> + Drop,
@@ -169,17 +224,17 @@ where
 
     type Payload = S::Payload;
 
-    ghost initializes = { (seen_with_jobs T S.Server S.starts S.finishes J.answers).initializes };
+    ghost initializes = { (seen_with_jobs T S.Server S.JobServer.own J.Job).initializes };
 
-    ghost begins = { (seen_with_jobs T S.Server S.starts S.finishes J.answers).begins };
+    ghost at_initialized = { (seen_with_jobs T S.Server S.JobServer.own J.Job).at_initialized };
 
-    ghost requested = { (seen_with_jobs T S.Server S.starts S.finishes J.answers).requested };
+    ghost requested = { (seen_with_jobs T S.Server S.JobServer.own J.Job).requested };
 
-    ghost notified = { (seen_with_jobs T S.Server S.starts S.finishes J.answers).notified };
+    ghost notified = { (seen_with_jobs T S.Server S.JobServer.own J.Job).notified };
 
-    ghost replied = { (seen_with_jobs T S.Server S.starts S.finishes J.answers).replied };
+    ghost replied = { (seen_with_jobs T S.Server S.JobServer.own J.Job).replied };
 
-    ghost takes_back = { (seen_with_jobs T S.Server S.starts S.finishes J.answers).takes_back };
+    ghost takes_back = { (seen_with_jobs T S.Server S.JobServer.own J.Job).takes_back };
 
     fn initialize(&mut self, params: Value) -> Result<Result<Value, ResponseError>, AllocError> {
         self.server.initialize(params)
@@ -192,17 +247,21 @@ where
 
     fn request(&mut self, request: Request) -> Result<Vec<Act<S::Payload>>, AllocError> {
         self.pool.forget(&request.id);
-        let acts = self.server.request(request)?;
-        self.start_jobs(acts)
+        let id = request.id.clone()?;
+        match self.server.job(request)? {
+            AnsweredBy::Job(job, key) => self.begin_job(NewJob { id, job, key }),
+            AnsweredBy::Server(request) => {
+                let acts = self.server.request(request)?;
+                self.start_jobs(acts)
+            }
+        }
     }
 
     fn notification(
         &mut self,
         notification: Notification,
     ) -> Result<Vec<Act<S::Payload>>, AllocError> {
-        if let Some(id) = cancelled_id(&notification)? {
-            self.pool.forget(&id);
-        }
+        self.forget_cancelled(&notification)?;
         let acts = self.server.notification(notification)?;
         self.start_jobs(acts)
     }
@@ -221,7 +280,7 @@ where
     }
 }
 
-impl<T, S, J> WokenServer for PooledServer<T, S, J>
+impl<T, S, J> WokenServer for PooledServer<T, S, J, S::Key>
 where
     T: Wait + Drop,
     S: JobServer<J> + Drop,
@@ -229,15 +288,18 @@ where
 {
     ghost use Rattle.lsp_jobs.specs.JobSession.{seen_with_jobs};
 
-    ghost wakes = { (seen_with_jobs T S.Server S.starts S.finishes J.answers).wakes };
+    ghost wakes = { (seen_with_jobs T S.Server S.JobServer.own J.Job).wakes };
 
     fn woken(&mut self, alloc: Global) -> Result<Vec<Act<S::Payload>>, AllocError> {
-        let Ok(id) = self.news.try_recv(&self.rt) else {
+        let Ok(id) = self.ready.try_recv(&self.rt) else {
             return Ok(Vec::new(alloc));
         };
-        match self.pool.take_news(&id)? {
-            Some(JobNews::Report(notification)) => one_act(alloc, Act::Tell(notification)),
-            Some(JobNews::Outcome(outcome)) => self.finish(id, outcome),
+        match self.pool.take_message(&id)? {
+            Some(JobMessage::Report(notification)) => one_act(alloc, Act::Tell(notification)),
+            Some(JobMessage::Outcome(outcome, key)) => {
+                let acts = self.end_job(id, key, JobEnd::Outcome(outcome))?;
+                self.start_jobs(acts)
+            }
             None => Ok(Vec::new(alloc)),
         }
     }

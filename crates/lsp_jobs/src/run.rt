@@ -28,9 +28,11 @@ const ROOM: usize = 32;
 /// - A `$/cancelRequest` for a request that waits for its job is answered at once, with what the server does at it or else with the
 ///   error -32800. The job's token is cancelled, and what it comes to is dropped (LSP 3.17, "Cancellation Support").
 /// - A job that finds no room is dropped, and its request gets the error -32803, `too many requests are waiting`.
+/// - If an allocation fails in a job, its request gets the error -32603, `out of memory`, and all else goes on. Only if memory for that
+///   text is missing too, the session ends.
 /// - Reports and outcomes are sent up to `shutdown`. What a job says later is dropped.
 /// - At a content part that is no message (see `lsp_session::is_of_body`) the listener `bad_bodies` is asked, at once and on your thread,
-///   from `initialized` up to `shutdown`. Where it reads on, nothing is answered, the server is not told, and the next frame follows. Where
+///   from `initialized` up to `shutdown`. If it reads on, nothing is answered, the server is not told, and the next frame follows. Where
 ///   it ends the session, and before and after in any case, such a part is `SessionFault::Read`.
 /// - At the end all tokens are cancelled and all threads joined: it returns only when the jobs that run do.
 pub fn run_jobs<T, R, W, S, J, L>(
@@ -51,7 +53,8 @@ where
     J: Job + Send + 'static,
     L: Listener,
     ensures { IfSome (R.remaining reader) (λ text. IfOk result.1 (λ done.
-        ThreadsTellOver true L.hears options.limit (JobSession T S.Server S.starts S.finishes J.answers server result.0) text
+        ThreadsTellOver true L.hears options.limit
+        (JobSession T S.Server S.JobServer.own J.Job server result.0) text
         bad_bodies.old bad_bodies.new (W.contents writer) (W.contents done.writer) done.answer)) }
 {
     let Ok((mut tx, rx)) = relay::<Contents>(alloc, ROOM) else {
@@ -60,11 +63,11 @@ where
     let Ok(waker) = tx.waker() else {
         return (server, Err(StartFault::Memory));
     };
-    let (pool, news) = match start_pool(rt, alloc, size, Some(waker)) {
+    let (pool, ready) = match start_pool(rt, alloc, size, Some(waker)) {
         Ok(started) => started,
         Err(fault) => return (server, Err(fault)),
     };
-    let pooled = PooledServer::new(*rt, alloc, server, pool, news);
+    let pooled = PooledServer::new(*rt, alloc, server, pool, ready);
     let mut queued = WokenQueuedServer::new(alloc, pooled);
     let ends = (tx, rx);
     let done = run_threads_of_service_over(

@@ -1,56 +1,60 @@
-// The threads that run jobs. Each is started for any such task, since the check finds that it may own its ends only where it need not
+// The threads that run jobs. Each is started for any such job, since the check finds that it may own its ends only if it need not
 // look into the types.
-use crate::assignment::{Assignment, Task};
-use crate::bell::Bell;
 use crate::cancellation::CancellationToken;
+use crate::channel::{AnyJob, JobSender};
 use crate::job::{Job, Ran};
-use crate::line::ErrandSource;
+use crate::notifier::Notifier;
+use crate::waiting_jobs::JobSource;
 use lsp_message::RequestId;
 use lsp_threads::StartFault;
 use std::sync::Wait;
 use std::thread::{JoinHandle, Threads, spawn};
 
 /// What a worker is given.
-pub(crate) trait Errand: Drop {
+pub(crate) trait Work: Drop {
     /// Whether somebody waits for what comes of it.
     fn is_wanted(&self) -> bool;
 
-    /// Runs it to its end, and rings whenever it said something.
-    fn run<T: Wait + Copy + Drop, M: Drop>(self, rt: T, bell: Bell<M>) -> Bell<M>;
+    /// Runs it to its end, and tells the notifier whenever it said something.
+    fn run<T: Wait + Copy + Drop, M: Drop>(self, rt: T, notifier: Notifier<M>) -> Notifier<M>;
 }
 
-/// A task for a worker.
+/// A job for a worker.
 #[derive(Drop)]
-pub(crate) struct Order<J: Task<R>, R: Drop> {
+pub(crate) struct QueuedJob<J: AnyJob<R>, R: Drop> {
     pub(crate) id: RequestId,
-    pub(crate) assignment: Assignment<J, R>,
+    pub(crate) job_sender: JobSender<J, R>,
     pub(crate) token: CancellationToken,
 }
 
-impl<J: Task<R>, R: Drop> Errand for Order<J, R> {
+impl<J: AnyJob<R>, R: Drop> Work for QueuedJob<J, R> {
     fn is_wanted(&self) -> bool {
         !self.token.is_cancelled()
     }
 
-    fn run<T: Wait + Copy + Drop, M: Drop>(self, rt: T, bell: Bell<M>) -> Bell<M> {
-        let Order {
+    fn run<T: Wait + Copy + Drop, M: Drop>(self, rt: T, notifier: Notifier<M>) -> Notifier<M> {
+        let QueuedJob {
             id,
-            assignment,
+            job_sender,
             token,
         } = self;
-        assignment.perform(rt, id, &token, bell)
+        job_sender.perform(rt, id, &token, notifier)
     }
 }
 
-/// Runs errands until no more come.
-fn work<T: Wait + Copy + Drop, E: Errand, M: Drop>(rt: T, errands: ErrandSource<E>, bell: Bell<M>) {
-    let mut bell = bell;
+/// Runs jobs until no more come.
+fn run_queued<T: Wait + Copy + Drop, E: Work, M: Drop>(
+    rt: T,
+    jobs: JobSource<E>,
+    notifier: Notifier<M>,
+) {
+    let mut notifier = notifier;
     for _ in rt.forever() {
-        let Some(errand) = errands.next(&rt) else {
+        let Some(job) = jobs.next(&rt) else {
             return;
         };
-        if errand.is_wanted() {
-            bell = errand.run(rt, bell);
+        if job.is_wanted() {
+            notifier = job.run(rt, notifier);
         }
     }
 }
@@ -58,22 +62,22 @@ fn work<T: Wait + Copy + Drop, E: Errand, M: Drop>(rt: T, errands: ErrandSource<
 /// Starts a worker.
 fn start_worker<T, E, M>(
     rt: &T,
-    errands: &ErrandSource<E>,
-    bell: &mut Bell<M>,
+    jobs: &JobSource<E>,
+    notifier: &mut Notifier<M>,
 ) -> Result<JoinHandle<()>, StartFault>
 where
     T: Threads + Wait + Copy + Drop + Send + 'static,
-    E: Errand + Send + 'static,
+    E: Work + Send + 'static,
     M: Drop + Send + 'static,
 {
-    let Ok(errands) = errands.another() else {
+    let Ok(jobs) = jobs.another() else {
         return Err(StartFault::Memory);
     };
-    let Ok(bell) = bell.another() else {
+    let Ok(notifier) = notifier.another() else {
         return Err(StartFault::Memory);
     };
     let theirs = *rt;
-    match spawn(rt, move || work(theirs, errands, bell)) {
+    match spawn(rt, move || run_queued(theirs, jobs, notifier)) {
         Ok(handle) => Ok(handle),
         Err(_) => Err(StartFault::Thread),
     }
@@ -84,20 +88,20 @@ where
 pub(crate) fn start_workers<T, E, M>(
     rt: &T,
     count: usize,
-    errands: ErrandSource<E>,
-    bell: &mut Bell<M>,
+    jobs: JobSource<E>,
+    notifier: &mut Notifier<M>,
     workers: &mut Vec<JoinHandle<()>>,
 ) -> Result<(), StartFault>
 where
     T: Threads + Wait + Copy + Drop + Send + 'static,
-    E: Errand + Send + 'static,
+    E: Work + Send + 'static,
     M: Drop + Send + 'static,
 {
     if workers.try_reserve(count).is_err() {
         return Err(StartFault::Memory);
     }
     for _ in 0..count {
-        let worker = start_worker(rt, &errands, bell)?;
+        let worker = start_worker(rt, &jobs, notifier)?;
         if workers.push(worker).is_err() {
             return Err(StartFault::Memory);
         }
@@ -109,8 +113,8 @@ where
 pub(crate) fn start_job_workers<T, J, M>(
     rt: &T,
     count: usize,
-    orders: ErrandSource<Order<J, Ran>>,
-    bell: &mut Bell<M>,
+    waiting: JobSource<QueuedJob<J, Ran>>,
+    notifier: &mut Notifier<M>,
     workers: &mut Vec<JoinHandle<()>>,
 ) -> Result<(), StartFault>
 where
@@ -118,7 +122,7 @@ where
     J: Job + Send + 'static,
     M: Drop + Send + 'static,
 {
-    start_workers::<T, Order<J, Ran>, M>(rt, count, orders, bell, workers)
+    start_workers::<T, QueuedJob<J, Ran>, M>(rt, count, waiting, notifier, workers)
 }
 
 /// Joins threads.

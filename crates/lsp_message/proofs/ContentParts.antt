@@ -1,10 +1,10 @@
 -- A message, from the content part of its frame.
-use Rattle.std.proofs.Common.{◌≡◌, ◌≢◌, ℕ, ◌≤◌, Bool, true, false, cond, List, [], Option, Some, None, IfSome, inl, inr, Result, Ok, Err, refl, sym, ap, ◌∙◌, nat_lt, length, take, drop}
+use Rattle.std.proofs.Common.{◌≡◌, ℕ, ◌≤◌, Bool, true, false, cond, List, [], Option, Some, None, IfSome, inl, inr, Result, Ok, Err, refl, sym, ap, ◌∙◌, nat_lt, length, take, drop}
 use Rattle.std.specs.Result.{result_map_both}
 use Rattle.std.proofs.lemmas.Bool.{ltb-false}
 use Rattle.lsp_message.specs.Frame.{body_means, RunsOut, RunsOutBefore, body_of, content_of, frame_of, content_within}
 use Rattle.lsp_message.specs.HeaderPart.{header_of}
-use Rattle.lsp_message.specs.Reading.{Reading, Answers, StopsWithin}
+use Rattle.lsp_message.specs.Reading.{Reading, Answers}
 use Rattle.lsp_message.specs.ReadingSteps.{Decodes}
 use Rattle.lsp_message.specs.declared.frame.ReadFault.{ReadFault}
 use Rattle.lsp_message.specs.declared.frame.ReadFault.TheVariants.{Input, ShortBody, TooLong, Memory}
@@ -67,7 +67,7 @@ module _ {M : Type 0} (means : List ℕ → Result M ReadFault) (limit : ℕ) wh
   pub content_outcome : (text items : List ℕ) → (content_within limit text).outcome ≡ Ok (Some items) → (frame_of means limit text).outcome ≡ found (means items)
   content_outcome text items is = some_of (header_of text).outcome (header_of text).rest items is
 
-  -- where there is none, the text is at its end
+  -- if there is none, the text is at its end
   pub end_outcome : (text : List ℕ) → (content_within limit text).outcome ≡ Ok None → (frame_of means limit text).outcome ≡ Ok None
   end_outcome text is = none_of (header_of text).outcome (header_of text).rest is
 

@@ -131,23 +131,11 @@ module _ {M : Type 0} (means : List ℕ → Result M ReadFault) (limit : ℕ) wh
       at (Some text) (Err Memory) decoded read = ([], read.1)
       at (Some text) (Err fault) decoded read = (read.0 ∙ ap (result_map_both Some (λ fault. fault)) decoded, read.1)
 
--- the fault of a tree that is no message, as it is answered
-pub refused_tree : {X : Type 0} (view : X → Message) (tree : Data) → meaning tree ≡ None → Decodes view (Err (no_message tree)) (tree_means (Some tree))
-refused_tree view null none = ap (λ m. ok_or m NoMessage) none
-refused_tree view (boolean b) none = ap (λ m. ok_or m NoMessage) none
-refused_tree view (number n) none = ap (λ m. ok_or m NoMessage) none
-refused_tree view (string s) none = ap (λ m. ok_or m NoMessage) none
-refused_tree view (array ds) none = ap (λ m. ok_or m Batch) none
-refused_tree view (object ms) none = ap (λ m. ok_or m NoMessage) none
-
--- it is no want of memory
-pub refusal-known : (tree : Data) → no_message tree ≢ Memory
-refusal-known null is = cc
-refusal-known (boolean b) is = cc
-refusal-known (number n) is = cc
-refusal-known (string s) is = cc
-refusal-known (array ds) is = cc
-refusal-known (object ms) is = cc
+-- an answer decodes what it is
+pub decodes_same : {X : Type 0} (view : X → Message) (r : Result X ReadFault) (means : Result Message ReadFault) → result_map_both view (λ fault. fault) r ≡ means → Decodes view r means
+decodes_same view (Ok x) means same = sym same
+decodes_same view (Err Memory) means same = tt
+decodes_same view (Err fault) means same = sym same
 
 -- a fault of a content part that was taken
 abbrev IsOfContent : ReadFault → Type 0
@@ -169,6 +157,10 @@ tree_known (number n) None = tt
 tree_known (string s) None = tt
 tree_known (array ds) None = tt
 tree_known (object ms) None = tt
+
+-- what a tree means is no want of memory
+pub tree_needs_no_memory : {X : Type 0} (view : X → Message) (r : Result X ReadFault) (tree : Data) → result_map_both view (λ fault. fault) r ≡ tree_means (Some tree) → r ≢ Err Memory
+tree_needs_no_memory view r tree same is = subst IsKnownContent (sym same ∙ ap (result_map_both view (λ fault. fault)) is) (tree_known tree (meaning tree))
 
 abbrev given : Result Message ReadFault → Result (Option Message) ReadFault
 given r = result_map_both Some (λ fault. fault) r

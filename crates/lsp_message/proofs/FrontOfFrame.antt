@@ -12,7 +12,7 @@ use Rattle.memchr.specs.Find.{IsFirstByte, is_byte}
 use Rattle.lsp_message.specs.Front.{front_of}
 use Rattle.lsp_message.specs.HeaderPart.{header_line}
 use Rattle.lsp_message.specs.Written.{frame_text}
-use Rattle.lsp_message.specs.declared.frame.extent.Front.TheVariants.{Whole, More}
+use Rattle.lsp_message.specs.declared.frame.Front.TheVariants.{Whole, More}
 use Rattle.lsp_message.specs.declared.frame.header.HeaderLine.TheVariants.{Length, Blank}
 use Rattle.lsp_message.proofs.FrontSteps.{front_after, front_after-none, front_after-field, front_after-line, at_no_feed}
 use Rattle.lsp_message.proofs.ReadBack.{name, crlf, no_feed, length_line, blank_line}

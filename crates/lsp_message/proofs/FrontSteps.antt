@@ -6,8 +6,8 @@ use Rattle.std.specs.Io.BufRead.{take_through, drop_through, ends_with_byte}
 use Rattle.lsp_message.specs.Front.{at_header_end, front_end, front_of}
 use Rattle.lsp_message.specs.HeaderPart.{header_line, is_field, fields, after_fields, length_in, or_else, content_length, at_last_line, lines}
 use Rattle.lsp_message.specs.declared.frame.ReadFault.{ReadFault}
-use Rattle.lsp_message.specs.declared.frame.extent.Front.{Front}
-use Rattle.lsp_message.specs.declared.frame.extent.Front.TheVariants.{More}
+use Rattle.lsp_message.specs.declared.frame.Front.{Front}
+use Rattle.lsp_message.specs.declared.frame.Front.TheVariants.{More}
 use Rattle.lsp_message.specs.declared.frame.header.HeaderLine.{HeaderLine}
 use Rattle.memchr.specs.Find.{IsFirstByte, is_byte}
 use Rattle.lsp_message.proofs.Shown.{through_feed, past_shown}

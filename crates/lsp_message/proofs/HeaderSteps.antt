@@ -126,10 +126,6 @@ module _ (given : Option ℕ) where
   found_line (Ok line) last is = cc
   found_line (Err fault) last is = cc
 
-  refused_line : (r : Result HeaderLine ReadFault) (fault : ReadFault) → result_map_both Some (λ fault. fault) r ≡ Err fault → r ≡ Err fault
-  refused_line (Ok line) fault is = cc
-  refused_line (Err first) fault is = cc
-
   -- a field
   pub at_field : (line : HeaderLine) (a b c : Option (List ℕ)) → is_field (Ok line) ≡ true → Continues a b given → IfSome b (λ left. AnswersHeader (λ line. line) (Ok (Some line)) c (first_line left))
       → Continues a c (or_else (length_in (Ok line)) given)

@@ -1,9 +1,11 @@
+pub mod Choices
 pub mod ContentParts
 pub mod Contents
 pub mod FrontOfFrame
 mod FrontSteps
 mod HeaderSteps
-mod Joined
+pub mod Ids
+pub mod Joined
 mod KnownLines
 mod Members
 pub mod Numerals
@@ -13,7 +15,7 @@ mod Printed
 mod ReadBack
 mod Readings
 mod ReadsBack
-mod Rows
+mod Cases
 pub mod Sendable
 mod Separators
 mod Shown

@@ -14,7 +14,7 @@ use Rattle.std.specs.List.{ends_with}
 use Rattle.std.specs.Str.{IsUtf8, is_utf8, chars}
 use Rattle.lsp_message.specs.Frame.{body_means, content_of}
 use Rattle.lsp_message.specs.HeaderPart.{number, header_line, header_of}
-use Rattle.lsp_message.specs.Letters.{Begins}
+use Rattle.lsp_message.specs.Messages.{Begins}
 use Rattle.lsp_message.specs.Message.{Message}
 use Rattle.lsp_message.specs.Reading.{Reading}
 use Rattle.lsp_message.specs.Written.{frame_text}

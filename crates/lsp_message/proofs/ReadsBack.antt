@@ -25,6 +25,7 @@ use Rattle.std.specs.Option.{ok_or}
 use Rattle.std.specs.Str.{IsUtf8}
 use Rattle.lsp_message.specs.Frame.{body_means, no_message, tree_means}
 use Rattle.lsp_message.proofs.Contents.{body_means-text}
+use Rattle.lsp_message.proofs.Ids.{id_flat}
 use Rattle.lsp_message.specs.Tree.{id_tree, error_tree, without_null_details}
 use Rattle.lsp_message.proofs.TreeLaws.{as_error-error_tree}
 use Rattle.lsp_message.specs.Meaning.{is_i32, as_i32, as_id, code_of, meaning, unless_null}
@@ -246,11 +247,6 @@ result_json i result j good h = let known = id_json i good in record { numbers =
 result_text : (j : json.Json) (value : List ℕ) → value ≡ print (json_tokens j) → text_of_members (json.member (codes "result") j json.no_members) ≡ named (codes ",") (codes "result") value ++ codes "}"
 unfolding escape_byte
 result_text j value printed = rw printed (simp append_assoc)
-
-id_flat : (i : Id) → depth (id_tree i) ≡ 0
-id_flat (id.number (pos n)) = refl
-id_flat (id.number (negsuc n)) = refl
-id_flat (id.text s) = refl
 
 pub result_reads_back : (i : Id) (result : Data) (body : List ℕ) → IsIdInRange i → as_id (id_tree i) ≡ Some i → suc (depth result) ≤ max_depth → IsBodyOf (response i (Ok result)) body → IsReadAs body (response i (Ok result))
 result_reads_back i result body good same shallow h =

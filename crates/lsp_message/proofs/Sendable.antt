@@ -11,28 +11,28 @@ use Rattle.lsp_message.specs.contracts.msg.Notification as note
 use Rattle.lsp_message.specs.contracts.msg.id.RequestId as id
 use Rattle.lsp_message.specs.contracts.msg.Message as message
 
-both : {A B : Type 0} → A → B → A × B
+pub both : {A B : Type 0} → A → B → A × B
 both a b = (a, b)
 
-tree_send : IsSend tree.the_row
+pub tree_send : IsSend tree.the_row
 tree_send = search (send-Value, String-send, Vec-send, BTreeMap-send, both, sendable) depth 40
 
-tree_field_send : IsSend (tree.the_field).row
+pub tree_field_send : IsSend (tree.the_field).row
 tree_field_send = search (send-Value, String-send, Vec-send, BTreeMap-send, both, sendable) depth 40
 
-id_send : IsSend (id.the_field).row
+pub id_send : IsSend (id.the_field).row
 id_send = search (Vec-send, both, sendable) depth 40
 
-note_send : IsSend (note.the_field).row
+pub note_send : IsSend (note.the_field).row
 note_send = search (tree_field_send, Vec-send, both, sendable) depth 40
 
-request_send : IsSend (request.the_field).row
+pub request_send : IsSend (request.the_field).row
 request_send = search (tree_field_send, id_send, Vec-send, both, sendable) depth 40
 
-error_send : IsSend (error.the_field).row
+pub error_send : IsSend (error.the_field).row
 error_send = search (tree_send, Vec-send, both, sendable) depth 40
 
-response_send : IsSend (response.the_field).row
+pub response_send : IsSend (response.the_field).row
 response_send = search (tree_send, id_send, error_send, both, sendable) depth 40
 
 pub message_send : IsSend message.the_row

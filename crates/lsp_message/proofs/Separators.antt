@@ -65,7 +65,7 @@ pub name_and_value-found : (text : List ℕ) (r : Option ℕ) → FindsNeedle te
 name_and_value-found text None h = unparted text (λ k at. h k (omega arith) (omega (arith, at.fits)) at)
 name_and_value-found text (Some k) h = parted_at text k h.1 (λ j below at. h.0.before j (omega arith) below at)
 
--- what stands before a line's end, where it is not empty
+-- what stands before a line's end, if it is not empty
 pub header_text-parted : (text : List ℕ) (r : Option ℕ) → eqb (length text) 0 ≡ false → FindsNeedle text separator 0 r
     → header_text text ≡ parted (option_map (λ k. (take k text, drop (k + 2) text)) r)
 header_text-parted [] r some h = absurd (true≢false some)

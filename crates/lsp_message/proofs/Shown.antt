@@ -36,7 +36,7 @@ dropped (Some x) (Some y) c limit shown n within kept fits drops = drops (room l
     room None h = tt
     room (Some k) h = omega arith
 
--- bytes are left, where some of them are shown
+-- bytes are left, if some of them are shown
 pub shown_left : (a b : Option (List ℕ)) (shown : List ℕ) → Keeps a b → IfSome a (λ xs. StartsWith xs shown) → 0 < length shown → OnSome a (LeavesSome b)
 shown_left None b shown kept front some = tt
 shown_left (Some xs) None shown kept front some = absurd kept

@@ -20,7 +20,7 @@ KeepsLine-trans x (Some xs) y None z c first second = absurd first
 KeepsLine-trans x (Some xs) y (Some ys) z None first second = absurd second
 KeepsLine-trans x (Some xs) y (Some ys) z (Some zs) first second = (second.0 ∙ first.0, second.1 ∙ first.1)
 
--- what holds where the later bytes are known holds where the earlier ones are
+-- what holds if the later bytes are known holds if the earlier ones are
 pub KeepsLine-known : (P : Type 0) (x : List ℕ) (a : Option (List ℕ)) (y : List ℕ) (b : Option (List ℕ)) → KeepsLine x a y b → OnSome b P → OnSome a P
 KeepsLine-known P x None y b kept holds = tt
 KeepsLine-known P x (Some xs) y None kept holds = absurd kept

@@ -10,7 +10,7 @@ use Rattle.lsp_message.specs.Front.{front_of, front_end, at_header_end}
 use Rattle.lsp_message.specs.HeaderPart.{at_last_line, header_line, header_text, parted, field, same_name, number, name_and_value, fields, after_fields, content_length, lines}
 use Rattle.lsp_message.specs.declared.frame.ReadFault.{ReadFault}
 use Rattle.lsp_message.specs.declared.frame.ReadFault.TheVariants.{LineNotText, LineEnd, BadLength}
-use Rattle.lsp_message.specs.declared.frame.extent.Front.TheVariants.{Whole, Fault, More}
+use Rattle.lsp_message.specs.declared.frame.Front.TheVariants.{Whole, Fault, More}
 use Rattle.lsp_message.specs.declared.frame.header.HeaderLine.{HeaderLine}
 use Rattle.lsp_message.specs.declared.frame.header.HeaderLine.TheVariants.{Length, Other}
 
@@ -37,7 +37,7 @@ front_within text k is = within_lines (length text) k (content_length (fields (l
 
 -- ---- the number of a fault
 
--- the fault, where there is one, is of the header part
+-- the fault, if there is one, is of the header part
 abbrev FaultsInHeader : {X : Type 0} → Result X ReadFault → Type 0
 FaultsInHeader (Ok x) = Unit {0}
 FaultsInHeader (Err fault) = (2 ≤ read_fault_number fault) × (read_fault_number fault ≤ 6)

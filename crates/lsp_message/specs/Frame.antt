@@ -31,13 +31,15 @@ body_means body = if is_utf8 body then tree_means (read body) else Err BodyNotTe
 module _ {M : Type 0} (means : List ℕ → Result M ReadFault) where
   -- the content part, of n bytes
   abbrev pub body_of : ℕ → List ℕ → Reading M
-  body_of n text = if nat_lt (length text) n then record { outcome = Err ShortBody; rest = [] } else record { outcome = found (means (take n text)); rest = drop n text }
+  body_of n text = if nat_lt (length text) n then record { outcome = Err ShortBody; rest = [] }
+      else record { outcome = found (means (take n text)); rest = drop n text }
 
   -- what follows a header part that gave this; a content part of more bytes than the limit is not read
   abbrev pub content_of : ℕ → Result (Option ℕ) ReadFault → List ℕ → Reading M
   content_of limit (Err fault) rest = record { outcome = Err fault; rest = rest }
   content_of limit (Ok None) rest = record { outcome = Ok None; rest = rest }
-  content_of limit (Ok (Some n)) rest = if nat_lt limit n then record { outcome = Err TooLong; rest = rest } else body_of n rest
+  content_of limit (Ok (Some n)) rest =
+      if nat_lt limit n then record { outcome = Err TooLong; rest = rest } else body_of n rest
 
   -- the frame that a text begins with
   abbrev pub frame_of : ℕ → List ℕ → Reading M
@@ -66,16 +68,19 @@ reading_of text = reading_within no_limit text
 abbrev pub Begins : ℕ → List ℕ → Message → List ℕ → Type 0
 Begins limit text m rest = reading_within limit text ≡ record { outcome = Ok (Some m); rest = rest }
 
--- Memory ran out in the header part; or where the room for a content part within the limit was reserved, and none of it was taken.
+-- Memory ran out in the header part; or if the room for a content part within the limit was reserved, and none of it was taken.
 abbrev pub RunsOutBefore : ℕ → List ℕ → Option (List ℕ) → Type 0
 RunsOutBefore limit text left =
     StopsBefore left (header_of text)
-    ⊎ ((n : ℕ) × ((header_of text).outcome ≡ Ok (Some n)) × (n ≤ limit) × (left ≡ Some (header_of text).rest))
+    ⊎ ((n : ℕ) × ((header_of text).outcome ≡ Ok (Some n)) × (n ≤ limit)
+    × (left ≡ Some (header_of text).rest))
 
--- Memory ran out: in the header part; or where the room for a content part within the limit was reserved, and none of it was
+-- Memory ran out: in the header part; or if the room for a content part within the limit was reserved, and none of it was
 -- taken; or after the whole content part was taken.
 abbrev pub RunsOut : ℕ → List ℕ → Option (List ℕ) → Type 0
 RunsOut limit text left =
     StopsBefore left (header_of text)
-    ⊎ ((n : ℕ) × ((header_of text).outcome ≡ Ok (Some n)) × (n ≤ limit) × ((left ≡ Some (header_of text).rest)
-    ⊎ ((left ≡ Some (reading_within limit text).rest) × ((reading_within limit text).outcome ≢ Err ShortBody))))
+    ⊎ ((n : ℕ) × ((header_of text).outcome ≡ Ok (Some n)) × (n ≤ limit)
+    × ((left ≡ Some (header_of text).rest)
+    ⊎ ((left ≡ Some (reading_within limit text).rest)
+    × ((reading_within limit text).outcome ≢ Err ShortBody))))

@@ -5,8 +5,8 @@ use Rattle.std.specs.List.{concat}
 use Rattle.lsp_message.specs.Faults.{read_fault_number}
 use Rattle.lsp_message.specs.HeaderPart.{header_line, fields, after_fields, content_length, at_last_line, lines}
 use Rattle.lsp_message.specs.declared.frame.ReadFault.{ReadFault}
-use Rattle.lsp_message.specs.declared.frame.extent.Front.{Front}
-use Rattle.lsp_message.specs.declared.frame.extent.Front.TheVariants.{Whole, Fault, More}
+use Rattle.lsp_message.specs.declared.frame.Front.{Front}
+use Rattle.lsp_message.specs.declared.frame.Front.TheVariants.{Whole, Fault, More}
 
 -- the header part ended, with so many of all the bytes after it
 abbrev pub at_header_end : ℕ → Result (Option ℕ) ReadFault → ℕ → Front
@@ -18,8 +18,11 @@ at_header_end all (Ok (Some n)) left = if nat_lt left n then More else Whole (al
 abbrev pub front_end : ℕ → Option ℕ → List (List ℕ) → Front
 front_end all length_given [] = More
 front_end all length_given (line ∷ more) =
-    if ends_with_byte 10 line then at_header_end all (at_last_line length_given (header_line line)) (length (concat more)) else More
+    if ends_with_byte 10 line
+    then at_header_end all (at_last_line length_given (header_line line)) (length (concat more))
+    else More
 
 -- the first message of a text: its bytes, the fault of its header part, or that more bytes have to come
 abbrev pub front_of : List ℕ → Front
-front_of text = front_end (length text) (content_length (fields (lines text))) (after_fields (lines text))
+front_of text =
+    front_end (length text) (content_length (fields (lines text))) (after_fields (lines text))

@@ -21,7 +21,8 @@ onto_first byte (line ∷ more) = (byte ∷ line) ∷ more
 -- the lines of a text, each up to and with its line feed, which the last one may lack
 abbrev pub lines : List ℕ → List (List ℕ)
 lines [] = []
-lines (byte ∷ bytes) = if byte == 10 then (byte ∷ []) ∷ lines bytes else onto_first byte (lines bytes)
+lines (byte ∷ bytes) = if byte ==
+    10 then (byte ∷ []) ∷ lines bytes else onto_first byte (lines bytes)
 
 -- ---- one line
 
@@ -29,22 +30,26 @@ lines (byte ∷ bytes) = if byte == 10 then (byte ∷ []) ∷ lines bytes else o
 abbrev pub number : List ℕ → Option ℕ
 number value =
     let digits = without_leading_plus value in
-    if nat_lt 0 (length digits) && (all_ascii_digits digits && nat_lt (digits_value 10 digits) (2 ^ 64)) then Some (digits_value 10 digits) else None
+    if nat_lt 0 (length digits)
+    && (all_ascii_digits digits && nat_lt (digits_value 10 digits) (2 ^ 64))
+    then Some (digits_value 10 digits) else None
 
 -- the name and the value of a field, parted by the first ": "
 abbrev pub name_and_value : List ℕ → Option (List ℕ × List ℕ)
 name_and_value [] = None
 name_and_value (c ∷ []) = None
 name_and_value (c ∷ d ∷ text) =
-    if c == 58 && d == 32 then Some ([], text) else option_map (λ f. (c ∷ f.0, f.1)) (name_and_value (d ∷ text))
+    if c == 58 && d ==
+    32 then Some ([], text) else option_map (λ f. (c ∷ f.0, f.1)) (name_and_value (d ∷ text))
 
 -- the two are one name, ASCII case aside
 abbrev pub same_name : List ℕ → List ℕ → Bool
 same_name a b = bytes_eq (map to_ascii_lowercase a) (map to_ascii_lowercase b)
 
--- the length, where the field has that name, or any other field
+-- the length, if the field has that name, or any other field
 abbrev pub field : List ℕ → List ℕ → Result HeaderLine ReadFault
-field name value = if same_name name (codes "Content-Length") then ok_or (option_map Length (number value)) BadLength else Ok Other
+field name value = if same_name name (codes "Content-Length")
+    then ok_or (option_map Length (number value)) BadLength else Ok Other
 
 -- a field that has a name and a value
 abbrev pub parted : Option (List ℕ × List ℕ) → Result HeaderLine ReadFault
@@ -60,7 +65,8 @@ header_text (c ∷ text) = parted (name_and_value (c ∷ text))
 abbrev pub header_line : List ℕ → Result HeaderLine ReadFault
 header_line line =
     if not (is_utf8 line) then Err LineNotText
-    else (if not (ends_with nat_eq line (13 ∷ 10 ∷ [])) then Err LineEnd else header_text (take (length line - 2) line))
+    else (if not (ends_with nat_eq line (13 ∷ 10 ∷ [])) then Err LineEnd
+    else header_text (take (length line - 2) line))
 
 -- ---- all lines
 
@@ -107,7 +113,8 @@ at_last_line (Some n) (Ok line) = Ok (Some n)
 -- the header part, with the length that its fields give, and the lines from the first on that is no field
 abbrev pub header_end : Option ℕ → List (List ℕ) → Reading ℕ
 header_end length [] = record { outcome = Ok None; rest = [] }
-header_end length (line ∷ more) = record { outcome = at_last_line length (header_line line); rest = concat more }
+header_end length (line ∷ more) =
+    record { outcome = at_last_line length (header_line line); rest = concat more }
 
 -- the header part that a text begins with: the body's length, or nothing where the text ends at a line's start
 abbrev pub header_of : List ℕ → Reading ℕ

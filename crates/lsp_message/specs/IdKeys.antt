@@ -20,7 +20,8 @@ of_parts-parts (number n) = refl
 of_parts-parts (text bytes) = refl
 
 abbrev pub coded_id : Coded Id
-coded_id = code_by (ℕ × (ℤ × List ℕ)) (coded× coded_ℕ (coded× coded_ℤ (coded_list coded_ℕ))) parts of_parts of_parts-parts
+coded_id = code_by (ℕ × (ℤ × List ℕ)) (coded× coded_ℕ (coded× coded_ℤ (coded_list coded_ℕ))) parts
+    of_parts of_parts-parts
 
 pub id_antisymmetric : IsAntisymmetric id_cmp
 id_antisymmetric a b tie = (id_decides a b).0 (ap is_eq tie)

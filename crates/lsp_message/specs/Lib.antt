@@ -11,7 +11,7 @@ pub mod HeaderPart
 pub mod Id
 pub mod IdKeys
 pub mod IdLaws
-pub mod Letters
+pub mod Messages
 pub mod Listed
 pub mod Meaning
 pub mod Message

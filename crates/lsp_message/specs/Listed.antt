@@ -10,4 +10,6 @@ abbrev pub Lists : Listed → Items → Type 0
 Lists (One a) ds = ds ≡ item (view a) no_items
 Lists (Two a b) ds = ds ≡ item (view a) (item (view b) no_items)
 Lists (Three a b c) ds = ds ≡ item (view a) (item (view b) (item (view c) no_items))
-Lists Other ds = (ds ≡ no_items) ⊎ ((a : Data) × (b : Data) × (c : Data) × (e : Data) × (more : Items) × (ds ≡ item a (item b (item c (item e more)))))
+Lists Other ds = (ds ≡ no_items)
+    ⊎ ((a : Data) × (b : Data) × (c : Data) × (e : Data) × (more : Items)
+    × (ds ≡ item a (item b (item c (item e more)))))

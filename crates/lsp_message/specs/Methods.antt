@@ -1,5 +1,5 @@
 -- The messages of the lifecycle, told by their methods (LSP 3.17, "Server lifecycle").
-use Rattle.std.specs.Prelude.{ℕ, List, Bool, true, false, not, Option, Some, None, codes}
+use Rattle.std.specs.Prelude.{Bool, true, false, not, Option, Some, None, codes}
 use Rattle.std.specs.Str.{bytes_eq}
 use Rattle.lsp_message.specs.Id.{Id}
 use Rattle.lsp_message.specs.Message.{Message, request, notification, response}

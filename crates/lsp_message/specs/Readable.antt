@@ -8,8 +8,9 @@ use Rattle.lsp_message.specs.Ranges.{nesting}
 use Rattle.lsp_message.specs.Tree.{without_null_details}
 use Rattle.lsp_message.specs.Written.{IsFrameOf}
 
--- the writer got a frame of the message; where that nests at most 127 levels, it is read from the front, whatever follows
+-- the writer got a frame of the message; if that nests at most 127 levels, it is read from the front, whatever follows
 abbrev pub WritesReadably : Message → Option (List ℕ) → Option (List ℕ) → Type 0
 WritesReadably m old new =
     (text : List ℕ) × IsFrameOf m text × Appends old new text
-    × (nesting m ≤ max_depth → (rest : List ℕ) → Begins no_limit (text ++ rest) (without_null_details m) rest)
+    × (nesting m ≤ max_depth → (rest : List ℕ)
+    → Begins no_limit (text ++ rest) (without_null_details m) rest)

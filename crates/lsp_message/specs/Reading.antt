@@ -4,7 +4,7 @@ use Rattle.std.specs.Result.{result_map_both}
 use Rattle.lsp_message.specs.declared.frame.ReadFault.{ReadFault}
 use Rattle.lsp_message.specs.declared.frame.ReadFault.TheVariants.{Input, Memory}
 
--- what the bytes at the front of a text come to, and the bytes that follow them: an answer, none where the text is at its end, or a fault
+-- what the bytes at the front of a text come to, and the bytes that follow them: an answer, none if the text is at its end, or a fault
 pub record Reading (A : Type 0) : Type 0 where
   pub outcome : Result (Option A) ReadFault
   pub rest : List ℕ
@@ -19,11 +19,14 @@ StopsWithin left reading = (unread : List ℕ) × (left ≡ Some (unread ++ read
 
 -- the last byte of the reading was not taken, nor any after it
 abbrev pub StopsBefore : {A : Type 0} → Option (List ℕ) → Reading A → Type 0
-StopsBefore left reading = (byte : ℕ) × (unread : List ℕ) × (left ≡ Some (byte ∷ unread ++ reading.rest))
+StopsBefore left reading = (byte : ℕ) × (unread : List ℕ)
+    × (left ≡ Some (byte ∷ unread ++ reading.rest))
 
--- What was answered and what is left unread. Where the reader failed or memory ran out, nothing after the reading was taken.
-abbrev pub Answers : {X A : Type 0} → (X → A) → Result (Option X) ReadFault → Option (List ℕ) → Reading A → Type 0
-Answers view (Ok answer) left reading = (reading.outcome ≡ Ok (option_map view answer)) × (left ≡ Some reading.rest)
+-- What was answered and what is left unread. If the reader failed or memory ran out, nothing after the reading was taken.
+abbrev pub Answers : {X A : Type 0} → (X → A) → Result (Option X) ReadFault → Option (List ℕ)
+    → Reading A → Type 0
+Answers view (Ok answer) left reading = (reading.outcome ≡ Ok (option_map view answer))
+    × (left ≡ Some reading.rest)
 Answers view (Err (Input kind)) left reading = StopsWithin left reading
 Answers view (Err Memory) left reading = StopsWithin left reading
 Answers view (Err fault) left reading = (reading.outcome ≡ Err fault) × (left ≡ Some reading.rest)

@@ -9,25 +9,35 @@ use Rattle.lsp_message.specs.declared.frame.place.InPlace.TheVariants.{Whole, Cu
 use Rattle.lsp_message.specs.declared.frame.ReadFault.{ReadFault}
 use Rattle.lsp_message.specs.declared.frame.ReadFault.TheVariants.{Input, Memory}
 
--- the line that a text begins with, or nothing where the text is empty
+-- the line that a text begins with, or nothing if the text is empty
 abbrev pub first_line : List ℕ → Reading HeaderLine
 first_line [] = record { outcome = Ok None; rest = [] }
-first_line (byte ∷ bytes) = record { outcome = found (header_line (take_through 10 (byte ∷ bytes))); rest = drop_through 10 (byte ∷ bytes) }
+first_line (byte ∷ bytes) =
+    record {
+      outcome = found (header_line (take_through 10 (byte ∷ bytes)));
+      rest =
+          drop_through 10 (byte ∷ bytes);
+    }
 
--- What was answered to a header line, or to the header part, and what is left unread. Where memory ran out, a byte of it at
+-- What was answered to a header line, or to the header part, and what is left unread. If memory ran out, a byte of it at
 -- least was not taken.
-abbrev pub AnswersHeader : {X A : Type 0} → (X → A) → Result (Option X) ReadFault → Option (List ℕ) → Reading A → Type 0
-AnswersHeader view (Ok answer) left reading = (reading.outcome ≡ Ok (option_map view answer)) × (left ≡ Some reading.rest)
+abbrev pub AnswersHeader : {X A : Type 0} → (X → A) → Result (Option X) ReadFault → Option (List ℕ)
+    → Reading A → Type 0
+AnswersHeader view (Ok answer) left reading = (reading.outcome ≡ Ok (option_map view answer))
+    × (left ≡ Some reading.rest)
 AnswersHeader view (Err (Input kind)) left reading = StopsWithin left reading
 AnswersHeader view (Err Memory) left reading = StopsBefore left reading
-AnswersHeader view (Err fault) left reading = (reading.outcome ≡ Err fault) × (left ≡ Some reading.rest)
+AnswersHeader view (Err fault) left reading = (reading.outcome ≡ Err fault)
+    × (left ≡ Some reading.rest)
 
 -- A line that the reader shows whole is answered. One that is cut is left with all the bytes, and at the end of the input there is none.
 abbrev pub AnswersInPlace : Result InPlace ReadFault → Option (List ℕ) → List ℕ → Type 0
 AnswersInPlace (Ok Cut) left text = left ≡ Some text
 AnswersInPlace (Ok AtEnd) left text = AnswersHeader (λ line. line) (Ok None) left (first_line text)
-AnswersInPlace (Ok (Whole line)) left text = AnswersHeader (λ line. line) (Ok (Some line)) left (first_line text)
-AnswersInPlace (Err fault) left text = AnswersHeader (λ line. line) (Err fault) left (first_line text)
+AnswersInPlace (Ok (Whole line)) left text =
+    AnswersHeader (λ line. line) (Ok (Some line)) left (first_line text)
+AnswersInPlace (Err fault) left text =
+    AnswersHeader (λ line. line) (Err fault) left (first_line text)
 
 -- what was made of a content part is what it means, unless memory ran out
 abbrev pub Decodes : {X M : Type 0} → (X → M) → Result X ReadFault → Result M ReadFault → Type 0

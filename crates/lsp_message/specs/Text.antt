@@ -10,7 +10,7 @@ use Rattle.lsp_message.specs.Meaning.{unless_null}
 use Rattle.lsp_message.specs.Message.{ErrorObject, Message, request, notification, response}
 use Rattle.lsp_message.specs.Tree.{id_tree}
 
--- A text that `serde_json` may write for a value, with no space. There is one where the value has no float. The digits of a float are
+-- A text that `serde_json` may write for a value, with no space. There is one if the value has no float. The digits of a float are
 -- the choice of `serde_json`: they are read back as that float, as far as a value is read back at all, which nests at most 127 levels.
 pub record IsValueText (d : Data) (text : List ℕ) : Type 0 where
   pub exact : has_float d ≡ false → text ≡ compact_text d
@@ -25,23 +25,30 @@ named before name value = before ++ codes "\"" ++ name ++ codes "\":" ++ value
 -- a member that may be left out, after others
 abbrev pub IsLaterMember : List ℕ → Option Data → List ℕ → Type 0
 IsLaterMember name None text = text ≡ []
-IsLaterMember name (Some d) text = (value : List ℕ) × IsValueText d value × (text ≡ named (codes ",") name value)
+IsLaterMember name (Some d) text = (value : List ℕ) × IsValueText d value
+    × (text ≡ named (codes ",") name value)
 
 abbrev pub IsErrorText : ErrorObject → List ℕ → Type 0
 IsErrorText e text = (details : List ℕ) × IsLaterMember (codes "data") e.details details
     × (text ≡ named (codes "{") (codes "code") (compact_text (number (of_integer e.code)))
-    ++ named (codes ",") (codes "message") (compact_text (string e.message)) ++ details ++ codes "}")
+    ++ named (codes ",") (codes "message") (compact_text (string e.message)) ++ details
+    ++ codes "}")
 
 -- the text of a message's members, with what stands before them
 abbrev pub IsTextFrom : List ℕ → Message → List ℕ → Type 0
-IsTextFrom before (request i method params) text = (more : List ℕ) × IsLaterMember (codes "params") (unless_null (Some params)) more
-    × (text ≡ named before (codes "id") (compact_text (id_tree i)) ++ named (codes ",") (codes "method") (compact_text (string method)) ++ more ++ codes "}")
-IsTextFrom before (notification method params) text = (more : List ℕ) × IsLaterMember (codes "params") (unless_null (Some params)) more
+IsTextFrom before (request i method params) text = (more : List ℕ)
+    × IsLaterMember (codes "params") (unless_null (Some params)) more
+    × (text ≡ named before (codes "id") (compact_text (id_tree i))
+    ++ named (codes ",") (codes "method") (compact_text (string method)) ++ more ++ codes "}")
+IsTextFrom before (notification method params) text = (more : List ℕ)
+    × IsLaterMember (codes "params") (unless_null (Some params)) more
     × (text ≡ named before (codes "method") (compact_text (string method)) ++ more ++ codes "}")
 IsTextFrom before (response i (Ok result)) text = (value : List ℕ) × IsValueText result value
-    × (text ≡ named before (codes "id") (compact_text (id_tree i)) ++ named (codes ",") (codes "result") value ++ codes "}")
+    × (text ≡ named before (codes "id") (compact_text (id_tree i))
+    ++ named (codes ",") (codes "result") value ++ codes "}")
 IsTextFrom before (response i (Err e)) text = (value : List ℕ) × IsErrorText e value
-    × (text ≡ named before (codes "id") (compact_text (id_tree i)) ++ named (codes ",") (codes "error") value ++ codes "}")
+    × (text ≡ named before (codes "id") (compact_text (id_tree i))
+    ++ named (codes ",") (codes "error") value ++ codes "}")
 
 -- the message alone
 abbrev pub IsMemberText : Message → List ℕ → Type 0

@@ -13,7 +13,8 @@ use Rattle.lsp_message.specs.declared.msg.Message as message
 use Rattle.lsp_message.specs.declared.msg.Message.TheVariants as variant
 
 abbrev pub error_view : ResponseError → ErrorObject
-error_view e = record { code = e.code; message = string_bytes e.message; details = option_map view e.«data» }
+error_view e =
+    record { code = e.code; message = string_bytes e.message; details = option_map view e.«data» }
 
 abbrev pub outcome_view : Result Value ResponseError → Result Data ErrorObject
 outcome_view (Ok value) = Ok (view value)

@@ -18,18 +18,21 @@ IsFrameOf m text = (body : List ℕ) × IsBodyOf m body × (text ≡ frame_text 
 -- frames of these messages, in order, and nothing else
 abbrev pub AreFramesOf : List Message → List ℕ → Type 0
 AreFramesOf [] text = text ≡ []
-AreFramesOf (m ∷ ms) text = (first : List ℕ) × (more : List ℕ) × IsFrameOf m first × AreFramesOf ms more × (text ≡ first ++ more)
+AreFramesOf (m ∷ ms) text = (first : List ℕ) × (more : List ℕ) × IsFrameOf m first
+    × AreFramesOf ms more × (text ≡ first ++ more)
 
 -- the writer got a beginning of the text
 abbrev pub AppendsBeginning : Option (List ℕ) → Option (List ℕ) → List ℕ → Type 0
-AppendsBeginning old new text = (part : List ℕ) × (rest : List ℕ) × (text ≡ part ++ rest) × Appends old new part
+AppendsBeginning old new text = (part : List ℕ) × (rest : List ℕ) × (text ≡ part ++ rest)
+    × Appends old new part
 
 -- the writer got frames of these messages, in order, and nothing else
 abbrev pub GetsFrames : List Message → Option (List ℕ) → Option (List ℕ) → Type 0
 GetsFrames ms old new = (text : List ℕ) × AreFramesOf ms text × Appends old new text
 
 -- the writer got frames of these messages, in order, and a beginning of a frame of one more
-pub record GetsFramesAndPart (whole : List Message) (next : Message) (old new : Option (List ℕ)) : Type 0 where
+pub record GetsFramesAndPart (whole : List Message) (next : Message) (old new : Option (List ℕ)) :
+    Type 0 where
   pub frames : List ℕ
   pub frames_of_whole : AreFramesOf whole frames
   pub frame : List ℕ
@@ -40,9 +43,11 @@ pub record GetsFramesAndPart (whole : List Message) (next : Message) (old new : 
   pub got : Appends old new (frames ++ part)
 
 -- what one write of a message does: a frame of it, or a beginning of one, or nothing
-abbrev pub Writes : Message → Option (List ℕ) → Result (Unit {0}) WriteFault → Option (List ℕ) → Type 0
+abbrev pub Writes : Message → Option (List ℕ) → Result (Unit {0}) WriteFault → Option (List ℕ)
+    → Type 0
 Writes m old (Ok done) new = (text : List ℕ) × IsFrameOf m text × Appends old new text
-Writes m old (Err (Output kind)) new = (text : List ℕ) × IsFrameOf m text × AppendsBeginning old new text
+Writes m old (Err (Output kind)) new = (text : List ℕ) × IsFrameOf m text
+    × AppendsBeginning old new text
 Writes m old (Err Memory) new = Keeps old new
 
 -- the writer failed

@@ -1,15 +1,16 @@
 //! The frames of the base protocol (LSP 3.17, "Base Protocol"): a header part, a blank line and a content part.
-ghost use Rattle.std.specs.Prelude.{◌≡◌};
+ghost use Rattle.std.specs.Prelude.{◌≡◌, ◌≢◌, ◌⊎◌, Ok, Err};
+ghost use Rattle.std.specs.IoError.{error_kind};
+ghost use Rattle.std.specs.declared.io.ErrorKind.TheVariants.{Interrupted};
 ghost use Rattle.lsp_message.specs.Faults.{read_fault_number, read_fault_kind, write_fault_number};
 
 use std::alloc::AllocError;
 use std::error::Error;
-use std::fmt;
 use std::io::ErrorKind;
+use std::{fmt, io};
 
 pub(crate) mod body;
 pub(crate) mod content;
-pub(crate) mod extent;
 pub(crate) mod header;
 pub(crate) mod line;
 pub(crate) mod place;
@@ -119,6 +120,30 @@ impl From<AllocError> for ReadFault {
     fn from(_: AllocError) -> ReadFault {
         ReadFault::Memory
     }
+}
+
+/// After a read was interrupted, `again` tells the caller to try it again. Another failure of the reader is the fault.
+pub(crate) fn unless_interrupted<T: Copy>(error: io::Error, again: T) -> Result<T, ReadFault>
+    ensures { ((error_kind error ≡ Interrupted) × (result ≡ Ok again))
+        ⊎ ((error_kind error ≢ Interrupted) × (result ≡ Err (ReadFault.Input (error_kind error)))) }
+{
+    match error.kind() {
+        ErrorKind::Interrupted => Ok(again),
+        kind => Err(ReadFault::Input(kind)),
+    }
+}
+
+/// How much of some bytes is their first message (LSP 3.17, "Base Protocol"). Whether the content part is JSON is not checked.
+///
+/// `front` tells it. That function is in `scan`: in Rattle its name and the type's can't stand in one module.
+#[derive(Clone, Copy, Debug, PartialEq, Eq)]
+pub enum Front {
+    /// A whole message has arrived: its header part and its content part are the first so many bytes.
+    Whole(usize),
+    /// A header line is bad, or the header part has no length. This is the number of the read fault, from 2 to 6.
+    Fault(u8),
+    /// More bytes have to arrive.
+    More,
 }
 
 /// Why a message could not be written (LSP 3.17, "Base Protocol").

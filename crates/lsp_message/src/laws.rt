@@ -8,7 +8,7 @@ ghost use Rattle.lsp_message.specs.Text.{IsBodyOf, IsMemberText};
 ghost use Rattle.lsp_message.specs.Written.{frame_text};
 ghost use Rattle.lsp_message.specs.View.{error_view, request_view, notification_view, response_view, message_view};
 
-use crate::frame::extent::Front;
+use crate::frame::Front;
 use crate::msg::{Message, Notification, Request, Response, ResponseError};
 use std::alloc::AllocError;
 
@@ -57,12 +57,16 @@ pub fn kinds_print_apart(number: i32, text: &str)
 
 /// A message that holds no float has one text and one content part: `member_text` and `body_text` are exact to the byte there.
 pub fn one_text_without_floats()
-    ensures member { (m : plain.Message) (t u : List ℕ) → HasNoFloat m → IsMemberText m t → IsMemberText m u → t ≡ u }
-    ensures body { (m : plain.Message) (t u : List ℕ) → HasNoFloat m → IsBodyOf m t → IsBodyOf m u → t ≡ u }
+    ensures member { (m : plain.Message) (t u : List ℕ) → HasNoFloat m → IsMemberText m t
+        → IsMemberText m u → t ≡ u }
+    ensures body { (m : plain.Message) (t u : List ℕ) → HasNoFloat m → IsBodyOf m t → IsBodyOf m u
+        → t ≡ u }
 {}
 
 /// `front` finds a whole frame whatever follows it, and answers `More` to any proper part of a frame.
 pub fn front_of_frame()
-    ensures whole { (body rest : List ℕ) → length body < 2 ^ 64 → front_of (frame_text body ++ rest) ≡ Front.Whole (length (frame_text body)) }
-    ensures part { (body : List ℕ) (count : ℕ) → length body < 2 ^ 64 → count < length (frame_text body) → front_of (take count (frame_text body)) ≡ Front.More }
+    ensures whole { (body rest : List ℕ) → length body < 2 ^ 64
+        → front_of (frame_text body ++ rest) ≡ Front.Whole (length (frame_text body)) }
+    ensures part { (body : List ℕ) (count : ℕ) → length body < 2 ^ 64
+        → count < length (frame_text body) → front_of (take count (frame_text body)) ≡ Front.More }
 {}

@@ -9,10 +9,9 @@ mod msg;
 
 pub use error::ExtractError;
 pub use frame::content::read_content_within;
-pub use frame::extent::Front;
 pub use frame::scan::front;
 pub use frame::write::write_frames;
-pub use frame::{ReadFault, WriteFault};
+pub use frame::{Front, ReadFault, WriteFault};
 pub use msg::{
     ErrorCode, Message, Notification, Request, RequestId, Response, ResponseError, read_as,
     write_as,

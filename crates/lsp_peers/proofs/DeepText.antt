@@ -22,6 +22,7 @@ use Rattle.serde_json.specs.Data.{Data, null, boolean, number, string, array, ob
 use Rattle.serde_json.specs.Find.{of_integer}
 use Rattle.serde_json.specs.Read.{read, max_depth, of_json}
 use Rattle.serde_json.specs.Written.{number_text, outline, items_outline, members_outline, blank, blank_items, blank_members, compact_text}
+use Rattle.lsp_message.proofs.Ids.{id_flat}
 use Rattle.lsp_message.specs.Frame.{body_means, tree_means, content_of, no_limit, reading_of}
 use Rattle.lsp_message.specs.Id as id
 use Rattle.lsp_message.specs.Id.{Id}
@@ -209,10 +210,6 @@ unread_notification method params text more body deep writes later is =
 abbrev id_token : Id → Token
 id_token (id.number z) = token.number (number_text (of_integer z))
 id_token (id.text s) = token.string s
-
-id_flat : (i : Id) → depth (id_tree i) ≡ 0
-id_flat (id.number z) = refl
-id_flat (id.text s) = refl
 
 id_numbers : (i : Id) → IsIdInRange i → HasNumbers (outline (id_tree i))
 id_numbers (id.number (pos n)) good = let below : n < 2 ^ 31 = ltb-true n (2 ^ 31) good in IsNumber-decimal n (omega arith)

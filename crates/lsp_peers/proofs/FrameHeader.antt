@@ -16,7 +16,7 @@ use Rattle.lsp_message.specs.Front.{at_header_end, front_end, front_of}
 use Rattle.lsp_message.specs.HeaderPart.{onto_first, lines, header_line, is_field, fields, after_fields, length_in, content_length, at_last_line, header_end, header_of}
 use Rattle.lsp_message.specs.Written.{frame_text}
 use Rattle.lsp_message.specs.declared.frame.ReadFault.{ReadFault}
-use Rattle.lsp_message.specs.declared.frame.extent.Front.TheVariants.{Whole, More}
+use Rattle.lsp_message.specs.declared.frame.Front.TheVariants.{Whole, More}
 use Rattle.lsp_message.specs.declared.frame.header.HeaderLine.{HeaderLine}
 use Rattle.lsp_message.specs.declared.frame.header.HeaderLine.TheVariants.{Blank}
 

@@ -6,7 +6,7 @@ use Rattle.lsp_message.proofs.FrontOfFrame.{front_of-whole, front_of-part}
 use Rattle.lsp_message.specs.Front.{front_of}
 use Rattle.lsp_message.specs.Message.{Message}
 use Rattle.lsp_message.specs.Written.{frame_text, IsFrameOf}
-use Rattle.lsp_message.specs.declared.frame.extent.Front.TheVariants.{Whole, More}
+use Rattle.lsp_message.specs.declared.frame.Front.TheVariants.{Whole, More}
 
 -- where a list begins with `us`, its first elements are those
 pub front_taken : (us vs xs ys : List ℕ) → xs ++ ys ≡ us ++ vs → length us ≤ length xs → (take (length us) xs ≡ us) × (drop (length us) xs ++ ys ≡ vs)
@@ -44,7 +44,7 @@ front_part message frame rest arrived on_way is small same short =
     sym (take_all n arrived (omega arith)) ∙ sym (take-append-le n arrived on_way (omega arith)) ∙ ap (take n) same ∙ take-append-le n frame rest (omega arith) ∙ ap (take n) text in
     ap front_of part ∙ front_of-part body n fits (omega arith)
 
--- no letter is on the line
+-- no frame is on the line
 pub front_empty : (arrived on_way : List ℕ) → arrived ++ on_way ≡ [] → front_of arrived ≡ More
 front_empty [] on_way same = refl
 front_empty (x ∷ xs) on_way same = cc

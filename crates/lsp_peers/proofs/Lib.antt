@@ -19,5 +19,5 @@ mod RangeLemmas
 mod Refused
 mod RunLemmas
 mod ShallowLemmas
-mod TokenLemmas
+mod TrackedRequestLemmas
 mod WholeLemmas

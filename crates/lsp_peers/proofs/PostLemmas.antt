@@ -1,21 +1,21 @@
--- What a line carries after a letter is written, after bytes are passed, and after a letter is taken.
+-- What a line carries after a frame is written, after bytes are passed, and after a frame is taken.
 use Rattle.std.proofs.Common.{◌≡◌, ℕ, ◌+◌, ◌≤◌, ◌<◌, ◌^◌, List, [], ◌∷◌, ◌++◌, length, take, drop, min, refl, sym, ap, ◌∙◌, arith, append_assoc, length-append, length-drop, ◌⊎◌, inl, inr, ⊎_elim}
 use Rattle.std.proofs.lemmas.Bool.{cases_lt, cond-true, cond-false, lt-leb, le-leb}
 use Rattle.std.proofs.lemmas.List.{length-take-le, take-append-drop}
 use Rattle.std.proofs.lemmas.Grind.{common_steps}
 use Rattle.std.specs.Prelude.{None, Some, nat_le}
-use Rattle.lsp_message.specs.declared.frame.extent.Front.TheVariants.{Whole, More}
+use Rattle.lsp_message.specs.declared.frame.Front.TheVariants.{Whole, More}
 use Rattle.lsp_message.specs.Front.{front_of}
-use Rattle.lsp_peers.specs.Post.{Letter, Post, Line, Carries, frames, posted, passed_on, unpassed, next, one_taken}
+use Rattle.lsp_peers.specs.Post.{SentFrame, Post, Line, Carries, frames, posted, passed_on, unpassed, next, one_taken}
 use Rattle.lsp_peers.proofs.FrontLemmas.{front_taken, front_whole, front_part, front_empty}
 
--- the frames of one more letter
-frames_push : (letters : List Letter) (letter : Letter) → frames (letters ++ letter ∷ []) ≡ frames letters ++ letter.frame
-frames_push letters letter = grind (arith, common_steps)
+-- the bytes of one more frame
+frames_push : (sent_frames : List SentFrame) (sent_frame : SentFrame) → frames (sent_frames ++ sent_frame ∷ []) ≡ frames sent_frames ++ sent_frame.frame
+frames_push sent_frames sent_frame = grind (arith, common_steps)
 
-pub carries_written : (line : Line) (post : Post) (letter : Letter) → Carries line post → Carries (record { arrived = line.arrived; on_way = line.on_way ++ letter.frame }) (posted post letter)
-carries_written line post letter carries = record {
-  bytes = sym (append_assoc line.arrived line.on_way letter.frame) ∙ ap (λ b. b ++ letter.frame) carries.bytes ∙ sym (frames_push post.waiting letter);
+pub carries_written : (line : Line) (post : Post) (sent_frame : SentFrame) → Carries line post → Carries (record { arrived = line.arrived; on_way = line.on_way ++ sent_frame.frame }) (posted post sent_frame)
+carries_written line post sent_frame carries = record {
+  bytes = sym (append_assoc line.arrived line.on_way sent_frame.frame) ∙ ap (λ b. b ++ sent_frame.frame) carries.bytes ∙ sym (frames_push post.waiting sent_frame);
   count = carries.count;
 }
 
@@ -34,39 +34,39 @@ carries_passed line post bytes carries =
       count = omega (arith, carries.count, unpassed_is line post carries, length-append line.arrived (take (min bytes (length line.on_way)) line.on_way), length-take-le (min bytes (length line.on_way)) line.on_way short);
     }
 
--- what a line shows of the next letter: its frame is whole, or the front of what arrived isn't
-pub record Shows (line : Line) (post : Post) (letter : Letter) : Type 0 where
-  pub next_is : next post ≡ Some letter
-  pub front_is : front_of line.arrived ≡ Whole (length letter.frame)
-  pub frame_is : take (length letter.frame) line.arrived ≡ letter.frame
-  pub after : Carries (record { arrived = drop (length letter.frame) line.arrived; on_way = line.on_way }) (one_taken post)
+-- what a line shows of the next frame: its frame is whole, or the front of what arrived isn't
+pub record Shows (line : Line) (post : Post) (sent_frame : SentFrame) : Type 0 where
+  pub next_is : next post ≡ Some sent_frame
+  pub front_is : front_of line.arrived ≡ Whole (length sent_frame.frame)
+  pub frame_is : take (length sent_frame.frame) line.arrived ≡ sent_frame.frame
+  pub after : Carries (record { arrived = drop (length sent_frame.frame) line.arrived; on_way = line.on_way }) (one_taken post)
 
--- at a written-out list of waiting letters
-shown : (line : Line) → length (line.arrived ++ line.on_way) < 2 ^ 64 → (taken waiting : List Letter) (passed : ℕ) → let post : Post = record { taken = taken; waiting = waiting; passed = passed } in Carries line post → ((next post ≡ None) × (front_of line.arrived ≡ More)) ⊎ ((letter : Letter) × Shows line post letter)
+-- at a written-out list of waiting frames
+shown : (line : Line) → length (line.arrived ++ line.on_way) < 2 ^ 64 → (taken waiting : List SentFrame) (passed : ℕ) → let post : Post = record { taken = taken; waiting = waiting; passed = passed } in Carries line post → ((next post ≡ None) × (front_of line.arrived ≡ More)) ⊎ ((sent_frame : SentFrame) × Shows line post sent_frame)
 shown line small taken [] passed carries = inl (refl, front_empty line.arrived line.on_way carries.bytes)
-shown line small taken (letter ∷ letters) passed carries =
+shown line small taken (sent_frame ∷ sent_frames) passed carries =
     let count : length (frames taken) + length line.arrived ≡ passed = carries.count in
-    let fits : length letter.frame < 2 ^ 64 = omega (arith, ap length carries.bytes, length-append letter.frame (frames letters)) in
+    let fits : length sent_frame.frame < 2 ^ 64 = omega (arith, ap length carries.bytes, length-append sent_frame.frame (frames sent_frames)) in
     ⊎_elim
     (λ short. inl (
-      cond-false (nat_le (length (frames taken) + length letter.frame) passed) _ _ (lt-leb _ _ (omega arith)),
-      front_part letter.message letter.frame (frames letters) line.arrived line.on_way letter.framed fits carries.bytes short,
+      cond-false (nat_le (length (frames taken) + length sent_frame.frame) passed) _ _ (lt-leb _ _ (omega arith)),
+      front_part sent_frame.message sent_frame.frame (frames sent_frames) line.arrived line.on_way sent_frame.framed fits carries.bytes short,
     ))
     (λ long.
-    let front = front_taken letter.frame (frames letters) line.arrived line.on_way carries.bytes long in
+    let front = front_taken sent_frame.frame (frames sent_frames) line.arrived line.on_way carries.bytes long in
     inr (
-      letter,
+      sent_frame,
       record {
-        next_is = cond-true (nat_le (length (frames taken) + length letter.frame) passed) _ _ (le-leb _ _ (omega arith));
-        front_is = front_whole letter.message letter.frame (frames letters) line.arrived line.on_way letter.framed fits carries.bytes long;
+        next_is = cond-true (nat_le (length (frames taken) + length sent_frame.frame) passed) _ _ (le-leb _ _ (omega arith));
+        front_is = front_whole sent_frame.message sent_frame.frame (frames sent_frames) line.arrived line.on_way sent_frame.framed fits carries.bytes long;
         frame_is = front.0;
         after = record {
           bytes = front.1;
-          count = omega (arith, count, ap length (frames_push taken letter), length-append (frames taken) letter.frame, length-drop (length letter.frame) line.arrived);
+          count = omega (arith, count, ap length (frames_push taken sent_frame), length-append (frames taken) sent_frame.frame, length-drop (length sent_frame.frame) line.arrived);
         };
       },
     ))
-    (cases_lt (length line.arrived) (length letter.frame))
+    (cases_lt (length line.arrived) (length sent_frame.frame))
 
-pub take_cases : (line : Line) (post : Post) → length (line.arrived ++ line.on_way) < 2 ^ 64 → Carries line post → ((next post ≡ None) × (front_of line.arrived ≡ More)) ⊎ ((letter : Letter) × Shows line post letter)
+pub take_cases : (line : Line) (post : Post) → length (line.arrived ++ line.on_way) < 2 ^ 64 → Carries line post → ((next post ≡ None) × (front_of line.arrived ≡ More)) ⊎ ((sent_frame : SentFrame) × Shows line post sent_frame)
 take_cases line post small carries = shown line small post.taken post.waiting post.passed carries

@@ -1,4 +1,4 @@
--- What two peers do: the events of a run, and what each of them comes to after those before it.
+-- What two peers do: the entries of a run, and what each of them comes to after those before it.
 use Rattle.std.specs.List.{flat_map}
 use Rattle.std.specs.Option.{option_map_or}
 use Rattle.std.specs.Prelude.{◌≡◌, ◌==◌, ℕ, ◌+◌, ◌-◌, List, [], ◌∷◌, ◌++◌, length, take, drop, min, Option, None, Some, Ok, if◌then◌else◌, string_bytes}
@@ -13,23 +13,25 @@ use Rattle.lsp_peers.specs.declared.step.Step.TheVariants.{Register, Tell, Pass,
 use Rattle.lsp_peers.specs.declared.step.Outcome.{Outcome}
 use Rattle.lsp_peers.specs.declared.step.Outcome.TheVariants.{Registered, Spent, Told, Passed, Arrived, Returned, Notified, Waiting, Answered, Cancelled, GaveUp, Absent}
 use Rattle.lsp_peers.specs.Ids.{nth_id, item_at, has}
-use Rattle.lsp_peers.specs.Letter.{Letter, refused, messages, frames, first_passed}
+use Rattle.lsp_peers.specs.SentFrame.{SentFrame, refused, messages, frames, first_passed}
 use Rattle.lsp_peers.specs.Sides.{side_of, other}
 
--- a step with its outcome, and the letter that it wrote to the other side, if it wrote one
-pub record Event : Type 0 where
+-- a step with its outcome, and the frame that it wrote to the other side, if it wrote one
+pub record Entry : Type 0 where
   pub step : Step
   pub outcome : Outcome
-  pub wrote : List Letter
+  pub wrote : List SentFrame
 
--- ---- what an event is, by its step and outcome
+-- ---- what an entry is, by its step and outcome
 
 -- the message that it writes to the other side
 abbrev pub written_in : Step → Outcome → List Message
-written_in (Register side method params payload) (Registered id) = request id (string_bytes method) (view params) ∷ []
+written_in (Register side method params payload) (Registered id) =
+    request id (string_bytes method) (view params) ∷ []
 written_in (Tell side method params) Told = notification (string_bytes method) (view params) ∷ []
 written_in (Answer side id value) (Answered label) = response id (Ok (view value)) ∷ []
-written_in (Refuse side id code message) (Answered label) = refused id code (string_bytes message) ∷ []
+written_in (Refuse side id code message) (Answered label) =
+    refused id code (string_bytes message) ∷ []
 written_in (Cancel side id) Cancelled = cancelled id ∷ []
 written_in step outcome = []
 
@@ -44,12 +46,12 @@ arrival_in (Take side label) (Arrived id) = label ∷ []
 arrival_in step outcome = []
 
 -- the id of a request that was answered, refused, cancelled or given up
-abbrev pub settled_in : Step → Outcome → List Id
-settled_in (Answer side id value) (Answered label) = id ∷ []
-settled_in (Refuse side id code message) (Answered label) = id ∷ []
-settled_in (Cancel side id) Cancelled = id ∷ []
-settled_in (GiveUp side id) (GaveUp label) = id ∷ []
-settled_in step outcome = []
+abbrev pub closed_in : Step → Outcome → List Id
+closed_in (Answer side id value) (Answered label) = id ∷ []
+closed_in (Refuse side id code message) (Answered label) = id ∷ []
+closed_in (Cancel side id) Cancelled = id ∷ []
+closed_in (GiveUp side id) (GaveUp label) = id ∷ []
+closed_in step outcome = []
 
 -- the id of a reply that was taken
 abbrev pub returned_in : Step → Outcome → List Id
@@ -68,65 +70,65 @@ abbrev pub bytes_in : Step → Outcome → ℕ
 bytes_in (Pass side bytes) (Passed count) = count
 bytes_in step outcome = 0
 
--- ---- what the events of one side come to
+-- ---- what the entries of one side come to
 
 -- The payloads of its requests. They have the ids 0, 1, 2, .., since `outcome_of` gives them out so.
-abbrev pub payloads : List Event → List ℕ
-payloads events = flat_map (λ event. payload_in event.step event.outcome) events
+abbrev pub payloads : List Entry → List ℕ
+payloads entries = flat_map (λ entry. payload_in entry.step entry.outcome) entries
 
 -- The labels of the requests that it took. These have the ids 0, 1, 2, .. too: that is a law, `requests_arrive_in_order`.
-abbrev pub labels : List Event → List ℕ
-labels events = flat_map (λ event. arrival_in event.step event.outcome) events
+abbrev pub labels : List Entry → List ℕ
+labels entries = flat_map (λ entry. arrival_in entry.step entry.outcome) entries
 
 -- the ids of the requests that it answered, refused, cancelled or gave up
-abbrev pub settled : List Event → List Id
-settled events = flat_map (λ event. settled_in event.step event.outcome) events
+abbrev pub closed : List Entry → List Id
+closed entries = flat_map (λ entry. closed_in entry.step entry.outcome) entries
 
 -- the ids of the replies that it took
-abbrev pub returned : List Event → List Id
-returned events = flat_map (λ event. returned_in event.step event.outcome) events
+abbrev pub returned : List Entry → List Id
+returned entries = flat_map (λ entry. returned_in entry.step entry.outcome) entries
 
--- the label under which it holds a request: it took the request, and hasn't settled it
-abbrev pub held : List Event → Id → Option ℕ
-held events id = if has id (settled events) then None else item_at (labels events) id
+-- the label under which it holds a request: it took the request, and hasn't closed it
+abbrev pub held : List Entry → Id → Option ℕ
+held entries id = if has id (closed entries) then None else item_at (labels entries) id
 
 -- the payload that is pending under an id: it registered the request, and hasn't taken the reply
-abbrev pub pending : List Event → Id → Option ℕ
-pending events id = if has id (returned events) then None else item_at (payloads events) id
+abbrev pub pending : List Entry → Id → Option ℕ
+pending entries id = if has id (returned entries) then None else item_at (payloads entries) id
 
 -- what it wrote to the other side, in order
-abbrev pub letters_written : List Event → List Letter
-letters_written events = flat_map (λ event. event.wrote) events
+abbrev pub frames_written : List Entry → List SentFrame
+frames_written entries = flat_map (λ entry. entry.wrote) entries
 
 -- how many messages it took
-abbrev pub taken_count : List Event → ℕ
+abbrev pub taken_count : List Entry → ℕ
 taken_count [] = 0
-taken_count (event ∷ events) = count_in event.step event.outcome + taken_count events
+taken_count (entry ∷ entries) = count_in entry.step entry.outcome + taken_count entries
 
 -- how many bytes arrived there
-abbrev pub passed_count : List Event → ℕ
+abbrev pub passed_count : List Entry → ℕ
 passed_count [] = 0
-passed_count (event ∷ events) = bytes_in event.step event.outcome + passed_count events
+passed_count (entry ∷ entries) = bytes_in entry.step entry.outcome + passed_count entries
 
 -- what comes of a step that needs a request to be held
 abbrev pub where_held : Option ℕ → (ℕ → Outcome) → Outcome
 where_held None outcome = Absent
 where_held (Some label) outcome = outcome label
 
--- ---- what the events of a side and those of the other side come to
+-- ---- what the entries of a side and those of the other side come to
 
-module _ (own others : List Event) where
-  -- the letters that it took: the first of those that the other side wrote
-  abbrev pub letters_taken : List Letter
-  letters_taken = take (taken_count own) (letters_written others)
+module _ (own others : List Entry) where
+  -- the frames that it took: the first of those that the other side wrote
+  abbrev pub frames_taken : List SentFrame
+  frames_taken = take (taken_count own) (frames_written others)
 
-  -- the letters that it has yet to take
-  abbrev pub letters_left : List Letter
-  letters_left = drop (taken_count own) (letters_written others)
+  -- the frames that it has yet to take
+  abbrev pub frames_left : List SentFrame
+  frames_left = drop (taken_count own) (frames_written others)
 
-  -- the first letter that it has yet to take, if the whole frame has arrived
-  abbrev pub next_letter : Option Letter
-  next_letter = first_passed (length (frames letters_taken)) (passed_count own) letters_left
+  -- the first frame that it has yet to take, if the whole frame has arrived
+  abbrev pub next_sent : Option SentFrame
+  next_sent = first_passed (length (frames frames_taken)) (passed_count own) frames_left
 
   -- What comes of taking a message: a request arrives, a reply gives back the payload of its request. That no reply comes twice
   -- is a law, `a_reply_gives_back_its_payload_once`.
@@ -137,37 +139,41 @@ module _ (own others : List Event) where
 
   -- what comes of a step of this side
   abbrev pub outcome_of : Step → Outcome
-  outcome_of (Register side method params payload) = if length (payloads own) == all_ids then Spent else Registered (nth_id (length (payloads own)))
+  outcome_of (Register side method params payload) = if length (payloads own) ==
+      all_ids then Spent else Registered (nth_id (length (payloads own)))
   outcome_of (Tell side method params) = Told
-  outcome_of (Pass side bytes) = Passed (min bytes (length (frames (letters_written others)) - passed_count own))
-  outcome_of (Take side label) = option_map_or (λ letter. outcome_of_taking letter.message) next_letter Waiting
+  outcome_of (Pass side bytes) =
+      Passed (min bytes (length (frames (frames_written others)) - passed_count own))
+  outcome_of (Take side label) =
+      option_map_or (λ sent_frame. outcome_of_taking sent_frame.message) next_sent Waiting
   outcome_of (Answer side id value) = where_held (held own id) (λ label. Answered label)
   outcome_of (Refuse side id code message) = where_held (held own id) (λ label. Answered label)
   outcome_of (Cancel side id) = where_held (held own id) (λ label. Cancelled)
   outcome_of (GiveUp side id) = where_held (held own id) (λ label. GaveUp label)
 
-  -- An event of this side: its outcome is what comes of its step, and it writes what its step and outcome say.
-  pub record Follows (event : Event) : Type 0 where
-    pub outcome_is : event.outcome ≡ outcome_of event.step
-    pub wrote_is : messages event.wrote ≡ written_in event.step event.outcome
+  -- An entry of this side: its outcome is what comes of its step, and it writes what its step and outcome say.
+  pub record Follows (entry : Entry) : Type 0 where
+    pub outcome_is : entry.outcome ≡ outcome_of entry.step
+    pub wrote_is : messages entry.wrote ≡ written_in entry.step entry.outcome
 
--- ---- the events of both sides, one after another
+-- ---- the entries of both sides, one after another
 
--- an event, if it is one of the side
-abbrev pub only_of : Side → Side → Event → List Event
-only_of A A event = event ∷ []
-only_of B B event = event ∷ []
-only_of side named event = []
+-- an entry, if it is one of the side
+abbrev pub only_of : Side → Side → Entry → List Entry
+only_of A A entry = entry ∷ []
+only_of B B entry = entry ∷ []
+only_of side named entry = []
 
--- the events of a side, in order
-abbrev pub events_of : Side → List Event → List Event
-events_of side history = flat_map (λ event. only_of side (side_of event.step) event) history
+-- the entries of a side, in order
+abbrev pub entries_of : Side → List Entry → List Entry
+entries_of side history = flat_map (λ entry. only_of side (side_of entry.step) entry) history
 
--- each of these events follows those that were before it
-abbrev pub AllFollow : List Event → List Event → Type 0
+-- each of these entries follows those that were before it
+abbrev pub AllFollow : List Entry → List Entry → Type 0
 AllFollow before [] = Unit {0}
-AllFollow before (event ∷ events) =
-    Follows (events_of (side_of event.step) before) (events_of (other (side_of event.step)) before) event × AllFollow (before ++ event ∷ []) events
+AllFollow before (entry ∷ entries) =
+    Follows (entries_of (side_of entry.step) before) (entries_of (other (side_of entry.step)) before)
+    entry × AllFollow (before ++ entry ∷ []) entries
 
-abbrev pub IsHistory : List Event → Type 0
-IsHistory events = AllFollow [] events
+abbrev pub IsHistory : List Entry → Type 0
+IsHistory entries = AllFollow [] entries

@@ -4,11 +4,11 @@ pub mod History
 pub mod HistoryLaw
 pub mod Ids
 pub mod InOnePlace
-pub mod Letter
+pub mod SentFrame
 pub mod Post
-pub mod Settling
+pub mod Delivery
 pub mod Shallow
 pub mod Sides
 pub mod Steps
-pub mod Token
+pub mod TrackedRequest
 pub mod WorldFault

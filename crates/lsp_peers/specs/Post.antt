@@ -1,24 +1,25 @@
--- The post of one direction: all letters that were written, in order, and how far they have come.
+-- The post of one direction: all frames that were written, in order, and how far they have come.
 use Rattle.std.specs.Prelude.{◌≡◌, ◌≤◌, ◌<◌, ℕ, ◌+◌, ◌-◌, List, [], ◌∷◌, ◌++◌, length, take, drop, Option, None, Some, if◌then◌else◌, min, IfSome, IsSomeAnd, is_some}
 use Rattle.lsp_message.specs.Message.{Message}
 use Rattle.serde_json.specs.Read.{max_depth}
 use Rattle.lsp_message.specs.Ranges.{IsInRange, nesting}
 use Rattle.lsp_message.specs.Tree.{without_null_details}
-pub use Rattle.lsp_peers.specs.Letter.{Letter, frames, first_passed}
+pub use Rattle.lsp_peers.specs.SentFrame.{SentFrame, frames, first_passed}
 
--- The letters that were taken, then those that wait, in the order in which they were written; and how many bytes of their
--- frames have arrived in all.
+-- The frames that were taken, then those that wait, in the order in which they were written; and how many of their
+-- bytes have arrived in all.
 pub record Post : Type 0 where
-  pub taken : List Letter
-  pub waiting : List Letter
+  pub taken : List SentFrame
+  pub waiting : List SentFrame
   pub passed : ℕ
 
 abbrev pub empty_post : Post
 empty_post = record { taken = []; waiting = []; passed = 0 }
 
--- one more letter is written
-abbrev pub posted : Post → Letter → Post
-posted post letter = record { taken = post.taken; waiting = post.waiting ++ letter ∷ []; passed = post.passed }
+-- one more frame is written
+abbrev pub posted : Post → SentFrame → Post
+posted post sent_frame =
+    record { taken = post.taken; waiting = post.waiting ++ sent_frame ∷ []; passed = post.passed }
 
 -- how many bytes haven't arrived yet
 abbrev pub unpassed : Post → ℕ
@@ -26,15 +27,27 @@ unpassed post = length (frames post.taken) + length (frames post.waiting) - post
 
 -- up to this many bytes more arrive
 abbrev pub passed_on : Post → ℕ → Post
-passed_on post bytes = record { taken = post.taken; waiting = post.waiting; passed = post.passed + min bytes (unpassed post) }
+passed_on post bytes =
+    record {
+      taken = post.taken;
+      waiting = post.waiting;
+      passed =
+          post.passed + min bytes (unpassed post);
+    }
 
--- the first letter that waits, where all of its frame has arrived
-abbrev pub next : Post → Option Letter
+-- the first frame that waits, if all of its frame has arrived
+abbrev pub next : Post → Option SentFrame
 next post = first_passed (length (frames post.taken)) post.passed post.waiting
 
--- the first letter that waits is taken
+-- the first frame that waits is taken
 abbrev pub one_taken : Post → Post
-one_taken post = record { taken = post.taken ++ take 1 post.waiting; waiting = drop 1 post.waiting; passed = post.passed }
+one_taken post =
+    record {
+      taken = post.taken ++ take 1 post.waiting;
+      waiting = drop 1 post.waiting;
+      passed =
+          post.passed;
+    }
 
 -- the bytes of one direction: those that arrived, then those on the way
 pub record Line : Type 0 where
@@ -43,18 +56,19 @@ pub record Line : Type 0 where
 
 -- the line whose bytes lie in a list: from start those that arrived, from end those on the way
 abbrev pub line_of : List ℕ → ℕ → ℕ → Line
-line_of bytes start end = record { arrived = take (end - start) (drop start bytes); on_way = drop end bytes }
+line_of bytes start end =
+    record { arrived = take (end - start) (drop start bytes); on_way = drop end bytes }
 
--- The line carries the frames of the letters that wait, and nothing else. What arrived there, and the frames that were taken,
+-- The line carries the frames that wait, and nothing else. What arrived there, and the frames that were taken,
 -- are together as long as the post says.
 pub record Carries (line : Line) (post : Post) : Type 0 where
   pub bytes : line.arrived ++ line.on_way ≡ frames post.waiting
   pub count : length (frames post.taken) + length line.arrived ≡ post.passed
 
--- the message of a letter, if there is one
-abbrev pub message_of : Option Letter → Option Message
+-- the message of a frame, if there is one
+abbrev pub message_of : Option SentFrame → Option Message
 message_of None = None
-message_of (Some letter) = Some letter.message
+message_of (Some sent_frame) = Some sent_frame.message
 
 -- The message is read back as it was written: it nests at most 127 levels, and has no error whose data is null.
 pub record ReadsBack (m : Message) : Type 0 where
@@ -66,14 +80,14 @@ pub record IsTooDeep (m : Message) : Type 0 where
   pub nests : max_depth < nesting m
   pub range : IsInRange m
 
--- there is a next letter, and this holds of its message
+-- there is a next frame, and this holds of its message
 abbrev pub HasNext : (Message → Type 0) → Post → Type 0
-HasNext P post = IsSomeAnd (next post) (λ letter. P letter.message)
+HasNext P post = IsSomeAnd (next post) (λ sent_frame. P sent_frame.message)
 
--- where there is a next letter, this holds of its message
+-- if there is a next frame, this holds of its message
 abbrev pub IfNext : (Message → Type 0) → Post → Type 0
-IfNext P post = IfSome (next post) (λ letter. P letter.message)
+IfNext P post = IfSome (next post) (λ sent_frame. P sent_frame.message)
 
--- the post after a take: one more is taken, where there is a next letter
+-- the post after a take: one more is taken, if there is a next frame
 abbrev pub after_take : Post → Post
 after_take post = if is_some (next post) then one_taken post else post

@@ -7,22 +7,28 @@ use Rattle.serde_json.specs.View.{view}
 use Rattle.lsp_message.specs.Ranges.{nesting}
 use Rattle.lsp_peers.specs.declared.step.Step.{Step}
 use Rattle.lsp_peers.specs.declared.step.Step.TheVariants.{Register, Tell, Take, Answer}
-use Rattle.lsp_peers.specs.History.{Event, written_in, next_letter, events_of}
+use Rattle.lsp_peers.specs.History.{Entry, written_in, next_sent, entries_of}
 use Rattle.lsp_peers.specs.Sides.{other}
 
--- after these events, a message that the step takes nests at most 127 levels
-abbrev pub TakesReadable : List Event → Step → Type 0
-TakesReadable before (Take side label) = IfSome (next_letter (events_of side before) (events_of (other side) before)) (λ letter. nesting letter.message ≤ max_depth)
+-- after these entries, a message that the step takes nests at most 127 levels
+abbrev pub TakesReadable : List Entry → Step → Type 0
+TakesReadable before (Take side label) =
+    IfSome (next_sent (entries_of side before) (entries_of (other side) before)) (λ sent_frame.
+    nesting sent_frame.message ≤ max_depth)
 TakesReadable before step = Unit {0}
 
--- each message that is taken in these events, which come after others, nests at most 127 levels
-abbrev pub AllTakeReadable : List Event → List Event → Type 0
+-- each message that is taken in these entries, which come after others, nests at most 127 levels
+abbrev pub AllTakeReadable : List Entry → List Entry → Type 0
 AllTakeReadable before [] = Unit {0}
-AllTakeReadable before (event ∷ events) = TakesReadable before event.step × AllTakeReadable (before ++ event ∷ []) events
+AllTakeReadable before (entry ∷ entries) = TakesReadable before entry.step
+    × AllTakeReadable (before ++ entry ∷ []) entries
 
--- each message that was written in these events nests at most 127 levels
-abbrev pub AreReadable : List Event → Type 0
-AreReadable history = AllByRecursion (λ event. AllByRecursion (λ message. nesting message ≤ max_depth) (written_in event.step event.outcome)) history
+-- each message that was written in these entries nests at most 127 levels
+abbrev pub AreReadable : List Entry → Type 0
+AreReadable history =
+    AllByRecursion (λ entry.
+    AllByRecursion (λ message. nesting message ≤ max_depth)
+    (written_in entry.step entry.outcome)) history
 
 -- The params or the result of the step nest at most 126 levels. So what it writes nests at most 127.
 abbrev pub IsShallow : Step → Type 0

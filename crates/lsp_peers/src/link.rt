@@ -3,7 +3,7 @@ ghost use Rattle.std.specs.Prelude.{◌≡◌, ◌≤◌, ℕ, length, Ok, Err, 
 ghost use Rattle.lsp_message.specs.Front.{front_of};
 ghost use Rattle.lsp_message.specs.View.{message_view};
 ghost use Rattle.lsp_peers.specs.WorldFault.{fault_of};
-ghost use Rattle.lsp_peers.specs.Post.{Letter, Post, Carries, ReadsBack, IsTooDeep, HasNext, posted, passed_on, unpassed, next, message_of, empty_post, IfNext, after_take};
+ghost use Rattle.lsp_peers.specs.Post.{SentFrame, Post, Carries, ReadsBack, IsTooDeep, HasNext, posted, passed_on, unpassed, next, message_of, empty_post, IfNext, after_take};
 
 use crate::fault::WorldFault;
 use lsp_message::{Front, Message, ReadFault, front};
@@ -30,7 +30,8 @@ impl Model for Link {
     ghost view = { λ l. line_of l.bytes.items l.start l.end };
 
     // The bytes that were taken and are still there are no more than the others.
-    ghost invariant = { λ l. (l.start ≤ l.end) × (l.end ≤ vec_len l.bytes) × (l.start ≤ vec_len l.bytes - l.start) };
+    ghost invariant = { λ l. (l.start ≤ l.end) × (l.end ≤ vec_len l.bytes)
+        × (l.start ≤ vec_len l.bytes - l.start) };
 }
 
 impl Link {
@@ -65,7 +66,8 @@ impl Link {
     /// The only fault is `WorldFault::Memory`, and the link is then as it was.
     pub fn write(&mut self, message: &Message) -> Result<(), WorldFault>
         ensures ok { (post : Post) → Carries self.old post → OnOk result (
-            (letter : Letter) × (letter.message ≡ message_view message.now) × Carries self.new (posted post letter)) }
+            (sent_frame : SentFrame) × (sent_frame.message ≡ message_view message.now)
+            × Carries self.new (posted post sent_frame)) }
         ensures err { OnErr result (self.new ≡ self.old) }
         ensures memory { OnErr result (result ≡ Err WorldFault.Memory) }
     {
@@ -94,15 +96,19 @@ impl Link {
     /// `WorldFault::Memory` means that an allocation failed, and `WorldFault::NotReadBack` that the message nests more than 127
     /// levels, so it is not read from its frame. After a fault the link is as it was, with the frame in front: `skip` goes past it.
     pub fn take(&mut self) -> Result<Option<Message>, WorldFault>
-        ensures ok { (post : Post) → Carries self.old post → IfNext ReadsBack post → IfOk result (λ taken.
-            (option_map message_view taken ≡ message_of (next post)) × Carries self.new (after_take post)) }
+        ensures ok { (post : Post) → Carries self.old post → IfNext ReadsBack post
+            → IfOk result (λ taken.
+            (option_map message_view taken ≡ message_of (next post))
+            × Carries self.new (after_take post)) }
         ensures err { OnErr result (self.new ≡ self.old) }
         ensures memory { (post : Post) → Carries self.old post → IfNext ReadsBack post →
             OnErr result (result ≡ Err WorldFault.Memory) }
         ensures waits { front_of self.old.arrived ≡ Front.More → result ≡ Ok None }
         ensures idle { (post : Post) → Carries self.old post → next post ≡ None → result ≡ Ok None }
-        ensures comes { (post : Post) → Carries self.old post → result ≡ Ok None → next post ≡ None }
-        ensures deep { (post : Post) → Carries self.old post → HasNext IsTooDeep post → IsErr result }
+        ensures comes { (post : Post) → Carries self.old post → result ≡ Ok None
+            → next post ≡ None }
+        ensures deep { (post : Post) → Carries self.old post → HasNext IsTooDeep post
+            → IsErr result }
     {
         let arrived = &self.bytes[self.start..self.end];
         match front(arrived) {
@@ -125,7 +131,8 @@ impl Link {
     /// Skips the first message if its whole frame has arrived, without reading it, and says whether it did. So a link goes on
     /// behind a message that `take` can't read.
     pub fn skip(&mut self) -> bool
-        ensures { (post : Post) → Carries self.old post → (result ≡ is_some (next post)) × Carries self.new (after_take post) }
+        ensures { (post : Post) → Carries self.old post → (result ≡ is_some (next post))
+            × Carries self.new (after_take post) }
     {
         let arrived = &self.bytes[self.start..self.end];
         match front(arrived) {

@@ -8,7 +8,7 @@ ghost use Rattle.lsp_queue.specs.Queue.{cancelled, count_of, all_ids};
 ghost use Rattle.lsp_peers.specs.Agreement.{PeerAgrees, Agrees};
 ghost use Rattle.lsp_peers.specs.Steps.{Accounts, Registers, Tells, Passes, Takes, Replies, GivesUp, StepDoes};
 ghost use Rattle.lsp_peers.specs.Post.{ReadsBack, IsTooDeep, IfNext, HasNext, next, empty_post};
-ghost use Rattle.lsp_peers.specs.Settling.{Settles, ReadsNext, TakesTooDeep, IsFree, HasNothing};
+ghost use Rattle.lsp_peers.specs.Delivery.{Delivers, ReadsNext, TakesTooDeep, IsFree, HasNothing};
 ghost use Rattle.lsp_peers.specs.InOnePlace.{InOnePlace};
 
 use crate::fault::WorldFault;
@@ -30,7 +30,7 @@ pub(crate) struct Peer {
 
 impl Peer {
     pub(crate) fn new(alloc: Global) -> Peer
-        ensures { PeerAgrees result [] (record { tokens = []; post = empty_post }) [] }
+        ensures { PeerAgrees result [] (record { tracked = []; post = empty_post }) [] }
     {
         Peer {
             queue: ReqQueue::default(alloc),
@@ -41,13 +41,23 @@ impl Peer {
 
     /// A step of this side.
     pub(crate) fn step(&mut self, far: &mut Peer, step: Step) -> Result<Outcome, WorldFault>
-        ensures ok { (mine theirs : List plain.Message) (old : Accounts) → Agrees self.old far.old mine theirs old → InOnePlace old → ReadsNext old step → IfOk result (λ outcome.
-            (new : Accounts) × StepDoes old step outcome new × Agrees self.new far.new mine theirs new) }
-        ensures err { (mine theirs : List plain.Message) (old : Accounts) → Agrees self.old far.old mine theirs old → InOnePlace old → ReadsNext old step → OnErr result (result ≡ Err WorldFault.Memory) }
-        ensures free { (mine theirs : List plain.Message) (old : Accounts) → Agrees self.old far.old mine theirs old → IsFree old step → IsOk result }
-        ensures same { result ≡ Err WorldFault.NotReadBack → (self.new ≡ self.old) × (far.new ≡ far.old) }
-        ensures comes { (mine theirs : List plain.Message) (old : Accounts) → Agrees self.old far.old mine theirs old → result ≡ Ok Outcome.Waiting → HasNothing old step }
-        ensures deep { (mine theirs : List plain.Message) (old : Accounts) → Agrees self.old far.old mine theirs old → TakesTooDeep old step → IsErr result }
+        ensures ok { (mine theirs : List plain.Message) (old : Accounts)
+            → Agrees self.old far.old mine theirs old → InOnePlace old → ReadsNext old step
+            → IfOk result (λ outcome.
+            (new : Accounts) × StepDoes old step outcome new
+            × Agrees self.new far.new mine theirs new) }
+        ensures err { (mine theirs : List plain.Message) (old : Accounts)
+            → Agrees self.old far.old mine theirs old → InOnePlace old → ReadsNext old step
+            → OnErr result (result ≡ Err WorldFault.Memory) }
+        ensures free { (mine theirs : List plain.Message) (old : Accounts)
+            → Agrees self.old far.old mine theirs old → IsFree old step → IsOk result }
+        ensures same { result ≡ Err WorldFault.NotReadBack → (self.new ≡ self.old)
+            × (far.new ≡ far.old) }
+        ensures comes { (mine theirs : List plain.Message) (old : Accounts)
+            → Agrees self.old far.old mine theirs old → result ≡ Ok Outcome.Waiting
+            → HasNothing old step }
+        ensures deep { (mine theirs : List plain.Message) (old : Accounts)
+            → Agrees self.old far.old mine theirs old → TakesTooDeep old step → IsErr result }
     {
         match step {
             Step::Register {
@@ -92,8 +102,10 @@ impl Peer {
         params: Value,
         payload: u64,
     ) -> Result<Outcome, WorldFault>
-        ensures ok { (mine theirs : List plain.Message) (old : Accounts) → Agrees self.old far.old mine theirs old → IfOk result (λ outcome.
-            (new : Accounts) × Registers (string_bytes method) (view params) payload old outcome new × Agrees self.new far.new mine theirs new) }
+        ensures ok { (mine theirs : List plain.Message) (old : Accounts)
+            → Agrees self.old far.old mine theirs old → IfOk result (λ outcome.
+            (new : Accounts) × Registers (string_bytes method) (view params) payload old outcome new
+            × Agrees self.new far.new mine theirs new) }
         ensures err { OnErr result (result ≡ Err WorldFault.Memory) }
         ensures spent { count_of self.old.queue.outgoing ≡ all_ids → result ≡ Ok Outcome.Spent }
     {
@@ -110,8 +122,10 @@ impl Peer {
     }
 
     fn tell(&self, far: &mut Peer, method: String, params: Value) -> Result<Outcome, WorldFault>
-        ensures ok { (mine theirs : List plain.Message) (old : Accounts) → Agrees self.now far.old mine theirs old → IfOk result (λ outcome.
-            (new : Accounts) × Tells (string_bytes method) (view params) old outcome new × Agrees self.now far.new mine theirs new) }
+        ensures ok { (mine theirs : List plain.Message) (old : Accounts)
+            → Agrees self.now far.old mine theirs old → IfOk result (λ outcome.
+            (new : Accounts) × Tells (string_bytes method) (view params) old outcome new
+            × Agrees self.now far.new mine theirs new) }
         ensures err { OnErr result (result ≡ Err WorldFault.Memory) }
     {
         let notification = Notification { method, params };
@@ -120,17 +134,23 @@ impl Peer {
     }
 
     fn pass(&mut self, far: &Peer, bytes: usize) -> Outcome
-        ensures { (mine theirs : List plain.Message) (old : Accounts) → Agrees self.old far.now mine theirs old →
-            (new : Accounts) × Passes bytes old result new × Agrees self.new far.now mine theirs new }
+        ensures { (mine theirs : List plain.Message) (old : Accounts)
+            → Agrees self.old far.now mine theirs old →
+            (new : Accounts) × Passes bytes old result new
+            × Agrees self.new far.now mine theirs new }
     {
         Outcome::Passed(self.link.pass(bytes))
     }
 
     fn answer(&mut self, far: &mut Peer, reply: Response) -> Result<Outcome, WorldFault>
-        ensures ok { (mine theirs : List plain.Message) (old : Accounts) → Agrees self.old far.old mine theirs old → IfOk result (λ outcome.
-            (new : Accounts) × Replies reply.id (response_view reply) (λ label. Outcome.Answered label) old outcome new × Agrees self.new far.new mine theirs new) }
+        ensures ok { (mine theirs : List plain.Message) (old : Accounts)
+            → Agrees self.old far.old mine theirs old → IfOk result (λ outcome.
+            (new : Accounts)
+            × Replies reply.id (response_view reply) (λ label. Outcome.Answered label) old outcome
+            new × Agrees self.new far.new mine theirs new) }
         ensures err { OnErr result (result ≡ Err WorldFault.Memory) }
-        ensures absent { map.get self.old.queue.incoming reply.id ≡ None → result ≡ Ok Outcome.Absent }
+        ensures absent { map.get self.old.queue.incoming reply.id ≡ None
+            → result ≡ Ok Outcome.Absent }
     {
         match self.queue.incoming.complete(&reply.id) {
             Some(label) => {
@@ -142,8 +162,11 @@ impl Peer {
     }
 
     fn cancel(&mut self, far: &mut Peer, id: RequestId) -> Result<Outcome, WorldFault>
-        ensures ok { (mine theirs : List plain.Message) (old : Accounts) → Agrees self.old far.old mine theirs old → IfOk result (λ outcome.
-            (new : Accounts) × Replies id (cancelled id) (λ label. Outcome.Cancelled) old outcome new × Agrees self.new far.new mine theirs new) }
+        ensures ok { (mine theirs : List plain.Message) (old : Accounts)
+            → Agrees self.old far.old mine theirs old → IfOk result (λ outcome.
+            (new : Accounts)
+            × Replies id (cancelled id) (λ label. Outcome.Cancelled) old outcome new
+            × Agrees self.new far.new mine theirs new) }
         ensures err { OnErr result (result ≡ Err WorldFault.Memory) }
         ensures absent { map.get self.old.queue.incoming id ≡ None → result ≡ Ok Outcome.Absent }
     {
@@ -158,7 +181,8 @@ impl Peer {
     }
 
     fn give_up(&mut self, far: &Peer, id: RequestId) -> Outcome
-        ensures { (mine theirs : List plain.Message) (old : Accounts) → Agrees self.old far.now mine theirs old →
+        ensures { (mine theirs : List plain.Message) (old : Accounts)
+            → Agrees self.old far.now mine theirs old →
             (new : Accounts) × GivesUp id old result new × Agrees self.new far.now mine theirs new }
     {
         match self.queue.incoming.complete(&id) {
@@ -168,18 +192,29 @@ impl Peer {
     }
 
     fn take(&mut self, far: &Peer, label: u64) -> Result<Outcome, WorldFault>
-        ensures ok { (mine theirs : List plain.Message) (old : Accounts) → Agrees self.old far.now mine theirs old → InOnePlace old → IfNext ReadsBack old.here.post → IfOk result (λ outcome.
-            (new : Accounts) × Takes label (next old.here.post) old outcome new × Agrees self.new far.now mine theirs new) }
-        ensures err { (mine theirs : List plain.Message) (old : Accounts) → Agrees self.old far.now mine theirs old → InOnePlace old → IfNext ReadsBack old.here.post → OnErr result (result ≡ Err WorldFault.Memory) }
-        ensures waits { (mine theirs : List plain.Message) (old : Accounts) → Agrees self.old far.now mine theirs old → next old.here.post ≡ None → result ≡ Ok Outcome.Waiting }
+        ensures ok { (mine theirs : List plain.Message) (old : Accounts)
+            → Agrees self.old far.now mine theirs old → InOnePlace old
+            → IfNext ReadsBack old.here.post → IfOk result (λ outcome.
+            (new : Accounts) × Takes label (next old.here.post) old outcome new
+            × Agrees self.new far.now mine theirs new) }
+        ensures err { (mine theirs : List plain.Message) (old : Accounts)
+            → Agrees self.old far.now mine theirs old → InOnePlace old
+            → IfNext ReadsBack old.here.post → OnErr result (result ≡ Err WorldFault.Memory) }
+        ensures waits { (mine theirs : List plain.Message) (old : Accounts)
+            → Agrees self.old far.now mine theirs old → next old.here.post ≡ None
+            → result ≡ Ok Outcome.Waiting }
         ensures same { result ≡ Err WorldFault.NotReadBack → self.new ≡ self.old }
-        ensures comes { (mine theirs : List plain.Message) (old : Accounts) → Agrees self.old far.now mine theirs old → result ≡ Ok Outcome.Waiting → next old.here.post ≡ None }
-        ensures deep { (mine theirs : List plain.Message) (old : Accounts) → Agrees self.old far.now mine theirs old → HasNext IsTooDeep old.here.post → IsErr result }
+        ensures comes { (mine theirs : List plain.Message) (old : Accounts)
+            → Agrees self.old far.now mine theirs old → result ≡ Ok Outcome.Waiting
+            → next old.here.post ≡ None }
+        ensures deep { (mine theirs : List plain.Message) (old : Accounts)
+            → Agrees self.old far.now mine theirs old → HasNext IsTooDeep old.here.post
+            → IsErr result }
     {
         let Some(message) = self.link.take()? else {
             return Ok(Outcome::Waiting);
         };
-        let Ok(outcome) = settle(&mut self.queue, &message, label) else {
+        let Ok(outcome) = deliver(&mut self.queue, &message, label) else {
             return Err(WorldFault::Memory);
         };
         match self.taken.push(message) {
@@ -200,12 +235,13 @@ impl Peer {
 }
 
 /// What a taken message does: a request becomes pending with the label, a reply completes its id, a notification does nothing.
-fn settle(
+fn deliver(
     queue: &mut ReqQueue<u64, u64>,
     message: &Message,
     label: u64,
 ) -> Result<Outcome, WorldFault>
-    ensures { IfOk result (λ outcome. Settles (message_view message.now) label queue.old outcome queue.new) }
+    ensures { IfOk result (λ outcome.
+        Delivers (message_view message.now) label queue.old outcome queue.new) }
 {
     match message {
         Message::Request(request) => {

@@ -3,7 +3,7 @@ ghost use Rattle.std.specs.Prelude.{◌≡◌, ◌∷◌, ◌++◌, [], List, Ok
 ghost use Rattle.lsp_message.specs.Message as plain;
 ghost use Rattle.lsp_message.specs.View.{message_view};
 ghost use Rattle.lsp_peers.specs.Exchange.{WorldAfter, IsWholeRun, MeetsDeep, handed_on, handed_out, peer_at, seen_at};
-ghost use Rattle.lsp_peers.specs.History.{Event, events_of, outcome_of};
+ghost use Rattle.lsp_peers.specs.History.{Entry, entries_of, outcome_of};
 ghost use Rattle.lsp_peers.specs.HistoryLaw.{NeedsNoMemory};
 ghost use Rattle.lsp_peers.specs.Shallow.{TakesReadable};
 ghost use Rattle.lsp_peers.specs.Sides.{side_of, other};
@@ -45,7 +45,7 @@ impl World {
     /// side was to take a message that nests more than 127 levels. No side takes such a message. It comes only of steps whose
     /// params or results nest more than 126 levels.
     pub fn run(alloc: Global, steps: Vec<Step>) -> Result<(World, Vec<Outcome>), WorldFault>
-        // The steps and outcomes are a history of the two sides: each outcome follows from the events before it, and the world is
+        // The steps and outcomes are a history of the two sides: each outcome follows from the entries before it, and the world is
         // what it is after them. In it no side takes a message that nests more than 127 levels.
         ensures exchanged { IfOk result (λ r. IsWholeRun steps.items r.1.items r.0) }
         // The other fault comes only at a step that takes such a message.
@@ -72,20 +72,29 @@ impl World {
     ///
     /// A world keeps each message that a side took. `hand_out` lets them go.
     pub fn step(&mut self, step: Step) -> Result<Outcome, WorldFault>
-        // The outcome follows from the events that led to this world, and the new world is what it is after one more event.
-        ensures exchanged { (handed : Side → List plain.Message) (old : List Event) → WorldAfter self.old handed old → TakesReadable old step → IfOk result (λ outcome.
-            (event : Event) × (event.step ≡ step) × (event.outcome ≡ outcome) × WorldAfter self.new handed (old ++ event ∷ [])) }
+        // The outcome follows from the entries that led to this world, and the new world is what it is after one more entry.
+        ensures exchanged { (handed : Side → List plain.Message) (old : List Entry)
+            → WorldAfter self.old handed old → TakesReadable old step → IfOk result (λ outcome.
+            (entry : Entry) × (entry.step ≡ step) × (entry.outcome ≡ outcome)
+            × WorldAfter self.new handed (old ++ entry ∷ [])) }
         // The other fault comes only if the message that is taken nests too deeply, and nothing has changed then.
-        ensures err { (handed : Side → List plain.Message) (old : List Event) → WorldAfter self.old handed old → TakesReadable old step →
+        ensures err { (handed : Side → List plain.Message) (old : List Entry)
+            → WorldAfter self.old handed old → TakesReadable old step →
             OnErr result (result ≡ Err WorldFault.Memory) }
         ensures same { result ≡ Err WorldFault.NotReadBack → self.new ≡ self.old }
-        ensures free { (handed : Side → List plain.Message) (old : List Event) → WorldAfter self.old handed old →
-            NeedsNoMemory (outcome_of (events_of (side_of step) old) (events_of (other (side_of step)) old) step) → IsOk result }
+        ensures free { (handed : Side → List plain.Message) (old : List Entry)
+            → WorldAfter self.old handed old →
+            NeedsNoMemory
+            (outcome_of (entries_of (side_of step) old) (entries_of (other (side_of step)) old)
+            step) → IsOk result }
         // A message that nests too deeply is never taken.
-        ensures unread { (handed : Side → List plain.Message) (old : List Event) → WorldAfter self.old handed old → ¬ TakesReadable old step → IsErr result }
+        ensures unread { (handed : Side → List plain.Message) (old : List Entry)
+            → WorldAfter self.old handed old → ¬ TakesReadable old step → IsErr result }
         // Nor is it waited for.
-        ensures waits { (handed : Side → List plain.Message) (old : List Event) → WorldAfter self.old handed old → result ≡ Ok Outcome.Waiting →
-            outcome_of (events_of (side_of step) old) (events_of (other (side_of step)) old) step ≡ Outcome.Waiting }
+        ensures waits { (handed : Side → List plain.Message) (old : List Entry)
+            → WorldAfter self.old handed old → result ≡ Ok Outcome.Waiting →
+            outcome_of (entries_of (side_of step) old) (entries_of (other (side_of step)) old) step
+            ≡ Outcome.Waiting }
     {
         let side = step.side();
         match side {
@@ -98,7 +107,8 @@ impl World {
     /// queues and links of this side, and all that the other side has.
     pub fn hand_out(&mut self, alloc: Global, side: Side) -> Vec<Message>
         ensures given { result.items ≡ (seen_at side self.old).taken }
-        ensures after { (handed : Side → List plain.Message) (old : List Event) → WorldAfter self.old handed old →
+        ensures after { (handed : Side → List plain.Message) (old : List Entry)
+            → WorldAfter self.old handed old →
             WorldAfter self.new (handed_on side (each message_view result.items) handed) old }
         ensures here { seen_at side self.new ≡ handed_out (seen_at side self.old) }
         ensures there { seen_at (other side) self.new ≡ seen_at (other side) self.old }

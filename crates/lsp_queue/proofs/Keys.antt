@@ -63,7 +63,7 @@ module _ {K X : Type 0} {R : K → K → Ordering} (o : IsTotalOrder R) (same : 
       has_some zero none = let there = rw (empty_of_len m none, get-empty R k) at e in cc
       has_some (suc n) some = not_zero (suc n) (omega arith)
 
-  -- the map is empty where the list is
+  -- the map is empty if the list is
   pub none_pending : (es : List (K × X)) → (length es == 0) ≡ (len (from_entries {R = R} es) == 0)
   none_pending [] = rw (len-empty R X) refl
   none_pending (e ∷ es) = not_zero (length (e ∷ es)) (omega arith) ∙ sym (rw (len-insert o (from_entries es) e.0 e.1) (one_more (from_entries es) e.0 (contains_key (from_entries es) e.0) refl))

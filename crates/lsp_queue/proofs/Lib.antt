@@ -1,2 +1,3 @@
-mod Keys
+pub mod AtIds
+pub mod Keys
 mod QueueRuns

@@ -9,7 +9,7 @@ use Rattle.lsp_queue.specs.Queue.{Pending}
 use Rattle.lsp_queue.specs.QueueRun.{Call, registers, completes, after, after_all, leaves, later, last_leaves, or_nothing, last_registered}
 
 module _ {D : Type 0} where
-  -- what is there, where nothing was left since
+  -- what is there, if nothing was left since
   abbrev or_before : Option D → Option (Option D) → Option D
   or_before before None = before
   or_before before (Some o) = o

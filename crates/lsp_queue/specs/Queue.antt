@@ -1,8 +1,11 @@
 -- The queues of requests that have no reply yet (JSON-RPC 2.0, section 5): two finite maps from ids, and a count.
+use Rattle.serde_json.specs.Data.{Data}
+use Rattle.serde_json.specs.Find.{get}
 use Rattle.std.specs.FinMap.{FinMap}
-use Rattle.std.specs.Prelude.{ℕ, ◌^◌, Err, None, codes}
+use Rattle.std.specs.Prelude.{ℕ, ◌^◌, Option, option_and_then, Err, None, codes}
 use Rattle.lsp_message.specs.ErrorCode.{number_of}
 use Rattle.lsp_message.specs.Id.{Id, id_cmp}
+use Rattle.lsp_message.specs.Meaning.{as_id}
 use Rattle.lsp_message.specs.Message.{Message, response}
 use Rattle.lsp_message.specs.declared.msg.code.ErrorCode.TheVariants.{RequestCanceled}
 
@@ -24,6 +27,16 @@ count_of q = q.1
 abbrev pub all_ids : ℕ
 all_ids = 2 ^ 31
 
+-- the request that the params of `$/cancelRequest` name: they are an object whose `id` is a good one
+abbrev pub cancelled_id : Data → Option Id
+cancelled_id params = option_and_then as_id (get (codes "id") params)
+
 -- the reply to a request that its client cancelled (LSP 3.17, "Cancellation Support")
 abbrev pub cancelled : Id → Message
-cancelled id = response id (Err (record { code = number_of RequestCanceled; message = codes "canceled by client"; details = None }))
+cancelled id =
+    response id (Err
+    (record {
+      code = number_of RequestCanceled;
+      message = codes "canceled by client";
+      details = None;
+    }))

@@ -7,5 +7,6 @@ ghost use Rattle.lsp_queue.specs.QueueRun.{Call, after_all, last_registered};
 /// Over any list of calls on a queue: an id has the data that was last registered under it, until it is completed or
 /// cancelled. So `complete` gives the data once.
 pub fn pending_is_last_registered<D>()
-    ensures { (calls : List (Call D)) (id : Id) → map.get (after_all calls) id ≡ last_registered id calls }
+    ensures { (calls : List (Call D)) (id : Id)
+        → map.get (after_all calls) id ≡ last_registered id calls }
 {}

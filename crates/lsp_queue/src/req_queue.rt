@@ -41,7 +41,9 @@ impl<I, O> ReqQueue<I, O> {
 
     /// Whether a request of either side is pending.
     pub fn has_pending(&self) -> bool
-        ensures { result ≡ (not (map.len self.now.incoming == 0) || not (map.len (pending_of self.now.outgoing) == 0)) }
+        ensures { result
+            ≡ (not (map.len self.now.incoming == 0) || not (map.len (pending_of self.now.outgoing)
+            == 0)) }
     {
         self.incoming.has_pending() || self.outgoing.has_pending()
     }
@@ -126,7 +128,8 @@ impl<I: Drop> Incoming<I> {
     ///
     /// `Ok(None)` means that no such request is pending. If the allocation of the text fails, the queue is unchanged.
     pub fn cancel(&mut self, id: RequestId) -> Result<Option<Response>, AllocError>
-        ensures reply { IfOk result (λ reply. option_map response_view reply ≡ option_map (λ _. cancelled id) (map.get self.old id)) }
+        ensures reply { IfOk result (λ reply.
+            option_map response_view reply ≡ option_map (λ _. cancelled id) (map.get self.old id)) }
         ensures absent { map.get self.old id ≡ None → result ≡ Ok None }
         ensures removed { OnOk result (self.new ≡ map.remove self.old id) }
         ensures err { OnErr result (self.new ≡ self.old) }
@@ -223,10 +226,17 @@ impl<O: Drop> Outgoing<O> {
         ensures id { IfOk result (λ request. request.id ≡ number (pos (count_of self.old))) }
         ensures method { IfOk result (λ request. request.method ≡ method) }
         ensures params { IfOk result (λ request. request.params ≡ params) }
-        ensures ok { OnOk result (self.new ≡ (map.insert (pending_of self.old) (number (pos (count_of self.old))) «data», count_of self.old + 1)) }
+        ensures ok { OnOk result
+            (self.new ≡ (
+              map.insert (pending_of self.old) (number (pos (count_of self.old)))
+                  «data»,
+              count_of self.old + 1,
+            )) }
         ensures room { OnOk result (count_of self.old < all_ids) }
         ensures err { OnErr result (self.new ≡ self.old) }
-        ensures refused { IfErr result (λ fault. fault ≡ (if count_of self.old == all_ids then RegisterFault.Spent «data» else RegisterFault.Memory «data»)) }
+        ensures refused { IfErr result (λ fault.
+            fault ≡ (if count_of self.old == all_ids then RegisterFault.Spent «data»
+            else RegisterFault.Memory «data»)) }
         ensures spent { count_of self.old ≡ all_ids → result ≡ Err (RegisterFault.Spent «data») }
     {
         if self.is_spent() {
@@ -257,12 +267,18 @@ impl<O: Drop> Outgoing<O> {
         ensures method { IfOk result (λ request. request.method ≡ method) }
         ensures params { IfOk result (λ request. IsTreeOf (P.writes params) (view request.params)) }
         ensures nests { IfOk result (λ request. depth (view request.params) ≤ max_depth) }
-        ensures ok { OnOk result (self.new ≡ (map.insert (pending_of self.old) (number (pos (count_of self.old))) «data», count_of self.old + 1)) }
+        ensures ok { OnOk result
+            (self.new ≡ (
+              map.insert (pending_of self.old) (number (pos (count_of self.old)))
+                  «data»,
+              count_of self.old + 1,
+            )) }
         ensures room { OnOk result (count_of self.old < all_ids) }
         ensures err { OnErr result (self.new ≡ self.old) }
         ensures handed_back { IfErr result (IsFaultOf «data») }
         ensures spent { count_of self.old ≡ all_ids → result ≡ Err (RegisterFault.Spent «data») }
-        ensures unspent { IfErr result (λ fault. fault ≡ RegisterFault.Spent «data» → count_of self.old ≡ all_ids) }
+        ensures unspent { IfErr result (λ fault. fault ≡ RegisterFault.Spent «data»
+            → count_of self.old ≡ all_ids) }
     {
         if self.is_spent() {
             return Err(RegisterFault::Spent(data));
@@ -283,7 +299,8 @@ impl<O: Drop> Outgoing<O> {
 
 /// Keeps the data under the id, in the place of what was there. Where an allocation fails it comes back.
 fn keep<D: Drop>(pending: &mut BTreeMap<RequestId, D>, id: RequestId, data: D) -> Result<(), D>
-    ensures ok { OnOk result (map.from_entries pending.new.entries ≡ map.insert (map.from_entries {R = id_cmp} pending.old.entries) id «data») }
+    ensures ok { OnOk result (map.from_entries pending.new.entries
+        ≡ map.insert (map.from_entries {R = id_cmp} pending.old.entries) id «data») }
     ensures err { OnErr result (pending.new.entries ≡ pending.old.entries) }
     ensures back { IfErr result (λ back. back ≡ «data») }
 {

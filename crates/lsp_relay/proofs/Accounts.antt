@@ -240,7 +240,7 @@ module _ {M : Type 0} where
       step ∙ ap (λ (v : Account M). record v { sent = before.sent ++ x ∷ [] }) is
       ∙ (λ i. sender_account (ap (λ (v : Account M). v.sent) (sym step) i) (ap (λ (v : Account M). v.wakeable) (sym step) i))
 
-  -- where End was taken, a beginning of what was sent is all of it
+  -- if End was taken, a beginning of what was sent is all of it
   pub end_is_last : (taken rest : List (Parcel M)) → EndsAtMostOnce (taken ++ rest) → has_end taken ≡ true → taken ≡ taken ++ rest
   end_is_last [] rest once is = absurd (true≢false (sym is))
   end_is_last (parcel.Message m ∷ taken) rest once is = ap (λ l. parcel.Message m ∷ l) (end_is_last taken rest once is)

@@ -27,7 +27,7 @@ module _ {M : Type 0} where
   has_end_messages (parcel.Message n ∷ rest) ms = has_end_messages rest ms
   has_end_messages (parcel.End ∷ rest) ms = refl
 
-  -- of two lists that end in End, one begins the other only where they have the same messages
+  -- of two lists that end in End, one begins the other only if they have the same messages
   pub ended_begins : (ms ns : List M) (more : List (Parcel M)) → ended ms ++ more ≡ ended ns → ms ≡ ns
   ended_begins [] [] more e = refl
   ended_begins [] (n ∷ ns) more e = cc
@@ -45,6 +45,6 @@ module _ {M : Type 0} where
   settled_before None old new sent some none h = (h.0, ap (λ l. l ++ h.0) (sym none) ∙ h.1)
   settled_before (Some p) old new sent some none h = (p ∷ h.0, sym (append_assoc old (p ∷ []) h.0) ∙ ap (λ l. l ++ h.0) (sym some) ∙ h.1)
 
-  -- where what was taken up to End is a beginning of what was sent up to End, it is the same messages
+  -- if what was taken up to End is a beginning of what was sent up to End, it is the same messages
   pub same_messages : (ms ns : List M) (taken sent : List (Parcel M)) → taken ≡ ended ms → sent ≡ ended ns → IsPrefix taken sent → ms ≡ ns
   same_messages ms ns taken sent t s h = ended_begins ms ns h.0 (ap (λ l. l ++ h.0) (sym t) ∙ h.1 ∙ s)

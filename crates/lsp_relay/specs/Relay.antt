@@ -19,19 +19,68 @@ Relay M = TableId × Badge (Key (Option (Parcel M)))
 
 module _ {M : Type 0} where
   abbrev pub sender_account : List (Parcel M) → Bool → Account M
-  sender_account sent wakeable = record { sends = true; takes = false; may_wake = false; sent = sent; taken = []; wakes = 0; wakeable = wakeable }
+  sender_account sent wakeable =
+      record {
+        sends = true;
+        takes = false;
+        may_wake = false;
+        sent = sent;
+        taken = [];
+        wakes =
+            0;
+        wakeable = wakeable;
+      }
 
   abbrev pub receiver_account : List (Parcel M) → ℕ → Account M
-  receiver_account taken wakes = record { sends = false; takes = true; may_wake = false; sent = []; taken = taken; wakes = wakes; wakeable = false }
+  receiver_account taken wakes =
+      record {
+        sends = false;
+        takes = true;
+        may_wake = false;
+        sent = [];
+        taken = taken;
+        wakes =
+            wakes;
+        wakeable = false;
+      }
 
   abbrev pub both_account : List (Parcel M) → List (Parcel M) → ℕ → Bool → Account M
-  both_account sent taken wakes wakeable = record { sends = true; takes = true; may_wake = false; sent = sent; taken = taken; wakes = wakes; wakeable = wakeable }
+  both_account sent taken wakes wakeable =
+      record {
+        sends = true;
+        takes = true;
+        may_wake = false;
+        sent = sent;
+        taken = taken;
+        wakes =
+            wakes;
+        wakeable = wakeable;
+      }
 
   abbrev pub waker_account : ℕ → Account M
-  waker_account given = record { sends = false; takes = false; may_wake = true; sent = []; taken = []; wakes = given; wakeable = false }
+  waker_account given =
+      record {
+        sends = false;
+        takes = false;
+        may_wake = true;
+        sent = [];
+        taken = [];
+        wakes =
+            given;
+        wakeable = false;
+      }
 
   abbrev pub no_account : Account M
-  no_account = record { sends = false; takes = false; may_wake = false; sent = []; taken = []; wakes = 0; wakeable = false }
+  no_account = record {
+    sends = false;
+    takes = false;
+    may_wake = false;
+    sent = [];
+    taken =
+        [];
+    wakes = 0;
+    wakeable = false;
+  }
 
   -- the parcels among what a channel holds: the others are wakes
   abbrev pub parcels_of : List (Option (Parcel M)) → List (Parcel M)
@@ -39,7 +88,8 @@ module _ {M : Type 0} where
 
   -- a send tells that the parcel joined what was sent
   abbrev pub sends_one : Account M → Option (Parcel M) → Account M → Type 0
-  sends_one before item after = after ≡ record before { sent = before.sent ++ parcels_of (item ∷ []) }
+  sends_one before item after =
+      after ≡ record before { sent = before.sent ++ parcels_of (item ∷ []) }
 
   -- a wake that is sent is counted
   abbrev pub gives_wake : Account M → Option (Parcel M) → Account M → Type 0
@@ -52,14 +102,19 @@ module _ {M : Type 0} where
 
   -- a take tells that the parcel joined what was taken, or that a wake was taken
   abbrev pub takes_one : Account M → Option (Parcel M) → Account M → Type 0
-  takes_one before item after = after ≡ record before { taken = before.taken ++ parcels_of (item ∷ []); wakes = wakes_with item before.wakes }
+  takes_one before item after =
+      after ≡ record before {
+        taken = before.taken ++ parcels_of (item ∷ []);
+        wakes =
+            wakes_with item before.wakes;
+      }
 
   -- what a take found, and what was taken before and after it: a parcel joined that, a wake did not
   abbrev pub TakenIs : front.Taken M → List (Parcel M) → List (Parcel M) → Type 0
   TakenIs (taken.Parcel x) old new = new ≡ old ++ x ∷ []
   TakenIs found old new = new ≡ old
 
-  -- how many wakes were taken, where so many were before this was found
+  -- how many wakes were taken, if so many were before this was found
   abbrev pub wakes_after : front.Taken M → ℕ → ℕ
   wakes_after taken.Wake count = count + 1
   wakes_after found count = count
@@ -71,16 +126,19 @@ module _ {M : Type 0} where
   HoldsNoWake (Some parcel ∷ rest) = HoldsNoWake rest
 
   -- One pass at most may send, and its account has what was sent, and whether a waker was made; the same for takes, and how many wakes
-  -- were taken. A pass may wake only where a waker was made.
+  -- were taken. A pass may wake only if a waker was made.
   abbrev pub Agrees : ℕ → ℕ → List (Parcel M) → List (Parcel M) → ℕ → Bool → ℕ → Account M → Type 0
   Agrees sender receiver sent taken wakes wakeable pass account =
-      (account.sends ≡ true → (pass ≡ sender) × (account.sent ≡ sent) × (account.wakeable ≡ wakeable))
-      × (account.takes ≡ true → (pass ≡ receiver) × (account.taken ≡ taken) × (account.wakes ≡ wakes))
+      (account.sends ≡ true → (pass ≡ sender) × (account.sent ≡ sent)
+      × (account.wakeable ≡ wakeable))
+      × (account.takes ≡ true → (pass ≡ receiver) × (account.taken ≡ taken)
+      × (account.wakes ≡ wakes))
       × (account.may_wake ≡ true → wakeable ≡ true)
 
-  -- The rule of a relay: what was taken, and then the parcels that are held, is what was sent. Where no waker was made, no wake is held,
+  -- The rule of a relay: what was taken, and then the parcels that are held, is what was sent. If no waker was made, no wake is held,
   -- and none was taken.
-  pub record TakenThenHeldIsSent (held : List (Option (Parcel M))) (accounts : List (Account M)) : Type 0 where
+  pub record TakenThenHeldIsSent (held : List (Option (Parcel M))) (accounts : List (Account M)) :
+      Type 0 where
     pub sender : ℕ
     pub receiver : ℕ
     pub sent : List (Parcel M)
@@ -89,7 +147,8 @@ module _ {M : Type 0} where
     pub wakeable : Bool
     pub whole : sent ≡ taken ++ parcels_of held
     pub unwoken : wakeable ≡ false → (wakes ≡ 0) × HoldsNoWake held
-    pub agree : (pass : ℕ) (account : Account M) → get_elem? accounts pass ≡ some account → Agrees sender receiver sent taken wakes wakeable pass account
+    pub agree : (pass : ℕ) (account : Account M) → get_elem? accounts pass ≡ some account
+        → Agrees sender receiver sent taken wakes wakeable pass account
 
   -- no End was sent
   abbrev pub IsOpen : List (Parcel M) → Type 0

@@ -17,7 +17,7 @@ pub struct Account<M> {
     pub taken: LinkedList<Parcel<M>>,
     /// How many wakes were sent or taken with it.
     pub wakes: u64,
-    /// Whether a waker was ever made, where it may send.
+    /// Whether a waker was ever made, if it may send.
     pub wakeable: bool,
 }
 
@@ -126,12 +126,13 @@ impl<M> Lesson<Option<Parcel<M>>, Account<M>> for Received {
     ghost fact = { λ v items. Unit {0} };
 }
 
-/// What was sent is what was taken and the parcels that are held. Where no waker was made, no wake was taken.
+/// What was sent is what was taken and the parcels that are held. If no waker was made, no wake was taken.
 pub(crate) struct Whole;
 
 impl<M> Lesson<Option<Parcel<M>>, Account<M>> for Whole {
     ghost use Rattle.std.specs.Prelude.{◌≡◌, ◌++◌, false};
     ghost use Rattle.lsp_relay.specs.Relay.{parcels_of};
 
-    ghost fact = { λ v items. (v.sent ≡ v.taken ++ parcels_of items) × (v.wakeable ≡ false → v.wakes ≡ 0) };
+    ghost fact = { λ v items. (v.sent ≡ v.taken ++ parcels_of items)
+        × (v.wakeable ≡ false → v.wakes ≡ 0) };
 }

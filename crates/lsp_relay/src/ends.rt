@@ -51,9 +51,15 @@ impl<M: Drop> Model for RelayTx<M> {
 
     ghost Value = { Sending M };
 
-    ghost view = { λ t. record { relay = relay_of t.pass; sent = (account_of t.pass).sent; wakeable = (account_of t.pass).wakeable } };
+    ghost view = { λ t. record {
+      relay = relay_of t.pass;
+      sent = (account_of t.pass).sent;
+      wakeable = (account_of t.pass).wakeable;
+    } };
 
-    ghost invariant = { λ t. IsSeatAt (sends_on t.sender) t.pass × (account_of t.pass ≡ sender_account (account_of t.pass).sent (account_of t.pass).wakeable) × EndsAtMostOnce (account_of t.pass).sent };
+    ghost invariant = { λ t. IsSeatAt (sends_on t.sender) t.pass
+        × (account_of t.pass ≡ sender_account (account_of t.pass).sent (account_of t.pass).wakeable)
+        × EndsAtMostOnce (account_of t.pass).sent };
 }
 
 /// The receiver's end of a relay. Contracts see which relay it belongs to, the parcels that were taken, in order, and how many wakes
@@ -75,9 +81,15 @@ impl<M: Drop> Model for RelayRx<M> {
 
     ghost Value = { Taking M };
 
-    ghost view = { λ r. record { relay = relay_of r.pass; taken = (account_of r.pass).taken; wakes = (account_of r.pass).wakes } };
+    ghost view = { λ r. record {
+      relay = relay_of r.pass;
+      taken = (account_of r.pass).taken;
+      wakes = (account_of r.pass).wakes;
+    } };
 
-    ghost invariant = { λ r. IsSeatAt (receives_on r.receiver) r.pass × (account_of r.pass ≡ receiver_account (account_of r.pass).taken (account_of r.pass).wakes) };
+    ghost invariant = { λ r. IsSeatAt (receives_on r.receiver) r.pass
+        × (account_of r.pass
+        ≡ receiver_account (account_of r.pass).taken (account_of r.pass).wakes) };
 }
 
 /// Wakes the thread that takes from a relay. Contracts see which relay it belongs to, and how many wakes it gave. It sends no parcel.
@@ -100,7 +112,8 @@ impl<M: Drop> Model for RelayWaker<M> {
 
     ghost view = { λ w. record { relay = relay_of w.pass; given = (account_of w.pass).wakes } };
 
-    ghost invariant = { λ w. IsSeatAt (sends_on w.sender) w.pass × (account_of w.pass ≡ waker_account (account_of w.pass).wakes) };
+    ghost invariant = { λ w. IsSeatAt (sends_on w.sender) w.pass
+        × (account_of w.pass ≡ waker_account (account_of w.pass).wakes) };
 }
 
 /// Makes a relay with room for this many parcels and wakes, at least one. The error means that an allocation failed.
@@ -151,8 +164,10 @@ impl<M: Drop> RelayTx<M> {
 
     /// Makes a waker of the thread that takes. The error means that an allocation failed.
     pub fn waker(&mut self) -> Result<RelayWaker<M>, AllocError>
-        ensures relay { IfOk result (λ waker. waker ≡ record { relay = self.old.relay; given = 0 }) }
-        ensures made { OnOk result (self.new ≡ record { relay = self.old.relay; sent = self.old.sent; wakeable = true }) }
+        ensures relay { IfOk result (λ waker.
+            waker ≡ record { relay = self.old.relay; given = 0 }) }
+        ensures made { OnOk result
+            (self.new ≡ record { relay = self.old.relay; sent = self.old.sent; wakeable = true }) }
         ensures same { OnErr result (self.new ≡ self.old) }
     {
         let sender = self.sender.try_clone()?;
@@ -164,7 +179,8 @@ impl<M: Drop> RelayTx<M> {
 impl<M: Drop> RelayWaker<M> {
     /// Makes another one, for another thread. The error means that an allocation failed.
     pub fn another(&mut self) -> Result<RelayWaker<M>, AllocError>
-        ensures relay { IfOk result (λ waker. waker ≡ record { relay = self.old.relay; given = 0 }) }
+        ensures relay { IfOk result (λ waker.
+            waker ≡ record { relay = self.old.relay; given = 0 }) }
         ensures same { self.new ≡ self.old }
     {
         let sender = self.sender.try_clone()?;
@@ -179,7 +195,8 @@ impl<M: Drop> RelayWaker<M> {
     /// receiver's end is gone; no contract says so.
     pub fn wake<R: Wait>(&mut self, rt: &R) -> bool
         ensures relay { self.new.relay ≡ self.old.relay }
-        ensures given { MatchBool result (self.new.given ≡ self.old.given + 1) (self.new.given ≡ self.old.given) }
+        ensures given { MatchBool result (self.new.given ≡ self.old.given + 1)
+            (self.new.given ≡ self.old.given) }
     {
         match self.sender.send_as::<Woken, R>(rt, &mut self.pass, None) {
             Ok(()) => true,
@@ -213,7 +230,7 @@ impl<M: Drop> RelayRx<M> {
     }
 
     /// Takes the parcel or the wake at the front in one step. It waits while the relay is empty. `Taken::Wake` means that one wake was
-    /// taken, and no other answer takes one. `Taken::Nothing` comes where `take` gives `None`.
+    /// taken, and no other answer takes one. `Taken::Nothing` comes if `take` gives `None`.
     pub fn take_or_wake<R: Wait>(&mut self, rt: &R) -> Taken<M>
         ensures relay { self.new.relay ≡ self.old.relay }
         ensures taken { TakenIs result self.old.taken self.new.taken }
@@ -226,7 +243,7 @@ impl<M: Drop> RelayRx<M> {
         }
     }
 
-    /// As `take_or_wake`, but it doesn't wait. `Taken::Nothing` comes where nothing stands at the front.
+    /// As `take_or_wake`, but it doesn't wait. `Taken::Nothing` comes if nothing stands at the front.
     pub fn try_take<R: Wait>(&mut self, rt: &R) -> Taken<M>
         ensures relay { self.new.relay ≡ self.old.relay }
         ensures taken { TakenIs result self.old.taken self.new.taken }

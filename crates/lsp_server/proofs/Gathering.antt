@@ -9,7 +9,6 @@ use Rattle.lsp_message.specs.declared.frame.WriteFault.TheVariants.{Output, Memo
 use Rattle.lsp_session.proofs.Handing.{Appends-Keeps, AreFramesOf-push}
 use Rattle.lsp_session.specs.WriteLoop.{BreaksOffAt}
 use Rattle.lsp_threads.proofs.Frames.{breaks}
-use Rattle.lsp_threads.specs.Threads.{BreaksOffWithin}
 use Rattle.lsp_server.specs.Writing.{IsBehind, WritesBehind, WritesFrom}
 
 -- ---- behind one frame
@@ -65,7 +64,7 @@ pub from_behind : (m : Message) (frame : List ℕ) (a b : Option (List ℕ)) (re
 from_behind m frame a b (Ok done) is (text, (behind, frames, are, same), got) = (behind, (text, (frame, frames, is, are, same), got))
 from_behind m frame a b (Err (Output kind)) is (text, (behind, frames, are, same), begun) =
     let parts = breaks (m ∷ behind) text a b (frame, frames, is, are, same) (rw same (frame_has_bytes m frame frames is)) begun in
-    (behind, record { whole = parts.0; next = parts.1; unwritten = parts.2; cut = parts.3; got = parts.4 })
+    (behind, parts)
 from_behind m frame a b (Err Memory) is (text, (behind, frames, are, same), got) = inr (behind, (text, (frame, frames, is, are, same), got))
 
 -- ---- all messages
@@ -86,12 +85,12 @@ module _ (a b c : Option (List ℕ)) (m : Message) (so_far : (ms : List Message)
   pub up_to_fault : (fault : WriteFault) → WritesFrom m b (Err fault) c → (ms : List Message) × (next : Message) × BreaksOffAt ms next fault a c
   up_to_fault (Output kind) (behind, broken) =
       let frames = so_far.1 in
-      let last = broken.got in (
-        so_far.0 ++ broken.whole,
-        broken.next,
+      let last = broken.4 in (
+        so_far.0 ++ broken.0,
+        broken.1,
         record {
           frames = frames.0 ++ last.frames;
-          frames_of_whole = AreFramesOf-append so_far.0 broken.whole frames.0 last.frames frames.1 last.frames_of_whole;
+          frames_of_whole = AreFramesOf-append so_far.0 broken.0 frames.0 last.frames frames.1 last.frames_of_whole;
           frame = last.frame;
           frame_of_next = last.frame_of_next;
           part = last.part;

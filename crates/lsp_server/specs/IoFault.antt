@@ -51,7 +51,7 @@ reader_answer (Fault fault) = Err (Read fault)
 reader_answer OutboxClosed = Err Closed
 reader_answer OutboxMemory = Err Memory
 
--- what the thread that writes answered, where it has ended
+-- what the thread that writes answered, if it has ended
 abbrev pub ended_answer : Writer → Option (Result (Unit {0}) IoFault)
 ended_answer (Started thread) = None
 ended_answer (Ended answer) = Some answer

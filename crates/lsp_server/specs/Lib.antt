@@ -3,7 +3,7 @@ pub use Rattle.lsp_dispatch.specs.DispatchAnswers
 pub use Rattle.lsp_dispatch.specs.DispatchCalls
 pub use Rattle.lsp_dispatch.specs.DispatchFaults
 pub use Rattle.lsp_dispatch.specs.DispatchLaw
-pub use Rattle.lsp_dispatch.specs.DispatchTable
+pub use Rattle.lsp_dispatch.specs.DispatchPending
 pub use Rattle.lsp_message.specs.Composing
 pub use Rattle.lsp_message.specs.Converted
 pub use Rattle.lsp_message.specs.ErrorCode
@@ -16,7 +16,7 @@ pub use Rattle.lsp_message.specs.HeaderPart
 pub use Rattle.lsp_message.specs.Id
 pub use Rattle.lsp_message.specs.IdKeys
 pub use Rattle.lsp_message.specs.IdLaws
-pub use Rattle.lsp_message.specs.Letters
+pub use Rattle.lsp_message.specs.Messages
 pub use Rattle.lsp_message.specs.Listed
 pub use Rattle.lsp_message.specs.Meaning
 pub use Rattle.lsp_message.specs.Message
@@ -36,13 +36,13 @@ pub use Rattle.lsp_peers.specs.History
 pub use Rattle.lsp_peers.specs.HistoryLaw
 pub use Rattle.lsp_peers.specs.Ids
 pub use Rattle.lsp_peers.specs.InOnePlace
-pub use Rattle.lsp_peers.specs.Letter
+pub use Rattle.lsp_peers.specs.SentFrame
 pub use Rattle.lsp_peers.specs.Post
-pub use Rattle.lsp_peers.specs.Settling
+pub use Rattle.lsp_peers.specs.Delivery
 pub use Rattle.lsp_peers.specs.Shallow
 pub use Rattle.lsp_peers.specs.Sides
 pub use Rattle.lsp_peers.specs.Steps
-pub use Rattle.lsp_peers.specs.Token
+pub use Rattle.lsp_peers.specs.TrackedRequest
 pub use Rattle.lsp_peers.specs.WorldFault
 pub use Rattle.lsp_queue.specs.Queue
 pub use Rattle.lsp_queue.specs.QueueRun
@@ -66,6 +66,7 @@ pub use Rattle.lsp_session.specs.ProtocolError
 pub use Rattle.lsp_session.specs.ProtocolErrorLaws
 pub use Rattle.lsp_session.specs.ReadLoop
 pub use Rattle.lsp_session.specs.Replies
+pub use Rattle.lsp_session.specs.Served
 pub use Rattle.lsp_session.specs.Session
 pub use Rattle.lsp_session.specs.SessionBytes
 pub use Rattle.lsp_session.specs.SessionFault

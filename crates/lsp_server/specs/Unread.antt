@@ -17,7 +17,9 @@ newest count weights = drop (length weights - count) weights
 abbrev pub HasRoom : List ℕ → ℕ → ℕ → Type 0
 HasRoom weights weight bound = (weights ≡ []) ⊎ (sum weights + weight ≤ bound) ⊎ (greatest ≤ bound)
 
--- an estimate of the memory that the message of a content part takes: a byte for each byte, more where a list or an object opens, and for each further item
+-- an estimate of the memory that the message of a content part takes: a byte for each byte, more if a list or an object opens, and for each further item
 abbrev pub content_weight : List ℕ → ℕ
-content_weight content = length content + 208 * (count_by (λ byte. byte == 44) content + count_by (λ byte. byte == 91) content)
+content_weight content =
+    length content
+    + 208 * (count_by (λ byte. byte == 44) content + count_by (λ byte. byte == 91) content)
     + 900 * count_by (λ byte. byte == 123) content

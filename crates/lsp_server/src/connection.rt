@@ -107,7 +107,9 @@ impl Connection {
         let (sender, receiver, threads) = start_threads(
             rt,
             alloc,
-            move |incoming, spent| read_all(theirs, alloc, reader, bounds, incoming, spent),
+            move |incoming, given_back| read_all(
+                theirs, alloc, reader, bounds, incoming, given_back,
+            ),
             move |outgoing, written| write_all(theirs, alloc, outgoing, writer, written),
         )?;
         Ok((Connection { sender, receiver }, threads))

@@ -6,7 +6,7 @@ use crate::io_fault::IoFault;
 use crate::written::{Written, channels_of_written, drop_all};
 use crossbeam_channel::{Receiver, Sender, bounded};
 use lsp_session::ReadEnd;
-use lsp_threads::spent::Spent;
+use lsp_threads::give_back::GivenBack;
 use std::alloc::Global;
 use std::sync::Wait;
 use std::thread;
@@ -34,7 +34,7 @@ enum Writer {
 }
 
 impl Writer {
-    /// What the thread answers. It is waited for where it may still run.
+    /// What the thread answers. It is waited for if it may still run.
     fn join<R: Threads>(self, rt: &R) -> Result<(), IoFault>
         ensures { IfSome (ended_answer self) (λ answer. result ≡ answer) }
     {
@@ -90,7 +90,7 @@ impl IoThreads {
 /// A thread that is not started lets go of its ends of the channels, and this call of the others. So those that were
 /// started before find their channels closed, and end.
 ///
-/// It carries any type `M`: the check finds that a thread may own the ends of a channel only where it need not look into what the
+/// It carries any type `M`: the check finds that a thread may own the ends of a channel only if it need not look into what the
 /// channel carries.
 pub(crate) fn start_threads<M, R, F, G>(
     rt: &R,
@@ -101,14 +101,14 @@ pub(crate) fn start_threads<M, R, F, G>(
 where
     M: Drop + Send + 'static,
     R: Threads + Wait + Copy + Drop + Send + 'static,
-    F: FnOnce(Sender<M>, Spent<M>) -> Result<(), IoFault> + Drop + Send + 'static,
+    F: FnOnce(Sender<M>, GivenBack<M>) -> Result<(), IoFault> + Drop + Send + 'static,
     G: FnOnce(Receiver<M>, Written<M>) -> Result<(), IoFault> + Drop + Send + 'static,
     requires { F.IsAlwaysCallable read × G.IsAlwaysCallable write }
     ensures { IfErr result (λ fault. is_start_fault fault ≡ true) }
 {
     let (incoming, receiver) = bounded(alloc, CHANNEL_ROOM)?;
     let (sender, outgoing) = bounded(alloc, CHANNEL_ROOM)?;
-    let (written, spent, large) = channels_of_written(alloc)?;
+    let (written, given_back, large) = channels_of_written(alloc)?;
     let theirs = *rt;
     let writing = move || -> Result<(), IoFault>
         requires { G.IsAlwaysCallable write }
@@ -117,7 +117,7 @@ where
     let dropper = start(rt, move || drop_all(theirs, large))?;
     let reading = move || -> Result<(), IoFault>
         requires { F.IsAlwaysCallable read }
-    { read(incoming, spent) };
+    { read(incoming, given_back) };
     let threads = IoThreads {
         reader: start(rt, reading)?,
         writer,

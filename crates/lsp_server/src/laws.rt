@@ -18,9 +18,9 @@ pub use lsp_peers::laws as peers;
 pub use lsp_queue::laws::pending_is_last_registered;
 use lsp_service::Server;
 pub use lsp_service::laws::{
-    desk_runs_its_server, lost_client_is_owed_what_is_held, server_keeps_laws,
-    server_over_boxes_keeps_laws, server_that_asks_keeps_laws, turn_sends_its_acts,
-    woken_desk_runs_its_server, woken_server_keeps_laws, woken_turn_sends_its_acts,
+    call_sends_its_acts, lost_client_is_owed_what_is_held, queued_server_runs_its_server,
+    server_keeps_laws, server_over_boxes_keeps_laws, server_that_asks_keeps_laws,
+    woken_call_sends_its_acts, woken_queued_server_runs_its_server, woken_server_keeps_laws,
 };
 use lsp_session::Listener;
 pub use lsp_session::laws::{dialogs, listeners, sessions, streams, turns};
@@ -32,7 +32,8 @@ pub use lsp_threads::laws::{
 /// A session of a server in threads keeps the laws, as `server_keeps_laws` says it of one on one thread: a fact of each session that
 /// was run by `run_threads_with`, with a limit or without one, and that passes over nothing.
 pub fn server_in_threads_keeps_laws<S: Server>()
-    ensures { (limit : ℕ) (first last : S) (text : List ℕ) (before after : Option (List ℕ)) (answer : Result EndOfSession FaultOfSession)
+    ensures { (limit : ℕ) (first last : S) (text : List ℕ) (before after : Option (List ℕ))
+        (answer : Result EndOfSession FaultOfSession)
         → ThreadsGive limit (ServerSession (unwoken S.Server) first last) text before after answer
         → ThreadsGive limit (LawfulSession (unwoken S.Server) first last) text before after answer }
 {}
@@ -40,10 +41,16 @@ pub fn server_in_threads_keeps_laws<S: Server>()
 /// `server_in_threads_keeps_laws` of a session with a listener: a fact of each session that was run by `run_threads_with`. With a listener
 /// that passes over nothing, such as `EndSession`, it is one in which each frame is a message (`nothing_passed`).
 pub fn server_in_threads_that_asks_keeps_laws<S: Server, L: Listener>()
-    ensures bytes { (limit : ℕ) (first last : S) (text : List ℕ) (heard heard_last : L) (before after : Option (List ℕ)) (answer : Result EndOfSession FaultOfSession)
-        → ThreadsTell L.hears limit (ServerSession (unwoken S.Server) first last) text heard heard_last before after answer
-        → ThreadsTell L.hears limit (LawfulSession (unwoken S.Server) first last) text heard heard_last before after answer }
-    ensures nothing_passed { (limit : ℕ) (first last : S) (text : List ℕ) (heard heard_last : L) (before after : Option (List ℕ)) (answer : Result EndOfSession FaultOfSession)
-        → PassesNothingOver L.hears → ThreadsTell L.hears limit (ServerSession (unwoken S.Server) first last) text heard heard_last before after answer
+    ensures bytes { (limit : ℕ) (first last : S) (text : List ℕ) (heard heard_last : L)
+        (before after : Option (List ℕ)) (answer : Result EndOfSession FaultOfSession)
+        → ThreadsTell L.hears limit (ServerSession (unwoken S.Server) first last) text heard
+        heard_last before after answer
+        → ThreadsTell L.hears limit (LawfulSession (unwoken S.Server) first last) text heard
+        heard_last before after answer }
+    ensures nothing_passed { (limit : ℕ) (first last : S) (text : List ℕ) (heard heard_last : L)
+        (before after : Option (List ℕ)) (answer : Result EndOfSession FaultOfSession)
+        → PassesNothingOver L.hears
+        → ThreadsTell L.hears limit (ServerSession (unwoken S.Server) first last) text heard
+        heard_last before after answer
         → ThreadsGive limit (ServerSession (unwoken S.Server) first last) text before after answer }
 {}

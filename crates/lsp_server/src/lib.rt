@@ -40,9 +40,9 @@ pub use lsp_service::{
 pub use lsp_session::{
     Arrival, CallGate, EndSession, Event, FaultCounts, FrameOutbox, Gate, Handler, HandlerService,
     Ignore, Inbox, ListGate, ListInbox, ListOutbox, Listener, OpenGate, Outbox, ProtocolError,
-    ReadEnd, SendFault, SessionEnd, SessionFault, StreamInbox, StreamLine, TolerantInbox, WriteEnd,
-    finish, finish_within, is_of_body, read_loop, read_loop_within, serve, serve_line, session,
-    session_within, shutdown, start_within, wait_within, write_loop,
+    ReadEnd, SendFault, Served, SessionEnd, SessionFault, StopReason, StreamInbox, StreamLine,
+    TolerantInbox, WriteEnd, finish, finish_within, is_of_body, read_loop, read_loop_within, serve,
+    serve_line, session, session_within, shutdown, start_within, wait_within, write_loop,
 };
 pub use lsp_threads::{
     PumpFault, StartFault, ThreadOptions, Threaded, UNREAD_BYTES, pump, pump_within, run_threads,
@@ -52,4 +52,5 @@ pub use memory::keep_freed_memory;
 pub use relays::{Parcel, RelayRx, RelayTx, relay};
 pub use servers::run_threads_with;
 pub use serving_thread::{spawn, spawn_with};
+pub use stdio::StandardOutput;
 pub use unread::UNREAD_WEIGHT;

@@ -8,7 +8,7 @@ use crate::unread::Unread;
 use crossbeam_channel::{SendError, Sender, TrySendError};
 use lsp_message::Message;
 use lsp_session::SendFault;
-use lsp_threads::spent::Spent;
+use lsp_threads::give_back::GivenBack;
 use std::alloc::{AllocError, Global};
 use std::sync::Wait;
 use std::thread;
@@ -25,7 +25,7 @@ pub(crate) struct Outlet<'a, R: Wait> {
     rt: &'a R,
     alloc: Global,
     incoming: &'a Sender<Message>,
-    spent: &'a Spent<Message>,
+    given_back: &'a GivenBack<Message>,
     /// The weights of what was sent. It is as long as the channel, or longer.
     unread: Unread,
     /// How much may be unread.
@@ -40,7 +40,7 @@ impl<'a, R: Wait> Outlet<'a, R> {
         rt: &'a R,
         alloc: Global,
         incoming: &'a Sender<Message>,
-        spent: &'a Spent<Message>,
+        given_back: &'a GivenBack<Message>,
         unread: Unread,
         bound: u64,
     ) -> Outlet<'a, R> {
@@ -48,7 +48,7 @@ impl<'a, R: Wait> Outlet<'a, R> {
             rt,
             alloc,
             incoming,
-            spent,
+            given_back,
             unread,
             bound,
             places: Vec::new(alloc),
@@ -63,7 +63,7 @@ impl<'a, R: Wait> Outlet<'a, R> {
             return Err(SendFault::Memory(message));
         }
         let sent = self.forward(message);
-        self.spent.drop_waiting(self.rt);
+        self.given_back.drop_waiting(self.rt);
         sent
     }
 
@@ -96,7 +96,7 @@ impl<'a, R: Wait> Outlet<'a, R> {
 }
 
 impl<'a, R: Wait + Clock> Outlet<'a, R> {
-    /// Waits until a message of this weight may be sent, too: until so much was taken, or all. It ends at once where the receiver is
+    /// Waits until a message of this weight may be sent, too: until so much was taken, or all. It ends at once if the receiver is
     /// gone, which the next `send` tells. Meanwhile it drops what was written. The error means that an allocation failed.
     pub(crate) fn make_room(&mut self, weight: u64) -> Result<(), AllocError> {
         let rt = self.rt;
@@ -106,7 +106,7 @@ impl<'a, R: Wait + Clock> Outlet<'a, R> {
             if self.unread.has_room(weight, self.bound) || self.is_left()? {
                 return Ok(());
             }
-            self.spent.drop_waiting(rt);
+            self.given_back.drop_waiting(rt);
             thread::sleep(rt, Duration::from_millis(rest));
             rest = rest.saturating_mul(2).min(LONG_REST);
         }

@@ -1,4 +1,4 @@
-// Places of a channel that its sender keeps. A channel tells a sender that its receiver is gone only where it has no place free. A
+// Places of a channel that its sender keeps. A channel tells a sender that its receiver is gone only if it has no place free. A
 // sender that has to wait with places free takes these first.
 ghost use Rattle.std.specs.Prelude.{◌≡◌, IfErr};
 ghost use Rattle.crossbeam_channel.specs.Err.{send_message};

@@ -12,7 +12,7 @@ use crate::unread::{Unread, weight_of};
 use crossbeam_channel::Sender;
 use lsp_message::{Message, ReadFault, read_content_within};
 use lsp_session::{ReadEnd, SendFault, is_exit};
-use lsp_threads::spent::Spent;
+use lsp_threads::give_back::GivenBack;
 use std::alloc::Global;
 use std::io::{BufRead, ErrorKind};
 use std::sync::Wait;
@@ -43,7 +43,7 @@ pub(crate) fn read_all<R: Wait + Clock + Drop, B: BufRead + Drop>(
     reader: B,
     bounds: Bounds,
     incoming: Sender<Message>,
-    spent: Spent<Message>,
+    given_back: GivenBack<Message>,
 ) -> Result<(), IoFault> {
     let Bounds {
         limit,
@@ -51,7 +51,7 @@ pub(crate) fn read_all<R: Wait + Clock + Drop, B: BufRead + Drop>(
         unread,
     } = bounds;
     let mut reader = reader;
-    let mut outlet = Outlet::new(&rt, alloc, &incoming, &spent, unread, bound);
+    let mut outlet = Outlet::new(&rt, alloc, &incoming, &given_back, unread, bound);
     reader_end(read_messages(alloc, &mut reader, &mut outlet, limit))
 }
 
@@ -62,7 +62,8 @@ fn read_messages<R: Wait + Clock, B: BufRead>(
     outlet: &mut Outlet<'_, R>,
     limit: u64,
 ) -> ReadEnd
-    ensures { IfSome (B.remaining reader.old) (λ text. HandsOn limit text (B.remaining reader.new) result) }
+    ensures { IfSome (B.remaining reader.old) (λ text.
+        HandsOn limit text (B.remaining reader.new) result) }
 {
     for _ in 0..u64::MAX {
         let Weighed { message, weight } = match read_weighed(alloc, reader, outlet, limit) {
@@ -108,7 +109,7 @@ fn read_weighed<R: Wait + Clock, B: BufRead>(
     Ok(Some(Weighed { message, weight }))
 }
 
-/// How reading ends where a message is refused.
+/// How reading ends if a message is refused.
 fn end_at(fault: SendFault) -> ReadEnd
     ensures { result ≡ refused_end fault }
 {

@@ -62,7 +62,8 @@ where
     F: FnOnce(R, Connection) -> T + Drop + Send + 'static,
     T: Drop + Send + 'static,
     requires runs { F.IsAlwaysCallable serve }
-    requires keeps { (answer : T) → F.post serve rt.now connection answer → P.kept_by promise answer }
+    requires keeps { (answer : T) → F.post serve rt.now connection answer
+        → P.kept_by promise answer }
     ensures { IfOk result (λ thread. thread.promise ≡ promise) }
 {
     let Ok(Connection { sender, receiver }) = another(&connection) else {
@@ -88,7 +89,7 @@ fn another(connection: &Connection) -> Result<Connection, AllocError> {
 
 /// Starts the thread, or gives nothing if the system refuses it.
 ///
-/// It takes the ends of channels that carry any type `M`: the check finds that a thread may own them only where it need not look into
+/// It takes the ends of channels that carry any type `M`: the check finds that a thread may own them only if it need not look into
 /// what they carry.
 fn start<M, R, P, F, T>(
     rt: &R,
@@ -104,7 +105,8 @@ where
     F: FnOnce(R, Sender<M>, Receiver<M>) -> T + Drop + Send + 'static,
     T: Drop + Send + 'static,
     requires runs { F.IsAlwaysCallable work }
-    requires keeps { (answer : T) → F.post work rt.now sender receiver answer → P.kept_by promise answer }
+    requires keeps { (answer : T) → F.post work rt.now sender receiver answer
+        → P.kept_by promise answer }
     ensures { IfSome result (λ thread. thread.promise ≡ promise) }
 {
     let theirs = *rt;

@@ -72,7 +72,7 @@ impl Connection {
     }
 
     /// As `listen`, with a limit on what is read. If a content part is longer than `limit` bytes, `IoThreads::join` answers read
-    /// fault 12. Use it where strangers can connect.
+    /// fault 12. Use it if strangers can connect.
     pub fn listen_within<R, A>(
         rt: &R,
         addr: A,
@@ -104,7 +104,7 @@ impl Connection {
         R::Stream: Send + 'static,
         ensures { IfErr result (λ fault. is_connect_fault fault ≡ true) }
     {
-        // What waits is one write, so holding it back gathers nothing. Where the option is refused, frames are only slower.
+        // What waits is one write, so holding it back gathers nothing. If the option is refused, frames are only slower.
         let _ = stream.set_nodelay(true);
         let patience = Duration::from_secs(WRITE_SECONDS);
         stream

@@ -41,15 +41,26 @@ impl Connection {
         R::Reader: Send + 'static,
         ensures { IfErr result (λ fault. is_start_fault fault ≡ true) }
     {
-        Connection::over(rt, rt.reader(), Output(*rt), limit)
+        Connection::over(rt, rt.reader(), StandardOutput::new(*rt), limit)
     }
 }
 
-/// Standard output. It owns the runtime, so that a thread may.
+/// Standard output as a writer that a thread may own: `run_threads` and `Connection::over` take one.
+///
+/// Nothing is kept back, so a flush has nothing to write. What a terminal or a pipe does with the bytes, no contract says.
 #[derive(Drop)]
-struct Output<R>(R);
+pub struct StandardOutput<R>(R);
 
-impl<R: Print> Write for Output<R> {
+impl<R: Print> StandardOutput<R> {
+    /// The standard output of a runtime, such as `StandardOutput::new(rt)` in `main`.
+    pub fn new(rt: R) -> StandardOutput<R>
+        ensures { result.0 ≡ rt }
+    {
+        StandardOutput(rt)
+    }
+}
+
+impl<R: Print> Write for StandardOutput<R> {
     fn write(&mut self, buf: &[u8]) -> io::Result<usize> {
         io::writer(&self.0).write(buf)
     }

@@ -54,7 +54,8 @@ fn write_message<R: Wait, W: Write>(
     writer: &mut W,
     written: &Written<Message>,
 ) -> Result<(), WriteFault>
-    ensures { WritesFrom (message_view message) (W.contents writer.old) result (W.contents writer.new) }
+    ensures { WritesFrom (message_view message) (W.contents writer.old) result
+        (W.contents writer.new) }
 {
     match frame_of(rt, alloc, message, written) {
         Ok(frame) => write_behind(rt, alloc, frame, outgoing, writer, written),
@@ -86,7 +87,8 @@ fn write_behind<R: Wait, W: Write>(
     writer: &mut W,
     written: &Written<Message>,
 ) -> Result<(), WriteFault>
-    ensures { WritesBehind (string_bytes frame) (W.contents writer.old) result (W.contents writer.new) }
+    ensures { WritesBehind (string_bytes frame) (W.contents writer.old) result
+        (W.contents writer.new) }
 {
     let mut gathered = frame;
     let mut lacks_memory = false;
@@ -111,11 +113,13 @@ fn write_behind<R: Wait, W: Write>(
     Ok(())
 }
 
-/// Adds a frame to those that are not written. Where they have no room together, the others are written first.
+/// Adds a frame to those that are not written. If they have no room together, the others are written first.
 fn join<W: Write>(pending: String, next: String, writer: &mut W) -> Result<String, WriteFault>
-    ensures ok { IfOk result (λ left. (done : List ℕ) × Appends (W.contents writer.old) (W.contents writer.new) done
+    ensures ok { IfOk result (λ left. (done : List ℕ)
+        × Appends (W.contents writer.old) (W.contents writer.new) done
         × (string_bytes pending ++ string_bytes next ≡ done ++ string_bytes left)) }
-    ensures err { OnErr result (AppendsBeginning (W.contents writer.old) (W.contents writer.new) (string_bytes pending)) }
+    ensures err { OnErr result
+        (AppendsBeginning (W.contents writer.old) (W.contents writer.new) (string_bytes pending)) }
     ensures fault { IfErr result IsOutput }
 {
     let mut pending = pending;

@@ -1,7 +1,7 @@
 //! Messages that were written, on their way to the thread that drops them: back to the thread that reads, which allocated most of
-//! them, and to a thread of their own where that one has no room for a large one.
+//! them, and to a thread of their own if that one has no room for a large one.
 use crossbeam_channel::{Receiver, Sender, bounded};
-use lsp_threads::spent::{GiveBack, Spent, way_back};
+use lsp_threads::give_back::{GiveBack, GivenBack, way_back};
 use std::alloc::{AllocError, Global};
 use std::sync::Wait;
 
@@ -41,14 +41,14 @@ impl<M: Drop> Written<M> {
     }
 }
 
-/// Where messages go when they are written, and the two ends at which they come out: that of the thread that reads, and that of
+/// If messages go when they are written, and the two ends at which they come out: that of the thread that reads, and that of
 /// the thread that drops large ones.
 pub(crate) fn channels_of_written<M: Drop>(
     alloc: Global,
-) -> Result<(Written<M>, Spent<M>, Receiver<M>), AllocError> {
-    let (back, spent) = way_back(alloc, WRITTEN_ROOM)?;
+) -> Result<(Written<M>, GivenBack<M>, Receiver<M>), AllocError> {
+    let (back, given_back) = way_back(alloc, WRITTEN_ROOM)?;
     let (to_dropper, large) = bounded(alloc, LARGE_ROOM)?;
-    Ok((Written { back, to_dropper }, spent, large))
+    Ok((Written { back, to_dropper }, given_back, large))
 }
 
 /// Drops large messages as they come, until no more can come.

@@ -4,10 +4,10 @@ use Rattle.lsp_message.specs.IdKeys.{id_antisymmetric}
 use Rattle.lsp_message.specs.IdLaws.{id_total, id_decides}
 use Rattle.lsp_message.specs.Message.{Message, request, notification, response, ErrorObject}
 use Rattle.lsp_queue.specs.Queue.{pending_of, count_of, Asked}
-use Rattle.lsp_service.specs.Desk.{Act, tells, settles, cancelled_by, Desk, does, does_all, unsent, given, cleared, TakesBack, Acts, ids_after, unsent_by}
+use Rattle.lsp_service.specs.Acts.{Act, tells, answers_cancelled, cancelled_by, Queues, does, does_all, unsent, given, cleared, TakesBack, Acts, ids_after, unsent_by}
 use Rattle.lsp_service.specs.Law.{Handed}
-use Rattle.lsp_service.specs.QueuedServer.{WorksGiving, Works}
-use Rattle.lsp_service.specs.Turning.{brought_by, sends_by, all_sends, desk_at, settled_by, settled_at, ActsAt}
+use Rattle.lsp_service.specs.QueuedServer.{WorksSending, Works}
+use Rattle.lsp_service.specs.SentByActs.{brought_by, sends_by, all_sends, queues_at, cancelled_answer, acts_done_at, ActsAt}
 use Rattle.lsp_service.specs.Stated.{Stated}
 use Rattle.serde_json.specs.Data.{Data}
 use Rattle.std.proofs.Common.{◌≡◌, refl, sym, ◌∙◌, ap, List, [], ◌∷◌, ◌++◌, append_assoc, append-nil, arith, Option, Some, None, Bool, true, false, cond}
@@ -17,94 +17,94 @@ use Rattle.std.specs.Ordering.{eq_by_cmp}
 use Rattle.std.specs.Prelude.{MatchOption, Result}
 
 module _ {P : Type 0} where
-  said_one : (d : Desk P) (act : Act P) → (does d act).said ≡ d.said ++ sends_by d act
-  said_one d (tells method params) = refl
-  said_one d act = grind (arith, append-nil)
+  sent_one : (d : Queues P) (act : Act P) → (does d act).sent ≡ d.sent ++ sends_by d act
+  sent_one d (tells method params) = refl
+  sent_one d act = grind (arith, append-nil)
 
-  said_all : (d : Desk P) (acts : List (Act P)) → (does_all d acts).said ≡ d.said ++ all_sends d acts
-  said_all d [] = sym (append-nil d.said)
-  said_all d (act ∷ acts) =
-      said_all (does d act) acts ∙ ap (λ (l : List Message). l ++ all_sends (does d act) acts) (said_one d act) ∙ append_assoc d.said (sends_by d act) (all_sends (does d act) acts)
+  sent_all : (d : Queues P) (acts : List (Act P)) → (does_all d acts).sent ≡ d.sent ++ all_sends d acts
+  sent_all d [] = sym (append-nil d.sent)
+  sent_all d (act ∷ acts) =
+      sent_all (does d act) acts ∙ ap (λ (l : List Message). l ++ all_sends (does d act) acts) (sent_one d act) ∙ append_assoc d.sent (sends_by d act) (all_sends (does d act) acts)
 
-  does-append : (d : Desk P) (xs ys : List (Act P)) → does_all d (xs ++ ys) ≡ does_all (does_all d xs) ys
+  does-append : (d : Queues P) (xs ys : List (Act P)) → does_all d (xs ++ ys) ≡ does_all (does_all d xs) ys
   does-append d [] ys = refl
   does-append d (x ∷ xs) ys = does-append (does d x) xs ys
 
-  pub at_count : (d : Desk P) (m : Option Message) (payload : Option P) → count_of (desk_at d m payload).asked ≡ count_of d.asked
+  pub at_count : (d : Queues P) (m : Option Message) (payload : Option P) → count_of (queues_at d m payload).asked ≡ count_of d.asked
   at_count d (Some (response id outcome)) (Some payload) = refl
   at_count d m payload = refl
 
-  settled_so : (d : Desk P) (cancelled : Option Id) → settles d cancelled ≡ does_all d (settled_by cancelled)
-  settled_so d None = refl
-  settled_so d (Some id) = refl
+  answered_so : (d : Queues P) (cancelled : Option Id) → answers_cancelled d cancelled ≡ does_all d (cancelled_answer cancelled)
+  answered_so d None = refl
+  answered_so d (Some id) = refl
 
-  pub at_said : (d : Desk P) (m : Option Message) (payload : Option P) → (desk_at d m payload).said ≡ d.said
-  at_said d (Some (response id outcome)) (Some payload) = refl
-  at_said d m payload = refl
+  pub at_sent : (d : Queues P) (m : Option Message) (payload : Option P) → (queues_at d m payload).sent ≡ d.sent
+  at_sent d (Some (response id outcome)) (Some payload) = refl
+  at_sent d m payload = refl
 
 module _ {S P : Type 0} (may : Stated S P) where
-  acts_so : (old : S × Desk P) (m : Option Message) (said : List Message) (new : S × Desk P) (payload : Option P) (acts : List (Act P)) (did : S)
-      (after : S × Desk P) → payload ≡ brought_by old.1 m → Handed may old.0 m payload acts did
+  acts_so : (old : S × Queues P) (m : Option Message) (sent : List Message) (new : S × Queues P) (payload : Option P) (acts : List (Act P)) (did : S)
+      (after : S × Queues P) → payload ≡ brought_by old.1 m → Handed may old.0 m payload acts did
       → TakesBack may.takes_back did (unsent (count_of old.1.asked) acts) after.0
-      → after.1 ≡ does_all (desk_at old.1 m payload) (settled_at m acts) → said ≡ after.1.said → new ≡ (after.0, cleared after.1)
-      → ActsAt may old m said new
-  acts_so old m said new payload acts did after brought handed back same is left = record {
+      → after.1 ≡ does_all (queues_at old.1 m payload) (acts_done_at m acts) → sent ≡ after.1.sent → new ≡ (after.0, cleared after.1)
+      → ActsAt may old m sent new
+  acts_so old m sent new payload acts did after brought handed back same is left = record {
     payload = payload;
     brought = brought;
     acts = acts;
     did = did;
     handed = handed;
-    back = rw (ap (λ (x : S × Desk P). x.0) left) back;
-    sent = is ∙ ap (λ (d : Desk P). d.said) same ∙ said_all (desk_at old.1 m payload) (settled_at m acts)
-        ∙ ap (λ (l : List Message). l ++ all_sends (desk_at old.1 m payload) (settled_at m acts)) (at_said old.1 m payload);
-    desk = ap (λ (x : S × Desk P). x.1) left ∙ ap (λ (d : Desk P). cleared d) same;
+    back = rw (ap (λ (x : S × Queues P). x.0) left) back;
+    sent = is ∙ ap (λ (d : Queues P). d.sent) same ∙ sent_all (queues_at old.1 m payload) (acts_done_at m acts)
+        ∙ ap (λ (l : List Message). l ++ all_sends (queues_at old.1 m payload) (acts_done_at m acts)) (at_sent old.1 m payload);
+    queues = ap (λ (x : S × Queues P). x.1) left ∙ ap (λ (d : Queues P). cleared d) same;
   }
 
-  -- all that was sent, as the desk had it
-  pub said_so : (old : S × Desk P) (m : Option Message) (said : List Message) (new : S × Desk P) (a : ActsAt may old m said new)
-      → said ≡ (does_all (desk_at old.1 m a.payload) (settled_at m a.acts)).said
-  said_so old m said new a =
-      a.sent ∙ ap (λ (l : List Message). l ++ all_sends (desk_at old.1 m a.payload) (settled_at m a.acts)) (sym (at_said old.1 m a.payload))
-      ∙ sym (said_all (desk_at old.1 m a.payload) (settled_at m a.acts))
+  -- all that was sent, as it stood beside the queues
+  pub sent_so : (old : S × Queues P) (m : Option Message) (sent : List Message) (new : S × Queues P) (a : ActsAt may old m sent new)
+      → sent ≡ (does_all (queues_at old.1 m a.payload) (acts_done_at m a.acts)).sent
+  sent_so old m sent new a =
+      a.sent ∙ ap (λ (l : List Message). l ++ all_sends (queues_at old.1 m a.payload) (acts_done_at m a.acts)) (sym (at_sent old.1 m a.payload))
+      ∙ sym (sent_all (queues_at old.1 m a.payload) (acts_done_at m a.acts))
 
-  pub acts_at : (old : S × Desk P) (m : Option Message) (said : List Message) (new : S × Desk P) → WorksGiving may old m said new
-      → ActsAt may old m said new
-  acts_at old (Some (request id method params)) said new gives =
+  pub acts_at : (old : S × Queues P) (m : Option Message) (sent : List Message) (new : S × Queues P) → WorksSending may old m sent new
+      → ActsAt may old m sent new
+  acts_at old (Some (request id method params)) sent new gives =
       let w = gives.1 in
-      acts_so old (Some (request id method params)) said new None w.0 w.1 gives.0 refl (w.2, refl) w.3 w.4 gives.2 gives.3
-  acts_at old (Some (notification method params)) said new gives =
+      acts_so old (Some (request id method params)) sent new None w.0 w.1 gives.0 refl (w.2, refl) w.3 w.4 gives.2 gives.3
+  acts_at old (Some (notification method params)) sent new gives =
       let w = gives.1 in
-      let desk : gives.0.1 ≡ does_all old.1 (w.1.0 ++ settled_by (cancelled_by method params)) =
-      ap (λ (x : S × Desk P). x.1) w.2 ∙ settled_so w.0.1 (cancelled_by method params)
-      ∙ ap (λ (d : Desk P). does_all d (settled_by (cancelled_by method params))) w.1.4 ∙ sym (does-append old.1 w.1.0 (settled_by (cancelled_by method params))) in
-      acts_so old (Some (notification method params)) said new None w.1.0 w.1.1 gives.0 refl (w.1.2, refl) (rw (ap (λ (x : S × Desk P). x.0) w.2) w.1.3) desk
+      let queues : gives.0.1 ≡ does_all old.1 (w.1.0 ++ cancelled_answer (cancelled_by method params)) =
+      ap (λ (x : S × Queues P). x.1) w.2 ∙ answered_so w.0.1 (cancelled_by method params)
+      ∙ ap (λ (d : Queues P). does_all d (cancelled_answer (cancelled_by method params))) w.1.4 ∙ sym (does-append old.1 w.1.0 (cancelled_answer (cancelled_by method params))) in
+      acts_so old (Some (notification method params)) sent new None w.1.0 w.1.1 gives.0 refl (w.1.2, refl) (rw (ap (λ (x : S × Queues P). x.0) w.2) w.1.3) queues
       gives.2 gives.3
-  acts_at old (Some (response id outcome)) said new gives = at (map.get (pending_of old.1.asked) id) refl gives.1
+  acts_at old (Some (response id outcome)) sent new gives = at (map.get (pending_of old.1.asked) id) refl gives.1
     where
       at : (o : Option P) → map.get (pending_of old.1.asked) id ≡ o
           → MatchOption o (gives.0 ≡ old) (λ payload. Acts may.takes_back (may.replied old.0 payload outcome) (given old.1 id) gives.0)
-          → ActsAt may old (Some (response id outcome)) said new
+          → ActsAt may old (Some (response id outcome)) sent new
       at None kept same =
-          acts_so old (Some (response id outcome)) said new None [] old.0 gives.0 (sym kept) (refl, refl) (ap (λ (x : S × Desk P). x.0) same)
-          (ap (λ (x : S × Desk P). x.1) same) gives.2 gives.3
+          acts_so old (Some (response id outcome)) sent new None [] old.0 gives.0 (sym kept) (refl, refl) (ap (λ (x : S × Queues P). x.0) same)
+          (ap (λ (x : S × Queues P). x.1) same) gives.2 gives.3
       at (Some payload) kept w =
-          acts_so old (Some (response id outcome)) said new (Some payload) w.0 w.1 gives.0 (sym kept) w.2 w.3 w.4 gives.2 gives.3
-  acts_at old None said new gives =
+          acts_so old (Some (response id outcome)) sent new (Some payload) w.0 w.1 gives.0 (sym kept) w.2 w.3 w.4 gives.2 gives.3
+  acts_at old None sent new gives =
       let w = gives.1 in
-      acts_so old None said new None w.0 w.1 gives.0 refl (w.2, refl) w.3 w.4 gives.2 gives.3
+      acts_so old None sent new None w.0 w.1 gives.0 refl (w.2, refl) w.3 w.4 gives.2 gives.3
 
--- What a desk is after a message.
+-- What the queues are after a message.
 -- one act more
-pub does_push : {P : Type 0} (d : Desk P) (acts : List (Act P)) (act : Act P) → does_all d (acts ++ act ∷ []) ≡ does (does_all d acts) act
+pub does_push : {P : Type 0} (d : Queues P) (acts : List (Act P)) (act : Act P) → does_all d (acts ++ act ∷ []) ≡ does (does_all d acts) act
 does_push d [] act = refl
 does_push d (x ∷ acts) act = does_push (does d x) acts act
 
 -- how many ids were given out
-pub ids_counted : {P : Type 0} (d : Desk P) (act : Act P) → count_of (does d act).asked ≡ ids_after (count_of d.asked) act
+pub ids_counted : {P : Type 0} (d : Queues P) (act : Act P) → count_of (does d act).asked ≡ ids_after (count_of d.asked) act
 ids_counted d (tells method params) = refl
 ids_counted d act = grind arith
 
-pub unsent_push : {P : Type 0} (d : Desk P) (acts : List (Act P)) (act : Act P)
+pub unsent_push : {P : Type 0} (d : Queues P) (acts : List (Act P)) (act : Act P)
     → unsent (count_of d.asked) (acts ++ act ∷ []) ≡ unsent (count_of d.asked) acts ++ unsent_by (count_of (does_all d acts).asked) act
 unsent_push d [] act = append-nil (unsent_by (count_of d.asked) act)
 unsent_push d (x ∷ acts) act =
@@ -128,15 +128,15 @@ remove_absent {X} m k absent = same_map id_total id_antisymmetric _ _ (λ q. get
 
 module _ {S P : Type 0} (may : Stated S P) where
   -- a reply under an id that no request of the server's has
-  pub drops_reply : (s : S) (d d' : Desk P) (id : Id) (outcome : Result Data ErrorObject) (asked : Asked P)
+  pub drops_reply : (s : S) (d d' : Queues P) (id : Id) (outcome : Result Data ErrorObject) (asked : Asked P)
       → map.get (pending_of d.asked) id ≡ None → asked ≡ (map.remove (pending_of d.asked) id, count_of d.asked)
-      → d' ≡ record { held = d.held; asked = asked; said = d.said }
+      → d' ≡ record { held = d.held; asked = asked; sent = d.sent }
       → Works may (s, d) (Some (response id outcome)) (s, d')
   drops_reply s d d' id outcome asked none removed is =
-      rw none (ap (λ (x : Desk P). (s, x)) (is ∙ same))
+      rw none (ap (λ (x : Queues P). (s, x)) (is ∙ same))
     where
       gone : asked ≡ d.asked
       gone = removed ∙ ap (λ m. (m, count_of d.asked)) (remove_absent (pending_of d.asked) id none)
 
-      same : ◌≡◌ {A = Desk P} (record { held = d.held; asked = asked; said = d.said }) d
+      same : ◌≡◌ {A = Queues P} (record { held = d.held; asked = asked; sent = d.sent }) d
       same = rw gone refl

@@ -6,15 +6,15 @@ use Rattle.lsp_message.specs.Message.{Message, ErrorObject, request, notificatio
 use Rattle.lsp_message.specs.Methods.{is_initialize}
 use Rattle.lsp_queue.specs.Queue.{Pending}
 use Rattle.lsp_service.proofs.Acting.{acts_at}
-use Rattle.lsp_service.specs.Desk.{Act, asks, tells, Desk}
-use Rattle.lsp_service.specs.Law.{one_if, acts_of, all_sent, kept_under, was_given, is_reply_under, is_request_under, how_many, held_under, NeverMore, OnceOrEnded, Turn, TakesTurns, GivesOwnPayloads, KeepsLaws}
-use Rattle.lsp_service.specs.QueuedServer.{at_desk, ServerSession, WorksGiving}
+use Rattle.lsp_service.specs.Acts.{Act, asks, tells, Queues}
+use Rattle.lsp_service.specs.Law.{one_if, acts_of, all_sent, kept_under, was_given, is_reply_under, is_request_under, how_many, held_under, NeverMore, OnceOrEnded, Call, TakesCalls, GivesOwnPayloads, KeepsLaws}
+use Rattle.lsp_service.specs.QueuedServer.{with_queues, ServerSession, WorksSending}
 use Rattle.lsp_service.specs.Stated.{Stated, unwoken}
-use Rattle.lsp_service.specs.Turning.{all_sends}
+use Rattle.lsp_service.specs.SentByActs.{all_sends}
 use Rattle.lsp_service.specs.View.{seen}
-use Rattle.lsp_service.specs.declared.desk.QueuedServer.{QueuedServer}
+use Rattle.lsp_service.specs.declared.queued_server.QueuedServer.{QueuedServer}
 use Rattle.lsp_service.specs.declared.server.Server.{Ghosts}
-use Rattle.lsp_session.proofs.Ran.{Ran, Row, row, at_initialize, at_initialized, at_served, at_woken, idle, reaches_ran, no_one}
+use Rattle.lsp_session.proofs.Ran.{Ran, StepCase, row, at_initialize, at_initialized, at_served, at_woken, idle, reaches_ran, no_one}
 use Rattle.lsp_session.proofs.Refused.{served_first}
 use Rattle.lsp_session.specs.Session.{Exchange, sends_of, SessionAnswer, Stop, exhausted, Phase, starting}
 use Rattle.lsp_session.specs.declared.loops.handler.SessionEnd.{SessionEnd}
@@ -33,23 +33,23 @@ replies_one id outcome = ap (λ (b : Bool). one_if b + 0) (same id)
 
 -- a request under this id, for which this is sent
 abbrev asked : Id → List ℕ → Data → List Message → Exchange
-asked id method params said = record { letter = Some (request id method params); said = said }
+asked id method params sent = record { came = Some (request id method params); sent = sent }
 
 -- ---- no more replies than requests
 
 -- a reply goes out for a notification that comes first
 pub replies_to_nobody : (id : Id) (method : List ℕ) (params : Data) (outcome : Result Data ErrorObject) (more : List Exchange)
-    → NeverMore id (record { letter = Some (notification method params); said = response id outcome ∷ [] } ∷ more) → ⊥
+    → NeverMore id (record { came = Some (notification method params); sent = response id outcome ∷ [] } ∷ more) → ⊥
 replies_to_nobody id method params outcome more never =
     let none : 1 ≤ 0 = subst (λ (n : ℕ). n ≤ 0) (replies_one id outcome)
-    (never (record { letter = Some (notification method params); said = response id outcome ∷ [] } ∷ []) more refl) in
+    (never (record { came = Some (notification method params); sent = response id outcome ∷ [] } ∷ []) more refl) in
     omega (arith, none)
 
 -- a reply goes out at a wake, and no request has come
 pub replies_woken : (id : Id) (outcome : Result Data ErrorObject) (more : List Exchange)
-    → NeverMore id (record { letter = None; said = response id outcome ∷ [] } ∷ more) → ⊥
+    → NeverMore id (record { came = None; sent = response id outcome ∷ [] } ∷ more) → ⊥
 replies_woken id outcome more never =
-    let none : 1 ≤ 0 = subst (λ (n : ℕ). n ≤ 0) (replies_one id outcome) (never (record { letter = None; said = response id outcome ∷ [] } ∷ []) more refl) in
+    let none : 1 ≤ 0 = subst (λ (n : ℕ). n ≤ 0) (replies_one id outcome) (never (record { came = None; sent = response id outcome ∷ [] } ∷ []) more refl) in
     omega (arith, none)
 
 -- one request gets two replies
@@ -83,28 +83,28 @@ replies_again id exchanges stop held answer two (inr rest) = let e : 2 ≡ 0 = s
 
 module _ {P : Type 0} where
   -- a reply came, and the server was given this with it
-  abbrev given : Id → Result Data ErrorObject → Option P → List (Act P) → Turn P
-  given id outcome payload acts = record { letter = Some (response id outcome); payload = payload; acts = acts }
+  abbrev given : Id → Result Data ErrorObject → Option P → List (Act P) → Call P
+  given id outcome payload acts = record { came = Some (response id outcome); payload = payload; acts = acts }
 
   -- the server is given a payload, and it has asked for nothing
-  pub given_unasked : (id : Id) (outcome : Result Data ErrorObject) (payload : P) (acts : List (Act P)) (more : List (Turn P))
+  pub given_unasked : (id : Id) (outcome : Result Data ErrorObject) (payload : P) (acts : List (Act P)) (more : List (Call P))
       → GivesOwnPayloads [] (given id outcome (Some payload) acts ∷ more) → ⊥
   given_unasked id outcome payload acts more gives =
       let e : Some payload ≡ None = gives [] more (given id outcome (Some payload) acts) id refl (same id) in
       cc (e)
 
   -- the server is given a payload for the second reply under an id
-  pub given_twice : (id : Id) (first second : Result Data ErrorObject) (one two : P) (begun acts others : List (Act P)) (more : List (Turn P))
+  pub given_twice : (id : Id) (first second : Result Data ErrorObject) (one two : P) (begun acts others : List (Act P)) (more : List (Call P))
       → GivesOwnPayloads begun (given id first (Some one) acts ∷ given id second (Some two) others ∷ more) → ⊥
   given_twice id first second one two begun acts others more gives =
-      let before : List (Turn P) = given id first (Some one) acts ∷ [] in
+      let before : List (Call P) = given id first (Some one) acts ∷ [] in
       let over : was_given id before ≡ true = ap (λ (b : Bool). b || false) (same id) in
       let e : Some two ≡ None = subst (λ (b : Bool). Some two ≡ (if b then None else kept_under id (all_sent 0 (begun ++ acts_of before)))) over
       (gives before more (given id second (Some two) others) id refl (same id)) in
       cc (e)
 
   -- what the server asked first comes back with the payload of another, or with none
-  pub given_another : (outcome : Result Data ErrorObject) (method : List ℕ) (params : Data) (own : P) (payload : Option P) (acts : List (Act P)) (more : List (Turn P))
+  pub given_another : (outcome : Result Data ErrorObject) (method : List ℕ) (params : Data) (own : P) (payload : Option P) (acts : List (Act P)) (more : List (Call P))
       → (payload ≡ Some own → ⊥) → GivesOwnPayloads (asks method params own ∷ []) (given (number (pos 0)) outcome payload acts ∷ more) → ⊥
   given_another outcome method params own payload acts more other gives =
       other (gives [] more (given (number (pos 0)) outcome payload acts) (number (pos 0)) refl refl)
@@ -113,53 +113,53 @@ module _ {P : Type 0} where
 
 module _ {S P : Type 0} (may : Stated S P) where
   -- a wake came, and the server did nothing, though it states that it acts
-  pub does_nothing_woken : ((old new : S) → may.wakes old [] new → ⊥) → (count : ℕ) (old new : S) (payload : Option P) (more : List (Turn P))
-      → TakesTurns may count old (record { letter = None; payload = payload; acts = [] } ∷ more) new → ⊥
+  pub does_nothing_woken : ((old new : S) → may.wakes old [] new → ⊥) → (count : ℕ) (old new : S) (payload : Option P) (more : List (Call P))
+      → TakesCalls may count old (record { came = None; payload = payload; acts = [] } ∷ more) new → ⊥
   does_nothing_woken acts count old new payload more took = acts old took.0 took.2.0
 
   -- at each wake the server states that it tells something first
   module _ (tells_first : (old new : S) (acts : List (Act P)) → may.wakes old acts new → (method : List ℕ) × (params : Data) × (more : List (Act P)) × (acts ≡ tells method params ∷ more)) where
     -- at a wake nothing is sent
-    silent_wake : (old new : S × Desk P) → WorksGiving may old None [] new → ⊥
+    silent_wake : (old new : S × Queues P) → WorksSending may old None [] new → ⊥
     silent_wake old new gives =
         let a = acts_at may old None [] new gives in
         let first = tells_first old.0 a.did a.acts a.handed.0 in
-        let e : [] ≡ old.1.said ++ all_sends old.1 (tells first.0 first.1 ∷ first.2) = a.sent ∙ ap (λ (acts : List (Act P)). old.1.said ++ all_sends old.1 acts) first.3 in
-        no_one old.1.said _ (notification first.0 first.1) (sym e)
+        let e : [] ≡ old.1.sent ++ all_sends old.1 (tells first.0 first.1 ∷ first.2) = a.sent ∙ ap (λ (acts : List (Act P)). old.1.sent ++ all_sends old.1 acts) first.3 in
+        no_one old.1.sent _ (notification first.0 first.1) (sym e)
 
     silent_among : (stop : Stop) (before after : List Exchange) (p q : Phase) (w w' : QueuedServer S P)
-        → Ran (at_desk may) stop p w (before ++ record { letter = None; said = [] } ∷ after) q w' → ⊥
-    silent_among stop [] after p q w w' run = by (row (at_desk may) p run.4 w run.5 None run.0 run.6)
+        → Ran (with_queues may) stop p w (before ++ record { came = None; sent = [] } ∷ after) q w' → ⊥
+    silent_among stop [] after p q w w' run = by (row (with_queues may) p run.4 w run.5 None run.0 run.6)
       where
-        by : Row (at_desk may) p w None run.0 run.4 run.5 → ⊥
-        by (at_initialize i method params outcome here there is_asked gave said next) = cc (there)
+        by : StepCase (with_queues may) p w None run.0 run.4 run.5 → ⊥
+        by (at_initialize i method params outcome here there is_asked gave sent next) = cc (there)
         by (at_initialized m here there is gave next) = cc (there)
         by (at_served m here there is gave next) = cc (there)
         by (at_woken here none gave next) =
-            silent_wake (seen w) (seen run.5) (subst (λ (said : List Message). WorksGiving may (seen w) None said (seen run.5)) (run.3 refl) gave)
+            silent_wake (seen w) (seen run.5) (subst (λ (sent : List Message). WorksSending may (seen w) None sent (seen run.5)) (run.3 refl) gave)
         by (idle m there stays_so step idles) = cc (there)
     silent_among stop (x ∷ before) after p q w w' run = silent_among stop before after run.4 q run.5 w' run.8
 
     -- a session in which a wake came, and nothing was sent for it
-    pub sleeps : (first last : S) (before after : List Exchange) (stop : Stop) (null : Option Message) (answer : SessionAnswer)
-        → ServerSession may first last (before ++ record { letter = None; said = [] } ∷ after) stop null answer → ⊥
-    sleeps first last before after stop null answer session =
+    pub sleeps : (first last : S) (before after : List Exchange) (stop : Stop) (shutdown_reply : Option Message) (answer : SessionAnswer)
+        → ServerSession may first last (before ++ record { came = None; sent = [] } ∷ after) stop shutdown_reply answer → ⊥
+    sleeps first last before after stop shutdown_reply answer session =
         let out = session.out in
-        silent_among stop before after starting out.last session.old out.after (reaches_ran (at_desk may) stop starting out.last session.old out.after _ out.reached)
+        silent_among stop before after starting out.last session.old out.after (reaches_ran (with_queues may) stop starting out.last session.old out.after _ out.reached)
 
 -- a server that waits for nothing did something at a wake
-pub acts_unwoken : {S P : Type 0} (may : Ghosts S P) (count : ℕ) (old new : S) (payload : Option P) (act : Act P) (acts : List (Act P)) (more : List (Turn P))
-    → TakesTurns (unwoken may) count old (record { letter = None; payload = payload; acts = act ∷ acts } ∷ more) new → ⊥
+pub acts_unwoken : {S P : Type 0} (may : Ghosts S P) (count : ℕ) (old new : S) (payload : Option P) (act : Act P) (acts : List (Act P)) (more : List (Call P))
+    → TakesCalls (unwoken may) count old (record { came = None; payload = payload; acts = act ∷ acts } ∷ more) new → ⊥
 acts_unwoken may count old new payload act acts more took = cc (took.2.0.0)
 
 -- ---- all of it
 
-module _ {S P : Type 0} (may : Stated S P) (first last : S) (held : Pending (Unit {0})) (exchanges more : List Exchange) (stop : Stop) (null : Option Message) (answer : SessionAnswer) where
+module _ {S P : Type 0} (may : Stated S P) (first last : S) (held : Pending (Unit {0})) (exchanges more : List Exchange) (stop : Stop) (shutdown_reply : Option Message) (answer : SessionAnswer) where
   -- before `initialize` a request gets a result
   pub serves_first : (id : Id) (method : List ℕ) (params result : Data) → is_initialize (request id method params) ≡ false
-      → KeepsLaws may first last held (asked id method params (response id (Ok result) ∷ []) ∷ more) stop null answer → ⊥
-  serves_first id method params result other laws = served_first stop null answer id method params result more other laws.order
+      → KeepsLaws may first last held (asked id method params (response id (Ok result) ∷ []) ∷ more) stop shutdown_reply answer → ⊥
+  serves_first id method params result other laws = served_first stop shutdown_reply answer id method params result more other laws.order
 
   -- the server is left in a state that its last exchange did not lead to
-  pub forgets : (stop ≡ exhausted → ⊥) → (laws : KeepsLaws may first last held exchanges stop null answer) → (last ≡ laws.after → ⊥) → ⊥
+  pub forgets : (stop ≡ exhausted → ⊥) → (laws : KeepsLaws may first last held exchanges stop shutdown_reply answer) → (last ≡ laws.after → ⊥) → ⊥
   forgets enough laws other = elim laws.kept [ inl ran ↦ enough ran | inr kept ↦ other kept ]

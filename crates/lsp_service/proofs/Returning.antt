@@ -11,13 +11,13 @@ use Rattle.lsp_message.specs.IdLaws.{id_total, id_decides}
 use Rattle.lsp_message.specs.Message.{Message, ErrorObject, request, notification, response}
 use Rattle.lsp_queue.specs.Queue.{Asked, pending_of, count_of}
 use Rattle.lsp_session.specs.Session.{Exchange, came_of, sends_of}
-use Rattle.lsp_service.specs.Desk.{Act, tells, asks, cancelled_by, Desk, is_spent, sends_request, does, does_all, ids_after}
-use Rattle.lsp_service.specs.Law.{came_with, is_reply_under, Sent, Turn, requests_in, request_of, ids_after_all, sent_by, all_sent, kept_under, acts_of, was_given, brings, GivesOwnPayloads, TakesTurns}
-use Rattle.lsp_service.specs.QueuedServer.{WorksGiving}
-use Rattle.lsp_service.specs.View.{seen, desk_of}
-use Rattle.lsp_service.specs.declared.desk.QueuedServer.{QueuedServer}
-use Rattle.lsp_service.specs.Turning.{brought_by, desk_at, settled_by, settled_at}
-use Rattle.lsp_service.proofs.Acting.{acts_at, at_count, at_said, said_so, ids_counted}
+use Rattle.lsp_service.specs.Acts.{Act, tells, asks, cancelled_by, Queues, is_spent, sends_request, does, does_all, ids_after}
+use Rattle.lsp_service.specs.Law.{came_with, is_reply_under, Sent, Call, requests_in, request_of, ids_after_all, sent_by, all_sent, kept_under, acts_of, was_given, brings, GivesOwnPayloads, TakesCalls}
+use Rattle.lsp_service.specs.QueuedServer.{WorksSending}
+use Rattle.lsp_service.specs.View.{seen, queues_of}
+use Rattle.lsp_service.specs.declared.queued_server.QueuedServer.{QueuedServer}
+use Rattle.lsp_service.specs.SentByActs.{brought_by, queues_at, cancelled_answer, acts_done_at}
+use Rattle.lsp_service.proofs.Acting.{acts_at, at_count, at_sent, sent_so, ids_counted}
 use Rattle.lsp_service.specs.Stated.{Stated}
 
 pub requests-append : (xs ys : List Message) → requests_in (xs ++ ys) ≡ requests_in xs ++ requests_in ys
@@ -38,7 +38,7 @@ other_number : (n m : ℕ) → m + 1 ≤ n → eq_by_cmp id_cmp (number (pos n))
 other_number n m more = let same = same_number n m in grind (arith, same, more)
 
 module _ {P : Type 0} where
-  pub ids_all : (d : Desk P) (acts : List (Act P)) → count_of (does_all d acts).asked ≡ ids_after_all (count_of d.asked) acts
+  pub ids_all : (d : Queues P) (acts : List (Act P)) → count_of (does_all d acts).asked ≡ ids_after_all (count_of d.asked) acts
   ids_all d [] = refl
   ids_all d (act ∷ acts) = ids_all (does d act) acts ∙ ap (λ n. ids_after_all n acts) (ids_counted d act)
 
@@ -48,33 +48,33 @@ module _ {P : Type 0} where
       ap (λ l. sent_by count x ++ l) (sent-append (ids_after count x) xs ys)
       ∙ sym (append_assoc (sent_by count x) (all_sent (ids_after count x) xs) (all_sent (ids_after_all (ids_after count x) xs) ys))
 
-  -- what an act says of requests is what it sends
-  said_one : (d : Desk P) (act : Act P) → requests_in (does d act).said ≡ requests_in d.said ++ map_list request_of (sent_by (count_of d.asked) act)
-  said_one d (tells method params) = requests-append d.said (notification method params ∷ [])
-  said_one d act = grind (arith, append-nil, requests-append)
+  -- what an act makes of requests is what it sends
+  sent_one : (d : Queues P) (act : Act P) → requests_in (does d act).sent ≡ requests_in d.sent ++ map_list request_of (sent_by (count_of d.asked) act)
+  sent_one d (tells method params) = requests-append d.sent (notification method params ∷ [])
+  sent_one d act = grind (arith, append-nil, requests-append)
 
-  pub said_all : (d : Desk P) (acts : List (Act P)) → requests_in (does_all d acts).said ≡ requests_in d.said ++ map_list request_of (all_sent (count_of d.asked) acts)
-  said_all d [] = sym (append-nil (requests_in d.said))
-  said_all d (act ∷ acts) =
+  pub sent_all : (d : Queues P) (acts : List (Act P)) → requests_in (does_all d acts).sent ≡ requests_in d.sent ++ map_list request_of (all_sent (count_of d.asked) acts)
+  sent_all d [] = sym (append-nil (requests_in d.sent))
+  sent_all d (act ∷ acts) =
       let one = sent_by (count_of d.asked) act in
       let rest = all_sent (ids_after (count_of d.asked) act) acts in
-      said_all (does d act) acts
-      ∙ ap (λ n. requests_in (does d act).said ++ map_list request_of (all_sent n acts)) (ids_counted d act)
-      ∙ ap (λ l. l ++ map_list request_of rest) (said_one d act)
-      ∙ append_assoc (requests_in d.said) (map_list request_of one) (map_list request_of rest)
-      ∙ ap (λ l. requests_in d.said ++ l) (sym (map-append request_of one rest))
+      sent_all (does d act) acts
+      ∙ ap (λ n. requests_in (does d act).sent ++ map_list request_of (all_sent n acts)) (ids_counted d act)
+      ∙ ap (λ l. l ++ map_list request_of rest) (sent_one d act)
+      ∙ append_assoc (requests_in d.sent) (map_list request_of one) (map_list request_of rest)
+      ∙ ap (λ l. requests_in d.sent ++ l) (sym (map-append request_of one rest))
 
   kept-append : (id : Id) (xs ys : List (Sent P)) → kept_under id (xs ++ ys) ≡ or_kept (kept_under id xs) (kept_under id ys)
   kept-append id [] ys = refl
   kept-append id (x ∷ xs) ys = let more = kept-append id xs ys in grind (arith, more)
 
-  given-push : (id : Id) (turns : List (Turn P)) (turn : Turn P)
-      → was_given id (turns ++ turn ∷ []) ≡ (was_given id turns || (is_some turn.payload && came_with (is_reply_under id) turn.letter))
-  given-push id [] turn = grind arith
-  given-push id (t ∷ turns) turn = let more = given-push id turns turn in grind (arith, more)
+  given-push : (id : Id) (calls : List (Call P)) (call : Call P)
+      → was_given id (calls ++ call ∷ []) ≡ (was_given id calls || (is_some call.payload && came_with (is_reply_under id) call.came))
+  given-push id [] call = grind arith
+  given-push id (t ∷ calls) call = let more = given-push id calls call in grind (arith, more)
 
   -- the queue has what these requests kept, but for the replies that were given
-  pub record Agrees (sent : List (Sent P)) (before : List (Turn P)) (asked : Asked P) : Type 0 where
+  pub record Agrees (sent : List (Sent P)) (before : List (Call P)) (asked : Asked P) : Type 0 where
     pub pending : (id : Id) → map.get (pending_of asked) id ≡ brings id sent before
     pub fresh : (n : ℕ) → count_of asked ≤ n → kept_under (number (pos n)) sent ≡ None
     pub ungiven : (n : ℕ) → count_of asked ≤ n → was_given (number (pos n)) before ≡ false
@@ -82,11 +82,11 @@ module _ {P : Type 0} where
   pub agrees_start : Agrees [] [] (map.empty, 0)
   agrees_start = record { pending = λ id. get-empty id_cmp id; fresh = λ n more. refl; ungiven = λ n more. refl }
 
-  agrees_none : (sent : List (Sent P)) (before : List (Turn P)) (asked asked' : Asked P) → asked' ≡ asked → Agrees sent before asked
+  agrees_none : (sent : List (Sent P)) (before : List (Call P)) (asked asked' : Asked P) → asked' ≡ asked → Agrees sent before asked
       → Agrees (sent ++ []) before asked'
   agrees_none sent before asked asked' same agrees = rw (append-nil sent, same) agrees
 
-  agrees_asked : (sent : List (Sent P)) (before : List (Turn P)) (asked : Asked P) (method : List ℕ) (params : Data) (payload : P) → Agrees sent before asked
+  agrees_asked : (sent : List (Sent P)) (before : List (Call P)) (asked : Asked P) (method : List ℕ) (params : Data) (payload : P) → Agrees sent before asked
       → Agrees (sent ++ record { id = number (pos (count_of asked)); method = method; params = params; payload = payload } ∷ []) before
       (map.insert (pending_of asked) (number (pos (count_of asked))) payload, count_of asked + 1)
   agrees_asked sent before asked method params payload agrees = record {
@@ -114,7 +114,7 @@ module _ {P : Type 0} where
           let before = agrees.pending id in
           grind (arith, kept, others, before)
 
-  agrees_act : (sent : List (Sent P)) (before : List (Turn P)) (d : Desk P) (act : Act P) → Agrees sent before d.asked
+  agrees_act : (sent : List (Sent P)) (before : List (Call P)) (d : Queues P) (act : Act P) → Agrees sent before d.asked
       → Agrees (sent ++ sent_by (count_of d.asked) act) before (does d act).asked
   agrees_act sent before d (asks method params payload) agrees = at (is_spent (count_of d.asked))
     where
@@ -124,7 +124,7 @@ module _ {P : Type 0} where
       at false = agrees_asked sent before d.asked method params payload agrees
   agrees_act sent before d act agrees = agrees_none sent before d.asked (does d act).asked (grind arith) agrees
 
-  pub agrees_acts : (sent : List (Sent P)) (before : List (Turn P)) (d : Desk P) (acts : List (Act P)) → Agrees sent before d.asked
+  pub agrees_acts : (sent : List (Sent P)) (before : List (Call P)) (d : Queues P) (acts : List (Act P)) → Agrees sent before d.asked
       → Agrees (sent ++ all_sent (count_of d.asked) acts) before (does_all d acts).asked
   agrees_acts sent before d [] agrees = agrees_none sent before d.asked d.asked refl agrees
   agrees_acts sent before d (act ∷ acts) agrees =
@@ -132,54 +132,54 @@ module _ {P : Type 0} where
       let more = agrees_acts (sent ++ one) before (does d act) acts (agrees_act sent before d act agrees) in
       rw (sym (append_assoc sent one (all_sent (ids_after (count_of d.asked) act) acts))) (rw (ids_counted d act) at more)
 
-  abbrev pub FitsOne : List (Sent P) → List (Turn P) → Turn P → Type 0
-  FitsOne sent before turn = (id : Id) → came_with (is_reply_under id) turn.letter ≡ true → turn.payload ≡ brings id sent before
+  abbrev pub FitsOne : List (Sent P) → List (Call P) → Call P → Type 0
+  FitsOne sent before call = (id : Id) → came_with (is_reply_under id) call.came ≡ true → call.payload ≡ brings id sent before
 
-  abbrev pub Fits : ℕ → List (Sent P) → List (Turn P) → List (Turn P) → Type 0
+  abbrev pub Fits : ℕ → List (Sent P) → List (Call P) → List (Call P) → Type 0
   Fits count sent before [] = Unit {0}
-  Fits count sent before (turn ∷ turns) =
-      FitsOne sent before turn × Fits (ids_after_all count turn.acts) (sent ++ all_sent count turn.acts) (before ++ turn ∷ []) turns
+  Fits count sent before (call ∷ calls) =
+      FitsOne sent before call × Fits (ids_after_all count call.acts) (sent ++ all_sent count call.acts) (before ++ call ∷ []) calls
 
-  fits_at : (count : ℕ) (sent : List (Sent P)) (before between after : List (Turn P)) (turn : Turn P) → Fits count sent before (between ++ turn ∷ after)
-      → FitsOne (sent ++ all_sent count (acts_of between)) (before ++ between) turn
-  fits_at count sent before [] after turn fits = rw (append-nil sent, append-nil before) fits.0
-  fits_at count sent before (t ∷ between) after turn fits =
+  fits_at : (count : ℕ) (sent : List (Sent P)) (before between after : List (Call P)) (call : Call P) → Fits count sent before (between ++ call ∷ after)
+      → FitsOne (sent ++ all_sent count (acts_of between)) (before ++ between) call
+  fits_at count sent before [] after call fits = rw (append-nil sent, append-nil before) fits.0
+  fits_at count sent before (t ∷ between) after call fits =
       let count' = ids_after_all count t.acts in
-      let more = fits_at count' (sent ++ all_sent count t.acts) (before ++ t ∷ []) between after turn fits.1 in
+      let more = fits_at count' (sent ++ all_sent count t.acts) (before ++ t ∷ []) between after call fits.1 in
       rw (
         sent-append count t.acts (acts_of between),
         sym (append_assoc sent (all_sent count t.acts) (all_sent count' (acts_of between))),
         sym (append_assoc before (t ∷ []) between),
       ) more
 
-  pub own_payloads : (begun : List (Act P)) (turns : List (Turn P)) → Fits (ids_after_all 0 begun) (all_sent 0 begun) [] turns → GivesOwnPayloads begun turns
-  own_payloads begun turns fits before after turn id cut under =
-      rw (sent-append 0 begun (acts_of before)) (fits_at (ids_after_all 0 begun) (all_sent 0 begun) [] before after turn (rw cut at fits) id under)
+  pub own_payloads : (begun : List (Act P)) (calls : List (Call P)) → Fits (ids_after_all 0 begun) (all_sent 0 begun) [] calls → GivesOwnPayloads begun calls
+  own_payloads begun calls fits before after call id cut under =
+      rw (sent-append 0 begun (acts_of before)) (fits_at (ids_after_all 0 begun) (all_sent 0 begun) [] before after call (rw cut at fits) id under)
 
-  -- a turn in which nothing came
-  agrees_other : (sent : List (Sent P)) (before : List (Turn P)) (asked : Asked P) (turn : Turn P) → turn.payload ≡ None → Agrees sent before asked
-      → Agrees sent (before ++ turn ∷ []) asked
-  agrees_other sent before asked turn none agrees = record {
+  -- a call in which nothing came
+  agrees_other : (sent : List (Sent P)) (before : List (Call P)) (asked : Asked P) (call : Call P) → call.payload ≡ None → Agrees sent before asked
+      → Agrees sent (before ++ call ∷ []) asked
+  agrees_other sent before asked call none agrees = record {
     pending = λ id. agrees.pending id ∙ ap (λ (b : Bool). if b then None else kept_under id sent) (sym (same id));
     fresh = agrees.fresh;
     ungiven = λ n more. same (number (pos n)) ∙ agrees.ungiven n more;
   }
     where
-      same : (id : Id) → was_given id (before ++ turn ∷ []) ≡ was_given id before
-      same id = let push = given-push id before turn in grind (arith, push, none)
+      same : (id : Id) → was_given id (before ++ call ∷ []) ≡ was_given id before
+      same id = let push = given-push id before call in grind (arith, push, none)
 
-  -- a turn in which a reply came
-  agrees_given : (sent : List (Sent P)) (before : List (Turn P)) (asked : Asked P) (turn : Turn P) (i : Id) (outcome : Result Data ErrorObject) (payload : P)
-      → turn.letter ≡ Some (response i outcome) → turn.payload ≡ Some payload → map.get (pending_of asked) i ≡ Some payload → Agrees sent before asked
-      → Agrees sent (before ++ turn ∷ []) (map.remove (pending_of asked) i, count_of asked)
-  agrees_given sent before asked turn i outcome payload letter came kept agrees = record {
+  -- a call in which a reply came
+  agrees_given : (sent : List (Sent P)) (before : List (Call P)) (asked : Asked P) (call : Call P) (i : Id) (outcome : Result Data ErrorObject) (payload : P)
+      → call.came ≡ Some (response i outcome) → call.payload ≡ Some payload → map.get (pending_of asked) i ≡ Some payload → Agrees sent before asked
+      → Agrees sent (before ++ call ∷ []) (map.remove (pending_of asked) i, count_of asked)
+  agrees_given sent before asked call i outcome payload arrived came kept agrees = record {
     pending = λ id. let got = get-remove id_total (pending_of asked) i id in let had = agrees.pending id in let now = now id in grind (arith, got, had, now);
     fresh = agrees.fresh;
     ungiven = λ n more. now (number (pos n)) ∙ rw (agrees.ungiven n more) (other n more (eq_by_cmp id_cmp (number (pos n)) i) refl);
   }
     where
-      now : (id : Id) → was_given id (before ++ turn ∷ []) ≡ (was_given id before || eq_by_cmp id_cmp id i)
-      now id = given-push id before turn ∙ rw (came, letter) refl
+      now : (id : Id) → was_given id (before ++ call ∷ []) ≡ (was_given id before || eq_by_cmp id_cmp id i)
+      now id = given-push id before call ∙ rw (came, arrived) refl
 
       other : (n : ℕ) → count_of asked ≤ n → (b : Bool) → eq_by_cmp id_cmp (number (pos n)) i ≡ b → b ≡ false
       other n more true e =
@@ -190,89 +190,89 @@ module _ {P : Type 0} where
       other n more false e = refl
 
   -- the answer of a cancelled request is no request
-  settled_none : (count : ℕ) (acts : List (Act P)) (cancelled : Option Id)
-      → (ids_after_all count (acts ++ settled_by cancelled) ≡ ids_after_all count acts) × (all_sent count (acts ++ settled_by cancelled) ≡ all_sent count acts)
-  settled_none count [] None = (refl, refl)
-  settled_none count [] (Some id) = (refl, refl)
-  settled_none count (act ∷ acts) cancelled =
-      let more = settled_none (ids_after count act) acts cancelled in (more.0, ap (λ l. sent_by count act ++ l) more.1)
+  answered_none : (count : ℕ) (acts : List (Act P)) (cancelled : Option Id)
+      → (ids_after_all count (acts ++ cancelled_answer cancelled) ≡ ids_after_all count acts) × (all_sent count (acts ++ cancelled_answer cancelled) ≡ all_sent count acts)
+  answered_none count [] None = (refl, refl)
+  answered_none count [] (Some id) = (refl, refl)
+  answered_none count (act ∷ acts) cancelled =
+      let more = answered_none (ids_after count act) acts cancelled in (more.0, ap (λ l. sent_by count act ++ l) more.1)
 
-  settled : (count : ℕ) (m : Option Message) (acts : List (Act P))
-      → (ids_after_all count (settled_at m acts) ≡ ids_after_all count acts) × (all_sent count (settled_at m acts) ≡ all_sent count acts)
-  settled count (Some (notification method params)) acts = settled_none count acts (cancelled_by method params)
-  settled count m acts = (refl, refl)
+  answered_at : (count : ℕ) (m : Option Message) (acts : List (Act P))
+      → (ids_after_all count (acts_done_at m acts) ≡ ids_after_all count acts) × (all_sent count (acts_done_at m acts) ≡ all_sent count acts)
+  answered_at count (Some (notification method params)) acts = answered_none count acts (cancelled_by method params)
+  answered_at count m acts = (refl, refl)
 
-  -- one more turn
-  agrees_at : (sent : List (Sent P)) (before : List (Turn P)) (d : Desk P) (m : Option Message) (payload : Option P) (acts : List (Act P))
+  -- one more call
+  agrees_at : (sent : List (Sent P)) (before : List (Call P)) (d : Queues P) (m : Option Message) (payload : Option P) (acts : List (Act P))
       → payload ≡ brought_by d m → Agrees sent before d.asked
-      → Agrees sent (before ++ record { letter = m; payload = payload; acts = acts } ∷ []) (desk_at d m payload).asked
+      → Agrees sent (before ++ record { came = m; payload = payload; acts = acts } ∷ []) (queues_at d m payload).asked
   agrees_at sent before d (Some (response i outcome)) None acts is agrees = agrees_other sent before d.asked _ refl agrees
   agrees_at sent before d (Some (response i outcome)) (Some payload) acts is agrees =
       agrees_given sent before d.asked _ i outcome payload refl refl (sym is) agrees
   agrees_at sent before d m payload acts is agrees = agrees_other sent before d.asked _ is agrees
 
-  fits_one : (sent : List (Sent P)) (before : List (Turn P)) (d : Desk P) (m : Option Message) (payload : Option P) (acts : List (Act P))
-      → payload ≡ brought_by d m → Agrees sent before d.asked → FitsOne sent before (record { letter = m; payload = payload; acts = acts })
+  fits_one : (sent : List (Sent P)) (before : List (Call P)) (d : Queues P) (m : Option Message) (payload : Option P) (acts : List (Act P))
+      → payload ≡ brought_by d m → Agrees sent before d.asked → FitsOne sent before (record { came = m; payload = payload; acts = acts })
   fits_one sent before d (Some (response i outcome)) payload acts is agrees id under =
       let same : id ≡ i = (id_decides id i).0 under in
       is ∙ sym (ap (λ j. map.get (pending_of d.asked) j) same) ∙ agrees.pending id
   fits_one sent before d m payload acts is agrees id under = absurd (cc (under))
 
 module _ {S P : Type 0} (may : Stated S P) where
-  -- the server has these turns, and this is sent at each
+  -- the server has these calls, and this is sent at each
   abbrev pub GivesAll : QueuedServer S P → List Exchange → QueuedServer S P → Type 0
   GivesAll w [] w' = w' ≡ w
-  GivesAll w (x ∷ xs) w' = (mid : QueuedServer S P) × WorksGiving may (seen w) x.letter x.said (seen mid) × GivesAll mid xs w'
+  GivesAll w (x ∷ xs) w' = (mid : QueuedServer S P) × WorksSending may (seen w) x.came x.sent (seen mid) × GivesAll mid xs w'
 
-  -- they are as many turns
-  pub record Turned (w w' : QueuedServer S P) (xs : List Exchange) (sent : List (Sent P)) (before : List (Turn P)) : Type 0 where
-    pub turns : List (Turn P)
-    pub letters_are : map_list (λ (turn : Turn P). turn.letter) turns ≡ came_of xs
-    pub took : TakesTurns may (count_of (desk_of w.client).asked) w.server turns w'.server
-    pub said : requests_in (sends_of xs) ≡ map_list request_of (all_sent (count_of (desk_of w.client).asked) (acts_of turns))
-    pub fits : Fits (count_of (desk_of w.client).asked) sent before turns
+  -- they are as many calls
+  pub record Turned (w w' : QueuedServer S P) (xs : List Exchange) (asked : List (Sent P)) (before : List (Call P)) : Type 0 where
+    pub calls : List (Call P)
+    pub came_are : map_list (λ (call : Call P). call.came) calls ≡ came_of xs
+    pub took : TakesCalls may (count_of (queues_of w.queues).asked) w.server calls w'.server
+    pub sent : requests_in (sends_of xs) ≡ map_list request_of (all_sent (count_of (queues_of w.queues).asked) (acts_of calls))
+    pub fits : Fits (count_of (queues_of w.queues).asked) asked before calls
 
-  pub turn_all : (w w' : QueuedServer S P) (xs : List Exchange) (sent : List (Sent P)) (before : List (Turn P)) → (desk_of w.client).said ≡ []
-      → Agrees sent before (desk_of w.client).asked → GivesAll w xs w' → Turned w w' xs sent before
-  turn_all w w' [] sent before silent agrees all = record {
-    turns = [];
-    letters_are = refl;
+  pub call_all : (w w' : QueuedServer S P) (xs : List Exchange) (sent : List (Sent P)) (before : List (Call P)) → (queues_of w.queues).sent ≡ []
+      → Agrees sent before (queues_of w.queues).asked → GivesAll w xs w' → Turned w w' xs sent before
+  call_all w w' [] sent before silent agrees all = record {
+    calls = [];
+    came_are = refl;
     took = ap (λ (x : QueuedServer S P). x.server) all;
-    said = refl;
+    sent = refl;
     fits = tt;
   }
-  turn_all w w' (x ∷ xs) sent before silent agrees all =
+  call_all w w' (x ∷ xs) sent before silent agrees all =
       let mid = all.0 in
-      let d : Desk P = desk_of w.client in
-      let a = acts_at may (seen w) x.letter x.said (seen mid) all.1 in
-      let turn : Turn P = record { letter = x.letter; payload = a.payload; acts = a.acts } in
-      let start : Desk P = desk_at d x.letter a.payload in
-      let acts = settled_at x.letter a.acts in
+      let d : Queues P = queues_of w.queues in
+      let a = acts_at may (seen w) x.came x.sent (seen mid) all.1 in
+      let call : Call P = record { came = x.came; payload = a.payload; acts = a.acts } in
+      let start : Queues P = queues_at d x.came a.payload in
+      let acts = acts_done_at x.came a.acts in
       let n = count_of d.asked in
-      let same : count_of start.asked ≡ n = at_count d x.letter a.payload in
-      let asked : (desk_of mid.client).asked ≡ (does_all start acts).asked = ap (λ (d : Desk P). d.asked) a.desk in
-      let count : count_of (desk_of mid.client).asked ≡ ids_after_all n a.acts =
-      ap count_of asked ∙ ids_all start acts ∙ ap (λ k. ids_after_all k acts) same ∙ (settled n x.letter a.acts).0 in
-      let sends : all_sent (count_of start.asked) acts ≡ all_sent n a.acts = ap (λ k. all_sent k acts) same ∙ (settled n x.letter a.acts).1 in
-      let agrees' : Agrees (sent ++ all_sent n a.acts) (before ++ turn ∷ []) (desk_of mid.client).asked =
-      subst (Agrees (sent ++ all_sent n a.acts) (before ++ turn ∷ [])) (sym asked)
-      (subst (λ l. Agrees (sent ++ l) (before ++ turn ∷ []) (does_all start acts).asked) sends
-      (agrees_acts sent (before ++ turn ∷ []) start acts (agrees_at sent before d x.letter a.payload a.acts a.brought agrees))) in
-      let rest = turn_all mid w' xs (sent ++ all_sent n a.acts) (before ++ turn ∷ []) (ap (λ (d : Desk P). d.said) a.desk) agrees' all.2 in
-      let now : requests_in x.said ≡ map_list request_of (all_sent n a.acts) =
-      ap requests_in (said_so may (seen w) x.letter x.said (seen mid) a) ∙ said_all start acts
-      ∙ (λ i. requests_in ((at_said d x.letter a.payload ∙ silent) i) ++ map_list request_of (sends i)) in
-      let later : requests_in (sends_of xs) ≡ map_list request_of (all_sent (ids_after_all n a.acts) (acts_of rest.turns)) =
-      rest.said ∙ ap (λ k. map_list request_of (all_sent k (acts_of rest.turns))) count in
+      let same : count_of start.asked ≡ n = at_count d x.came a.payload in
+      let asked : (queues_of mid.queues).asked ≡ (does_all start acts).asked = ap (λ (d : Queues P). d.asked) a.queues in
+      let count : count_of (queues_of mid.queues).asked ≡ ids_after_all n a.acts =
+      ap count_of asked ∙ ids_all start acts ∙ ap (λ k. ids_after_all k acts) same ∙ (answered_at n x.came a.acts).0 in
+      let sends : all_sent (count_of start.asked) acts ≡ all_sent n a.acts = ap (λ k. all_sent k acts) same ∙ (answered_at n x.came a.acts).1 in
+      let agrees' : Agrees (sent ++ all_sent n a.acts) (before ++ call ∷ []) (queues_of mid.queues).asked =
+      subst (Agrees (sent ++ all_sent n a.acts) (before ++ call ∷ [])) (sym asked)
+      (subst (λ l. Agrees (sent ++ l) (before ++ call ∷ []) (does_all start acts).asked) sends
+      (agrees_acts sent (before ++ call ∷ []) start acts (agrees_at sent before d x.came a.payload a.acts a.brought agrees))) in
+      let rest = call_all mid w' xs (sent ++ all_sent n a.acts) (before ++ call ∷ []) (ap (λ (d : Queues P). d.sent) a.queues) agrees' all.2 in
+      let now : requests_in x.sent ≡ map_list request_of (all_sent n a.acts) =
+      ap requests_in (sent_so may (seen w) x.came x.sent (seen mid) a) ∙ sent_all start acts
+      ∙ (λ i. requests_in ((at_sent d x.came a.payload ∙ silent) i) ++ map_list request_of (sends i)) in
+      let later : requests_in (sends_of xs) ≡ map_list request_of (all_sent (ids_after_all n a.acts) (acts_of rest.calls)) =
+      rest.sent ∙ ap (λ k. map_list request_of (all_sent k (acts_of rest.calls))) count in
       record {
-        turns = turn ∷ rest.turns;
-        letters_are = ap (λ l. x.letter ∷ l) rest.letters_are;
-        took = (a.did, mid.server, a.handed, a.back, subst (λ k. TakesTurns may k mid.server rest.turns w'.server) count rest.took);
-        said = requests-append x.said (sends_of xs) ∙ (λ i. now i ++ later i)
-            ∙ sym (ap (λ l. map_list request_of l) (sent-append n a.acts (acts_of rest.turns))
-            ∙ map-append request_of (all_sent n a.acts) (all_sent (ids_after_all n a.acts) (acts_of rest.turns)));
+        calls = call ∷ rest.calls;
+        came_are = ap (λ l. x.came ∷ l) rest.came_are;
+        took = (a.did, mid.server, a.handed, a.back, subst (λ k. TakesCalls may k mid.server rest.calls w'.server) count rest.took);
+        sent = requests-append x.sent (sends_of xs) ∙ (λ i. now i ++ later i)
+            ∙ sym (ap (λ l. map_list request_of l) (sent-append n a.acts (acts_of rest.calls))
+            ∙ map-append request_of (all_sent n a.acts) (all_sent (ids_after_all n a.acts) (acts_of rest.calls)));
         fits = (
-          fits_one sent before d x.letter a.payload a.acts a.brought agrees,
-          subst (λ k. Fits k (sent ++ all_sent n a.acts) (before ++ turn ∷ []) rest.turns) count rest.fits,
+          fits_one sent before d x.came a.payload a.acts a.brought agrees,
+          subst (λ k. Fits k (sent ++ all_sent n a.acts) (before ++ call ∷ []) rest.calls) count rest.fits,
         );
       }

@@ -10,21 +10,21 @@ use Rattle.lsp_queue.specs.Queue.{count_of}
 use Rattle.lsp_message.specs.Id.{Id}
 use Rattle.lsp_message.specs.Message.{Message, ErrorObject, request, response}
 use Rattle.lsp_message.specs.Methods.{is_initialize, is_initialized, is_exit}
-use Rattle.lsp_session.proofs.Ran.{part_none, part_one, Ran, reaches_ran, early_request, early_note, unasked as unasked_for, uninvited, shuts, leaves as goes, exits, stays, Row, at_initialize, at_initialized, at_served, at_woken, idle, row, IsWhole as IsSent}
+use Rattle.lsp_session.proofs.Ran.{part_none, part_one, Ran, reaches_ran, early_request, early_note, unasked as unasked_for, uninvited, shuts, leaves as goes, exits, stays, StepCase, at_initialize, at_initialized, at_served, at_woken, idle, row, IsWhole as IsSent}
 use Rattle.lsp_session.specs.ProtocolError.{expected_initialize, expected_initialized, unexpected_in_shutdown}
 use Rattle.lsp_session.specs.Replies.{null_reply, IsEarlyReply}
 use Rattle.lsp_session.specs.Session.{Exchange, came_of, sends_of, SessionAnswer, Stop, refused, Phase, starting, replied as in_reply, serving, asked, ended, phase_after, is_served, Fails, Leaves, Step, SessionOut}
 use Rattle.lsp_session.specs.SessionLaws.{is_refusal}
 use Rattle.lsp_session.specs.declared.loops.handler.SessionEnd.TheVariants.{Closed, ShutDown}
-use Rattle.lsp_service.specs.Desk.{Desk, TakesBack, does_all, empty_desk, unsent}
-use Rattle.lsp_service.specs.Law.{IsWhole, requests_in, request_of, ids_after_all, all_sent, acts_of, is_turn, IsUnserved, TakesTurns, TakesPart, GivesPayloads, GoesOn, Initializes, KeepsLaws, LawfulSession}
-use Rattle.lsp_service.specs.QueuedServer.{at_desk, at_woken_desk, held_by, OpensSaying, ServerSession, WorksGiving}
-use Rattle.lsp_service.specs.declared.desk.QueuedServer.{QueuedServer}
-use Rattle.lsp_service.specs.declared.desk.WokenQueuedServer.{WokenQueuedServer}
+use Rattle.lsp_service.specs.Acts.{Queues, TakesBack, does_all, empty_queues, unsent}
+use Rattle.lsp_service.specs.Law.{IsWhole, requests_in, request_of, ids_after_all, all_sent, acts_of, is_call, IsUnserved, TakesCalls, TakesPart, GivesPayloads, GoesOn, Initializes, KeepsLaws, LawfulSession}
+use Rattle.lsp_service.specs.QueuedServer.{with_queues, woken_with_queues, held_by, OpensSending, ServerSession, WorksSending}
+use Rattle.lsp_service.specs.declared.queued_server.QueuedServer.{QueuedServer}
+use Rattle.lsp_service.specs.declared.queued_server.WokenQueuedServer.{WokenQueuedServer}
 use Rattle.lsp_service.proofs.Holding.{session_held}
 use Rattle.lsp_service.proofs.Counting.{Fresh, kept_to_last, never_more, answered_once}
-use Rattle.lsp_service.proofs.Returning.{requests-append, ids_all, sent-append, said_all, Agrees, agrees_start, agrees_acts, Fits, own_payloads, GivesAll, turn_all}
-use Rattle.lsp_service.specs.View.{desk_of, seen}
+use Rattle.lsp_service.proofs.Returning.{requests-append, ids_all, sent-append, sent_all, Agrees, agrees_start, agrees_acts, Fits, own_payloads, GivesAll, call_all}
+use Rattle.lsp_service.specs.View.{queues_of, seen}
 use Rattle.lsp_service.specs.Stated.{Stated}
 use Rattle.lsp_session.proofs.Ordering.{keeps_order}
 
@@ -34,39 +34,39 @@ whole_sent stop whole = tt
 
 module _ {S P : Type 0} (may : Stated S P) (stop : Stop) where
   abbrev Runs_from : Phase → QueuedServer S P → List Exchange → Phase → QueuedServer S P → Type 0
-  Runs_from = Ran (at_desk may) stop
+  Runs_from = Ran (with_queues may) stop
 
   -- ---- from `initialized` on
 
-  over : (xs : List Exchange) (null : Option Message) (by : SessionAnswer) (q : Phase) (w w' : QueuedServer S P) → Runs_from (ended null by) w xs q w' → (xs ≡ []) × (w' ≡ w)
-  over [] null by q w w' run = (refl, run.1)
-  over (x ∷ xs) null by q w w' run = absurd run.6
+  over : (xs : List Exchange) (shutdown_reply : Option Message) (by : SessionAnswer) (q : Phase) (w w' : QueuedServer S P) → Runs_from (ended shutdown_reply by) w xs q w' → (xs ≡ []) × (w' ≡ w)
+  over [] shutdown_reply by q w w' run = (refl, run.1)
+  over (x ∷ xs) shutdown_reply by q w w' run = absurd run.6
 
-  -- after the null nothing is sent, and the server stays
+  -- after the reply to `shutdown` nothing is sent, and the server stays
   quiet : (xs : List Exchange) (i : Id) (q : Phase) (w w' : QueuedServer S P) → Runs_from (asked i) w xs q w' → (sends_of xs ≡ []) × (w' ≡ w)
   quiet [] i q w w' run = (refl, run.1)
-  quiet (x ∷ xs) i q w w' run = by x.letter run.6
+  quiet (x ∷ xs) i q w w' run = by x.came run.6
     where
-      none : (by : SessionAnswer) → run.5 ≡ w → run.0 ≡ [] → run.4 ≡ ended (Some (null_reply i)) by → (x.said ++ sends_of xs ≡ []) × (w' ≡ w)
+      none : (by : SessionAnswer) → run.5 ≡ w → run.0 ≡ [] → run.4 ≡ ended (Some (null_reply i)) by → (x.sent ++ sends_of xs ≡ []) × (w' ≡ w)
       none by same silent next =
           let rest = over xs (Some (null_reply i)) by q run.5 w' (rw next at run.8) in
-          (rw (part_none x.said run.1 run.0 run.2 silent, rest.0) refl, rest.1 ∙ same)
+          (rw (part_none x.sent run.1 run.0 run.2 silent, rest.0) refl, rest.1 ∙ same)
 
       at : (b : Bool) → MatchBool b ((run.0 ≡ []) × (run.4 ≡ ended (Some (null_reply i)) (Ok ShutDown))) (Fails unexpected_in_shutdown (asked i) run.0 run.4)
-          → run.5 ≡ w → (x.said ++ sends_of xs ≡ []) × (w' ≡ w)
+          → run.5 ≡ w → (x.sent ++ sends_of xs ≡ []) × (w' ≡ w)
       at true step same = none (Ok ShutDown) same step.0 step.1
       at false step same = none (Err (unexpected_in_shutdown step.0)) same step.1 step.2
 
-      by : (letter : Option Message) → Step (at_desk may) (asked i) w letter run.0 run.4 run.5 → (x.said ++ sends_of xs ≡ []) × (w' ≡ w)
+      by : (came : Option Message) → Step (with_queues may) (asked i) w came run.0 run.4 run.5 → (x.sent ++ sends_of xs ≡ []) × (w' ≡ w)
       by None step = absurd step
       by (Some m) step = at (is_exit m) step.0 step.1
 
-  -- the server's turns, and what came after them
+  -- the server's calls, and what came after them
   record Served (w w' : QueuedServer S P) (xs : List Exchange) : Type 0 where
     served : List Exchange
     rest : List (Option Message)
     given : GivesAll may w served w'
-    all_served : list_all is_turn (came_of served) ≡ true
+    all_served : list_all is_call (came_of served) ≡ true
     unserved : IsUnserved rest
     cut : came_of xs ≡ came_of served ++ rest
     more : List Message
@@ -87,138 +87,138 @@ module _ {S P : Type 0} (may : Stated S P) (stop : Stop) where
     whole = λ is. refl;
   }
 
-  -- What is sent at one more turn, and then at the later ones: where a part of that is left, there are none.
-  record Sends (mid w' : QueuedServer S P) (xs : List Exchange) (full : List Message) (said : List Message) : Type 0 where
+  -- What is sent at one more call, and then at the later ones: if a part of that is left, there are none.
+  record Sends (mid w' : QueuedServer S P) (xs : List Exchange) (full : List Message) (output : List Message) : Type 0 where
     later : Served mid w' xs
     more : List Message
-    sent : requests_in full ++ requests_in (sends_of later.served) ≡ requests_in (said ++ sends_of xs) ++ more
+    sent : requests_in full ++ requests_in (sends_of later.served) ≡ requests_in (output ++ sends_of xs) ++ more
     whole : IsWhole stop → more ≡ []
 
-  sends_more : (mid w' : QueuedServer S P) (xs : List Exchange) (full said more : List Message) → said ++ more ≡ full
-      → (more ≡ []) ⊎ ((xs ≡ []) × (IsSent stop → ⊥)) → (xs ≡ [] → w' ≡ mid) → Served mid w' xs → Sends mid w' xs full said
-  sends_more mid w' xs full said more cut (inl none) ends later = record {
+  sends_more : (mid w' : QueuedServer S P) (xs : List Exchange) (full output more : List Message) → output ++ more ≡ full
+      → (more ≡ []) ⊎ ((xs ≡ []) × (IsSent stop → ⊥)) → (xs ≡ [] → w' ≡ mid) → Served mid w' xs → Sends mid w' xs full output
+  sends_more mid w' xs full output more cut (inl none) ends later = record {
     later = later;
     more = later.more;
-    sent = (λ i. requests_in (same i) ++ later.sent i) ∙ sym (append_assoc (requests_in said) (requests_in (sends_of xs)) later.more)
-        ∙ ap (λ (l : List Message). l ++ later.more) (sym (requests-append said (sends_of xs)));
+    sent = (λ i. requests_in (same i) ++ later.sent i) ∙ sym (append_assoc (requests_in output) (requests_in (sends_of xs)) later.more)
+        ∙ ap (λ (l : List Message). l ++ later.more) (sym (requests-append output (sends_of xs)));
     whole = later.whole;
   }
     where
-      same : full ≡ said
-      same = sym cut ∙ ap (λ (l : List Message). said ++ l) none ∙ append-nil said
-  sends_more mid w' xs full said more cut (inr last) ends later = record {
+      same : full ≡ output
+      same = sym cut ∙ ap (λ (l : List Message). output ++ l) none ∙ append-nil output
+  sends_more mid w' xs full output more cut (inr last) ends later = record {
     later = serve_left mid w' xs (rw last.0 tt) (rw last.0 refl, ends last.0);
     more = requests_in more;
-    sent = append-nil (requests_in full) ∙ ap requests_in (sym cut) ∙ requests-append said more
-        ∙ ap (λ (l : List Message). requests_in l ++ requests_in more) (sym (append-nil said))
-        ∙ ap (λ (l : List Exchange). requests_in (said ++ sends_of l) ++ requests_in more) (sym last.0);
+    sent = append-nil (requests_in full) ∙ ap requests_in (sym cut) ∙ requests-append output more
+        ∙ ap (λ (l : List Message). requests_in l ++ requests_in more) (sym (append-nil output))
+        ∙ ap (λ (l : List Exchange). requests_in (output ++ sends_of l) ++ requests_in more) (sym last.0);
     whole = λ is. absurd (last.1 (whole_sent stop is));
   }
 
-  -- one more turn comes first
-  serve_more : (w mid w' : QueuedServer S P) (x : Exchange) (xs : List Exchange) (full : List Message) → is_turn x.letter ≡ true
-      → WorksGiving may (seen w) x.letter full (seen mid) → Sends mid w' xs full x.said → Served w w' (x ∷ xs)
-  serve_more w mid w' x xs full turn gives s = record {
-    served = record { letter = x.letter; said = full } ∷ s.later.served;
+  -- one more call comes first
+  serve_more : (w mid w' : QueuedServer S P) (x : Exchange) (xs : List Exchange) (full : List Message) → is_call x.came ≡ true
+      → WorksSending may (seen w) x.came full (seen mid) → Sends mid w' xs full x.sent → Served w w' (x ∷ xs)
+  serve_more w mid w' x xs full call gives s = record {
+    served = record { came = x.came; sent = full } ∷ s.later.served;
     rest = s.later.rest;
     given = (mid, gives, s.later.given);
-    all_served = rw turn s.later.all_served;
+    all_served = rw call s.later.all_served;
     unserved = s.later.unserved;
-    cut = ap (λ (l : List (Option Message)). x.letter ∷ l) s.later.cut;
+    cut = ap (λ (l : List (Option Message)). x.came ∷ l) s.later.cut;
     more = s.more;
     sent = requests-append full (sends_of s.later.served) ∙ s.sent;
     whole = s.whole;
   }
 
-  left_silent : (w w' : QueuedServer S P) (q next : Phase) (m : Message) (full said more : List Message) (xs : List Exchange) → Leaves m full next → said ++ more ≡ full → (said ≡ [] → full ≡ [])
-      → Runs_from next w xs q w' → (requests_in (said ++ sends_of xs) ≡ []) × (w' ≡ w)
-  left_silent w w' q next (request i method params) full said more xs leaves cut none run =
+  left_silent : (w w' : QueuedServer S P) (q next : Phase) (m : Message) (full output more : List Message) (xs : List Exchange) → Leaves m full next → output ++ more ≡ full → (output ≡ [] → full ≡ [])
+      → Runs_from next w xs q w' → (requests_in (output ++ sends_of xs) ≡ []) × (w' ≡ w)
+  left_silent w w' q next (request i method params) full output more xs leaves cut none run =
       let rest = quiet xs i q w w' (rw leaves.1 at run) in
-      (rw (part_one said more full (null_reply i) cut none leaves.0, rest.0) refl, rest.1)
-  left_silent w w' q next m full said more xs leaves cut none run =
+      (rw (part_one output more full (null_reply i) cut none leaves.0, rest.0) refl, rest.1)
+  left_silent w w' q next m full output more xs leaves cut none run =
       let rest = over xs None (Ok Closed) q w w' (rw leaves.1 at run) in
-      (rw (part_none said more full cut leaves.0, rest.0) refl, rest.1)
+      (rw (part_none output more full cut leaves.0, rest.0) refl, rest.1)
 
-  -- where no more messages come, the server stays
+  -- if no more messages come, the server stays
   at_end : (xs : List Exchange) (p q : Phase) (w w' : QueuedServer S P) → Runs_from p w xs q w' → xs ≡ [] → w' ≡ w
   at_end [] p q w w' run none = run.1
   at_end (x ∷ xs) p q w w' run none = absurd (cc (none))
 
   serve_all : (xs : List Exchange) (q : Phase) (w w' : QueuedServer S P) → Runs_from serving w xs q w' → Served w w' xs
   serve_all [] q w w' run = serve_left w w' [] tt (refl, run.1)
-  serve_all (x ∷ xs) q w w' run = by (λ rest. serve_all xs q run.5 w' rest) x.letter refl run.6
+  serve_all (x ∷ xs) q w w' run = by (λ rest. serve_all xs q run.5 w' rest) x.came refl run.6
     where
-      turn : (Runs_from serving run.5 xs q w' → Served run.5 w' xs) → is_turn x.letter ≡ true
-          → WorksGiving may (seen w) x.letter run.0 (seen run.5) × (run.4 ≡ serving) → Served w w' (x ∷ xs)
-      turn later is step =
+      call : (Runs_from serving run.5 xs q w' → Served run.5 w' xs) → is_call x.came ≡ true
+          → WorksSending may (seen w) x.came run.0 (seen run.5) × (run.4 ≡ serving) → Served w w' (x ∷ xs)
+      call later is step =
           serve_more w run.5 w' x xs run.0 is step.0
-          (sends_more run.5 w' xs run.0 x.said run.1 run.2 run.7 (at_end xs run.4 q run.5 w' run.8) (later (rw step.1 at run.8)))
+          (sends_more run.5 w' xs run.0 x.sent run.1 run.2 run.7 (at_end xs run.4 q run.5 w' run.8) (later (rw step.1 at run.8)))
 
-      at : (Runs_from serving run.5 xs q w' → Served run.5 w' xs) → (m : Message) → x.letter ≡ Some m → (b : Bool) → is_served m ≡ b
-          → MatchBool b ((at_desk may).gives w m run.0 run.5 × (run.4 ≡ serving)) (Leaves m run.0 run.4 × (run.5 ≡ w))
+      at : (Runs_from serving run.5 xs q w' → Served run.5 w' xs) → (m : Message) → x.came ≡ Some m → (b : Bool) → is_served m ≡ b
+          → MatchBool b ((with_queues may).outputs w m run.0 run.5 × (run.4 ≡ serving)) (Leaves m run.0 run.4 × (run.5 ≡ w))
           → Served w w' (x ∷ xs)
-      at later m there true e step = turn later (rw (there, e) refl) (rw there step)
+      at later m there true e step = call later (rw (there, e) refl) (rw there step)
       at later m there false e step =
-          let left = left_silent run.5 w' q run.4 m run.0 x.said run.1 xs step.0 run.2 run.3 run.8 in
+          let left = left_silent run.5 w' q run.4 m run.0 x.sent run.1 xs step.0 run.2 run.3 run.8 in
           serve_left w w' (x ∷ xs) (rw (there, e) refl) (left.0, left.1 ∙ step.1)
 
-      by : (Runs_from serving run.5 xs q w' → Served run.5 w' xs) → (letter : Option Message) → x.letter ≡ letter → Step (at_desk may) serving w letter run.0 run.4 run.5
+      by : (Runs_from serving run.5 xs q w' → Served run.5 w' xs) → (came : Option Message) → x.came ≡ came → Step (with_queues may) serving w came run.0 run.4 run.5
           → Served w w' (x ∷ xs)
-      by later None none step = turn later (rw none refl) (rw none step)
+      by later None none step = call later (rw none refl) (rw none step)
       by later (Some m) there step = at later m there (is_served m) refl step
 
   -- ---- from the result of `initialize` on
 
-  -- The server's part: what it said at `initialized`, its turns, and what came after these.
-  takes_part : (w mid w' : QueuedServer S P) (xs : List Exchange) (full said : List Message) → Fresh may w → OpensSaying may (seen w) full (seen mid)
-      → Sends mid w' xs full said → TakesPart may w.server w'.server (came_of xs) stop (requests_in (said ++ sends_of xs))
-  takes_part w mid w' xs full said fresh opens s =
-      let opened : OpensSaying may (w.server, empty_desk) full (seen mid) = subst (λ (d : Desk P). OpensSaying may (w.server, d) full (seen mid)) fresh opens in
+  -- The server's part: what it sent at `initialized`, its calls, and what came after these.
+  takes_part : (w mid w' : QueuedServer S P) (xs : List Exchange) (full output : List Message) → Fresh may w → OpensSending may (seen w) full (seen mid)
+      → Sends mid w' xs full output → TakesPart may w.server w'.server (came_of xs) stop (requests_in (output ++ sends_of xs))
+  takes_part w mid w' xs full output fresh opens s =
+      let opened : OpensSending may (w.server, empty_queues) full (seen mid) = subst (λ (d : Queues P). OpensSending may (w.server, d) full (seen mid)) fresh opens in
       let begun = opened.1.0 in
-      let asked : (desk_of mid.client).asked ≡ (does_all empty_desk begun).asked =
-      ap (λ (x : S × Desk P). x.1.asked) opened.3 ∙ ap (λ (x : Desk P). x.asked) opened.1.4 in
-      let count : count_of (desk_of mid.client).asked ≡ ids_after_all 0 begun = ap count_of asked ∙ ids_all empty_desk begun in
+      let asked : (queues_of mid.queues).asked ≡ (does_all empty_queues begun).asked =
+      ap (λ (x : S × Queues P). x.1.asked) opened.3 ∙ ap (λ (x : Queues P). x.asked) opened.1.4 in
+      let count : count_of (queues_of mid.queues).asked ≡ ids_after_all 0 begun = ap count_of asked ∙ ids_all empty_queues begun in
       let first : requests_in full ≡ map_list request_of (all_sent 0 begun) =
-      ap requests_in opened.2 ∙ ap (λ (x : Desk P). requests_in x.said) opened.1.4 ∙ said_all empty_desk begun in
-      let t = turn_all may mid w' s.later.served (all_sent 0 begun) [] (ap (λ (x : S × Desk P). x.1.said) opened.3)
-      (subst (Agrees (all_sent 0 begun) []) (sym asked) (agrees_acts [] [] empty_desk begun agrees_start)) s.later.given in
-      let later : map_list request_of (all_sent (ids_after_all 0 begun) (acts_of t.turns)) ≡ requests_in (sends_of s.later.served) =
-      sym (t.said ∙ ap (λ k. map_list request_of (all_sent k (acts_of t.turns))) count) in
+      ap requests_in opened.2 ∙ ap (λ (x : Queues P). requests_in x.sent) opened.1.4 ∙ sent_all empty_queues begun in
+      let t = call_all may mid w' s.later.served (all_sent 0 begun) [] (ap (λ (x : S × Queues P). x.1.sent) opened.3)
+      (subst (Agrees (all_sent 0 begun) []) (sym asked) (agrees_acts [] [] empty_queues begun agrees_start)) s.later.given in
+      let later : map_list request_of (all_sent (ids_after_all 0 begun) (acts_of t.calls)) ≡ requests_in (sends_of s.later.served) =
+      sym (t.sent ∙ ap (λ k. map_list request_of (all_sent k (acts_of t.calls))) count) in
       record {
         begun = begun;
-        turns = t.turns;
+        calls = t.calls;
         rest = s.later.rest;
-        cut = s.later.cut ∙ ap (λ l. l ++ s.later.rest) (sym t.letters_are);
-        served = rw t.letters_are s.later.all_served;
+        cut = s.later.cut ∙ ap (λ l. l ++ s.later.rest) (sym t.came_are);
+        served = rw t.came_are s.later.all_served;
         ended = s.later.unserved;
         did = opened.1.1;
         first = mid.server;
         began = opened.1.2;
-        took_back = subst (λ (v : S). TakesBack may.takes_back opened.1.1 (unsent 0 begun) v) (sym (ap (λ (x : S × Desk P). x.0) opened.3)) opened.1.3;
-        took_turns = subst (λ k. TakesTurns may k mid.server t.turns w'.server) count t.took;
-        unsaid = s.more;
-        sent = ap (λ l. map_list request_of l) (sent-append 0 begun (acts_of t.turns))
-            ∙ map-append request_of (all_sent 0 begun) (all_sent (ids_after_all 0 begun) (acts_of t.turns))
+        took_back = subst (λ (v : S). TakesBack may.takes_back opened.1.1 (unsent 0 begun) v) (sym (ap (λ (x : S × Queues P). x.0) opened.3)) opened.1.3;
+        took_calls = subst (λ k. TakesCalls may k mid.server t.calls w'.server) count t.took;
+        not_sent = s.more;
+        sent = ap (λ l. map_list request_of l) (sent-append 0 begun (acts_of t.calls))
+            ∙ map-append request_of (all_sent 0 begun) (all_sent (ids_after_all 0 begun) (acts_of t.calls))
             ∙ (λ i. sym first i ++ later i) ∙ s.sent;
         all = s.whole;
-        payloads = own_payloads begun t.turns (subst (λ k. Fits k (all_sent 0 begun) [] t.turns) count t.fits);
+        payloads = own_payloads begun t.calls (subst (λ k. Fits k (all_sent 0 begun) [] t.calls) count t.fits);
       }
 
   after_result : (xs : List Exchange) (q : Phase) (w w' : QueuedServer S P) → Fresh may w → Runs_from in_reply w xs q w' → GoesOn may w.server w'.server xs stop
   after_result [] q w w' fresh run = ap (λ (x : QueuedServer S P). x.server) run.1
-  after_result (x ∷ xs) q w w' fresh run = by x.letter refl run.6
+  after_result (x ∷ xs) q w w' fresh run = by x.came refl run.6
     where
-      at : (m : Message) → x.letter ≡ Some m → (b : Bool) → is_initialized m ≡ b
-          → MatchBool b ((at_desk may).opens w run.0 run.5 × (run.4 ≡ serving)) (Fails expected_initialized in_reply run.0 run.4 × (run.5 ≡ w))
+      at : (m : Message) → x.came ≡ Some m → (b : Bool) → is_initialized m ≡ b
+          → MatchBool b ((with_queues may).at_initialized w run.0 run.5 × (run.4 ≡ serving)) (Fails expected_initialized in_reply run.0 run.4 × (run.5 ≡ w))
           → GoesOn may w.server w'.server (x ∷ xs) stop
       at m there true e step =
-          rw (there, e) (takes_part w run.5 w' xs run.0 x.said fresh step.0
-          (sends_more run.5 w' xs run.0 x.said run.1 run.2 run.7 (at_end xs run.4 q run.5 w' run.8) (serve_all xs q run.5 w' (rw step.1 at run.8))))
+          rw (there, e) (takes_part w run.5 w' xs run.0 x.sent fresh step.0
+          (sends_more run.5 w' xs run.0 x.sent run.1 run.2 run.7 (at_end xs run.4 q run.5 w' run.8) (serve_all xs q run.5 w' (rw step.1 at run.8))))
       at m there false e step =
           let rest = over xs None (Err (expected_initialized step.0.0)) q run.5 w' (rw step.0.2 at run.8) in
-          rw (there, e) (rw (part_none x.said run.1 run.0 run.2 step.0.1, rest.0) refl, ap (λ (x : QueuedServer S P). x.server) (rest.1 ∙ step.1))
+          rw (there, e) (rw (part_none x.sent run.1 run.0 run.2 step.0.1, rest.0) refl, ap (λ (x : QueuedServer S P). x.server) (rest.1 ∙ step.1))
 
-      by : (letter : Option Message) → x.letter ≡ letter → Step (at_desk may) in_reply w letter run.0 run.4 run.5 → GoesOn may w.server w'.server (x ∷ xs) stop
+      by : (came : Option Message) → x.came ≡ came → Step (with_queues may) in_reply w came run.0 run.4 run.5 → GoesOn may w.server w'.server (x ∷ xs) stop
       by None none step = absurd step
       by (Some m) there step = at m there (is_initialized m) refl step
 
@@ -226,27 +226,27 @@ module _ {S P : Type 0} (may : Stated S P) (stop : Stop) where
 
   -- at a message before the result the server answers an `initialize`, or stays
   abbrev Begun : S → Option Message → List Message → S → Type 0
-  Begun s letter said s' = IsSomeAnd letter (λ m. MatchBool (is_initialize m) (Initializes may s m said s') (s' ≡ s))
+  Begun s came output s' = IsSomeAnd came (λ m. MatchBool (is_initialize m) (Initializes may s m output s') (s' ≡ s))
 
-  begun_one : (w w' : QueuedServer S P) (m : Option Message) (full said : List Message) (next : Phase) → ((r : Message) → full ≡ r ∷ [] → said ≡ r ∷ [])
-      → Step (at_desk may) starting w m full next w' → Begun w.server m said w'.server
-  begun_one w w' (Some (request i method params)) full said next one step = at (is_initialize (request i method params)) step
+  begun_one : (w w' : QueuedServer S P) (m : Option Message) (full output : List Message) (next : Phase) → ((r : Message) → full ≡ r ∷ [] → output ≡ r ∷ [])
+      → Step (with_queues may) starting w m full next w' → Begun w.server m output w'.server
+  begun_one w w' (Some (request i method params)) full output next one step = at (is_initialize (request i method params)) step
     where
       at : (b : Bool)
-          → MatchBool b ((outcome : Result Data ErrorObject) × (at_desk may).initializes w params outcome w' × (full ≡ response i outcome ∷ []) × (next ≡ phase_after outcome))
+          → MatchBool b ((outcome : Result Data ErrorObject) × (with_queues may).initializes w params outcome w' × (full ≡ response i outcome ∷ []) × (next ≡ phase_after outcome))
           ((reply : Message) × IsEarlyReply i reply × (full ≡ reply ∷ []) × (next ≡ starting) × (w' ≡ w))
-          → MatchBool b (Initializes may w.server (request i method params) said w'.server) (w'.server ≡ w.server)
+          → MatchBool b (Initializes may w.server (request i method params) output w'.server) (w'.server ≡ w.server)
       at true step =
           record { id = i; method = method; params = params; outcome = step.0; came = refl; gave = step.1.0; told = one (response i step.0) step.2 }
       at false step = ap (λ (x : QueuedServer S P). x.server) step.4
-  begun_one w w' (Some m) full said next one step = ap (λ (x : QueuedServer S P). x.server) step.1
-  begun_one w w' None full said next one step = step
+  begun_one w w' (Some m) full output next one step = ap (λ (x : QueuedServer S P). x.server) step.1
+  begun_one w w' None full output next one step = step
 
   -- one more error comes first, or a message without a reply
-  payloads_more : (s mid last : S) (x : Exchange) (xs : List Exchange) → list_all is_refusal x.said ≡ true → Begun s x.letter x.said mid
+  payloads_more : (s mid last : S) (x : Exchange) (xs : List Exchange) → list_all is_refusal x.sent ≡ true → Begun s x.came x.sent mid
       → GivesPayloads may mid last xs stop → GivesPayloads may s last (x ∷ xs) stop
   payloads_more s mid last x xs errors begun payloads = elim payloads [
-    | inl none ↦ inl (list_all-append is_refusal x.said (sends_of xs) ∙ (rw (errors, none.0) refl), (mid, begun, none.1))
+    | inl none ↦ inl (list_all-append is_refusal x.sent (sends_of xs) ∙ (rw (errors, none.0) refl), (mid, begun, none.1))
     | inr p ↦ inr (
       x ∷ p.0,
       p.1,
@@ -260,7 +260,7 @@ module _ {S P : Type 0} (may : Stated S P) (stop : Stop) where
         asks = p.3.asks;
         cut = ap (λ (l : List Exchange). x ∷ l) p.3.cut;
       },
-      list_all-append is_refusal x.said (sends_of p.3.before) ∙ (rw (errors, p.4) refl),
+      list_all-append is_refusal x.sent (sends_of p.3.before) ∙ (rw (errors, p.4) refl),
       p.5,
       (mid, begun, p.6),
       p.7,
@@ -271,22 +271,22 @@ module _ {S P : Type 0} (may : Stated S P) (stop : Stop) where
       → Runs_from starting w xs q w' → GivesPayloads may w.server w'.server xs stop
   payloads_from [] q w w' fresh run = inl (refl, ap (λ (x : QueuedServer S P). x.server) run.1)
   payloads_from (x ∷ xs) q w w' fresh run =
-      by (λ fresh rest. payloads_from xs q run.5 w' fresh rest) (row (at_desk may) starting run.4 w run.5 x.letter run.0 run.6)
+      by (λ fresh rest. payloads_from xs q run.5 w' fresh rest) (row (with_queues may) starting run.4 w run.5 x.came run.0 run.6)
     where
-      one : (r : Message) → run.0 ≡ r ∷ [] → x.said ≡ r ∷ []
-      one r e = part_one x.said run.1 run.0 r run.2 run.3 e
+      one : (r : Message) → run.0 ≡ r ∷ [] → x.sent ≡ r ∷ []
+      one r e = part_one x.sent run.1 run.0 r run.2 run.3 e
 
-      none : run.0 ≡ [] → x.said ≡ []
-      none e = part_none x.said run.1 run.0 run.2 e
+      none : run.0 ≡ [] → x.sent ≡ []
+      none e = part_none x.sent run.1 run.0 run.2 e
 
-      begun : Begun w.server x.letter x.said run.5.server
-      begun = begun_one w run.5 x.letter run.0 x.said run.4 one run.6
+      begun : Begun w.server x.came x.sent run.5.server
+      begun = begun_one w run.5 x.came run.0 x.sent run.4 one run.6
 
-      more : list_all is_refusal x.said ≡ true → GivesPayloads may run.5.server w'.server xs stop → GivesPayloads may w.server w'.server (x ∷ xs) stop
+      more : list_all is_refusal x.sent ≡ true → GivesPayloads may run.5.server w'.server xs stop → GivesPayloads may w.server w'.server (x ∷ xs) stop
       more errors rest = payloads_more w.server run.5.server w'.server x xs errors begun rest
 
       by : (Fresh may run.5 → Runs_from starting run.5 xs q w' → GivesPayloads may run.5.server w'.server xs stop)
-          → Row (at_desk may) starting w x.letter run.0 run.4 run.5 → GivesPayloads may w.server w'.server (x ∷ xs) stop
+          → StepCase (with_queues may) starting w x.came run.0 run.4 run.5 → GivesPayloads may w.server w'.server (x ∷ xs) stop
       by later (at_initialize i method params (Ok result) first is e init sent next) = inr (
         x ∷ [],
         xs,
@@ -298,7 +298,7 @@ module _ {S P : Type 0} (may : Stated S P) (stop : Stop) where
           params = params;
           result = result;
           asks = e;
-          cut = λ j. record { letter = is j; said = one (response i (Ok result)) sent j } ∷ [];
+          cut = λ j. record { came = is j; sent = one (response i (Ok result)) sent j } ∷ [];
         },
         refl,
         run.5.server,
@@ -324,40 +324,40 @@ module _ {S P : Type 0} (may : Stated S P) (stop : Stop) where
       by later (idle m there same any (stays i shown first e sent next)) = absurd (cc (first))
 
 module _ {S P : Type 0} (may : Stated S P) where
-  -- a session of a server that was put to its desk and taken away again
-  pub session_of : (old new : QueuedServer S P) (first last : S) → seen old ≡ (first, empty_desk) → last ≡ new.server
-      → (xs : List Exchange) (stop : Stop) (null : Option Message) (answer : SessionAnswer)
-      → SessionOut (at_desk may) old new xs stop null answer → ServerSession may first last xs stop null answer
-  session_of old new first last begun left xs stop null answer out =
+  -- a session of a server that was put beside its queues and taken out again
+  pub session_of : (old new : QueuedServer S P) (first last : S) → seen old ≡ (first, empty_queues) → last ≡ new.server
+      → (xs : List Exchange) (stop : Stop) (shutdown_reply : Option Message) (answer : SessionAnswer)
+      → SessionOut (with_queues may) old new xs stop shutdown_reply answer → ServerSession may first last xs stop shutdown_reply answer
+  session_of old new first last begun left xs stop shutdown_reply answer out =
       record { old = old; new = new; from_first = begun; to_last = left; out = out }
 
   -- the same of one that is woken
-  pub woken_session_of : (old new : WokenQueuedServer S P) (first last : S) → seen old.queued ≡ (first, empty_desk) → last ≡ new.queued.server
-      → (xs : List Exchange) (stop : Stop) (null : Option Message) (answer : SessionAnswer)
-      → SessionOut (at_woken_desk may) old new xs stop null answer → ServerSession may first last xs stop null answer
-  woken_session_of old new first last begun left xs stop null answer out =
-      session_of old.queued new.queued first last begun left xs stop null answer
-      (session_held (λ (w : WokenQueuedServer S P). w.queued) (at_desk may) old new xs stop null answer out)
+  pub woken_session_of : (old new : WokenQueuedServer S P) (first last : S) → seen old.queued ≡ (first, empty_queues) → last ≡ new.queued.server
+      → (xs : List Exchange) (stop : Stop) (shutdown_reply : Option Message) (answer : SessionAnswer)
+      → SessionOut (woken_with_queues may) old new xs stop shutdown_reply answer → ServerSession may first last xs stop shutdown_reply answer
+  woken_session_of old new first last begun left xs stop shutdown_reply answer out =
+      session_of old.queued new.queued first last begun left xs stop shutdown_reply answer
+      (session_held (λ (w : WokenQueuedServer S P). w.queued) (with_queues may) old new xs stop shutdown_reply answer out)
 
-  module _ (first last : S) (xs : List Exchange) (stop : Stop) (null : Option Message) (answer : SessionAnswer) where
-    pub keeps_laws : (session : ServerSession may first last xs stop null answer) → KeepsLaws may first last (held_by may session) xs stop null answer
+  module _ (first last : S) (xs : List Exchange) (stop : Stop) (shutdown_reply : Option Message) (answer : SessionAnswer) where
+    pub keeps_laws : (session : ServerSession may first last xs stop shutdown_reply answer) → KeepsLaws may first last (held_by may session) xs stop shutdown_reply answer
     keeps_laws session =
         let out = session.out in
-        let fresh : desk_of session.old.client ≡ empty_desk = ap (λ (x : S × Desk P). x.1) session.from_first in
+        let fresh : queues_of session.old.queues ≡ empty_queues = ap (λ (x : S × Queues P). x.1) session.from_first in
         record {
           never_more = λ id. never_more may id stop session.old out.after xs out.last out.reached fresh;
           once = λ whole id one.
               answered_once may id stop answer session.old out.after session.new xs out.last out.reached out.stopped fresh whole one;
-          order = keeps_order (at_desk may) session.old session.new xs stop null answer out;
+          order = keeps_order (with_queues may) session.old session.new xs stop shutdown_reply answer out;
           after = out.after.server;
-          payloads = subst (λ (s : S). GivesPayloads may s out.after.server xs stop) (ap (λ (x : S × Desk P). x.0) session.from_first)
+          payloads = subst (λ (s : S). GivesPayloads may s out.after.server xs stop) (ap (λ (x : S × Queues P). x.0) session.from_first)
               (payloads_from may stop xs out.last session.old out.after fresh
-              (reaches_ran (at_desk may) stop starting out.last session.old out.after xs out.reached));
-          kept = elim (kept_to_last (at_desk may) out.last out.after session.new stop answer out.stopped) [
+              (reaches_ran (with_queues may) stop starting out.last session.old out.after xs out.reached));
+          kept = elim (kept_to_last (with_queues may) out.last out.after session.new stop answer out.stopped) [
             | inl e ↦ inl e
             | inr e ↦ inr (session.to_last ∙ ap (λ (x : QueuedServer S P). x.server) e)
           ];
         }
 
-    pub lawful : ServerSession may first last xs stop null answer → LawfulSession may first last xs stop null answer
+    pub lawful : ServerSession may first last xs stop shutdown_reply answer → LawfulSession may first last xs stop shutdown_reply answer
     lawful session = (session, keeps_laws session)

@@ -12,9 +12,9 @@ use Rattle.lsp_message.specs.Methods.{is_initialize}
 use Rattle.lsp_queue.specs.Queue.{Pending}
 use Rattle.lsp_session.specs.Finish.{is_initialized}
 use Rattle.lsp_session.specs.ProtocolError.{ShowsUnallowed}
-use Rattle.lsp_session.specs.Session.{Exchange, came_of, letters_of, sends_of, SessionAnswer, SessionPart, Stop, decided, refused, exhausted, is_served}
+use Rattle.lsp_session.specs.Session.{Exchange, came_of, messages_of, sends_of, SessionAnswer, SessionPart, Stop, decided, refused, exhausted, is_served}
 use Rattle.lsp_session.specs.SessionLaws.{EndsWithResult, KeepsOrder, AllRefused}
-use Rattle.lsp_service.specs.Desk.{Act, asks, is_spent, ids_after, unsent, TakesBack}
+use Rattle.lsp_service.specs.Acts.{Act, asks, is_spent, ids_after, unsent, TakesBack}
 use Rattle.lsp_service.specs.QueuedServer.{ServerSession, held_by}
 use Rattle.lsp_service.specs.Stated.{Stated}
 
@@ -35,21 +35,23 @@ abbrev pub how_many : (Message → Bool) → List Message → ℕ
 how_many p [] = 0
 how_many p (m ∷ ms) = one_if (p m) + how_many p ms
 
--- 1 where a request is held under the id, else 0
+-- 1 if a request is held under the id, else 0
 abbrev pub held_under : Id → Pending (Unit {0}) → ℕ
 held_under id held = one_if (is_some (map.get held id))
 
--- At no beginning of the session were more replies sent under this id than requests had come under it. Where the outbox refused a
+-- At no beginning of the session were more replies sent under this id than requests had come under it. If the outbox refused a
 -- reply, that one counts as sent.
 abbrev pub NeverMore : Id → List Exchange → Type 0
 NeverMore id exchanges =
     (before : List Exchange) (after : List Exchange) → exchanges ≡ before ++ after
-    → how_many (is_reply_under id) (sends_of before) ≤ how_many (is_request_under id) (letters_of before)
+    → how_many (is_reply_under id) (sends_of before)
+    ≤ how_many (is_request_under id) (messages_of before)
 
 -- The last message is a request under this id. The lifecycle does not allow it, and it decided: the fault shows it.
 abbrev pub EndsAtRequest : Id → List Exchange → Stop → SessionAnswer → Type 0
 EndsAtRequest id exchanges stop answer =
-    ((before : List Exchange) × (last : Exchange) × (exchanges ≡ before ++ last ∷ []) × IsSomeAnd last.letter (λ m. is_request_under id m ≡ true))
+    ((before : List Exchange) × (last : Exchange) × (exchanges ≡ before ++ last ∷ [])
+    × IsSomeAnd last.came (λ m. is_request_under id m ≡ true))
     × (stop ≡ decided) × IsErrAnd answer ShowsUnallowed
 
 -- A request under this id, which the client used once, has exactly one reply. Or it has none: it is still held, or the session
@@ -57,7 +59,8 @@ EndsAtRequest id exchanges stop answer =
 abbrev pub OnceOrEnded : Id → List Exchange → Stop → Pending (Unit {0}) → SessionAnswer → Type 0
 OnceOrEnded id exchanges stop held answer =
     (how_many (is_reply_under id) (sends_of exchanges) ≡ 1)
-    ⊎ ((how_many (is_reply_under id) (sends_of exchanges) ≡ 0) × ((held_under id held ≡ 1) ⊎ EndsAtRequest id exchanges stop answer))
+    ⊎ ((how_many (is_reply_under id) (sends_of exchanges) ≡ 0)
+    × ((held_under id held ≡ 1) ⊎ EndsAtRequest id exchanges stop answer))
 
 -- the outbox refused no message, and memory did not run out
 abbrev pub IsWhole : Stop → Type 0
@@ -74,9 +77,9 @@ pub record Sent (P : Type 0) : Type 0 where
   pub params : Data
   pub payload : P
 
--- What the server did at a letter, or woken. A reply of the client came to it with this payload, or reached nobody.
-pub record Turn (P : Type 0) : Type 0 where
-  pub letter : Option Message
+-- What the server did at a message, or woken. A reply of the client came to it with this payload, or reached nobody.
+pub record Call (P : Type 0) : Type 0 where
+  pub came : Option Message
   pub payload : Option P
   pub acts : List (Act P)
 
@@ -94,14 +97,20 @@ module _ {P : Type 0} where
   abbrev pub request_of : Sent P → Message
   request_of s = request s.id s.method s.params
 
-  -- how many ids were given out after these acts, where so many were before
+  -- how many ids were given out after these acts, if so many were before
   abbrev pub ids_after_all : ℕ → List (Act P) → ℕ
   ids_after_all count acts = fold ids_after count acts
 
-  -- The request that an act sends, where so many ids were given out before: its id is the next of 0, 1, 2, ..
+  -- The request that an act sends, if so many ids were given out before: its id is the next of 0, 1, 2, ..
   abbrev pub sent_by : ℕ → Act P → List (Sent P)
   sent_by count (asks method params payload) =
-      if is_spent count then [] else record { id = number (pos count); method = method; params = params; payload = payload } ∷ []
+      if is_spent count then [] else record {
+        id = number (pos count);
+        method = method;
+        params =
+            params;
+        payload = payload;
+      } ∷ []
   sent_by count act = []
 
   -- the requests that acts send, in order
@@ -114,96 +123,107 @@ module _ {P : Type 0} where
   kept_under id [] = None
   kept_under id (s ∷ rest) = if eq_by_cmp id_cmp id s.id then Some s.payload else kept_under id rest
 
-  -- what the server did in these turns
-  abbrev pub acts_of : List (Turn P) → List (Act P)
+  -- what the server did in these calls
+  abbrev pub acts_of : List (Call P) → List (Act P)
   acts_of [] = []
-  acts_of (turn ∷ turns) = turn.acts ++ acts_of turns
+  acts_of (call ∷ calls) = call.acts ++ acts_of calls
 
-  -- in one of these turns a reply under this id came to the server
-  abbrev pub was_given : Id → List (Turn P) → Bool
+  -- in one of these calls a reply under this id came to the server
+  abbrev pub was_given : Id → List (Call P) → Bool
   was_given id [] = false
-  was_given id (turn ∷ turns) = (is_some turn.payload && came_with (is_reply_under id) turn.letter) || was_given id turns
+  was_given id (call ∷ calls) =
+      (is_some call.payload && came_with (is_reply_under id) call.came) || was_given id calls
 
-  -- What a reply under this id brings to the server, after these requests and turns: what was kept with the request that was sent
+  -- What a reply under this id brings to the server, after these requests and calls: what was kept with the request that was sent
   -- under its id. After a first reply it brings nothing, and reaches nobody.
-  abbrev pub brings : Id → List (Sent P) → List (Turn P) → Option P
+  abbrev pub brings : Id → List (Sent P) → List (Call P) → Option P
   brings id sent before = if was_given id before then None else kept_under id sent
 
-  -- Of these turns, which follow what was done at `initialized`: each reply of the client comes to the server with the payload of
+  -- Of these calls, which follow what was done at `initialized`: each reply of the client comes to the server with the payload of
   -- its own request, once. One to no such request, or not the first, reaches nobody.
-  abbrev pub GivesOwnPayloads : List (Act P) → List (Turn P) → Type 0
-  GivesOwnPayloads begun turns =
-      (before after : List (Turn P)) (turn : Turn P) (id : Id) → turns ≡ before ++ turn ∷ after → came_with (is_reply_under id) turn.letter ≡ true
-      → turn.payload ≡ brings id (all_sent 0 (begun ++ acts_of before)) before
+  abbrev pub GivesOwnPayloads : List (Act P) → List (Call P) → Type 0
+  GivesOwnPayloads begun calls =
+      (before after : List (Call P)) (call : Call P) (id : Id) → calls ≡ before ++ call ∷ after
+      → came_with (is_reply_under id) call.came ≡ true
+      → call.payload ≡ brings id (all_sent 0 (begun ++ acts_of before)) before
 
--- it is the server's turn: a wake, or a message but `shutdown` and `exit`
-abbrev pub is_turn : Option Message → Bool
-is_turn None = true
-is_turn (Some m) = is_served m
+-- the server is called: at a wake, or at a message but `shutdown` and `exit`
+abbrev pub is_call : Option Message → Bool
+is_call None = true
+is_call (Some m) = is_served m
 
 -- `shutdown` or `exit` comes first, or nothing
 abbrev pub IsUnserved : List (Option Message) → Type 0
 IsUnserved [] = Unit {0}
-IsUnserved (letter ∷ rest) = is_turn letter ≡ false
+IsUnserved (came ∷ rest) = is_call came ≡ false
 
 module _ {S P : Type 0} (may : Stated S P) where
-  -- The server is handed a letter, a reply with a payload, or woken, and does this: what it stated, at each of them.
+  -- The server is handed a message, a reply with a payload, or woken, and does this: what it stated, at each of them.
   abbrev pub Handed : S → Option Message → Option P → List (Act P) → S → Type 0
-  Handed old (Some (request id method params)) payload acts new = may.requested old id method params acts new × (payload ≡ None)
-  Handed old (Some (notification method params)) payload acts new = may.notified old method params acts new × (payload ≡ None)
-  Handed old (Some (response id outcome)) (Some payload) acts new = may.replied old payload outcome acts new
+  Handed old (Some (request id method params)) payload acts new =
+      may.requested old id method params acts new × (payload ≡ None)
+  Handed old (Some (notification method params)) payload acts new =
+      may.notified old method params acts new × (payload ≡ None)
+  Handed old (Some (response id outcome)) (Some payload) acts new =
+      may.replied old payload outcome acts new
   Handed old (Some (response id outcome)) None acts new = (new ≡ old) × (acts ≡ [])
   Handed old None payload acts new = may.wakes old acts new × (payload ≡ None)
 
-  -- turns take the server from old to new, where so many ids were given out before
-  abbrev pub TakesTurns : ℕ → S → List (Turn P) → S → Type 0
-  TakesTurns count old [] new = new ≡ old
-  TakesTurns count old (turn ∷ turns) new =
-      (did : S) × (mid : S) × Handed old turn.letter turn.payload turn.acts did × TakesBack may.takes_back did (unsent count turn.acts) mid
-      × TakesTurns (ids_after_all count turn.acts) mid turns new
+  -- calls take the server from old to new, if so many ids were given out before
+  abbrev pub TakesCalls : ℕ → S → List (Call P) → S → Type 0
+  TakesCalls count old [] new = new ≡ old
+  TakesCalls count old (call ∷ calls) new =
+      (did : S) × (mid : S) × Handed old call.came call.payload call.acts did
+      × TakesBack may.takes_back did (unsent count call.acts) mid
+      × TakesCalls (ids_after_all count call.acts) mid calls new
 
-  -- The server's part of a session from `initialized` on, from its state at the result to its last: it did this, then took these turns
-  -- at what came up to `shutdown` or `exit`, by its stated meaning. These are the requests that it sent, or the first of them where
+  -- The server's part of a session from `initialized` on, from its state at the result to its last: it did this, then took these calls
+  -- at what came up to `shutdown` or `exit`, by its stated meaning. These are the requests that it sent, or the first of them if
   -- the outbox refused a message.
-  pub record TakesPart (start last : S) (came : List (Option Message)) (stop : Stop) (requests : List Message) : Type 0 where
+  pub record TakesPart (start last : S) (came : List (Option Message)) (stop : Stop)
+      (requests : List Message) : Type 0 where
     pub begun : List (Act P)
-    pub turns : List (Turn P)
+    pub calls : List (Call P)
     pub rest : List (Option Message)
-    pub cut : came ≡ map_list (λ (turn : Turn P). turn.letter) turns ++ rest
-    pub served : list_all is_turn (map_list (λ (turn : Turn P). turn.letter) turns) ≡ true
+    pub cut : came ≡ map_list (λ (call : Call P). call.came) calls ++ rest
+    pub served : list_all is_call (map_list (λ (call : Call P). call.came) calls) ≡ true
     pub ended : IsUnserved rest
     pub did : S
     pub first : S
-    pub began : may.begins start begun did
+    pub began : may.at_initialized start begun did
     pub took_back : TakesBack may.takes_back did (unsent 0 begun) first
-    pub took_turns : TakesTurns (ids_after_all 0 begun) first turns last
-    pub unsaid : List Message
-    pub sent : map_list request_of (all_sent 0 (begun ++ acts_of turns)) ≡ requests ++ unsaid
-    pub all : IsWhole stop → unsaid ≡ []
-    pub payloads : GivesOwnPayloads begun turns
+    pub took_calls : TakesCalls (ids_after_all 0 begun) first calls last
+    pub not_sent : List Message
+    pub sent : map_list request_of (all_sent 0 (begun ++ acts_of calls)) ≡ requests ++ not_sent
+    pub all : IsWhole stop → not_sent ≡ []
+    pub payloads : GivesOwnPayloads begun calls
 
   -- What follows the result of `initialize`: `initialized`, and the server takes part from then on. Or nothing more is sent.
   abbrev pub GoesOn : S → S → List Exchange → Stop → Type 0
   GoesOn start last [] stop = last ≡ start
   GoesOn start last (x ∷ later) stop =
-      IsSomeAnd x.letter (λ m. MatchBool (is_initialized m) (TakesPart start last (came_of later) stop (requests_in (sends_of (x ∷ later))))
+      IsSomeAnd x.came (λ m.
+      MatchBool (is_initialized m)
+      (TakesPart start last (came_of later) stop (requests_in (sends_of (x ∷ later))))
       ((sends_of (x ∷ later) ≡ []) × (last ≡ start)))
 
   -- the server answers this `initialize` by its stated meaning
-  pub record Initializes (old : S) (m : Message) (said : List Message) (new : S) : Type 0 where
+  pub record Initializes (old : S) (m : Message) (sent : List Message) (new : S) : Type 0 where
     pub id : Id
     pub method : List ℕ
     pub params : Data
     pub outcome : Result Data ErrorObject
     pub came : m ≡ request id method params
     pub gave : may.initializes old params outcome new
-    pub told : said ≡ response id outcome ∷ []
+    pub told : sent ≡ response id outcome ∷ []
 
   -- messages up to the result of `initialize` take the server from old to new: no other message changes it
   abbrev pub AnswersInitialize : S → List Exchange → S → Type 0
   AnswersInitialize old [] new = new ≡ old
   AnswersInitialize old (x ∷ xs) new =
-      (mid : S) × IsSomeAnd x.letter (λ m. MatchBool (is_initialize m) (Initializes old m x.said mid) (mid ≡ old)) × AnswersInitialize mid xs new
+      (mid : S) × IsSomeAnd x.came (λ m.
+      MatchBool (is_initialize m) (Initializes old m x.sent mid) (mid ≡ old))
+      × AnswersInitialize mid xs new
 
   -- Nothing but errors is sent. Or errors first, then the result of `initialize`, and the session goes on from there.
   abbrev pub GivesPayloads : S → S → List Exchange → Stop → Type 0
@@ -214,13 +234,15 @@ module _ {S P : Type 0} (may : Stated S P) where
       × (start : S) × AnswersInitialize first early start × GoesOn start last rest stop)
 
   -- the laws of a session, in whose end these requests are held
-  pub record KeepsLaws (first last : S) (held : Pending (Unit {0})) (exchanges : List Exchange) (stop : Stop) (null : Option Message) (answer : SessionAnswer)
+  pub record KeepsLaws (first last : S) (held : Pending (Unit {0})) (exchanges : List Exchange)
+      (stop : Stop) (shutdown_reply : Option Message) (answer : SessionAnswer)
       : Type 0 where
     -- under no id are there ever more replies than requests that came before: no reply goes to anything else, and none comes twice
     pub never_more : (id : Id) → NeverMore id exchanges
-    pub once : IsWhole stop → (id : Id) → how_many (is_request_under id) (letters_of exchanges) ≡ 1 → OnceOrEnded id exchanges stop held answer
-    -- before `initialized` nothing is sent but one reply for each request, and nothing follows the null
-    pub order : KeepsOrder exchanges stop null answer
+    pub once : IsWhole stop → (id : Id) → how_many (is_request_under id) (messages_of exchanges) ≡ 1
+        → OnceOrEnded id exchanges stop held answer
+    -- before `initialized` nothing is sent but one reply for each request, and nothing follows the reply to `shutdown`
+    pub order : KeepsOrder exchanges stop shutdown_reply answer
     -- Each reply of the client comes to the server with the payload of its own request, once, from the server's first state to the one
     -- after the last exchange. That is its last state, unless an allocation failed at the message that came next.
     pub after : S
@@ -229,5 +251,6 @@ module _ {S P : Type 0} (may : Stated S P) where
 
   -- a session of a server, which keeps the laws
   abbrev pub LawfulSession : S → S → SessionPart
-  LawfulSession first last exchanges stop null answer =
-      (session : ServerSession may first last exchanges stop null answer) × KeepsLaws first last (held_by may session) exchanges stop null answer
+  LawfulSession first last exchanges stop shutdown_reply answer =
+      (session : ServerSession may first last exchanges stop shutdown_reply answer)
+      × KeepsLaws first last (held_by may session) exchanges stop shutdown_reply answer

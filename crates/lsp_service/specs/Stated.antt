@@ -3,13 +3,13 @@ use Rattle.serde_json.specs.Data.{Data}
 use Rattle.std.specs.Prelude.{◌≡◌, ℕ, List, [], Result}
 use Rattle.lsp_message.specs.Id.{Id}
 use Rattle.lsp_message.specs.Message.{ErrorObject}
-use Rattle.lsp_service.specs.Desk.{Act}
+use Rattle.lsp_service.specs.Acts.{Act}
 use Rattle.lsp_service.specs.declared.server.Server.{Ghosts}
 
 -- what `Server` and `WokenServer` ask a server to state
 pub record Stated (S P : Type 0) : Type 1 where
   pub initializes : S → Data → Result Data ErrorObject → S → Type 0
-  pub begins : S → List (Act P) → S → Type 0
+  pub at_initialized : S → List (Act P) → S → Type 0
   pub requested : S → Id → List ℕ → Data → List (Act P) → S → Type 0
   pub notified : S → List ℕ → Data → List (Act P) → S → Type 0
   pub replied : S → P → Result Data ErrorObject → List (Act P) → S → Type 0
@@ -21,7 +21,7 @@ module _ {S P : Type 0} where
   abbrev pub with_wakes : Ghosts S P → (S → List (Act P) → S → Type 0) → Stated S P
   with_wakes may wakes = record {
     initializes = may.initializes;
-    begins = may.begins;
+    at_initialized = may.at_initialized;
     requested = may.requested;
     notified = may.notified;
     replied = may.replied;

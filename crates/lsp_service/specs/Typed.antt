@@ -5,12 +5,14 @@ use Rattle.serde_json.specs.Data.{Data}
 use Rattle.lsp_message.specs.Converted.{IsOutcomeOf}
 use Rattle.lsp_message.specs.View.{error_view}
 use Rattle.lsp_message.specs.declared.msg.ResponseError.{ResponseError}
-use Rattle.lsp_service.specs.Desk.{Act}
+use Rattle.lsp_service.specs.Acts.{Act}
 use Rattle.lsp_service.specs.View.{act_view}
 use Rattle.lsp_service.specs.declared.server.Act as rust
 
 -- the act with a tree that the value is written as, or the error -32603 and no act
-abbrev pub Carries : {P : Type 0} → (Option (List Event) → Option (List Event) → Type 0) → (Data → Act P)
+abbrev pub Carries : {P : Type 0} → (Option (List Event) → Option (List Event) → Type 0)
+    → (Data → Act P)
     → Result (rust.Act P) ResponseError → Type 0
-Carries writes carrying (Ok act) = (tree : Data) × IsOutcomeOf writes (Ok tree) × (act_view act ≡ carrying tree)
+Carries writes carrying (Ok act) = (tree : Data) × IsOutcomeOf writes (Ok tree)
+    × (act_view act ≡ carrying tree)
 Carries writes carrying (Err e) = IsOutcomeOf writes (Err (error_view e))

@@ -10,14 +10,14 @@ ghost use Rattle.lsp_session.specs.SessionBytes.{Gives};
 ghost use Rattle.lsp_session.specs.SessionRun.{Runs};
 ghost use Rattle.lsp_session.specs.declared.loops.handler.SessionEnd.{SessionEnd as EndOfSession};
 ghost use Rattle.lsp_session.specs.declared.loops.stream_session.SessionFault.{SessionFault as FaultOfSession};
-ghost use Rattle.lsp_service.specs.Desk.{Desk, empty_desk};
+ghost use Rattle.lsp_service.specs.Acts.{Queues, empty_queues};
 ghost use Rattle.lsp_service.specs.Law.{is_reply_under, how_many, held_under, OnceOrEnded, KeepsLaws, LawfulSession};
-ghost use Rattle.lsp_service.specs.Turning.{ActsAt};
+ghost use Rattle.lsp_service.specs.SentByActs.{ActsAt};
 ghost use Rattle.lsp_service.specs.Stated.{unwoken, with_wakes};
-ghost use Rattle.lsp_service.specs.QueuedServer.{at_desk, at_woken_desk, ServerSession, WorksGiving, held_by};
+ghost use Rattle.lsp_service.specs.QueuedServer.{with_queues, woken_with_queues, ServerSession, WorksSending, held_by};
 ghost use Rattle.lsp_service.specs.View.{seen};
-ghost use Rattle.lsp_service.specs.declared.desk.QueuedServer.{QueuedServer as DeskOf};
-ghost use Rattle.lsp_service.specs.declared.desk.WokenQueuedServer.{WokenQueuedServer as WokenDeskOf};
+ghost use Rattle.lsp_service.specs.declared.queued_server.QueuedServer.{QueuedServer as QueuedOf};
+ghost use Rattle.lsp_service.specs.declared.queued_server.WokenQueuedServer.{WokenQueuedServer as WokenQueuedOf};
 
 use crate::server::{Server, WokenServer};
 use lsp_session::{Inbox, Listener, Outbox};
@@ -29,17 +29,21 @@ use lsp_session::{Inbox, Listener, Outbox};
 /// In each beginning of the session the replies under an id are no more than the client's requests under it: no reply goes to
 /// anything else, and none comes twice. A request whose id the client used once has exactly one reply. Or it has none: it is still
 /// held, or the session ended at it, since the lifecycle does not allow it, and the fault shows it. Up to `initialized` nothing is
-/// sent but one reply for each request. Nothing follows the null of `shutdown`. Where the outbox refused a message, or an allocation
+/// sent but one reply for each request. Nothing follows the reply to `shutdown`. If the outbox refused a message, or an allocation
 /// failed, a request may be left without a reply; the rest holds there too.
 ///
 /// Each reply of the client comes to the server with the payload of its own request, once: what was kept with the request that
 /// was sent under its id. A reply under an id that is not pending reaches nobody. This is told of the server's states, from the first
 /// to the last (unless an allocation failed), each by what the server stated.
 pub fn server_keeps_laws<S: Server>()
-    ensures exchanges { (first last : S) (exchanges : List Exchange) (stop : Stop) (null : Option Message) (answer : SessionAnswer)
-        → (session : ServerSession (unwoken S.Server) first last exchanges stop null answer)
-        → KeepsLaws (unwoken S.Server) first last (held_by (unwoken S.Server) session) exchanges stop null answer }
-    ensures bytes { (limit : ℕ) (first last : S) (text : List ℕ) (left before after : Option (List ℕ)) (answer : Result EndOfSession FaultOfSession)
+    ensures exchanges { (first last : S) (exchanges : List Exchange) (stop : Stop)
+        (shutdown_reply : Option Message) (answer : SessionAnswer)
+        → (session : ServerSession (unwoken S.Server) first last exchanges stop shutdown_reply
+        answer)
+        → KeepsLaws (unwoken S.Server) first last (held_by (unwoken S.Server) session) exchanges
+        stop shutdown_reply answer }
+    ensures bytes { (limit : ℕ) (first last : S) (text : List ℕ)
+        (left before after : Option (List ℕ)) (answer : Result EndOfSession FaultOfSession)
         → Gives limit (ServerSession (unwoken S.Server) first last) text left before after answer
         → Gives limit (LawfulSession (unwoken S.Server) first last) text left before after answer }
 {}
@@ -47,81 +51,128 @@ pub fn server_keeps_laws<S: Server>()
 /// `server_keeps_laws` of a session with a listener: a fact of each session that was run by `session_with`. With a listener that passes
 /// over nothing, such as `EndSession`, it is one in which each frame is a message (`nothing_passed`).
 pub fn server_that_asks_keeps_laws<S: Server, L: Listener>()
-    ensures bytes { (limit : ℕ) (first last : S) (text : List ℕ) (left : Option (List ℕ)) (heard heard_last : L) (before after : Option (List ℕ)) (answer : Result EndOfSession FaultOfSession)
-        → GivesAndTells L.hears limit (ServerSession (unwoken S.Server) first last) text left heard heard_last before after answer
-        → GivesAndTells L.hears limit (LawfulSession (unwoken S.Server) first last) text left heard heard_last before after answer }
-    ensures nothing_passed { (limit : ℕ) (first last : S) (text : List ℕ) (left : Option (List ℕ)) (heard heard_last : L) (before after : Option (List ℕ)) (answer : Result EndOfSession FaultOfSession)
-        → PassesNothingOver L.hears → GivesAndTells L.hears limit (ServerSession (unwoken S.Server) first last) text left heard heard_last before after answer
+    ensures bytes { (limit : ℕ) (first last : S) (text : List ℕ) (left : Option (List ℕ))
+        (heard heard_last : L) (before after : Option (List ℕ))
+        (answer : Result EndOfSession FaultOfSession)
+        → GivesAndTells L.hears limit (ServerSession (unwoken S.Server) first last) text left heard
+        heard_last before after answer
+        → GivesAndTells L.hears limit (LawfulSession (unwoken S.Server) first last) text left heard
+        heard_last before after answer }
+    ensures nothing_passed { (limit : ℕ) (first last : S) (text : List ℕ) (left : Option (List ℕ))
+        (heard heard_last : L) (before after : Option (List ℕ))
+        (answer : Result EndOfSession FaultOfSession)
+        → PassesNothingOver L.hears
+        → GivesAndTells L.hears limit (ServerSession (unwoken S.Server) first last) text left heard
+        heard_last before after answer
         → Gives limit (ServerSession (unwoken S.Server) first last) text left before after answer }
 {}
 
-/// `server_keeps_laws` of a session over boxes: a fact of each session of a `QueuedServer` (`desk_runs_its_server`) that was run by
+/// `server_keeps_laws` of a session over boxes: a fact of each session of a `QueuedServer` (`queued_server_runs_its_server`) that was run by
 /// `serve_service`.
 pub fn server_over_boxes_keeps_laws<I: Inbox, O: Outbox, S: Server>()
     ensures { (first last : S) (before after : I × O) (answer : SessionAnswer)
         → Runs I.receives O.sends (ServerSession (unwoken S.Server) first last) before answer after
-        → Runs I.receives O.sends (LawfulSession (unwoken S.Server) first last) before answer after }
+        → Runs I.receives O.sends (LawfulSession (unwoken S.Server) first last) before answer
+        after }
 {}
 
-/// `server_keeps_laws` of a server that is woken: a fact of each session of a `WokenQueuedServer` (`woken_desk_runs_its_server`). At each
+/// `server_keeps_laws` of a server that is woken: a fact of each session of a `WokenQueuedServer` (`woken_queued_server_runs_its_server`). At each
 /// wake that was told to it the server did what it states of one.
 pub fn woken_server_keeps_laws<I: Inbox, O: Outbox, S: WokenServer>()
-    ensures exchanges { (first last : S) (exchanges : List Exchange) (stop : Stop) (null : Option Message) (answer : SessionAnswer)
-        → (session : ServerSession (with_wakes S.Server S.wakes) first last exchanges stop null answer)
-        → KeepsLaws (with_wakes S.Server S.wakes) first last (held_by (with_wakes S.Server S.wakes) session) exchanges stop null answer }
+    ensures exchanges { (first last : S) (exchanges : List Exchange) (stop : Stop)
+        (shutdown_reply : Option Message) (answer : SessionAnswer)
+        → (session : ServerSession (with_wakes S.Server S.wakes) first last exchanges stop
+        shutdown_reply answer)
+        → KeepsLaws (with_wakes S.Server S.wakes) first last
+        (held_by (with_wakes S.Server S.wakes) session) exchanges stop shutdown_reply answer }
     ensures boxes { (first last : S) (before after : I × O) (answer : SessionAnswer)
-        → Runs I.receives O.sends (ServerSession (with_wakes S.Server S.wakes) first last) before answer after
-        → Runs I.receives O.sends (LawfulSession (with_wakes S.Server S.wakes) first last) before answer after }
+        → Runs I.receives O.sends (ServerSession (with_wakes S.Server S.wakes) first last) before
+        answer after
+        → Runs I.receives O.sends (LawfulSession (with_wakes S.Server S.wakes) first last) before
+        answer after }
 {}
 
-/// A session of a server at its desk is one of the server: a fact of each session of a `QueuedServer`, which `serve_service` and
-/// `serve_line` run over boxes and `session_of_service` over bytes. The desk is empty at first (`QueuedServer::new`), and
+/// A session of a server beside its queues is one of the server: a fact of each session of a `QueuedServer`, which `serve_service` and
+/// `serve_line` run over boxes and `session_of_service` over bytes. The queues are empty at first (`QueuedServer::new`), and
 /// `QueuedServer::into_server` gives the server back.
-pub fn desk_runs_its_server<I: Inbox, O: Outbox, S: Server, L: Listener>()
-    ensures exchanges { (old new : DeskOf S S.Payload) (server : S) (exchanges : List Exchange) (stop : Stop) (null : Option Message) (answer : SessionAnswer)
-        → seen old ≡ (server, empty_desk) → SessionOut (at_desk (unwoken S.Server)) old new exchanges stop null answer
-        → ServerSession (unwoken S.Server) server new.server exchanges stop null answer }
-    ensures boxes { (old new : DeskOf S S.Payload) (server : S) (before after : I × O) (answer : SessionAnswer)
-        → seen old ≡ (server, empty_desk) → Runs I.receives O.sends (SessionOut (at_desk (unwoken S.Server)) old new) before answer after
-        → Runs I.receives O.sends (ServerSession (unwoken S.Server) server new.server) before answer after }
-    ensures bytes { (old new : DeskOf S S.Payload) (server : S) (limit : ℕ) (text : List ℕ) (left : Option (List ℕ)) (heard heard_last : L) (before after : Option (List ℕ)) (answer : Result EndOfSession FaultOfSession)
-        → seen old ≡ (server, empty_desk)
-        → GivesAndTells L.hears limit (SessionOut (at_desk (unwoken S.Server)) old new) text left heard heard_last before after answer
-        → GivesAndTells L.hears limit (ServerSession (unwoken S.Server) server new.server) text left heard heard_last before after answer }
+pub fn queued_server_runs_its_server<I: Inbox, O: Outbox, S: Server, L: Listener>()
+    ensures exchanges { (old new : QueuedOf S S.Payload) (server : S) (exchanges : List Exchange)
+        (stop : Stop) (shutdown_reply : Option Message) (answer : SessionAnswer)
+        → seen old ≡ (server, empty_queues)
+        → SessionOut (with_queues (unwoken S.Server)) old new exchanges stop shutdown_reply answer
+        → ServerSession (unwoken S.Server) server new.server exchanges stop shutdown_reply answer }
+    ensures boxes { (old new : QueuedOf S S.Payload) (server : S) (before after : I
+        × O) (answer : SessionAnswer)
+        → seen old ≡ (server, empty_queues)
+        → Runs I.receives O.sends (SessionOut (with_queues (unwoken S.Server)) old new) before
+        answer after
+        → Runs I.receives O.sends (ServerSession (unwoken S.Server) server new.server) before answer
+        after }
+    ensures bytes { (old new : QueuedOf S S.Payload) (server : S) (limit : ℕ) (text : List ℕ)
+        (left : Option (List ℕ)) (heard heard_last : L) (before after : Option (List ℕ))
+        (answer : Result EndOfSession FaultOfSession)
+        → seen old ≡ (server, empty_queues)
+        → GivesAndTells L.hears limit (SessionOut (with_queues (unwoken S.Server)) old new) text
+        left heard heard_last before after answer
+        → GivesAndTells L.hears limit (ServerSession (unwoken S.Server) server new.server) text left
+        heard heard_last before after answer }
 {}
 
-/// `desk_runs_its_server` of a server that is woken: a fact of each session of a `WokenQueuedServer`. At a content part that the listener
+/// `queued_server_runs_its_server` of a server that is woken: a fact of each session of a `WokenQueuedServer`. At a content part that the listener
 /// passes over the server is woken, and what it does then is what it states of a wake. In bytes the session keeps the laws too.
-pub fn woken_desk_runs_its_server<I: Inbox, O: Outbox, S: WokenServer, L: Listener>()
-    ensures exchanges { (old new : WokenDeskOf S S.Payload) (server : S) (exchanges : List Exchange) (stop : Stop) (null : Option Message) (answer : SessionAnswer)
-        → seen old.queued ≡ (server, empty_desk) → SessionOut (at_woken_desk (with_wakes S.Server S.wakes)) old new exchanges stop null answer
-        → ServerSession (with_wakes S.Server S.wakes) server new.queued.server exchanges stop null answer }
-    ensures boxes { (old new : WokenDeskOf S S.Payload) (server : S) (before after : I × O) (answer : SessionAnswer)
-        → seen old.queued ≡ (server, empty_desk) → Runs I.receives O.sends (SessionOut (at_woken_desk (with_wakes S.Server S.wakes)) old new) before answer after
-        → Runs I.receives O.sends (ServerSession (with_wakes S.Server S.wakes) server new.queued.server) before answer after }
-    ensures bytes { (old new : WokenDeskOf S S.Payload) (server : S) (limit : ℕ) (text : List ℕ) (left : Option (List ℕ)) (heard heard_last : L) (before after : Option (List ℕ)) (answer : Result EndOfSession FaultOfSession)
-        → seen old.queued ≡ (server, empty_desk)
-        → GivesAndTells L.hears limit (SessionOut (at_woken_desk (with_wakes S.Server S.wakes)) old new) text left heard heard_last before after answer
-        → GivesAndTells L.hears limit (LawfulSession (with_wakes S.Server S.wakes) server new.queued.server) text left heard heard_last before after answer }
+pub fn woken_queued_server_runs_its_server<I: Inbox, O: Outbox, S: WokenServer, L: Listener>()
+    ensures exchanges { (old new : WokenQueuedOf S S.Payload) (server : S)
+        (exchanges : List Exchange) (stop : Stop) (shutdown_reply : Option Message)
+        (answer : SessionAnswer)
+        → seen old.queued ≡ (server, empty_queues)
+        → SessionOut (woken_with_queues (with_wakes S.Server S.wakes)) old new exchanges stop
+        shutdown_reply answer
+        → ServerSession (with_wakes S.Server S.wakes) server new.queued.server exchanges stop
+        shutdown_reply answer }
+    ensures boxes { (old new : WokenQueuedOf S S.Payload) (server : S) (before after : I
+        × O) (answer : SessionAnswer)
+        → seen old.queued ≡ (server, empty_queues)
+        → Runs I.receives O.sends
+        (SessionOut (woken_with_queues (with_wakes S.Server S.wakes)) old new) before answer
+        after
+        → Runs I.receives O.sends
+        (ServerSession (with_wakes S.Server S.wakes) server new.queued.server) before answer
+        after }
+    ensures bytes { (old new : WokenQueuedOf S S.Payload) (server : S) (limit : ℕ) (text : List ℕ)
+        (left : Option (List ℕ)) (heard heard_last : L) (before after : Option (List ℕ))
+        (answer : Result EndOfSession FaultOfSession)
+        → seen old.queued ≡ (server, empty_queues)
+        → GivesAndTells L.hears limit
+        (SessionOut (woken_with_queues (with_wakes S.Server S.wakes)) old new) text left heard
+        heard_last before after answer
+        → GivesAndTells L.hears limit
+        (LawfulSession (with_wakes S.Server S.wakes) server new.queued.server) text left heard
+        heard_last before after answer }
 {}
 
 /// What a server stated of a message is what it did, and what its acts send is all that is sent, in their order: each
 /// notification, each request for which an id is left, the answer of each request that is held, and each cancellation of a request
 /// of its own that has no reply yet. At a wake it does nothing.
-pub fn turn_sends_its_acts<S: Server>()
-    ensures { (old : S × Desk S.Payload) (letter : Option Message) (said : List Message) (new : S × Desk S.Payload)
-        → WorksGiving (unwoken S.Server) old letter said new → ActsAt (unwoken S.Server) old letter said new }
+pub fn call_sends_its_acts<S: Server>()
+    ensures { (old : S × Queues S.Payload) (came : Option Message) (sent : List Message) (new : S
+        × Queues S.Payload)
+        → WorksSending (unwoken S.Server) old came sent new
+        → ActsAt (unwoken S.Server) old came sent new }
 {}
 
-/// `turn_sends_its_acts` of a server that is woken: what it stated of a wake is what it did at one, and what its acts send is all that is sent.
-pub fn woken_turn_sends_its_acts<S: WokenServer>()
-    ensures { (old : S × Desk S.Payload) (letter : Option Message) (said : List Message) (new : S × Desk S.Payload)
-        → WorksGiving (with_wakes S.Server S.wakes) old letter said new → ActsAt (with_wakes S.Server S.wakes) old letter said new }
+/// `call_sends_its_acts` of a server that is woken: what it stated of a wake is what it did at one, and what its acts send is all that is sent.
+pub fn woken_call_sends_its_acts<S: WokenServer>()
+    ensures { (old : S × Queues S.Payload) (came : Option Message) (sent : List Message) (new : S
+        × Queues S.Payload)
+        → WorksSending (with_wakes S.Server S.wakes) old came sent new
+        → ActsAt (with_wakes S.Server S.wakes) old came sent new }
 {}
 
 /// Of a client that is gone, a request whose id was used once has its reply, or is still held: a fact of each session that
 /// keeps the laws.
 pub fn lost_client_is_owed_what_is_held()
-    ensures { (id : Id) (exchanges : List Exchange) (stop : Stop) (held : Pending (Unit {0})) (fault : ProtocolFault) → is_disconnected fault ≡ true
-        → OnceOrEnded id exchanges stop held (Err fault) → (how_many (is_reply_under id) (sends_of exchanges) ≡ 1) ⊎ (held_under id held ≡ 1) }
+    ensures { (id : Id) (exchanges : List Exchange) (stop : Stop) (held : Pending (Unit {0}))
+        (fault : ProtocolFault) → is_disconnected fault ≡ true
+        → OnceOrEnded id exchanges stop held (Err fault)
+        → (how_many (is_reply_under id) (sends_of exchanges) ≡ 1) ⊎ (held_under id held ≡ 1) }
 {}

@@ -2,7 +2,7 @@
 ghost use Rattle.serde_json.specs.View.{view};
 ghost use Rattle.std.specs.Prelude.{map, List, IfOk, string_bytes};
 ghost use Rattle.lsp_message.specs.View.{outcome_view};
-ghost use Rattle.lsp_service.specs.Desk.{Act as PlainAct};
+ghost use Rattle.lsp_service.specs.Acts.{Act as PlainAct};
 ghost use Rattle.lsp_service.specs.View.{act_view};
 
 use lsp_message::{Notification, Request, RequestId, ResponseError};
@@ -15,11 +15,11 @@ pub enum Act<P> {
     /// It sends a notification.
     Tell(Notification),
     /// It sends a request of its own with this method and these params, and keeps this for the reply. The id is the next of
-    /// 0, 1, 2, .. 2147483647. Where all of them were given out nothing is sent, and the server takes back what it was to keep.
+    /// 0, 1, 2, .. 2147483647. If all of them were given out nothing is sent, and the server takes back what it was to keep.
     Ask(String, Value, P),
-    /// It answers the client's request with this id, now or later. Where no request is held under it, nothing is sent.
+    /// It answers the client's request with this id, now or later. If no request is held under it, nothing is sent.
     Reply(RequestId, Result<Value, ResponseError>),
-    /// It cancels its own request with this id: the first `Ask` of a session has the id 0, the next 1, and so on. Where the
+    /// It cancels its own request with this id: the first `Ask` of a session has the id 0, the next 1, and so on. If the
     /// reply came, nothing is sent. Else the reply still comes, with what was kept for it (LSP 3.17, "Cancellation Support").
     Cancel(i32),
 }
@@ -27,7 +27,7 @@ pub enum Act<P> {
 /// A server that speaks. What each method gives are acts, which are done in order when it returns. An `Err` is a failed
 /// allocation, and ends the session; nothing is sent for that message. One that waits for more than messages is a `WokenServer` too.
 ///
-/// The ghost members say what a server promises. Where an `impl` leaves one out, it promises nothing there: the method may do anything.
+/// The ghost members say what a server promises. If an `impl` leaves one out, it promises nothing there: the method may do anything.
 pub trait Server {
     ghost use Rattle.serde_json.specs.Data.{Data};
     ghost use Rattle.std.specs.Prelude.{ℕ, Result, ⊤};
@@ -41,7 +41,7 @@ pub trait Server {
     ghost initializes: { Self → Data → Result Data ErrorObject → Self → Type 0 } = { λ _ _ _ _. ⊤ };
 
     /// At `initialized` it may do this, and change so.
-    ghost begins: { Self → List (PlainAct Self.Payload) → Self → Type 0 } = { λ _ _ _. ⊤ };
+    ghost at_initialized: { Self → List (PlainAct Self.Payload) → Self → Type 0 } = { λ _ _ _. ⊤ };
 
     /// At a request with this id, method and params it may do this, and change so.
     ghost requested: { Self → Id → List ℕ → Data → List (PlainAct Self.Payload) → Self → Type 0 } = { λ _ _ _ _ _ _. ⊤ };
@@ -50,7 +50,8 @@ pub trait Server {
     ghost notified: { Self → List ℕ → Data → List (PlainAct Self.Payload) → Self → Type 0 } = { λ _ _ _ _ _. ⊤ };
 
     /// At a reply to a request of its own it may do this, and change so.
-    ghost replied: { Self → Self.Payload → Result Data ErrorObject → List (PlainAct Self.Payload) → Self → Type 0 } = { λ _ _ _ _ _. ⊤ };
+    ghost replied: { Self → Self.Payload → Result Data ErrorObject → List (PlainAct Self.Payload)
+        → Self → Type 0 } = { λ _ _ _ _ _. ⊤ };
 
     /// It may take this back, and change so.
     ghost takes_back: { Self → Self.Payload → Self → Type 0 } = { λ _ _ _. ⊤ };
@@ -58,16 +59,20 @@ pub trait Server {
     /// What comes of `initialize` (LSP 3.17, "Initialize Request"): the result, with the capabilities, the server's name and
     /// version; or an error, which is sent as the reply, and the session goes on waiting for another `initialize`.
     fn initialize(&mut self, params: Value) -> Result<Result<Value, ResponseError>, AllocError>
-        ensures { IfOk result (λ outcome. initializes self.old (view params) (outcome_view outcome) self.new) };
+        ensures { IfOk result (λ outcome.
+            initializes self.old (view params) (outcome_view outcome) self.new) };
 
     /// What it does first: `initialized` came, and from now on it may send.
     fn initialized(&mut self) -> Result<Vec<Act<Self::Payload>>, AllocError>
-        ensures { IfOk result (λ acts. begins self.old (map act_view acts.items) self.new) };
+        ensures { IfOk result (λ acts.
+            at_initialized self.old (map act_view acts.items) self.new) };
 
     /// Is given a request to keep, which is held until `Act::Reply` answers it, now or later. A client that uses an id again
     /// while it is held gets one reply under it.
     fn request(&mut self, request: Request) -> Result<Vec<Act<Self::Payload>>, AllocError>
-        ensures { IfOk result (λ acts. requested self.old request.id (string_bytes request.method) (view request.params) (map act_view acts.items) self.new) };
+        ensures { IfOk result (λ acts.
+            requested self.old request.id (string_bytes request.method) (view request.params)
+            (map act_view acts.items) self.new) };
 
     /// Takes notice of a notification. At `$/cancelRequest` it may answer the request that is cancelled; where it leaves it,
     /// the reply is the error -32800, `canceled by client` (LSP 3.17, "Cancellation Support").
@@ -75,7 +80,9 @@ pub trait Server {
         &mut self,
         notification: Notification,
     ) -> Result<Vec<Act<Self::Payload>>, AllocError>
-        ensures { IfOk result (λ acts. notified self.old (string_bytes notification.method) (view notification.params) (map act_view acts.items) self.new) };
+        ensures { IfOk result (λ acts.
+            notified self.old (string_bytes notification.method) (view notification.params)
+            (map act_view acts.items) self.new) };
 
     /// Takes the reply to a request of its own, with what it kept for it.
     fn response(
@@ -83,7 +90,8 @@ pub trait Server {
         payload: Self::Payload,
         outcome: Result<Value, ResponseError>,
     ) -> Result<Vec<Act<Self::Payload>>, AllocError>
-        ensures { IfOk result (λ acts. replied self.old «payload» (outcome_view outcome) (map act_view acts.items) self.new) };
+        ensures { IfOk result (λ acts.
+            replied self.old «payload» (outcome_view outcome) (map act_view acts.items) self.new) };
 
     /// Takes back what an `Act::Ask` was to keep, since no id was left for the request, and it was not sent. It comes only after
     /// 2147483648 requests of the session; all else goes on.
@@ -91,11 +99,11 @@ pub trait Server {
         ensures { IfOk result (λ _. takes_back self.old «payload» self.new) };
 }
 
-/// A server that is woken: it waits for more than the messages of its client. At its desk, a `WokenQueuedServer`, it is woken. Each
+/// A server that is woken: it waits for more than the messages of its client. Beside its queues, as a `WokenQueuedServer`, it is woken. Each
 /// one says what it does at a wake: `wakes` has no default.
 pub trait WokenServer: Server {
     ghost use Rattle.std.specs.Prelude.{List};
-    ghost use Rattle.lsp_service.specs.Desk.{Act as PlainAct};
+    ghost use Rattle.lsp_service.specs.Acts.{Act as PlainAct};
 
     /// At a wake it may do this, and change so.
     ghost wakes: { Self → List (PlainAct Self.Payload) → Self → Type 0 };

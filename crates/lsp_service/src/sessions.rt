@@ -4,7 +4,7 @@ ghost use Rattle.lsp_session.specs.PassingBytes.{GivesAndTells};
 ghost use Rattle.lsp_service.specs.Stated.{unwoken};
 ghost use Rattle.lsp_service.specs.QueuedServer.{ServerSession};
 
-use crate::desk::QueuedServer;
+use crate::queued_server::QueuedServer;
 use crate::server::Server;
 use lsp_session::{Listener, SessionEnd, SessionFault, session_of_service};
 use std::alloc::Global;
@@ -19,10 +19,10 @@ use std::io::{BufRead, Write};
 /// The lifecycle, the faults, the limit, and what is left in the reader are those of `session_of_service`. So is what comes of a content
 /// part that is no message: the listener `bad_bodies` is asked whether to read on, and with `EndSession` such a part ends the session. The
 /// server is told nothing of it. The answer is
-/// - `Ok`, where the session ended by `exit`, or from `initialized` on by the end of the input,
+/// - `Ok`, if the session ended by `exit`, or from `initialized` on by the end of the input,
 /// - `Err` of what a session over a reader and a writer can fail with: see `SessionFault`.
 ///
-/// A server that is woken (`WokenServer`) is woken at each such content part, if you run its desk: `session_of_service` of a
+/// A server that is woken (`WokenServer`) is woken at each such content part, if you run it beside its queues: `session_of_service` of a
 /// `WokenQueuedServer`.
 ///
 /// `laws::server_keeps_laws` says what holds of each session: under no id does the client get more replies than it sent requests.
@@ -35,7 +35,8 @@ pub fn session_with<R: BufRead, W: Write, S: Server, L: Listener>(
     limit: u64,
 ) -> (S, Result<SessionEnd, SessionFault>)
     ensures { IfSome (R.remaining reader.old) (λ text.
-        GivesAndTells L.hears limit (ServerSession (unwoken S.Server) server result.0) text (R.remaining reader.new)
+        GivesAndTells L.hears limit (ServerSession (unwoken S.Server) server result.0) text
+        (R.remaining reader.new)
         bad_bodies.old bad_bodies.new (W.contents writer.old) (W.contents writer.new) result.1) }
 {
     let mut queued = QueuedServer::new(alloc, server);

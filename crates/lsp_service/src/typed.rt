@@ -4,7 +4,8 @@ ghost use Rattle.serde_json.specs.Data.{Data};
 ghost use Rattle.lsp_message.specs.Converted.{IsOutcomeOf, method_not_found};
 ghost use Rattle.lsp_message.specs.ErrorCode.{number_of};
 ghost use Rattle.lsp_message.specs.Message.{ErrorObject};
-ghost use Rattle.lsp_service.specs.Desk.{asks, replies, tells};
+ghost use Rattle.lsp_service.specs.Answering.{Notifies};
+ghost use Rattle.lsp_service.specs.Acts.{asks, replies};
 ghost use Rattle.lsp_service.specs.Typed.{Carries};
 ghost use Rattle.lsp_service.specs.View.{act_view};
 
@@ -14,23 +15,19 @@ use serde::Serialize;
 use std::alloc::{AllocError, Global};
 
 impl<P: Drop> Act<P> {
-    /// A notification with params of a type of your own. Params that nest more than 127 levels, or whose type refuses to be
-    /// written, give no act: the error -32603 says why, and the session goes on.
+    /// A notification with params of a type of your own. Where they nest more than 127 levels, or their type refuses to be written,
+    /// the act writes an error into the client's log in its place (`window/logMessage`): the method, and why it was not sent.
     ///
-    /// `Err(AllocError)` means that an allocation failed.
-    pub fn tell<T: Serialize>(
-        alloc: Global,
-        method: &str,
-        params: &T,
-    ) -> Result<Result<Act<P>, ResponseError>, AllocError>
-        ensures { IfOk result (λ told. Carries (T.writes params.now) (tells method.now) told) }
+    /// `Err` means that an allocation failed. Which values can't be written, no contract says.
+    pub fn tell<T: Serialize>(alloc: Global, method: &str, params: &T) -> Result<Act<P>, AllocError>
+        ensures { IfOk result (λ act. Notifies (T.writes params.now) method.now (act_view act)) }
     {
         match write_as(alloc, params)? {
             Ok(params) => {
                 let method = String::from_str(alloc, method)?;
-                Ok(Ok(Act::Tell(Notification { method, params })))
+                Ok(Act::Tell(Notification { method, params }))
             }
-            Err(error) => Ok(Err(error)),
+            Err(error) => Act::log_error(alloc, method, " was not sent: ", error.message.as_str()),
         }
     }
 
@@ -44,7 +41,8 @@ impl<P: Drop> Act<P> {
         params: &T,
         payload: P,
     ) -> Result<Result<Act<P>, ResponseError>, AllocError>
-        ensures { IfOk result (λ asked. Carries (T.writes params.now) (λ tree. asks method.now tree «payload») asked) }
+        ensures { IfOk result (λ asked.
+            Carries (T.writes params.now) (λ tree. asks method.now tree «payload») asked) }
     {
         match write_as(alloc, params)? {
             Ok(params) => {
@@ -82,7 +80,8 @@ impl<P: Drop> Act<P> {
         message: &str,
     ) -> Result<Act<P>, AllocError>
         ensures { IfOk result (λ act. act_view act
-            ≡ replies id (Err (record { code = number_of code; message = message.now; details = None }))) }
+            ≡ replies id (Err
+            (record { code = number_of code; message = message.now; details = None }))) }
     {
         let error = ResponseError::new(alloc, code, message)?;
         Ok(Act::Reply(id, Err(error)))

@@ -1,9 +1,9 @@
--- Over a line that keeps an account, a session takes its turns: what it says for a message stands before what it reads next.
+-- Over a line that keeps an account, a session acts in order: what it sends for a message stands before what it reads next.
 use Rattle.lsp_message.specs.Message.{Message}
-use Rattle.lsp_session.specs.Account.{Act, gave, took, sending, KeepsAccount, Awaited, IsTurnOf, AreTurnsOf, EndsInTurn, InTurn}
+use Rattle.lsp_session.specs.Account.{Act, gave, took, sending, KeepsAccount, Awaited, AreActsOfOne, AreActsOf, EndsInOrder, InOrder}
 use Rattle.lsp_session.specs.Boxes.{Sends, Receives, Takes, WaitsFor}
 use Rattle.lsp_session.specs.Event.{Event, message}
-use Rattle.lsp_session.specs.Prompt.{event_of, Meets, BreaksOff, OffersNullFirst, EndsTalk, Talks}
+use Rattle.lsp_session.specs.Prompt.{event_of, Meets, BreaksOff, OffersShutdownReplyFirst, EndsTalk, Talks}
 use Rattle.lsp_session.specs.Session.{Exchange, SessionAnswer, SessionPart, Stop, decided, no_more, timed_out, refused, exhausted, Phase}
 use Rattle.lsp_session.specs.SessionLaws.{Both}
 use Rattle.std.proofs.Common.{◌≡◌, refl, sym, ◌∙◌, ap, inl, inr, ℕ, List, [], ◌∷◌, ◌++◌, length, map, append_assoc, append-nil, Option, Some, None}
@@ -39,30 +39,30 @@ module _ {L : Type 0} (receives listens : Receives L) (sends : Sends L) (account
     gave_all (waits.passed ++ event ∷ []) old new waits.received,
   )
 
-  -- one turn
-  turned : (x : Exchange) (old new : Phase × L) → Meets receives listens sends old x new → (acts : List Act) × IsTurnOf x acts × Grew old.1 new.1 acts
+  -- one exchange
+  turned : (x : Exchange) (old new : Phase × L) → Meets receives listens sends old x new → (acts : List Act) × AreActsOfOne x acts × Grew old.1 new.1 acts
   turned x old new meets =
-      let first = waited (event_of x.letter) old.1 meets.met meets.waited.0 in (
-        first.0 ++ map took x.said,
+      let first = waited (event_of x.came) old.1 meets.met meets.waited.0 in (
+        first.0 ++ map took x.sent,
         record { waits = first.0; awaited = first.1; are = refl },
-        grew_both old.1 meets.met new.1 first.0 (map took x.said) first.2 (took_all x.said meets.met new.1 meets.taken),
+        grew_both old.1 meets.met new.1 first.0 (map took x.sent) first.2 (took_all x.sent meets.met new.1 meets.taken),
       )
 
-  -- turns, one after another
-  turned_all : (xs : List Exchange) (old new : Phase × L) → FoldsTo (Meets receives listens sends) old xs new → (acts : List Act) × AreTurnsOf xs acts × Grew old.1 new.1 acts
+  -- exchanges, one after another
+  turned_all : (xs : List Exchange) (old new : Phase × L) → FoldsTo (Meets receives listens sends) old xs new → (acts : List Act) × AreActsOf xs acts × Grew old.1 new.1 acts
   turned_all [] old new run = ([], refl, grew_none old.1 new.1 (ap (λ (a : Phase × L). a.1) run))
   turned_all (x ∷ xs) old new run =
       let one = turned x old run.0 run.1 in
       let more = turned_all xs run.0 new run.2 in
       (one.0 ++ more.0, (one.0, more.0, one.1, more.1, refl), grew_both old.1 run.0.1 new.1 one.0 more.0 one.2 more.2)
 
-  -- the null, and what comes after it
-  null_turned : (phase : Phase) (null : Message) (stop : Stop) (last : List Exchange) (old new : L) → OffersNullFirst receives listens sends phase null stop last old new
-      → (acts : List Act) × EndsInTurn 0 stop (Some null) last acts × Grew old new acts
-  null_turned phase null stop last old new ends =
+  -- the reply to `shutdown`, and what comes after it
+  shutdown_reply_turned : (phase : Phase) (shutdown_reply : Message) (stop : Stop) (last : List Exchange) (old new : L) → OffersShutdownReplyFirst receives listens sends phase shutdown_reply stop last old new
+      → (acts : List Act) × EndsInOrder 0 stop (Some shutdown_reply) last acts × Grew old new acts
+  shutdown_reply_turned phase shutdown_reply stop last old new ends =
       let first = waited (message ends.ask) old ends.met ends.waited.0 in
       let outcome = ends.offered.outcome in (
-        first.0 ++ sending null outcome ∷ gave ends.event ∷ [],
+        first.0 ++ sending shutdown_reply outcome ∷ gave ends.event ∷ [],
         record {
           ask = ends.ask;
           asks = ends.asks;
@@ -75,53 +75,53 @@ module _ {L : Type 0} (receives listens : Receives L) (sends : Sends L) (account
           stops = ends.stops;
           is = ends.is;
         },
-        grew_both old ends.met new first.0 (sending null outcome ∷ gave ends.event ∷ []) first.2
-            (grew_both ends.met ends.mid new (sending null outcome ∷ []) (gave ends.event ∷ [])
-            (keeps.offering ends.met null outcome ends.mid ends.offered.sent) (keeps.receiving ends.mid ends.event new ends.received)),
+        grew_both old ends.met new first.0 (sending shutdown_reply outcome ∷ gave ends.event ∷ []) first.2
+            (grew_both ends.met ends.mid new (sending shutdown_reply outcome ∷ []) (gave ends.event ∷ [])
+            (keeps.offering ends.met shutdown_reply outcome ends.mid ends.offered.sent) (keeps.receiving ends.mid ends.event new ends.received)),
       )
 
   -- a message is refused
   broken : (phase : Phase) (fault : _) (last : List Exchange) (old new : L) → BreaksOff receives listens sends phase fault last old new
-      → (acts : List Act) × EndsInTurn 0 (refused fault) None last acts × Grew old new acts
+      → (acts : List Act) × EndsInOrder 0 (refused fault) None last acts × Grew old new acts
   broken phase fault last old new ends =
-      let first = waited (event_of ends.letter) old ends.met ends.waited.0 in (
-        first.0 ++ (map took ends.part ++ sending ends.unsaid (Err fault) ∷ []),
-        record { letter = ends.letter; part = ends.part; unsaid = ends.unsaid; is = ends.is; waits = first.0; awaited = first.1; are = refl },
-        grew_both old ends.met new first.0 (map took ends.part ++ sending ends.unsaid (Err fault) ∷ []) first.2
-            (grew_both ends.met ends.mid new (map took ends.part) (sending ends.unsaid (Err fault) ∷ []) (took_all ends.part ends.met ends.mid ends.taken)
-            (keeps.offering ends.mid ends.unsaid (Err fault) new ends.refuses)),
+      let first = waited (event_of ends.came) old ends.met ends.waited.0 in (
+        first.0 ++ (map took ends.part ++ sending ends.not_sent (Err fault) ∷ []),
+        record { came = ends.came; part = ends.part; not_sent = ends.not_sent; is = ends.is; waits = first.0; awaited = first.1; are = refl },
+        grew_both old ends.met new first.0 (map took ends.part ++ sending ends.not_sent (Err fault) ∷ []) first.2
+            (grew_both ends.met ends.mid new (map took ends.part) (sending ends.not_sent (Err fault) ∷ []) (took_all ends.part ends.met ends.mid ends.taken)
+            (keeps.offering ends.mid ends.not_sent (Err fault) new ends.refuses)),
       )
 
   -- the end of a session
-  ended_turn : (phase : Phase) (count : ℕ) (stop : Stop) (null : Option Message) (last : List Exchange) (old new : L) → EndsTalk receives listens sends phase count stop null last old new
-      → (acts : List Act) × EndsInTurn count stop null last acts × Grew old new acts
-  ended_turn phase count stop (Some null) last old new ends = null_turned phase null stop last old new ends
-  ended_turn phase count (refused fault) None last old new ends = broken phase fault last old new ends
-  ended_turn phase count decided None last old new ends = ([], (ends.0, refl), grew_none old new (sym ends.1))
-  ended_turn phase count no_more None last old new ends = elim ends.1 [
+  ended_in_order : (phase : Phase) (count : ℕ) (stop : Stop) (shutdown_reply : Option Message) (last : List Exchange) (old new : L) → EndsTalk receives listens sends phase count stop shutdown_reply last old new
+      → (acts : List Act) × EndsInOrder count stop shutdown_reply last acts × Grew old new acts
+  ended_in_order phase count stop (Some shutdown_reply) last old new ends = shutdown_reply_turned phase shutdown_reply stop last old new ends
+  ended_in_order phase count (refused fault) None last old new ends = broken phase fault last old new ends
+  ended_in_order phase count decided None last old new ends = ([], (ends.0, refl), grew_none old new (sym ends.1))
+  ended_in_order phase count no_more None last old new ends = elim ends.1 [
     | inl closes ↦ (let w = waited Rattle.lsp_session.specs.Event.closed old new closes.0 in (w.0, (ends.0, inl w.1), w.2))
     | inr all ↦ ([], (ends.0, inr (all.0, refl)), grew_none old new (sym all.1))
   ]
-  ended_turn phase count exhausted None last old new ends = let w = waited (event_of ends.1) old new ends.2.0 in (w.0, (ends.0, ends.1, w.1), w.2)
-  ended_turn phase count timed_out None last old new ends = absurd ends
+  ended_in_order phase count exhausted None last old new ends = let w = waited (event_of ends.1) old new ends.2.0 in (w.0, (ends.0, ends.1, w.1), w.2)
+  ended_in_order phase count timed_out None last old new ends = absurd ends
 
-  -- A session's acts are added to the account, and they are those of its exchanges, each in its turn.
-  pub talks_in_turn : (phase : Phase) (P : SessionPart) (old new : L) (answer : SessionAnswer) → Talks receives listens sends phase P old answer new
-      → (acts : List Act) × (account new ≡ account old ++ acts) × Talks receives listens sends phase (Both P (InTurn acts)) old answer new
-  talks_in_turn phase P old new answer talks =
+  -- A session's acts are added to the account, and they are those of its exchanges, in order.
+  pub talks_in_order : (phase : Phase) (P : SessionPart) (old new : L) (answer : SessionAnswer) → Talks receives listens sends phase P old answer new
+      → (acts : List Act) × (account new ≡ account old ++ acts) × Talks receives listens sends phase (Both P (InOrder acts)) old answer new
+  talks_in_order phase P old new answer talks =
       let first = turned_all talks.whole (phase, old) (talks.reached, talks.mid) talks.prompt in
-      let end = ended_turn talks.reached (length talks.whole) talks.stop talks.null talks.last talks.mid new talks.ends in (
+      let end = ended_in_order talks.reached (length talks.whole) talks.stop talks.shutdown_reply talks.last talks.mid new talks.ends in (
         first.0 ++ end.0,
         grew_both old talks.mid new first.0 end.0 first.2 end.2,
         record {
           whole = talks.whole;
           last = talks.last;
           stop = talks.stop;
-          null = talks.null;
+          shutdown_reply = talks.shutdown_reply;
           reached = talks.reached;
           mid = talks.mid;
           prompt = talks.prompt;
           ends = talks.ends;
-          part = (talks.part, record { whole = talks.whole; last = talks.last; cut = refl; turns = first.0; end = end.0; are = refl; in_turn = first.1; ends = end.1 });
+          part = (talks.part, record { whole = talks.whole; last = talks.last; cut = refl; exchanged = first.0; end = end.0; are = refl; in_order = first.1; ends = end.1 });
         },
       )

@@ -3,7 +3,7 @@ use Rattle.std.proofs.Common.{◌≡◌, ℕ, true, false, List, [], ◌∷◌, 
 use Rattle.std.proofs.lemmas.Fn.{FoldsTo-push}
 use Rattle.std.specs.List.{FoldsTo}
 use Rattle.lsp_message.specs.Frame.{body_means, reading_within}
-use Rattle.lsp_message.specs.Letters.{Begins, Passes, PassesAll, is_exit}
+use Rattle.lsp_message.specs.Messages.{Begins, Passes, PassesAll, is_exit}
 use Rattle.lsp_message.specs.Message.{Message}
 use Rattle.lsp_message.specs.Reading.{Answers}
 use Rattle.lsp_message.specs.declared.frame.ReadFault.{ReadFault}
@@ -11,7 +11,7 @@ use Rattle.lsp_message.specs.declared.frame.ReadFault.TheVariants.{Input, Memory
 use Rattle.lsp_message.specs.declared.msg.Message as msg
 use Rattle.lsp_message.proofs.Contents.{frame_unread}
 use Rattle.lsp_session.specs.Boxes.{Sends, Takes, Receives, Offers, WaitsFor}
-use Rattle.lsp_session.specs.ReadLoop.{HandsBefore, Refuses, Hands, refused_end}
+use Rattle.lsp_session.specs.ReadLoop.{in_part, up_to, ReadsOver, Took, TookBefore, Unread, UnreadWithin, Hands, refused_end}
 use Rattle.lsp_session.specs.declared.lifecycle.SendFault.{SendFault}
 use Rattle.lsp_session.specs.declared.lifecycle.SendFault.TheVariants.{Closed as Shut, Memory as IsFull}
 use Rattle.lsp_session.specs.declared.loops.ReadEnd.TheVariants.{Exit, End, Fault}
@@ -37,7 +37,7 @@ module _ (limit : ℕ) where
     abbrev pub Handed : Option (List ℕ) → Option (List ℕ) → S → S → Type 0
     Handed a b old new = IfSome a (λ text. IsSomeAnd b (λ at. (ms : List Message) × PassesAll limit text ms at × FoldsTo (Takes sends) old ms new))
 
-    -- what follows where both are known
+    -- what follows if both are known
     known : {R A : List ℕ → Type 0} (a b : Option (List ℕ)) (old new : S) → Handed a b old new → IfSome b A
         → ((text left : List ℕ) (ms : List Message) → PassesAll limit text ms left → FoldsTo (Takes sends) old ms new → A left → R text) → IfSome a R
     known None b old new so_far read then = tt
@@ -55,26 +55,23 @@ module _ (limit : ℕ) where
       hands_exit sent last = known a b old mid so_far read (λ text left ms passed taken answers. record {
         messages = ms ++ view x ∷ [];
         rest = (reading_within limit left).rest;
-        letters = (ms, view x, left, refl, passed, begins left (view x) answers.0, last);
-        taken = FoldsTo-push (Takes sends) old ms mid (view x) new taken sent;
-        unread = answers.1;
+        read = (ms, view x, left, refl, passed, begins left (view x) answers.0, last);
+        got = FoldsTo-push (Takes sends) old ms mid (view x) new taken sent;
+        left = answers.1;
       })
 
       refuses : (refusal : msg.Message → SendFault) (back : msg.Message) → sends mid (view x) (Err (refusal back)) new
-          → IfSome a (λ text. Refuses limit sends text old new c refusal)
-      refuses refusal back refused = known a b old mid so_far read (λ text left ms passed taken answers. record {
-        messages = ms;
-        at = left;
-        passed = passed;
-        next = view x;
-        rest = (reading_within limit left).rest;
-        begins = begins left (view x) answers.0;
-        mid = mid;
-        taken = taken;
-        back = back;
-        refused = refused;
-        unread = answers.1;
-      })
+          → IfSome a (λ text. (m : Message) × ReadsOver limit (up_to m) text (TookBefore limit sends text old new c m refusal) (Unread limit sends text old new c))
+      refuses refusal back refused = known a b old mid so_far read (λ text left ms passed taken answers. (
+        view x,
+        record {
+          messages = ms;
+          rest = (reading_within limit left).rest;
+          read = (left, passed, begins left (view x) answers.0);
+          got = (mid, taken, back, refused);
+          left = answers.1;
+        },
+      ))
 
       pub hands_refused : (fault : SendFault) → sends mid (view x) (Err fault) new → IfSome a (λ text. Hands limit sends text old new c (refused_end fault))
       hands_refused (Shut back) refused = refuses Shut back refused
@@ -85,30 +82,30 @@ module _ (limit : ℕ) where
       hands_end a b so_far read = known a b old new so_far read (λ text left ms passed taken answers. record {
         messages = ms;
         rest = (reading_within limit left).rest;
-        letters = (left, passed, ap (λ o. record { outcome = o; rest = (reading_within limit left).rest }) answers.0);
-        taken = taken;
-        unread = answers.1;
+        read = (left, passed, ap (λ o. record { outcome = o; rest = (reading_within limit left).rest }) answers.0);
+        got = taken;
+        left = answers.1;
       })
 
       pub hands_fault : (fault : ReadFault) (a b : Option (List ℕ)) → Handed a b old new → IfSome b (λ at. Answers view (Err fault) c (reading_within limit at))
           → IfSome a (λ text. Hands limit sends text old new c (Fault fault))
       hands_fault (Input kind) a b so_far read =
-          known a b old new so_far read (λ text left ms passed taken stops. record { messages = ms; at = left; passed = passed; taken = taken; unread = stops })
+          known a b old new so_far read (λ text left ms passed taken stops. record { messages = ms; rest = left; read = passed; got = taken; left = stops })
       hands_fault NoMemory a b so_far read =
-          known a b old new so_far read (λ text left ms passed taken stops. record { messages = ms; at = left; passed = passed; taken = taken; unread = stops })
+          known a b old new so_far read (λ text left ms passed taken stops. record { messages = ms; rest = left; read = passed; got = taken; left = stops })
       hands_fault fault a b so_far read = known a b old new so_far read (λ text left ms passed taken answers. record {
         messages = ms;
         rest = (reading_within limit left).rest;
-        letters = (left, passed, ap (λ o. record { outcome = o; rest = (reading_within limit left).rest }) answers.0);
-        taken = taken;
-        unread = answers.1;
+        read = (left, passed, ap (λ o. record { outcome = o; rest = (reading_within limit left).rest }) answers.0);
+        got = taken;
+        left = answers.1;
       })
 
     -- and where no more messages are read
-    pub hands_on : (old new : S) (a b : Option (List ℕ)) → Handed a b old new → IfSome a (λ text. HandsBefore limit sends text old new b)
+    pub hands_on : (old new : S) (a b : Option (List ℕ)) → Handed a b old new → IfSome a (λ text. ReadsOver limit in_part text (Took limit sends text old new b) (UnreadWithin limit sends text old new b))
     hands_on old new None b so_far = tt
     hands_on old new (Some text) None so_far = absurd so_far
-    hands_on old new (Some text) (Some left) so_far = record { messages = so_far.0; at = left; passed = so_far.1; taken = so_far.2; unread = frame_unread body_means limit left }
+    hands_on old new (Some text) (Some left) so_far = record { messages = so_far.0; rest = left; read = so_far.1; got = so_far.2; left = frame_unread body_means limit left }
 
 -- one send while no write has failed
 abbrev Sent : Message → Option (List ℕ) → Result (Unit {0}) SendFault → Option WriteFault → Option WriteFault → Option (List ℕ) → Type 0

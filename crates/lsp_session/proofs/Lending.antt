@@ -1,10 +1,12 @@
 -- A session of a handler, from that of the service that lends it.
 use Rattle.lsp_message.specs.Id.{Id}
 use Rattle.lsp_message.specs.Message.{Message, ErrorObject}
-use Rattle.lsp_session.proofs.Ran.{Row, row, at_initialize, at_initialized, at_served, at_woken, idle, Idle, early_request, early_note, unasked, uninvited, shuts, leaves, exits, stays}
+use Rattle.lsp_session.proofs.Ran.{StepCase, row, at_initialize, at_initialized, at_served, at_woken, idle, Idle, early_request, early_note, unasked, uninvited, shuts, leaves, exits, stays}
+use Rattle.lsp_session.specs.Boxes.{Sends, Receives}
 use Rattle.lsp_session.specs.Event.{Event}
 use Rattle.lsp_session.specs.HandlerService.{KeepsHandler, lent_handler}
 use Rattle.lsp_session.specs.HandlerSession.{initialize_result, of_handler}
+use Rattle.lsp_session.specs.Prompt.{Talks}
 use Rattle.lsp_session.specs.Session.{Behavior, SessionAnswer, Exchange, Stop, decided, timed_out, refused, exhausted, Phase, starting, replied, serving, asked, ended, phase_after, Step, Steps, Reaches, Stops, SessionOut, SessionPart}
 use Rattle.lsp_session.specs.SessionBytes.{ReadsMessage, SessionOver, Gives}
 use Rattle.lsp_session.specs.SessionRun.{Runs}
@@ -29,27 +31,27 @@ module _ {H : Type 0} (answers : H → Id → List ℕ → Data → Result Data 
   Has starting s = view s.capabilities.now ≡ capabilities
   Has phase s = Unit {0}
 
-  -- one letter, and the handler that was lent is still that one
+  -- one message, and the handler that was lent is still that one
   has_idle : (p p' : Phase) (s s' : HandlerService H) (m : Message) (sent : List Message) → Has p s → s' ≡ s → Idle p m sent p' → Has p' s'
-  has_idle p p' s s' m sent has same (early_request i method params reply here is early said next) = rw (next, same) (rw here at has)
-  has_idle p p' s s' m sent has same (early_note here mute early said next) = rw (next, same) (rw here at has)
-  has_idle p p' s s' m sent has same (unasked shown here mute other said next) = rw next tt
-  has_idle p p' s s' m sent has same (uninvited shown here other said next) = rw next tt
-  has_idle p p' s s' m sent has same (shuts i method params here is asks said next) = rw next tt
-  has_idle p p' s s' m sent has same (leaves here is said next) = rw next tt
-  has_idle p p' s s' m sent has same (exits i here is said next) = rw next tt
-  has_idle p p' s s' m sent has same (stays i shown here other said next) = rw next tt
+  has_idle p p' s s' m sent has same (early_request i method params reply here is early output next) = rw (next, same) (rw here at has)
+  has_idle p p' s s' m sent has same (early_note here mute early output next) = rw (next, same) (rw here at has)
+  has_idle p p' s s' m sent has same (unasked shown here mute other output next) = rw next tt
+  has_idle p p' s s' m sent has same (uninvited shown here other output next) = rw next tt
+  has_idle p p' s s' m sent has same (shuts i method params here is asks output next) = rw next tt
+  has_idle p p' s s' m sent has same (leaves here is output next) = rw next tt
+  has_idle p p' s s' m sent has same (exits i here is output next) = rw next tt
+  has_idle p p' s s' m sent has same (stays i shown here other output next) = rw next tt
 
-  row_as : (p p' : Phase) (s s' : HandlerService H) (letter : Option Message) (sent : List Message) → Has p s → Row lent p s letter sent p' s'
-      → Step plain p s.handler.now letter sent p' s'.handler.now × Has p' s' × (s'.handler.ghost_name ≡ s.handler.ghost_name)
-  row_as p p' s s' letter sent has (at_initialize i method params outcome here is asks given said next) =
+  step_case_as : (p p' : Phase) (s s' : HandlerService H) (came : Option Message) (sent : List Message) → Has p s → StepCase lent p s came sent p' s'
+      → Step plain p s.handler.now came sent p' s'.handler.now × Has p' s' × (s'.handler.ghost_name ≡ s.handler.ghost_name)
+  step_case_as p p' s s' came sent has (at_initialize i method params outcome here is asks given output next) =
       let last : p' ≡ replied = next ∙ ap (λ (x : Result Data ErrorObject). phase_after x) given.0 in
       let outcome_is = given.0 ∙ ap (λ (x : Data). Ok (initialize_result x)) (rw here at has) in
-      (rw (here, is, asks) (outcome, (outcome_is, given.1.0), said, next), rw last tt, given.1.1)
-  row_as p p' s s' letter sent has (at_initialized m here there is given next) = (rw (here, there, is) ((given.0, given.1.0), next), rw next tt, given.1.1)
-  row_as p p' s s' letter sent has (at_served m here there is given next) = (rw (here, there, is) (given.0, next), rw next tt, given.1)
-  row_as p p' s s' letter sent has (at_woken here none given next) = (rw (here, none) ((given.0, given.1.0), next), rw next tt, given.1.1)
-  row_as p p' s s' letter sent has (idle m there same step row) = (
+      (rw (here, is, asks) (outcome, (outcome_is, given.1.0), output, next), rw last tt, given.1.1)
+  step_case_as p p' s s' came sent has (at_initialized m here there is given next) = (rw (here, there, is) ((given.0, given.1.0), next), rw next tt, given.1.1)
+  step_case_as p p' s s' came sent has (at_served m here there is given next) = (rw (here, there, is) (given.0, next), rw next tt, given.1)
+  step_case_as p p' s s' came sent has (at_woken here none given next) = (rw (here, none) ((given.0, given.1.0), next), rw next tt, given.1.1)
+  step_case_as p p' s s' came sent has (idle m there same step row) = (
     rw (there, ap (λ (x : HandlerService H). x.handler.now) same) (step H plain s.handler.now),
     has_idle p p' s s' m sent has same row,
     ap (λ (x : HandlerService H). x.handler.ghost_name) same,
@@ -63,7 +65,7 @@ module _ {H : Type 0} (answers : H → Id → List ℕ → Data → Result Data 
     ap (λ (x : HandlerService H). x.handler.ghost_name) steps.1,
   )
   steps_as p p' s s' (x ∷ xs) has steps =
-      let one = row_as p steps.0 s steps.1 x.letter x.said has (row lent p steps.0 s steps.1 x.letter x.said steps.2) in
+      let one = step_case_as p steps.0 s steps.1 x.came x.sent has (row lent p steps.0 s steps.1 x.came x.sent steps.2) in
       let more = steps_as steps.0 p' steps.1 s' xs one.1 steps.3 in
       ((steps.0, steps.1.handler.now, one.0, more.0), more.1, more.2 ∙ one.2)
 
@@ -71,13 +73,13 @@ module _ {H : Type 0} (answers : H → Id → List ℕ → Data → Result Data 
       → Reaches plain stop p s.handler.now xs p' s'.handler.now × (s'.handler.ghost_name ≡ s.handler.ghost_name)
   to_as (refused fault) p p' s s' xs has broken =
       let before = steps_as p broken.next s broken.mid broken.earlier has broken.steps in
-      let full = broken.part ++ broken.unsaid ∷ broken.more in
-      let one = row_as broken.next p' broken.mid s' broken.letter full before.1 (row lent broken.next p' broken.mid s' broken.letter full broken.step) in (
+      let full = broken.part ++ broken.not_sent ∷ broken.more in
+      let one = step_case_as broken.next p' broken.mid s' broken.came full before.1 (row lent broken.next p' broken.mid s' broken.came full broken.step) in (
         record {
           earlier = broken.earlier;
-          letter = broken.letter;
+          came = broken.came;
           part = broken.part;
-          unsaid = broken.unsaid;
+          not_sent = broken.not_sent;
           more = broken.more;
           cut = broken.cut;
           next = broken.next;
@@ -101,8 +103,8 @@ module _ {H : Type 0} (answers : H → Id → List ℕ → Data → Result Data 
 
     left_as : (p : Phase) (stop : Stop) (answer : SessionAnswer) (after : HandlerService H) → after.handler.ghost_name ≡ s.handler.ghost_name
         → Stops lent p after stop answer s' → Stops plain p after.handler.now stop answer h'
-    left_as (ended null by) decided answer after name stops = (stops.0, same after name stops.1)
-    left_as (ended null by) stop answer after name stops = absurd stops
+    left_as (ended shutdown_reply by) decided answer after name stops = (stops.0, same after name stops.1)
+    left_as (ended shutdown_reply by) stop answer after name stops = absurd stops
     left_as p decided answer after name stops = absurd stops
     left_as (asked i) (refused fault) answer after name stops = absurd stops
     left_as (asked i) stop answer after name stops = (stops.0, same after name stops.1)
@@ -112,21 +114,21 @@ module _ {H : Type 0} (answers : H → Id → List ℕ → Data → Result Data 
     left_as p stop answer after name stops = (stops.0, same after name stops.1)
 
     pub session_as : (h : H) → s.handler.now ≡ h → view s.capabilities.now ≡ capabilities
-        → (xs : List Exchange) (stop : Stop) (null : Option Message) (answer : SessionAnswer)
-        → SessionOut lent s s' xs stop null answer → SessionOut plain h h' xs stop null answer
-    session_as h start has xs stop null answer out =
+        → (xs : List Exchange) (stop : Stop) (shutdown_reply : Option Message) (answer : SessionAnswer)
+        → SessionOut lent s s' xs stop shutdown_reply answer → SessionOut plain h h' xs stop shutdown_reply answer
+    session_as h start has xs stop shutdown_reply answer out =
         let steps = to_as stop starting out.last s out.after xs has out.reached in
         record {
           last = out.last;
           after = out.after.handler.now;
           reached = rw start at steps.0;
-          null_is = out.null_is;
+          shutdown_reply_is = out.shutdown_reply_is;
           stopped = left_as out.last stop answer out.after steps.1 out.stopped;
         }
 
 -- A session that is described otherwise.
 module _ (P Q : SessionPart)
-    (to : (xs : List Exchange) (stop : Stop) (null : Option Message) (answer : SessionAnswer) → P xs stop null answer → Q xs stop null answer) where
+    (to : (xs : List Exchange) (stop : Stop) (shutdown_reply : Option Message) (answer : SessionAnswer) → P xs stop shutdown_reply answer → Q xs stop shutdown_reply answer) where
   -- over boxes
   pub runs_as : {I O : Type 0} (receives : I → Event → I → Type 0) (sends : O → Message → Result (Unit {0}) SendFault → O → Type 0)
       (old new : I × O) (answer : SessionAnswer) → Runs receives sends P old answer new → Runs receives sends Q old answer new
@@ -137,11 +139,26 @@ module _ (P Q : SessionPart)
     stop = run.stop;
     brought = run.brought;
     output = run.output;
-    null = run.null;
+    shutdown_reply = run.shutdown_reply;
     all = run.all;
     awaited = run.awaited;
     got = run.got;
-    part = to run.exchanges run.stop run.null answer run.part;
+    part = to run.exchanges run.stop run.shutdown_reply answer run.part;
+  }
+
+  -- over one value with both ends
+  pub talks_as : {L : Type 0} (receives listens : Receives L) (sends : Sends L) (phase : Phase) (old new : L) (answer : SessionAnswer)
+      → Talks receives listens sends phase P old answer new → Talks receives listens sends phase Q old answer new
+  talks_as receives listens sends phase old new answer talks = record {
+    whole = talks.whole;
+    last = talks.last;
+    stop = talks.stop;
+    shutdown_reply = talks.shutdown_reply;
+    reached = talks.reached;
+    mid = talks.mid;
+    prompt = talks.prompt;
+    ends = talks.ends;
+    part = to (talks.whole ++ talks.last) talks.stop talks.shutdown_reply answer talks.part;
   }
 
   -- over a text, however it is read, and whatever is said of its end and of what was written
@@ -152,14 +169,14 @@ module _ (P Q : SessionPart)
     at = g.at;
     read = g.read;
     stop = g.stop;
-    null = g.null;
+    shutdown_reply = g.shutdown_reply;
     answer = g.answer;
-    part = to g.exchanges g.stop g.null g.answer g.part;
+    part = to g.exchanges g.stop g.shutdown_reply g.answer g.part;
     ends = g.ends;
     wrote = g.wrote;
   }
 
-  -- where the bytes are known
+  -- if the bytes are known
   pub known_as : (limit : ℕ) (known left old new : Option (List ℕ)) (answer : Result SessionEnd SessionFault) → IfSome known (λ text. Gives limit P text left old new answer)
       → IfSome known (λ text. Gives limit Q text left old new answer)
   known_as limit None left old new answer gives = tt

@@ -1,7 +1,7 @@
 -- A session over a reader and a writer that passes over content parts, as its contract says it.
 use Rattle.lsp_message.proofs.Contents.{frame_unread}
 use Rattle.lsp_message.specs.Frame.{body_means, reading_within}
-use Rattle.lsp_message.specs.Letters.{is_exit}
+use Rattle.lsp_message.specs.Messages.{is_exit}
 use Rattle.lsp_message.specs.Message.{Message}
 use Rattle.lsp_message.specs.Reading.{Reading, StopsWithin}
 use Rattle.lsp_message.specs.Written.{GetsFrames}
@@ -12,36 +12,38 @@ use Rattle.lsp_message.specs.declared.frame.WriteFault.{WriteFault}
 use Rattle.lsp_session.proofs.Handing.{begins}
 use Rattle.lsp_session.proofs.Lending.{over_as}
 use Rattle.lsp_session.proofs.Ran.{is_no_exit, Facts}
-use Rattle.lsp_session.proofs.SessionGives.{no_timeout as stream_no_timeout, left_within as stream_left_within, stop_ends as stream_stop_ends, NotRefused, GetsPart, gets_written, gets_keeps, ran_out_answer, ran_out_gives}
+use Rattle.lsp_session.proofs.SessionGives.{no_timeout as stream_no_timeout, reads_within, closed_ends, decided_ends, EndsSo, NotRefused, GetsPart, gets_written, gets_keeps}
 use Rattle.lsp_session.proofs.Waiting.{FoldsTo-split}
 use Rattle.lsp_session.specs.Event.{Event, closed, message, timeout, woken}
 use Rattle.lsp_session.specs.FrameBoxes.{FrameOutboxSends}
-use Rattle.lsp_session.specs.Session.{Exchange, came_of, letters_of, sends_of, SessionAnswer, SessionPart, Stop, decided, no_more, timed_out, refused, exhausted}
-use Rattle.lsp_session.specs.SessionBytes.{ReadsMessage, IsUnsent, LeftAfter, LeftWithin, Ends, Wrote, Gives as SessionGives}
-use Rattle.lsp_session.specs.SessionFault.{ran_out, came_to_no_more, plain_answer, read_answer, session_answer}
+use Rattle.lsp_session.specs.Session.{Exchange, came_of, messages_of, sends_of, SessionAnswer, SessionPart, Stop, decided, no_more, timed_out, refused, exhausted}
+use Rattle.lsp_session.specs.SessionBytes.{ReadsMessage, IsUnsent, LeftWithin, Ends, Wrote, Gives as SessionGives}
+use Rattle.lsp_session.specs.Served.{reason_of, StopsFor}
+use Rattle.lsp_session.specs.SessionFault.{session_answer}
 use Rattle.lsp_session.specs.SessionRun.{came_in, is_open, Brings, Runs}
-use Rattle.lsp_session.specs.Streams.{Stream, StreamGives, Reads}
+use Rattle.lsp_session.specs.Streams.{Stream, StreamReads, Reads}
 use Rattle.lsp_session.specs.declared.loops.ReadEnd.TheVariants.{Exit}
 use Rattle.lsp_session.specs.declared.loops.ReadEnd.{ReadEnd}
 use Rattle.lsp_session.specs.declared.loops.frame_outbox.FrameOutbox.{FrameOutbox}
 use Rattle.lsp_session.specs.declared.loops.handler.SessionEnd.{SessionEnd}
+use Rattle.lsp_session.specs.declared.loops.served.StopReason.{StopReason}
 use Rattle.lsp_session.specs.declared.loops.stream_session.SessionFault.TheVariants.{Write, Memory}
 use Rattle.lsp_session.specs.declared.loops.stream_session.SessionFault.{SessionFault}
 use Rattle.lsp_session.specs.Passing.{is_of_body, TolerantGives}
 use Rattle.lsp_session.specs.PassingBoxes.{stream_of, TolerantInboxGives}
 use Rattle.lsp_session.specs.PassingBytes.{PassesNothingOver, PassesOver, ReadsFrame, HearsLast, GivesAndTells}
 use Rattle.lsp_session.specs.declared.loops.tolerant_inbox.TolerantInbox.{TolerantInbox}
-use Rattle.std.proofs.Common.{◌≡◌, refl, sym, ◌∙◌, ap, subst, inl, inr, ◌⊎◌, ℕ, Bool, true, false, true≢false, List, [], ◌∷◌, ◌++◌, append-nil, Some, None, Option, IfSome}
+use Rattle.std.proofs.Common.{◌≡◌, refl, sym, ◌∙◌, ap, subst, inl, inr, ◌⊎◌, ℕ, Bool, true, false, List, [], ◌∷◌, ◌++◌, append-nil, Some, None, Option, IfSome}
 use Rattle.std.proofs.lemmas.List.Elements.{filter_map-append}
 use Rattle.std.specs.List.{FoldsTo, list_all, filter_map}
 use Rattle.std.specs.Prelude.{Result, Ok, Err, MatchOption, if◌then◌else◌}
 
--- the first frame of a text is a message, or is passed over; or others woke the session, where they can, and nothing was read
+-- the first frame of a text is a message, or is passed over; or others woke the session, if they can, and nothing was read
 abbrev pub ReadsFrameOr : (others : Type 0) {L : Type 0} (hears : L → ReadFault → L → Type 0) (limit : ℕ) → List ℕ × L → Option Message → List ℕ × L → Type 0
 ReadsFrameOr others hears limit old (Some m) new = ReadsFrame hears limit old (Some m) new
 ReadsFrameOr others hears limit old None new = (others × (new ≡ old)) ⊎ PassesOver hears limit old new
 
--- what an inbox gives that passes over content parts, and that others wake, where they can
+-- what an inbox gives that passes over content parts, and that others wake, if they can
 abbrev pub GivesOr : (others : Type 0) {L : Type 0} (hears : L → ReadFault → L → Type 0) (limit : ℕ) → Stream × L → Event → Stream × L → Type 0
 GivesOr others hears limit old woken new = (others × (old.0.end ≡ None) × (new ≡ old)) ⊎ TolerantGives hears limit old woken new
 GivesOr others hears limit old event new = TolerantGives hears limit old event new
@@ -51,8 +53,8 @@ abbrev pub ReadsFrames : (others : Type 0) {L : Type 0} (hears : L → ReadFault
 ReadsFrames others hears limit = FoldsTo (ReadsFrameOr others hears limit)
 
 -- the messages of what came
-abbrev letters_in : List (Option Message) → List Message
-letters_in came = filter_map (λ (c : Option Message). c) came
+abbrev messages_in : List (Option Message) → List Message
+messages_in came = filter_map (λ (c : Option Message). c) came
 
 module _ (others : Type 0) {L : Type 0} (hears : L → ReadFault → L → Type 0) (limit : ℕ) where
   abbrev Gives : Stream × L → Event → Stream × L → Type 0
@@ -113,7 +115,7 @@ module _ (others : Type 0) {L : Type 0} (hears : L → ReadFault → L → Type 
     at : List ℕ
     read : ReadsFrames others hears limit (text, first) came (at, new.1)
     left : new.0.remaining ≡ Some at
-    end : new.0.end ≡ (if list_all is_no_exit (letters_in came) then None else Some Exit)
+    end : new.0.end ≡ (if list_all is_no_exit (messages_in came) then None else Some Exit)
 
   module _ (m : Message) (text : List ℕ) (first : L) (mid new : Stream × L) (events : List Event)
       (run : FoldsTo Gives mid events new) (still_open : list_all is_open events ≡ true) where
@@ -174,15 +176,7 @@ module _ (others : Type 0) {L : Type 0} (hears : L → ReadFault → L → Type 
 
   -- an inbox that reads has no timeouts
   no_timeout : (earlier : List Event) (old new : Stream × L) → FoldsTo Gives old (earlier ++ timeout ∷ []) new → ⊥
-  no_timeout earlier old new run = let last = last_event earlier timeout old new run in stream_no_timeout limit [] last.0.0 new.0 (new.0, last.2.0, refl)
-
-  -- a session that came to its end
-  plain_ends : (null : Option Message) (answer : SessionAnswer) (left : Option (List ℕ)) (stop : Stop) (at : List ℕ) → ran_out answer ≡ false
-      → LeftAfter limit stop at left
-      → (sends : List Message) (a b : Option (List ℕ)) → GetsFrames sends a b
-      → Ends limit left (plain_answer answer) answer stop null at × Wrote a b (plain_answer answer) stop null sends
-  plain_ends null (Ok end) left stop at enough after sends a b wrote = ((refl, after), wrote)
-  plain_ends null (Err fault) left stop at enough after sends a b wrote = rw enough ((refl, after), wrote)
+  no_timeout earlier old new run = let last = last_event earlier timeout old new run in stream_no_timeout limit last.0.0 new.0 last.2.0
 
   module _ (text : List ℕ) (old new : Stream × L) (unended : old.0.end ≡ None) (known : old.0.remaining ≡ Some text)
       (events : List Event) (run : FoldsTo Gives old events new) where
@@ -193,25 +187,20 @@ module _ (others : Type 0) {L : Type 0} (hears : L → ReadFault → L → Type 
     record ClosedAt (came : List (Option Message)) : Type 0 where
       at : List ℕ
       read : ReadsFrames others hears limit (text, old.1) came (at, new.1)
-      before : Stream
-      open_before : before.end ≡ None
-      left_before : before.remaining ≡ Some at
-      gives : StreamGives limit before closed new.0
+      reads : StreamReads limit (Some at) closed new.0.end new.0.remaining
 
     closed_at : (earlier : List Event) (came : List (Option Message)) → events ≡ earlier ++ closed ∷ [] → list_all is_open earlier ≡ true
         → filter_map came_in events ≡ came
-        → list_all is_no_exit (letters_in came) ≡ true → ClosedAt came
+        → list_all is_no_exit (messages_in came) ≡ true → ClosedAt came
     closed_at earlier came cut still_open brings no_exit =
         let last = last_event earlier closed old new (rw cut at run) in
         let same : filter_map came_in earlier ≡ came = rw (sym brings, cut, filter_map-append came_in earlier (closed ∷ []), append-nil) refl in
         let brought = rw same at (brought_open earlier text old last.0 unended known last.1 still_open) in
+        let unended' : last.0.0.end ≡ None = rw (brought.end, no_exit) refl in
         record {
           at = brought.at;
           read = subst (λ heard. ReadsFrames others hears limit (text, old.1) came (brought.at, heard)) (sym last.2.1) brought.read;
-          before = last.0.0;
-          open_before = rw (brought.end, no_exit) refl;
-          left_before = brought.left;
-          gives = last.2.0;
+          reads = rw (unended', brought.left) at last.2.0;
         }
 
     -- what a session read, what was left of it, and what the listener heard
@@ -220,14 +209,6 @@ module _ (others : Type 0) {L : Type 0} (hears : L → ReadFault → L → Type 
 
     abbrev pub Within : List ℕ × L → Type 0
     Within at = StopsWithin new.0.remaining (reading_within limit at.0)
-
-    -- where it told so, no byte after the next frame was taken
-    closed_within : (came : List (Option Message)) (answer : SessionAnswer) (c : ClosedAt came) → (ran_out answer ≡ false) × (came_to_no_more answer ≡ true)
-        → StopsWithin new.0.remaining (reading_within limit c.at)
-    closed_within came answer c ends =
-        let seen = stream_left_within limit c.at c.before new.0 c.open_before c.left_before (closed ∷ []) (new.0, c.gives, refl) [] no_more answer
-        (refl, inl ([], refl, refl)) (ends.0, ends.1, refl) in
-        subst (λ at. StopsWithin new.0.remaining (reading_within limit at)) (sym seen.1) seen.2
 
     open_within : (came : List (Option Message)) (b : Brought text old.1 came new) → Within (b.at, new.1)
     open_within came b = rw b.left (frame_unread body_means limit b.at)
@@ -242,85 +223,57 @@ module _ (others : Type 0) {L : Type 0} (hears : L → ReadFault → L → Type 
         (before, read, inr (at, passes), ([], left ∙ ap (λ (r : Reading Message). Some r.rest) (sym passes.2)))
 
     -- the frames that were used, and what is left after them
-    left_within : (came : List (Option Message)) (stop : Stop) (answer : SessionAnswer) → Brings events came stop → Facts stop (letters_in came) answer
-        → Reached came stop Within
-    left_within came no_more answer brought facts = elim brought.1 [
-      | inl last ↦ let c = closed_at last.0 came last.1 last.2 brought.0 facts.2 in (
-        (c.at, new.1),
-        c.read,
-        refl,
-        closed_within came answer c
-            (facts.0, facts.1),
-      )
+    left_within : (came : List (Option Message)) (stop : Stop) → Brings events came stop → Facts stop (messages_in came) → Reached came stop Within
+    left_within came no_more brought facts = elim brought.1 [
+      | inl last ↦ let c = closed_at last.0 came last.1 last.2 brought.0 facts in
+          ((c.at, new.1), c.read, refl, reads_within limit c.at new.0.end new.0.remaining c.reads)
       | inr many ↦ let all = open_brought came brought.0 many.1 in ((all.at, new.1), all.read, refl, open_within came all)
     ]
-    left_within came timed_out answer brought facts = absurd (no_timeout brought.1.0 old new (rw brought.1.1 at run))
-    left_within came exhausted answer (None, brought, still_open) facts =
+    left_within came timed_out brought facts = absurd (no_timeout brought.1.0 old new (rw brought.1.1 at run))
+    left_within came exhausted (None, brought, still_open) facts =
         let all = open_brought (came ++ None ∷ []) brought still_open in
         let parts = FoldsTo-split (ReadsFrameOr others hears limit) came (None ∷ []) (text, old.1) (all.at, new.1) all.read in
         last_woken came parts.0 all.at parts.1 all.left (rw parts.2.2 at parts.2.1)
-    left_within came exhausted answer (Some next, brought, still_open) facts =
+    left_within came exhausted (Some next, brought, still_open) facts =
         let all = open_brought (came ++ Some next ∷ []) brought still_open in
         let parts = FoldsTo-split (ReadsFrameOr others hears limit) came (Some next ∷ []) (text, old.1) (all.at, new.1) all.read in
         let step = rw parts.2.2 at parts.2.1 in
         (parts.0, parts.1, inl step.1, ([], all.left ∙ ap (λ (r : Reading Message). Some r.rest) (sym step.0)))
-    left_within came stop answer brought facts = let all = open_brought came brought.0 brought.1 in ((all.at, new.1), all.read, refl, open_within came all)
+    left_within came stop brought facts = let all = open_brought came brought.0 brought.1 in ((all.at, new.1), all.read, refl, open_within came all)
 
-    -- what is left where a write or an allocation failed
-    pub left_after : (came : List (Option Message)) (answer : SessionAnswer) (stop : Stop) → Brings events came stop → Facts stop (letters_in came) answer
+    -- what is left if a write or an allocation failed
+    pub left_after : (came : List (Option Message)) (stop : Stop) → Brings events came stop → Facts stop (messages_in came)
         → Reached came stop (λ at. LeftWithin limit stop at.0 new.0.remaining)
-    left_after came answer decided brought facts = let all = open_brought came brought.0 brought.1 in ((all.at, new.1), all.read, refl, all.left)
-    left_after came answer (refused fault) brought facts = let all = open_brought came brought.0 brought.1 in ((all.at, new.1), all.read, refl, all.left)
-    left_after came answer no_more brought facts = left_within came no_more answer brought facts
-    left_after came answer timed_out brought facts = absurd (no_timeout brought.1.0 old new (rw brought.1.1 at run))
-    left_after came answer exhausted brought facts = left_within came exhausted answer brought facts
+    left_after came decided brought facts = let all = open_brought came brought.0 brought.1 in ((all.at, new.1), all.read, refl, all.left)
+    left_after came (refused fault) brought facts = let all = open_brought came brought.0 brought.1 in ((all.at, new.1), all.read, refl, all.left)
+    left_after came no_more brought facts = left_within came no_more brought facts
+    left_after came timed_out brought facts = absurd (no_timeout brought.1.0 old new (rw brought.1.1 at run))
+    left_after came exhausted brought facts = left_within came exhausted brought facts
 
-    module _ (came : List (Option Message)) (null : Option Message) (answer : SessionAnswer) (sends : List Message) (a b : Option (List ℕ))
+    module _ (came : List (Option Message)) (shutdown_reply : Option Message) (answer : SessionAnswer) (sends : List Message) (a b : Option (List ℕ))
         (wrote : GetsFrames sends a b) where
       abbrev pub Ended : Stop → List ℕ → Type 0
-      Ended stop at = Ends limit new.0.remaining (read_answer answer new.0.end) answer stop null at × Wrote a b (read_answer answer new.0.end) stop null sends
-
-      -- a message decided
-      decided_ends : (all : Brought text old.1 came new) → Facts decided (letters_in came) answer → (goes : Bool) → list_all is_no_exit (letters_in came) ≡ goes
-          → Ended decided all.at
-      decided_ends all facts false exits = rw (all.end, exits) (plain_ends null answer new.0.remaining decided all.at facts.0 all.left sends a b wrote)
-      decided_ends all facts true none = at (came_to_no_more answer) refl
-        where
-          at : (c : Bool) → came_to_no_more answer ≡ c → Ended decided all.at
-          at false is = rw (all.end, none, is) (plain_ends null answer new.0.remaining decided all.at facts.0 all.left sends a b wrote)
-          at true is = absurd (true≢false (sym none ∙ facts.1 is))
+      Ended stop at = EndsSo limit shutdown_reply answer sends a b wrote stop new.0.end new.0.remaining at
 
       -- as many were taken as can be counted
-      many_ends : (all : Brought text old.1 came new) → Facts no_more (letters_in came) answer → Ended no_more all.at
-      many_ends all facts = rw (all.end, facts.2, facts.1) ((refl, open_within came all), wrote)
-
-      -- no more came, as the inbox told
-      closed_ends : (c : ClosedAt came) → (ran_out answer ≡ false) × (came_to_no_more answer ≡ true) → Ended no_more c.at
-      closed_ends c ends =
-          let seen = stream_stop_ends limit c.at c.before new.0 c.open_before c.left_before (closed ∷ []) (new.0, c.gives, refl)
-          [] null answer sends a b wrote no_more
-          (refl, inl ([], refl, refl)) tt (ends.0, ends.1, refl) in
-          subst (λ at. Ended no_more at) (sym seen.1) seen.2
-
-      -- an allocation failed
-      exhausted_ends : ran_out answer ≡ true → (at : List ℕ × L) → Within at → Ended exhausted at.0
-      exhausted_ends ran at stops = rw (ran_out_answer answer ran, ran_out_gives new.0.end) (stops, inl wrote)
+      many_ends : (all : Brought text old.1 came new) → Facts no_more (messages_in came) → Ended no_more all.at
+      many_ends all facts = rw (all.end, facts) ((refl, open_within came all), wrote)
 
       -- no write failed
-      pub frames_end : (stop : Stop) → Brings events came stop → NotRefused stop → Facts stop (letters_in came) answer → Reached came stop (λ at. Ended stop at.0)
+      pub frames_end : (stop : Stop) → Brings events came stop → NotRefused stop → Facts stop (messages_in came) → Reached came stop (λ at. Ended stop at.0)
       frames_end decided brought taken facts =
           let all = open_brought came brought.0 brought.1 in
-          ((all.at, new.1), all.read, refl, decided_ends all facts (list_all is_no_exit (letters_in came)) refl)
+          ((all.at, new.1), all.read, refl, decided_ends limit shutdown_reply answer sends a b wrote new.0.end new.0.remaining all.at all.left)
       frames_end no_more brought taken facts = elim brought.1 [
-        | inl last ↦ let c = closed_at last.0 came last.1 last.2 brought.0 facts.2 in ((c.at, new.1), c.read, refl, closed_ends c (facts.0, facts.1))
-        | inr many ↦ let all = open_brought came brought.0 many.1 in
-            ((all.at, new.1), all.read, refl, many_ends all facts)
+        | inl last ↦ let c = closed_at last.0 came last.1 last.2 brought.0 facts in
+            ((c.at, new.1), c.read, refl, closed_ends limit shutdown_reply answer sends a b wrote new.0.end new.0.remaining c.at c.reads)
+        | inr many ↦ let all = open_brought came brought.0 many.1 in ((all.at, new.1), all.read, refl, many_ends all facts)
       ]
       frames_end timed_out brought taken facts = absurd (no_timeout brought.1.0 old new (rw brought.1.1 at run))
       frames_end (refused fault) brought taken facts = absurd taken
       frames_end exhausted brought taken facts =
-          let left = left_within came exhausted answer brought facts in
-          (left.0, left.1, left.2, exhausted_ends facts left.0 left.3)
+          let left = left_within came exhausted brought facts in
+          (left.0, left.1, left.2, (left.3, inl wrote))
 
 -- A session that nobody wakes.
 module _ {L : Type 0} (hears : L → ReadFault → L → Type 0) (limit : ℕ) where
@@ -333,8 +286,9 @@ module _ {L : Type 0} (hears : L → ReadFault → L → Type 0) (limit : ℕ) w
     | inr passes ↦ (run.0, passes, alone came run.0 to run.2)
   ]
 
-  module _ {R W : Type 0} (remaining : R → Option (List ℕ)) (contents : W → Option (List ℕ)) (P : SessionPart)
-      (knows : (xs : List Exchange) (stop : Stop) (null : Option Message) (answer : SessionAnswer) → P xs stop null answer → Facts stop (letters_of xs) answer)
+  module _ {R W : Type 0} (remaining : R → Option (List ℕ)) (contents : W → Option (List ℕ)) (P Q : SessionPart) (reason : StopReason)
+      (knows : (xs : List Exchange) (stop : Stop) (shutdown_reply : Option Message) (answer : SessionAnswer) → P xs stop shutdown_reply answer
+      → Q xs stop shutdown_reply answer × StopsFor reason xs stop shutdown_reply answer × Facts stop (messages_of xs))
       (inbox inbox' : TolerantInbox R L) (outbox outbox' : FrameOutbox W) (unended : inbox.end ≡ None) (limited : inbox.limit ≡ limit)
       (unfailed : outbox.fault ≡ None)
       (answer : SessionAnswer) (runs : Runs (TolerantInboxGives remaining hears) (FrameOutboxSends contents) P (inbox, outbox) answer (inbox', outbox')) where
@@ -352,53 +306,53 @@ module _ {L : Type 0} (hears : L → ReadFault → L → Type 0) (limit : ℕ) w
 
     -- what a session over boxes comes to in bytes
     runs_give : (text : List ℕ) → remaining inbox.reader.now ≡ Some text
-        → GivesAndTells hears limit P text (remaining inbox'.reader.now) inbox.listener.now inbox'.listener.now (contents outbox.writer.now)
+        → GivesAndTells hears limit Q text (remaining inbox'.reader.now) inbox.listener.now inbox'.listener.now (contents outbox.writer.now)
         (contents outbox'.writer.now)
-        (session_answer answer inbox'.end outbox'.fault)
+        (session_answer reason answer inbox'.end outbox'.fault)
     runs_give text known =
         at outbox'.fault (subst (λ sends. MatchOption outbox'.fault (NotRefused runs.stop × GetsFrames sends old new)
-        (λ f. IsUnsent runs.stop runs.null × GetsPart f sends old new)) runs.all (gets_written contents outbox outbox' runs.output runs.null unfailed runs.stop runs.got))
+        (λ f. IsUnsent runs.stop runs.shutdown_reply × GetsPart f sends old new)) runs.all (gets_written contents outbox outbox' runs.output runs.shutdown_reply unfailed runs.stop runs.got))
       where
         run : FoldsTo (GivesOr ⊥ hears limit) before runs.events after
         run = (seen_all ⊥ hears limit remaining runs.events inbox inbox' limited runs.received).0
 
-        facts : Facts runs.stop (letters_of runs.exchanges) answer
-        facts = knows runs.exchanges runs.stop runs.null answer runs.part
+        known_of : Q runs.exchanges runs.stop runs.shutdown_reply answer × StopsFor reason runs.exchanges runs.stop runs.shutdown_reply answer × Facts runs.stop (messages_of runs.exchanges)
+        known_of = knows runs.exchanges runs.stop runs.shutdown_reply answer runs.part
 
         gives : (result : Result SessionEnd SessionFault)
             → (at : List ℕ × L) × ReadsFrames ⊥ hears limit (text, inbox.listener.now) (came_of runs.exchanges) at
             × HearsLast hears limit runs.stop at inbox'.listener.now
-            × Ends limit (remaining inbox'.reader.now) result answer runs.stop runs.null at.0
-            → Wrote old new result runs.stop runs.null (sends_of runs.exchanges)
-            → GivesAndTells hears limit P text (remaining inbox'.reader.now) inbox.listener.now inbox'.listener.now old new result
+            × Ends limit (remaining inbox'.reader.now) result answer runs.stop runs.shutdown_reply at.0
+            → Wrote old new result runs.stop runs.shutdown_reply (sends_of runs.exchanges)
+            → GivesAndTells hears limit Q text (remaining inbox'.reader.now) inbox.listener.now inbox'.listener.now old new result
         gives result reached wrote = record {
           exchanges = runs.exchanges;
           at = reached.0;
           read = alone (came_of runs.exchanges) (text, inbox.listener.now) reached.0 reached.1;
           stop = runs.stop;
-          null = runs.null;
+          shutdown_reply = runs.shutdown_reply;
           answer = answer;
-          part = runs.part;
+          part = known_of.0;
           ends = (reached.3, reached.2);
           wrote = wrote;
         }
 
         at : (fault : Option WriteFault)
-            → MatchOption fault (NotRefused runs.stop × GetsFrames (sends_of runs.exchanges) old new) (λ f. IsUnsent runs.stop runs.null
+            → MatchOption fault (NotRefused runs.stop × GetsFrames (sends_of runs.exchanges) old new) (λ f. IsUnsent runs.stop runs.shutdown_reply
             × GetsPart f (sends_of runs.exchanges) old new)
-            → GivesAndTells hears limit P text (remaining inbox'.reader.now) inbox.listener.now inbox'.listener.now old new
-            (session_answer answer inbox'.end fault)
+            → GivesAndTells hears limit Q text (remaining inbox'.reader.now) inbox.listener.now inbox'.listener.now old new
+            (session_answer reason answer inbox'.end fault)
         at None written =
-            let all = frames_end ⊥ hears limit text before after unended known runs.events run (came_of runs.exchanges) runs.null answer
+            let all = frames_end ⊥ hears limit text before after unended known runs.events run (came_of runs.exchanges) runs.shutdown_reply answer
             (sends_of runs.exchanges) old new written.1
-            runs.stop runs.brought written.0 facts in
-            gives (read_answer answer inbox'.end) (all.0, all.1, all.2, all.3.0) all.3.1
+            runs.stop runs.brought written.0 known_of.2 in
+            rw known_of.1 (gives (session_answer (reason_of runs.stop) answer inbox'.end None) (all.0, all.1, all.2, all.3.0) all.3.1)
         at (Some (Output kind)) unwritten =
             gives (Err (Write (Output kind)))
-            (left_after ⊥ hears limit text before after unended known runs.events run (came_of runs.exchanges) answer runs.stop runs.brought facts)
+            (left_after ⊥ hears limit text before after unended known runs.events run (came_of runs.exchanges) runs.stop runs.brought known_of.2)
             (tt, unwritten.0, unwritten.1.0, unwritten.1.1, unwritten.1.2, unwritten.1.3)
         at (Some NoMemory) unwritten =
-            gives (Err Memory) (left_after ⊥ hears limit text before after unended known runs.events run (came_of runs.exchanges) answer runs.stop runs.brought facts)
+            gives (Err Memory) (left_after ⊥ hears limit text before after unended known runs.events run (came_of runs.exchanges) runs.stop runs.brought known_of.2)
             (inr (unwritten.0, unwritten.1))
 
     -- the same of the reader and the writer that were lent, and of the listener
@@ -407,17 +361,17 @@ module _ {L : Type 0} (hears : L → ReadFault → L → Type 0) (limit : ℕ) w
         → (inbox'.reader.ghost_name ≡ inbox.reader.ghost_name → last ≡ inbox'.reader.now)
         → (inbox'.listener.ghost_name ≡ inbox.listener.ghost_name → heard' ≡ inbox'.listener.now)
         → (outbox'.writer.ghost_name ≡ outbox.writer.ghost_name → last' ≡ outbox'.writer.now)
-        → IfSome (remaining first) (λ text. GivesAndTells hears limit P text (remaining last) heard heard' (contents first') (contents last')
-        (session_answer answer inbox'.end outbox'.fault))
+        → IfSome (remaining first) (λ text. GivesAndTells hears limit Q text (remaining last) heard heard' (contents first') (contents last')
+        (session_answer reason answer inbox'.end outbox'.fault))
     session_gives first last first' last' heard heard' same same' untold named hearing named' =
         let seen = seen_all ⊥ hears limit remaining runs.events inbox inbox' limited runs.received in
-        rw (named seen.1, hearing seen.2, named' (gets_keeps contents outbox outbox' runs.output runs.null runs.stop runs.got), sym same, sym same', sym untold)
+        rw (named seen.1, hearing seen.2, named' (gets_keeps contents outbox outbox' runs.output runs.shutdown_reply runs.stop runs.got), sym same, sym same', sym untold)
         (at (remaining inbox.reader.now) refl)
       where
         at : (known : Option (List ℕ)) → remaining inbox.reader.now ≡ known
-            → IfSome known (λ text. GivesAndTells hears limit P text (remaining inbox'.reader.now) inbox.listener.now inbox'.listener.now
+            → IfSome known (λ text. GivesAndTells hears limit Q text (remaining inbox'.reader.now) inbox.listener.now inbox'.listener.now
             (contents outbox.writer.now)
-            (contents outbox'.writer.now) (session_answer answer inbox'.end outbox'.fault))
+            (contents outbox'.writer.now) (session_answer reason answer inbox'.end outbox'.fault))
         at None is = tt
         at (Some text) is = runs_give text is
 
@@ -436,22 +390,22 @@ module _ {L : Type 0} (hears : L → ReadFault → L → Type 0) (never : Passes
     at = g.at.0;
     read = reads_messages (came_of g.exchanges) (text, first) g.at g.read;
     stop = g.stop;
-    null = g.null;
+    shutdown_reply = g.shutdown_reply;
     answer = g.answer;
     part = g.part;
     ends = g.ends.0;
     wrote = g.wrote;
   }
 
-  -- where the bytes are known
+  -- if the bytes are known
   pub untold : (P : SessionPart) (known left : Option (List ℕ)) (first last : L) (before after : Option (List ℕ)) (result : Result SessionEnd SessionFault)
       → IfSome known (λ text. GivesAndTells hears limit P text left first last before after result) → IfSome known (λ text. SessionGives limit P text left before after result)
   untold P None left first last before after result gives = tt
   untold P (Some text) left first last before after result g = none_passed P text left first last before after result g
 
--- A session that is described otherwise, where the bytes are known.
+-- A session that is described otherwise, if the bytes are known.
 pub told_as : (P Q : SessionPart)
-    (to : (xs : List Exchange) (stop : Stop) (null : Option Message) (answer : SessionAnswer) → P xs stop null answer → Q xs stop null answer)
+    (to : (xs : List Exchange) (stop : Stop) (shutdown_reply : Option Message) (answer : SessionAnswer) → P xs stop shutdown_reply answer → Q xs stop shutdown_reply answer)
     {L : Type 0} (hears : L → ReadFault → L → Type 0) (limit : ℕ) (known left : Option (List ℕ)) (first last : L) (before after : Option (List ℕ)) (result : Result SessionEnd SessionFault)
     → IfSome known (λ text. GivesAndTells hears limit P text left first last before after result) → IfSome known (λ text. GivesAndTells hears limit Q text left first last before after result)
 told_as P Q to hears limit None left first last before after result gives = tt

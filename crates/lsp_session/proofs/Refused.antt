@@ -6,12 +6,12 @@ use Rattle.lsp_message.specs.Methods.{is_initialize, is_exit}
 use Rattle.lsp_message.specs.declared.msg.code.ErrorCode.TheVariants.{ServerNotInitialized}
 use Rattle.lsp_session.specs.ProtocolError.{expected_initialized}
 use Rattle.lsp_session.specs.Replies.{null_reply}
-use Rattle.lsp_session.specs.Session.{Exchange, letters_of, sends_of, SessionAnswer, Stop, decided, no_more, timed_out, refused as cut_off, exhausted, Phase, starting, replied as awaiting, serving, asked as shut, is_served}
+use Rattle.lsp_session.specs.Session.{Exchange, messages_of, sends_of, SessionAnswer, Stop, decided, no_more, timed_out, refused as cut_off, exhausted, Phase, starting, replied as awaiting, serving, asked as shut, is_served}
 use Rattle.lsp_session.specs.SessionBytes.{ReadsMessage, Ends, Wrote, GetsAllButLast}
 use Rattle.lsp_session.specs.declared.loops.stream_session.SessionFault.TheVariants.{Write, Memory as NoMemory}
 use Rattle.lsp_message.specs.declared.frame.WriteFault.{WriteFault}
 use Rattle.lsp_message.specs.Written.{GetsFrames}
-use Rattle.lsp_session.specs.SessionLaws.{IsInvited, IsUnopened, AfterNull, EndsWithNull, HasNoShutdown, KeepsOrder, IsOpened, IsUnstarted, StopsAt, comes_early, AllEarly, IsRefusedEarly, is_refusal, AllRefused}
+use Rattle.lsp_session.specs.SessionLaws.{IsInvited, IsUnopened, AfterShutdown, EndsWithShutdown, HasNoShutdown, KeepsOrder, IsOpened, IsUnstarted, StopsAt, comes_early, AllEarly, IsRefusedEarly, is_refusal, AllRefused}
 use Rattle.serde_json.specs.Data.{Data, null as null_data}
 use Rattle.std.proofs.Common.{◌≡◌, refl, sym, ◌∙◌, ap, subst, inl, inr, ◌⊎◌, ℕ, true, false, List, [], ◌∷◌, ◌++◌, Option, Some, None}
 use Rattle.std.proofs.lemmas.List.Folds.{list_all-append}
@@ -23,11 +23,11 @@ use Rattle.lsp_session.specs.declared.loops.handler.SessionEnd.TheVariants.{Shut
 
 -- a request that gets a result
 abbrev granted : Id → List ℕ → Data → Data → Exchange
-granted i method params result = record { letter = Some (request i method params); said = response i (Ok result) ∷ [] }
+granted i method params result = record { came = Some (request i method params); sent = response i (Ok result) ∷ [] }
 
 -- a request that gets an error
 abbrev turned : Id → List ℕ → Data → ErrorObject → Exchange
-turned i method params error = record { letter = Some (request i method params); said = response i (Err error) ∷ [] }
+turned i method params error = record { came = Some (request i method params); sent = response i (Err error) ∷ [] }
 
 -- `initialize` gets its result
 abbrev begun : Id → Data → Data → Exchange
@@ -35,15 +35,15 @@ begun i params result = granted i (codes "initialize") params result
 
 -- `initialized`, for which this is sent
 abbrev invited : Data → List Message → Exchange
-invited params said = record { letter = Some (notification (codes "initialized") params); said = said }
+invited params output = record { came = Some (notification (codes "initialized") params); sent = output }
 
 -- `shutdown`, for which this is sent
 abbrev shutting : Id → Data → List Message → Exchange
-shutting i params said = record { letter = Some (request i (codes "shutdown") params); said = said }
+shutting i params output = record { came = Some (request i (codes "shutdown") params); sent = output }
 
 -- `exit`, for which this is sent
 abbrev leaving : Data → List Message → Exchange
-leaving params said = record { letter = Some (notification (codes "exit") params); said = said }
+leaving params output = record { came = Some (notification (codes "exit") params); sent = output }
 
 -- a session ends well only while it serves, or by a message
 none_ends_well : (p : Phase) (stop : Stop) (end : SessionEnd) → (p ≡ starting) ⊎ (p ≡ awaiting) → StopsAt p stop (Ok end) → ⊥
@@ -70,7 +70,7 @@ serves_on (cut_off (Lost m)) answer shown is stops = elim is [ inl e ↦ cc (sym
 serves_on (cut_off (Memory m)) answer shown is stops = elim is [ inl e ↦ cc (sym e ∙ stops) | inr e ↦ cc (sym e ∙ stops) ]
 serves_on exhausted answer shown is stops = elim is [ inl e ↦ cc (sym e ∙ stops) | inr e ↦ cc (sym e ∙ stops) ]
 
--- after the null it is shut down by a message alone
+-- after the reply to `shutdown` it is shut down by a message alone
 waits_for_exit : (i : Id) (stop : Stop) → StopsAt (shut i) stop (Ok ShutDown) → ⊥
 waits_for_exit i decided stops = stops
 waits_for_exit i no_more stops = cc (stops)
@@ -84,27 +84,27 @@ never_last [] y e = cc (e)
 never_last (b ∷ before) y e = cc (e)
 
 -- not all are errors
-mixed : (x : Exchange) (xs : List Exchange) → list_all is_refusal x.said ≡ false → AllRefused (x ∷ xs) → ⊥
+mixed : (x : Exchange) (xs : List Exchange) → list_all is_refusal x.sent ≡ false → AllRefused (x ∷ xs) → ⊥
 mixed x xs served all =
-    let both : (list_all is_refusal x.said && list_all is_refusal (sends_of xs)) ≡ true = sym (list_all-append is_refusal x.said (sends_of xs)) ∙ all in
+    let both : (list_all is_refusal x.sent && list_all is_refusal (sends_of xs)) ≡ true = sym (list_all-append is_refusal x.sent (sends_of xs)) ∙ all in
     let e = (rw served at both) in
     cc (e)
 
-module _ (stop : Stop) (null : Option Message) (answer : SessionAnswer) where
-  -- what is said after the result of `initialize`
+module _ (stop : Stop) (shutdown_reply : Option Message) (answer : SessionAnswer) where
+  -- what is sent after the result of `initialize`
   abbrev Later : List Exchange → Type 0
-  Later more = (IsInvited more × (HasNoShutdown more stop null answer ⊎ EndsWithNull more stop null answer)) ⊎ (IsUnopened more stop answer × (null ≡ None))
+  Later more = (IsInvited more × (HasNoShutdown more stop shutdown_reply answer ⊎ EndsWithShutdown more stop shutdown_reply answer)) ⊎ (IsUnopened more stop answer × (shutdown_reply ≡ None))
 
-  -- Where more than errors is sent for the first message, it is `initialize`.
+  -- If more than errors is sent for the first message, it is `initialize`.
   record Starts (x : Exchange) (more : List Exchange) : Type 0 where
     id : Id
     method : List ℕ
     params : Data
     asks : is_initialize (request id method params) ≡ true
-    came : x.letter ≡ Some (request id method params)
+    came : x.came ≡ Some (request id method params)
     later : Later more
 
-  starts : (x : Exchange) (more : List Exchange) → list_all is_refusal x.said ≡ false → KeepsOrder (x ∷ more) stop null answer → Starts x more
+  starts : (x : Exchange) (more : List Exchange) → list_all is_refusal x.sent ≡ false → KeepsOrder (x ∷ more) stop shutdown_reply answer → Starts x more
   starts x more served order = at order.early order.rest order.cut order.opened
     where
       last : (e : Exchange) (early rest before : List Exchange) (i : Id) (method : List ℕ) (params result : Data) → x ≡ e → more ≡ early ++ rest
@@ -118,14 +118,14 @@ module _ (stop : Stop) (null : Option Message) (answer : SessionAnswer) where
             method = method;
             params = params;
             asks = asks;
-            came = ap (λ (y : Exchange). y.letter) (same ∙ is);
+            came = ap (λ (y : Exchange). y.came) (same ∙ is);
             later = rw all later;
           }
       last e early rest (b ∷ before) i method params result same tail asks cut refused later =
           let is : e ≡ b = cc (cut) in
-          absurd (mixed b before (ap (λ (y : Exchange). list_all is_refusal y.said) (sym (same ∙ is)) ∙ served) refused)
+          absurd (mixed b before (ap (λ (y : Exchange). list_all is_refusal y.sent) (sym (same ∙ is)) ∙ served) refused)
 
-      at : (early rest : List Exchange) → x ∷ more ≡ early ++ rest → IsOpened early rest stop null answer ⊎ (AllRefused early × AllEarly early × IsUnstarted rest stop answer × (null ≡ None)) → Starts x more
+      at : (early rest : List Exchange) → x ∷ more ≡ early ++ rest → IsOpened early rest stop shutdown_reply answer ⊎ (AllRefused early × AllEarly early × IsUnstarted rest stop answer × (shutdown_reply ≡ None)) → Starts x more
       at [] rest cut (inl opened) = absurd (never_last opened.ends.before _ opened.ends.cut)
       at [] rest cut (inr unopened) =
           let unstarted : IsUnstarted (x ∷ more) stop answer = subst (λ (xs : List Exchange). IsUnstarted xs stop answer) (sym cut) unopened.2 in
@@ -138,11 +138,11 @@ module _ (stop : Stop) (null : Option Message) (answer : SessionAnswer) where
           last e early rest ends.before ends.id ends.method ends.params ends.result same tail ends.asks ends.cut opened.refused opened.later
       at (e ∷ early) rest cut (inr unopened) =
           let same : x ≡ e = cc (cut) in
-          absurd (mixed e early (ap (λ (y : Exchange). list_all is_refusal y.said) (sym same) ∙ served) unopened.0)
+          absurd (mixed e early (ap (λ (y : Exchange). list_all is_refusal y.sent) (sym same) ∙ served) unopened.0)
 
-  -- a request but `initialize` gets a result first: a hover, or the null of `shutdown`
+  -- a request but `initialize` gets a result first: a hover, or the reply to `shutdown`
   pub served_first : (i : Id) (method : List ℕ) (params result : Data) (more : List Exchange) → is_initialize (request i method params) ≡ false
-      → KeepsOrder (granted i method params result ∷ more) stop null answer → ⊥
+      → KeepsOrder (granted i method params result ∷ more) stop shutdown_reply answer → ⊥
   served_first i method params result more other order =
       let begins = starts (granted i method params result) more refl order in
       let same : request i method params ≡ request begins.id begins.method begins.params = cc (begins.came) in
@@ -151,135 +151,135 @@ module _ (stop : Stop) (null : Option Message) (answer : SessionAnswer) where
 
   -- Between the result of `initialize` and `initialized` a request is answered: a hover, or a second `initialize`.
   pub served_uninvited : (i j : Id) (params result given : Data) (method : List ℕ) (reply : Message) (others : List Message) (more : List Exchange)
-      → KeepsOrder (begun i params result ∷ record { letter = Some (request j method given); said = reply ∷ others } ∷ more) stop null answer → ⊥
+      → KeepsOrder (begun i params result ∷ record { came = Some (request j method given); sent = reply ∷ others } ∷ more) stop shutdown_reply answer → ⊥
   served_uninvited i j params result given method reply others more order = at (starts (begun i params result) _ refl order).later
     where
-      at : Later (record { letter = Some (request j method given); said = reply ∷ others } ∷ more) → ⊥
+      at : Later (record { came = Some (request j method given); sent = reply ∷ others } ∷ more) → ⊥
       at (inl invites) = let e : false ≡ true = invites.0 in cc (e)
       at (inr unopened) = let e : reply ∷ others ≡ [] = unopened.0.2 in cc (e)
 
   -- what a `shutdown` that comes first after `initialized` gets, and what follows
-  shuts : (k : Id) (given asked : Data) (opening said : List Message) (more : List Exchange) → Later (invited given opening ∷ shutting k asked said ∷ more)
-      → (said ≡ null_reply k ∷ []) × AfterNull k more stop answer
-  shuts k given asked opening said more (inr unopened) = let e : shutting k asked said ∷ more ≡ [] = unopened.0.0 in absurd (cc (e))
-  shuts k given asked opening said more (inl (invites, inl (inl all, rest))) = let e : false ≡ true = all.0 in absurd (cc (e))
-  shuts k given asked opening said more (inl (invites, inl (inr left, rest))) = absurd (at left.before left.last left.cut left.none_before left.leaves)
+  shuts : (k : Id) (given asked : Data) (opening output : List Message) (more : List Exchange) → Later (invited given opening ∷ shutting k asked output ∷ more)
+      → (output ≡ null_reply k ∷ []) × AfterShutdown k more stop answer
+  shuts k given asked opening output more (inr unopened) = let e : shutting k asked output ∷ more ≡ [] = unopened.0.0 in absurd (cc (e))
+  shuts k given asked opening output more (inl (invites, inl (inl all, rest))) = let e : false ≡ true = all.0 in absurd (cc (e))
+  shuts k given asked opening output more (inl (invites, inl (inr left, rest))) = absurd (at left.before left.last left.cut left.none_before left.leaves)
     where
-      at : (before : List Exchange) (last : Message) → invited given opening ∷ shutting k asked said ∷ more ≡ before ++ record { letter = Some last; said = [] } ∷ []
-          → list_all is_served (letters_of before) ≡ true → is_exit last ≡ true → ⊥
-      at [] last cut passed leaves = let e : shutting k asked said ∷ more ≡ [] = cc (cut) in cc (e)
+      at : (before : List Exchange) (last : Message) → invited given opening ∷ shutting k asked output ∷ more ≡ before ++ record { came = Some last; sent = [] } ∷ []
+          → list_all is_served (messages_of before) ≡ true → is_exit last ≡ true → ⊥
+      at [] last cut passed leaves = let e : shutting k asked output ∷ more ≡ [] = cc (cut) in cc (e)
       at (a ∷ []) last cut passed leaves =
-          let second : shutting k asked said ≡ record { letter = Some last; said = [] } = cc (cut) in
-          let came : Some (request k (codes "shutdown") asked) ≡ Some last = ap (λ (x : Exchange). x.letter) second in
+          let second : shutting k asked output ≡ record { came = Some last; sent = [] } = cc (cut) in
+          let came : Some (request k (codes "shutdown") asked) ≡ Some last = ap (λ (x : Exchange). x.came) second in
           let same : request k (codes "shutdown") asked ≡ last = cc (came) in
           let e : false ≡ true = ap (λ (m : Message). is_exit m) same ∙ leaves in
           cc (e)
       at (a ∷ b ∷ before) last cut passed leaves =
           let first : a ≡ invited given opening = cc (cut) in
-          let second : b ≡ shutting k asked said = cc (cut) in
+          let second : b ≡ shutting k asked output = cc (cut) in
           let e : false ≡ true = (rw (first, second) at passed) in
           cc (e)
-  shuts k given asked opening said more (inl (invites, inr last)) = at last.before last.id last.method last.params last.after last.cut last.none_before last.after_null
+  shuts k given asked opening output more (inl (invites, inr last)) = at last.before last.id last.method last.params last.after last.cut last.none_before last.after_shutdown
     where
       at : (before : List Exchange) (id : Id) (method : List ℕ) (params : Data) (after : List Exchange)
-          → invited given opening ∷ shutting k asked said ∷ more ≡ before ++ record { letter = Some (request id method params); said = null_reply id ∷ [] } ∷ after
-          → list_all is_served (letters_of before) ≡ true → AfterNull id after stop answer → (said ≡ null_reply k ∷ []) × AfterNull k more stop answer
+          → invited given opening ∷ shutting k asked output ∷ more ≡ before ++ record { came = Some (request id method params); sent = null_reply id ∷ [] } ∷ after
+          → list_all is_served (messages_of before) ≡ true → AfterShutdown id after stop answer → (output ≡ null_reply k ∷ []) × AfterShutdown k more stop answer
       at [] id method params after cut passed follows =
-          let first : invited given opening ≡ record { letter = Some (request id method params); said = null_reply id ∷ [] } = cc (cut) in
-          let came : Some (notification (codes "initialized") given) ≡ Some (request id method params) = ap (λ (x : Exchange). x.letter) first in
+          let first : invited given opening ≡ record { came = Some (request id method params); sent = null_reply id ∷ [] } = cc (cut) in
+          let came : Some (notification (codes "initialized") given) ≡ Some (request id method params) = ap (λ (x : Exchange). x.came) first in
           absurd (cc (came))
       at (a ∷ []) id method params after cut passed follows =
-          let second : shutting k asked said ≡ record { letter = Some (request id method params); said = null_reply id ∷ [] } = cc (cut) in
+          let second : shutting k asked output ≡ record { came = Some (request id method params); sent = null_reply id ∷ [] } = cc (cut) in
           let tail : more ≡ after = cc (cut) in
-          let came : Some (request k (codes "shutdown") asked) ≡ Some (request id method params) = ap (λ (x : Exchange). x.letter) second in
+          let came : Some (request k (codes "shutdown") asked) ≡ Some (request id method params) = ap (λ (x : Exchange). x.came) second in
           let named : k ≡ id = cc (came) in
-          (rw named (ap (λ (x : Exchange). x.said) second), rw (named, tail) follows)
+          (rw named (ap (λ (x : Exchange). x.sent) second), rw (named, tail) follows)
       at (a ∷ b ∷ before) id method params after cut passed follows =
           let first : a ≡ invited given opening = cc (cut) in
-          let second : b ≡ shutting k asked said = cc (cut) in
+          let second : b ≡ shutting k asked output = cc (cut) in
           let e : false ≡ true = (rw (first, second) at passed) in
           absurd (cc (e))
 
   -- the first `shutdown` gets something else than null: an error, or nothing
-  pub shut_otherwise : (i k : Id) (params result given asked : Data) (opening said : List Message) (more : List Exchange) → (said ≡ null_reply k ∷ [] → ⊥)
-      → KeepsOrder (begun i params result ∷ invited given opening ∷ shutting k asked said ∷ more) stop null answer → ⊥
-  shut_otherwise i k params result given asked opening said more other order =
-      other (shuts k given asked opening said more (starts (begun i params result) _ refl order).later).0
+  pub shut_otherwise : (i k : Id) (params result given asked : Data) (opening output : List Message) (more : List Exchange) → (output ≡ null_reply k ∷ [] → ⊥)
+      → KeepsOrder (begun i params result ∷ invited given opening ∷ shutting k asked output ∷ more) stop shutdown_reply answer → ⊥
+  shut_otherwise i k params result given asked opening output more other order =
+      other (shuts k given asked opening output more (starts (begun i params result) _ refl order).later).0
 
-  -- After the null a message is sent: a result, a second null, or a whole second session.
-  pub speaks_after_null : (i k : Id) (params result given asked : Data) (opening said : List Message) (letter : Option Message) (sent : Message)
+  -- After the reply to `shutdown` a message is sent: a result, a second reply to `shutdown`, or a whole second session.
+  pub speaks_after_shutdown : (i k : Id) (params result given asked : Data) (opening output : List Message) (arrived : Option Message) (sent : Message)
       (others : List Message) (more : List Exchange)
-      → KeepsOrder (begun i params result ∷ invited given opening ∷ shutting k asked said ∷ record { letter = letter; said = sent ∷ others } ∷ more) stop null answer
+      → KeepsOrder (begun i params result ∷ invited given opening ∷ shutting k asked output ∷ record { came = arrived; sent = sent ∷ others } ∷ more) stop shutdown_reply answer
       → ⊥
-  speaks_after_null i k params result given asked opening said letter sent others more order =
-      let follows = (shuts k given asked opening said _ (starts (begun i params result) _ refl order).later).1 in
+  speaks_after_shutdown i k params result given asked opening output arrived sent others more order =
+      let follows = (shuts k given asked opening output _ (starts (begun i params result) _ refl order).later).1 in
       let e : sent ∷ others ≡ [] = follows.1 in
       cc (e)
 
   -- a message comes after `exit`
-  pub goes_on_after_exit : (i : Id) (params result given asked : Data) (opening said : List Message) (x : Exchange) (more : List Exchange)
-      → KeepsOrder (begun i params result ∷ invited given opening ∷ leaving asked said ∷ x ∷ more) stop null answer
+  pub goes_on_after_exit : (i : Id) (params result given asked : Data) (opening output : List Message) (x : Exchange) (more : List Exchange)
+      → KeepsOrder (begun i params result ∷ invited given opening ∷ leaving asked output ∷ x ∷ more) stop shutdown_reply answer
       → ⊥
-  goes_on_after_exit i params result given asked opening said x more order = at (starts (begun i params result) _ refl order).later
+  goes_on_after_exit i params result given asked opening output x more order = at (starts (begun i params result) _ refl order).later
     where
-      left : (before : List Exchange) (last : Message) → invited given opening ∷ leaving asked said ∷ x ∷ more ≡ before ++ record { letter = Some last; said = [] } ∷ []
-          → list_all is_served (letters_of before) ≡ true → ⊥
-      left [] last cut passed = let e : leaving asked said ∷ x ∷ more ≡ [] = cc (cut) in cc (e)
+      left : (before : List Exchange) (last : Message) → invited given opening ∷ leaving asked output ∷ x ∷ more ≡ before ++ record { came = Some last; sent = [] } ∷ []
+          → list_all is_served (messages_of before) ≡ true → ⊥
+      left [] last cut passed = let e : leaving asked output ∷ x ∷ more ≡ [] = cc (cut) in cc (e)
       left (a ∷ []) last cut passed = let e : x ∷ more ≡ [] = cc (cut) in cc (e)
       left (a ∷ b ∷ before) last cut passed =
           let first : a ≡ invited given opening = cc (cut) in
-          let second : b ≡ leaving asked said = cc (cut) in
+          let second : b ≡ leaving asked output = cc (cut) in
           let e : false ≡ true = (rw (first, second) at passed) in
           cc (e)
 
-      nulled : (before : List Exchange) (id : Id) (method : List ℕ) (params : Data) (after : List Exchange)
-          → invited given opening ∷ leaving asked said ∷ x ∷ more ≡ before ++ record { letter = Some (request id method params); said = null_reply id ∷ [] } ∷ after
-          → list_all is_served (letters_of before) ≡ true → ⊥
-      nulled [] id method params after cut passed =
-          let first : invited given opening ≡ record { letter = Some (request id method params); said = null_reply id ∷ [] } = cc (cut) in
-          let came : Some (notification (codes "initialized") given) ≡ Some (request id method params) = ap (λ (y : Exchange). y.letter) first in
+      after_reply : (before : List Exchange) (id : Id) (method : List ℕ) (params : Data) (after : List Exchange)
+          → invited given opening ∷ leaving asked output ∷ x ∷ more ≡ before ++ record { came = Some (request id method params); sent = null_reply id ∷ [] } ∷ after
+          → list_all is_served (messages_of before) ≡ true → ⊥
+      after_reply [] id method params after cut passed =
+          let first : invited given opening ≡ record { came = Some (request id method params); sent = null_reply id ∷ [] } = cc (cut) in
+          let came : Some (notification (codes "initialized") given) ≡ Some (request id method params) = ap (λ (y : Exchange). y.came) first in
           cc (came)
-      nulled (a ∷ []) id method params after cut passed =
-          let second : leaving asked said ≡ record { letter = Some (request id method params); said = null_reply id ∷ [] } = cc (cut) in
-          let came : Some (notification (codes "exit") asked) ≡ Some (request id method params) = ap (λ (y : Exchange). y.letter) second in
+      after_reply (a ∷ []) id method params after cut passed =
+          let second : leaving asked output ≡ record { came = Some (request id method params); sent = null_reply id ∷ [] } = cc (cut) in
+          let came : Some (notification (codes "exit") asked) ≡ Some (request id method params) = ap (λ (y : Exchange). y.came) second in
           cc (came)
-      nulled (a ∷ b ∷ before) id method params after cut passed =
+      after_reply (a ∷ b ∷ before) id method params after cut passed =
           let first : a ≡ invited given opening = cc (cut) in
-          let second : b ≡ leaving asked said = cc (cut) in
+          let second : b ≡ leaving asked output = cc (cut) in
           let e : false ≡ true = (rw (first, second) at passed) in
           cc (e)
 
-      at : Later (invited given opening ∷ leaving asked said ∷ x ∷ more) → ⊥
+      at : Later (invited given opening ∷ leaving asked output ∷ x ∷ more) → ⊥
       at (inl (invites, inl (inl all, rest))) = let e : false ≡ true = all.0 in cc (e)
       at (inl (invites, inl (inr last, rest))) = left last.before last.last last.cut last.none_before
-      at (inl (invites, inr last)) = nulled last.before last.id last.method last.params last.after last.cut last.none_before
-      at (inr unopened) = let e : leaving asked said ∷ x ∷ more ≡ [] = unopened.0.0 in cc (e)
+      at (inl (invites, inr last)) = after_reply last.before last.id last.method last.params last.after last.cut last.none_before
+      at (inr unopened) = let e : leaving asked output ∷ x ∷ more ≡ [] = unopened.0.0 in cc (e)
 
-  -- after the null of `shutdown` the session is shut down without an `exit`
-  pub shut_down_without_exit : (i k : Id) (params result given asked : Data) (opening said : List Message) → answer ≡ Ok ShutDown
-      → KeepsOrder (begun i params result ∷ invited given opening ∷ shutting k asked said ∷ []) stop null answer → ⊥
-  shut_down_without_exit i k params result given asked opening said is order =
-      let follows = (shuts k given asked opening said [] (starts (begun i params result) _ refl order).later).1 in
+  -- after the reply to `shutdown` the session is shut down without an `exit`
+  pub shut_down_without_exit : (i k : Id) (params result given asked : Data) (opening output : List Message) → answer ≡ Ok ShutDown
+      → KeepsOrder (begun i params result ∷ invited given opening ∷ shutting k asked output ∷ []) stop shutdown_reply answer → ⊥
+  shut_down_without_exit i k params result given asked opening output is order =
+      let follows = (shuts k given asked opening output [] (starts (begun i params result) _ refl order).later).1 in
       waits_for_exit k stop (subst (λ (a : SessionAnswer). StopsAt (shut k) stop a) is follows)
 
   -- what holds of the first message: it may come before `initialize` got its result, or it decided
   abbrev Begins : Exchange → List Exchange → Type 0
-  Begins x more = IsSomeAnd x.letter (λ m. comes_early m ≡ true) ⊎ IsUnstarted (x ∷ more) stop answer
+  Begins x more = IsSomeAnd x.came (λ m. comes_early m ≡ true) ⊎ IsUnstarted (x ∷ more) stop answer
 
-  begins : (x : Exchange) (more : List Exchange) → KeepsOrder (x ∷ more) stop null answer → Begins x more
+  begins : (x : Exchange) (more : List Exchange) → KeepsOrder (x ∷ more) stop shutdown_reply answer → Begins x more
   begins x more order = at order.early order.rest order.cut order.opened
     where
       early_one : (e : Exchange) (early before : List Exchange) (i : Id) (method : List ℕ) (params result : Data) → x ≡ e
-          → e ∷ early ≡ before ++ granted i method params result ∷ [] → AllEarly before → IsSomeAnd x.letter (λ m. comes_early m ≡ true)
+          → e ∷ early ≡ before ++ granted i method params result ∷ [] → AllEarly before → IsSomeAnd x.came (λ m. comes_early m ≡ true)
       early_one e early [] i method params result same cut came =
           let is : e ≡ granted i method params result = cc (cut) in
-          subst (λ (y : Exchange). IsSomeAnd y.letter (λ m. comes_early m ≡ true)) (sym (same ∙ is)) refl
+          subst (λ (y : Exchange). IsSomeAnd y.came (λ m. comes_early m ≡ true)) (sym (same ∙ is)) refl
       early_one e early (b ∷ before) i method params result same cut came =
           let is : e ≡ b = cc (cut) in
-          subst (λ (y : Exchange). IsSomeAnd y.letter (λ m. comes_early m ≡ true)) (sym (same ∙ is)) came.0
+          subst (λ (y : Exchange). IsSomeAnd y.came (λ m. comes_early m ≡ true)) (sym (same ∙ is)) came.0
 
       at : (early rest : List Exchange) → x ∷ more ≡ early ++ rest
-          → IsOpened early rest stop null answer ⊎ (AllRefused early × AllEarly early × IsUnstarted rest stop answer × (null ≡ None)) → Begins x more
+          → IsOpened early rest stop shutdown_reply answer ⊎ (AllRefused early × AllEarly early × IsUnstarted rest stop answer × (shutdown_reply ≡ None)) → Begins x more
       at [] rest cut (inl opened) = absurd (never_last opened.ends.before _ opened.ends.cut)
       at [] rest cut (inr unopened) = inr (subst (λ (xs : List Exchange). IsUnstarted xs stop answer) (sym cut) unopened.2)
       at (e ∷ early) rest cut (inl opened) =
@@ -288,38 +288,38 @@ module _ (stop : Stop) (null : Option Message) (answer : SessionAnswer) where
           inl (early_one e early ends.before ends.id ends.method ends.params ends.result same ends.cut opened.came)
       at (e ∷ early) rest cut (inr unopened) =
           let same : x ≡ e = cc (cut) in
-          inl (subst (λ (y : Exchange). IsSomeAnd y.letter (λ m. comes_early m ≡ true)) (sym same) unopened.1.0)
+          inl (subst (λ (y : Exchange). IsSomeAnd y.came (λ m. comes_early m ≡ true)) (sym same) unopened.1.0)
 
   -- a message comes after an `exit` or a response that came first
-  pub goes_on_after_early : (m : Message) (said : List Message) (x : Exchange) (more : List Exchange) → comes_early m ≡ false
-      → KeepsOrder (record { letter = Some m; said = said } ∷ x ∷ more) stop null answer → ⊥
-  goes_on_after_early m said x more late order = at (begins (record { letter = Some m; said = said }) (x ∷ more) order)
+  pub goes_on_after_early : (m : Message) (output : List Message) (x : Exchange) (more : List Exchange) → comes_early m ≡ false
+      → KeepsOrder (record { came = Some m; sent = output } ∷ x ∷ more) stop shutdown_reply answer → ⊥
+  goes_on_after_early m output x more late order = at (begins (record { came = Some m; sent = output }) (x ∷ more) order)
     where
-      at : Begins (record { letter = Some m; said = said }) (x ∷ more) → ⊥
+      at : Begins (record { came = Some m; sent = output }) (x ∷ more) → ⊥
       at (inl early) = let e : true ≡ false = sym early ∙ late in cc (e)
       at (inr unstarted) = let e : x ∷ more ≡ [] = unstarted.0 in cc (e)
 
   -- a request that comes before `initialize` gets an error with another code than -32002
   pub refused_otherwise : (i : Id) (method : List ℕ) (params : Data) (error : ErrorObject) (more : List Exchange) → is_initialize (request i method params) ≡ false
       → (error.code ≡ number_of ServerNotInitialized → ⊥)
-      → KeepsOrder (turned i method params error ∷ more) stop null answer → ⊥
+      → KeepsOrder (turned i method params error ∷ more) stop shutdown_reply answer → ⊥
   refused_otherwise i method params error more other wrong order = at order.early order.rest order.cut order.opened
     where
-      coded : (e : Exchange) → turned i method params error ≡ e → IsRefusedEarly e.letter e.said → ⊥
-      coded e same early = wrong ((subst (λ (y : Exchange). IsRefusedEarly y.letter y.said) (sym same) early) other).0
+      coded : (e : Exchange) → turned i method params error ≡ e → IsRefusedEarly e.came e.sent → ⊥
+      coded e same early = wrong ((subst (λ (y : Exchange). IsRefusedEarly y.came y.sent) (sym same) early) other).0
 
       early_one : (e : Exchange) (early before : List Exchange) (j : Id) (asked : List ℕ) (given result : Data) → turned i method params error ≡ e
           → e ∷ early ≡ before ++ granted j asked given result ∷ [] → AllEarly before → ⊥
       early_one e early [] j asked given result same cut came =
           let is : e ≡ granted j asked given result = cc (cut) in
-          let sent : response i (Err error) ∷ [] ≡ response j (Ok result) ∷ [] = ap (λ (y : Exchange). y.said) (same ∙ is) in
+          let sent : response i (Err error) ∷ [] ≡ response j (Ok result) ∷ [] = ap (λ (y : Exchange). y.sent) (same ∙ is) in
           cc (sent)
       early_one e early (b ∷ before) j asked given result same cut came =
           let is : e ≡ b = cc (cut) in
           coded b (same ∙ is) came.1
 
       at : (early rest : List Exchange) → turned i method params error ∷ more ≡ early ++ rest
-          → IsOpened early rest stop null answer ⊎ (AllRefused early × AllEarly early × IsUnstarted rest stop answer × (null ≡ None)) → ⊥
+          → IsOpened early rest stop shutdown_reply answer ⊎ (AllRefused early × AllEarly early × IsUnstarted rest stop answer × (shutdown_reply ≡ None)) → ⊥
       at [] rest cut (inl opened) = never_last opened.ends.before _ opened.ends.cut
       at [] rest cut (inr unopened) =
           let unstarted : IsUnstarted (turned i method params error ∷ more) stop answer = subst (λ (xs : List Exchange). IsUnstarted xs stop answer) (sym cut) unopened.2 in
@@ -334,41 +334,41 @@ module _ (stop : Stop) (null : Option Message) (answer : SessionAnswer) where
           coded e same unopened.1.1
 
   -- a wake comes first
-  pub woken_first : (said : List Message) (more : List Exchange) → KeepsOrder (record { letter = None; said = said } ∷ more) stop null answer → ⊥
-  woken_first said more order = at (begins (record { letter = None; said = said }) more order)
+  pub woken_first : (output : List Message) (more : List Exchange) → KeepsOrder (record { came = None; sent = output } ∷ more) stop shutdown_reply answer → ⊥
+  woken_first output more order = at (begins (record { came = None; sent = output }) more order)
     where
-      at : Begins (record { letter = None; said = said }) more → ⊥
+      at : Begins (record { came = None; sent = output }) more → ⊥
       at (inl early) = early
       at (inr unstarted) = unstarted.1
 
-  -- what holds where no message came
-  unstarted_at : KeepsOrder [] stop null answer → StopsAt starting stop answer
+  -- what holds if no message came
+  unstarted_at : KeepsOrder [] stop shutdown_reply answer → StopsAt starting stop answer
   unstarted_at order = at order.early order.rest order.cut order.opened
     where
       at : (early rest : List Exchange) → [] ≡ early ++ rest
-          → IsOpened early rest stop null answer ⊎ (AllRefused early × AllEarly early × IsUnstarted rest stop answer × (null ≡ None)) → StopsAt starting stop answer
+          → IsOpened early rest stop shutdown_reply answer ⊎ (AllRefused early × AllEarly early × IsUnstarted rest stop answer × (shutdown_reply ≡ None)) → StopsAt starting stop answer
       at [] rest cut (inl opened) = absurd (never_last opened.ends.before _ opened.ends.cut)
       at [] rest cut (inr unopened) = subst (λ (xs : List Exchange). IsUnstarted xs stop answer) (sym cut) unopened.2
       at (e ∷ early) rest cut opened = absurd (cc (cut))
 
   -- no message came, and one decided
-  pub decides_unasked : stop ≡ decided → KeepsOrder [] stop null answer → ⊥
+  pub decides_unasked : stop ≡ decided → KeepsOrder [] stop shutdown_reply answer → ⊥
   decides_unasked is order = subst (λ (s : Stop). StopsAt starting s answer) is (unstarted_at order)
 
   -- no message came, and the session ended well
-  pub ends_unopened : (end : SessionEnd) → answer ≡ Ok end → KeepsOrder [] stop null answer → ⊥
+  pub ends_unopened : (end : SessionEnd) → answer ≡ Ok end → KeepsOrder [] stop shutdown_reply answer → ⊥
   ends_unopened end is order = none_ends_well starting stop end (inl refl) (subst (λ (a : SessionAnswer). StopsAt starting stop a) is (unstarted_at order))
 
   -- `initialize` came alone, and the session ended well
-  pub ends_uninvited : (i : Id) (params result : Data) (end : SessionEnd) → answer ≡ Ok end → KeepsOrder (begun i params result ∷ []) stop null answer → ⊥
+  pub ends_uninvited : (i : Id) (params result : Data) (end : SessionEnd) → answer ≡ Ok end → KeepsOrder (begun i params result ∷ []) stop shutdown_reply answer → ⊥
   ends_uninvited i params result end is order = at (starts (begun i params result) [] refl order).later
     where
       at : Later [] → ⊥
       at (inl invites) = invites.0
       at (inr unopened) = none_ends_well awaiting stop end (inr refl) (subst (λ (a : SessionAnswer). StopsAt awaiting stop a) is unopened.0)
 
-  -- the session is shut down, and no null was sent: no `shutdown` came
-  pub shut_down_unasked : (xs : List Exchange) → null ≡ None → answer ≡ Ok ShutDown → KeepsOrder xs stop null answer → ⊥
+  -- the session is shut down, and no reply to `shutdown` was sent: no `shutdown` came
+  pub shut_down_unasked : (xs : List Exchange) → shutdown_reply ≡ None → answer ≡ Ok ShutDown → KeepsOrder xs stop shutdown_reply answer → ⊥
   shut_down_unasked xs none is order = at order.rest order.opened
     where
       unstarted : (rest : List Exchange) → IsUnstarted rest stop answer → ⊥
@@ -382,28 +382,28 @@ module _ (stop : Stop) (null : Option Message) (answer : SessionAnswer) where
       later : (rest : List Exchange) → Later rest → ⊥
       later rest (inl (invites, inl (inl all, other))) = serves_on stop answer [] (inl is) all.1
       later rest (inl (invites, inl (inr left, other))) = let e = sym is ∙ left.closes in cc (e)
-      later rest (inl (invites, inr last)) = let e = sym none ∙ last.is_null in cc (e)
+      later rest (inl (invites, inr last)) = let e = sym none ∙ last.is_null_reply in cc (e)
       later rest (inr stops) = unopened rest stops.0
 
-      at : (rest : List Exchange) → IsOpened order.early rest stop null answer
-          ⊎ (AllRefused order.early × AllEarly order.early × IsUnstarted rest stop answer × (null ≡ None)) → ⊥
+      at : (rest : List Exchange) → IsOpened order.early rest stop shutdown_reply answer
+          ⊎ (AllRefused order.early × AllEarly order.early × IsUnstarted rest stop answer × (shutdown_reply ≡ None)) → ⊥
       at rest (inl opened) = later rest opened.later
       at rest (inr stops) = unstarted rest stops.2
 
 -- After a whole handshake a request that the lifecycle allows gets no reply, and the answer is that it came in the place of `initialized`.
-pub refuses_allowed : (i k : Id) (params result given asked : Data) (method : List ℕ) (opening : List Message) (stop : Stop) (null : Option Message) (shown : List ℕ)
-    → null ≡ None
-    → KeepsOrder (begun i params result ∷ invited given opening ∷ record { letter = Some (request k method asked); said = [] } ∷ []) stop null (Err (expected_initialized shown)) → ⊥
-refuses_allowed i k params result given asked method opening stop null shown none order =
-    at (starts stop null (Err (expected_initialized shown)) (begun i params result) _ refl order).later
+pub refuses_allowed : (i k : Id) (params result given asked : Data) (method : List ℕ) (opening : List Message) (stop : Stop) (shutdown_reply : Option Message) (shown : List ℕ)
+    → shutdown_reply ≡ None
+    → KeepsOrder (begun i params result ∷ invited given opening ∷ record { came = Some (request k method asked); sent = [] } ∷ []) stop shutdown_reply (Err (expected_initialized shown)) → ⊥
+refuses_allowed i k params result given asked method opening stop shutdown_reply shown none order =
+    at (starts stop shutdown_reply (Err (expected_initialized shown)) (begun i params result) _ refl order).later
   where
-    at : Later stop null (Err (expected_initialized shown)) (invited given opening ∷ record { letter = Some (request k method asked); said = [] } ∷ []) → ⊥
+    at : Later stop shutdown_reply (Err (expected_initialized shown)) (invited given opening ∷ record { came = Some (request k method asked); sent = [] } ∷ []) → ⊥
     at (inl (invites, inl (inl all, rest))) = serves_on stop _ shown (inr refl) all.1
     at (inl (invites, inl (inr left, rest))) = let e = left.closes in cc (e)
-    at (inl (invites, inr last)) = let e = (sym none ∙ last.is_null) in cc (e)
+    at (inl (invites, inr last)) = let e = (sym none ∙ last.is_null_reply) in cc (e)
     at (inr unopened) = let e = unopened.0.0 in cc (e)
 
--- no `initialize` comes; `shutdown` gets a null, then a request gets a result and another `shutdown` another null
+-- no `initialize` comes; `shutdown` gets its reply, then a request gets a result and another `shutdown` another reply
 pub goes_on_after_shutdown : (i j k : Id) (asked given result : Data) (method : List ℕ) (stop : Stop) (sent : Option Message) (answer : SessionAnswer)
     → KeepsOrder (shutting i asked (null_reply i ∷ []) ∷ granted j method given result ∷ shutting k asked (null_reply k ∷ []) ∷ []) stop sent answer → ⊥
 goes_on_after_shutdown i j k asked given result method stop sent answer order =
@@ -413,10 +413,10 @@ goes_on_after_shutdown i j k asked given result method stop sent answer order =
 pub second_session : (i j k : Id) (params result given asked : Data) (stop : Stop) (sent : Option Message) (answer : SessionAnswer) (more : List Exchange)
     → KeepsOrder (begun i params result ∷ invited given [] ∷ shutting k asked (null_reply k ∷ []) ∷ begun j params result ∷ more) stop sent answer → ⊥
 second_session i j k params result given asked stop sent answer more order =
-    speaks_after_null stop sent answer i k params result given asked [] (null_reply k ∷ []) _ (response j (Ok result)) [] more order
+    speaks_after_shutdown stop sent answer i k params result given asked [] (null_reply k ∷ []) _ (response j (Ok result)) [] more order
 
 -- The write of the last message failed, the session was decided, and something behind the message that decided was taken; the same
--- where memory ran out.
+-- if memory ran out.
 pub eats_past_exit : (limit : ℕ) (fault : WriteFault) (answer : SessionAnswer) (sent : Option Message) (at rest : List ℕ) → (rest ≡ at → ⊥)
     → Ends limit (Some rest) (Err (Write fault)) answer decided sent at ⊎ Ends limit (Some rest) (Err NoMemory) answer decided sent at → ⊥
 eats_past_exit limit fault answer sent at rest other (inl left) = let same : rest ≡ at = cc (left) in other same
@@ -428,7 +428,7 @@ pub loses_two : (a b : Option (List ℕ)) (stop : Stop) (sent : Option Message) 
 loses_two a b stop sent sends lost (inl all) = lost.0 all
 loses_two a b stop sent sends lost (inr most) = lost.1 most.1
 
--- memory ran out for a reply that the outbox took, and no null was sent
+-- memory ran out for a reply that the outbox took, and no reply to `shutdown` was sent
 pub loses_a_reply : (a b : Option (List ℕ)) (sends : List Message) → (GetsFrames sends a b → ⊥) → Wrote a b (Err NoMemory) decided None sends → ⊥
 loses_a_reply a b sends lost (inl all) = lost all
 loses_a_reply a b sends lost (inr most) = most.0

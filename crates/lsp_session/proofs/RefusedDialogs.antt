@@ -1,7 +1,7 @@
--- Runs in which a session and its client wait for each other, and accounts that are in no turn.
+-- Runs in which a session and its client wait for each other, and accounts that are in no order.
 use Rattle.lsp_message.specs.Id.{Id}
 use Rattle.lsp_message.specs.Message.{Message, request, notification}
-use Rattle.lsp_session.specs.Account.{Act, gave, took, lost, AreTurnsOf}
+use Rattle.lsp_session.specs.Account.{Act, gave, took, lost, AreActsOf}
 use Rattle.lsp_session.specs.Answered.{RepliesTo, requests_of}
 use Rattle.lsp_session.specs.Boxes.{is_timeout}
 use Rattle.lsp_session.specs.Dialog.{Client, NeverBothWait, WaitsForReplies}
@@ -67,25 +67,25 @@ pub holds_the_result_back : (i : Id) (params given : Data) (result : Message) (a
 holds_the_result_back i params given result after never =
     holds_a_reply_back i (codes "initialize") params [] [] [] (message (notification (codes "initialized") given)) (took result ∷ after) refl never
 
--- the null of `shutdown` is held back until `exit` comes
-pub holds_the_null_back : (sent got : List Message) (before : List Act) (i : Id) (params given : Data) (null : Message) (after : List Act) → list_all is_kept before ≡ true
-    → NeverBothWait patient sent got (before ++ gave (message (request i (codes "shutdown") params)) ∷ gave (message (notification (codes "exit") given)) ∷ took null ∷ after) → ⊥
-holds_the_null_back sent got before i params given null after kept never =
-    holds_a_reply_back i (codes "shutdown") params sent got before (message (notification (codes "exit") given)) (took null ∷ after) kept never
+-- the reply to `shutdown` is held back until `exit` comes
+pub holds_the_shutdown_reply_back : (sent got : List Message) (before : List Act) (i : Id) (params given : Data) (shutdown_reply : Message) (after : List Act) → list_all is_kept before ≡ true
+    → NeverBothWait patient sent got (before ++ gave (message (request i (codes "shutdown") params)) ∷ gave (message (notification (codes "exit") given)) ∷ took shutdown_reply ∷ after) → ⊥
+holds_the_shutdown_reply_back sent got before i params given shutdown_reply after kept never =
+    holds_a_reply_back i (codes "shutdown") params sent got before (message (notification (codes "exit") given)) (took shutdown_reply ∷ after) kept never
 
--- ---- turns
+-- ---- acts in order
 
-no_such : (passed : List Event) (m : Message) (event : Event) (reply : Message) (said more after : List Act) → list_all is_timeout passed ≡ true
-    → gave (message m) ∷ gave event ∷ after ≡ (map gave (passed ++ message m ∷ []) ++ took reply ∷ said) ++ more → ⊥
-no_such [] m event reply said more after only same = let e : gave event ≡ took reply = cc (same) in cc (e)
-no_such (timeout ∷ passed) m event reply said more after only same = let e : gave (message m) ≡ gave timeout = cc (same) in cc (e)
-no_such (message o ∷ passed) m event reply said more after only same = absurd (cc (only))
-no_such (closed ∷ passed) m event reply said more after only same = absurd (cc (only))
-no_such (woken ∷ passed) m event reply said more after only same = absurd (cc (only))
+no_such : (passed : List Event) (m : Message) (event : Event) (reply : Message) (output more after : List Act) → list_all is_timeout passed ≡ true
+    → gave (message m) ∷ gave event ∷ after ≡ (map gave (passed ++ message m ∷ []) ++ took reply ∷ output) ++ more → ⊥
+no_such [] m event reply output more after only same = let e : gave event ≡ took reply = cc (same) in cc (e)
+no_such (timeout ∷ passed) m event reply output more after only same = let e : gave (message m) ≡ gave timeout = cc (same) in cc (e)
+no_such (message o ∷ passed) m event reply output more after only same = absurd (cc (only))
+no_such (closed ∷ passed) m event reply output more after only same = absurd (cc (only))
+no_such (woken ∷ passed) m event reply output more after only same = absurd (cc (only))
 
--- a message is read for which something is said, and something else is awaited before that is sent
-pub reads_on_first : (m reply : Message) (said : List Message) (xs : List Exchange) (event : Event) (after : List Act)
-    → AreTurnsOf (record { letter = Some m; said = reply ∷ said } ∷ xs) (gave (message m) ∷ gave event ∷ after) → ⊥
-reads_on_first m reply said xs event after turns =
-    no_such turns.2.awaited.passed m event reply (map took said) turns.1 after turns.2.awaited.only_timeouts
-    (turns.4 ∙ ap (λ (acts : List Act). acts ++ turns.1) (turns.2.are ∙ ap (λ (acts : List Act). acts ++ took reply ∷ map took said) turns.2.awaited.are))
+-- a message is read for which something is to be sent, and something else is awaited before that is sent
+pub reads_on_first : (m reply : Message) (output : List Message) (xs : List Exchange) (event : Event) (after : List Act)
+    → AreActsOf (record { came = Some m; sent = reply ∷ output } ∷ xs) (gave (message m) ∷ gave event ∷ after) → ⊥
+reads_on_first m reply output xs event after exchanged =
+    no_such exchanged.2.awaited.passed m event reply (map took output) exchanged.1 after exchanged.2.awaited.only_timeouts
+    (exchanged.4 ∙ ap (λ (acts : List Act). acts ++ exchanged.1) (exchanged.2.are ∙ ap (λ (acts : List Act). acts ++ took reply ∷ map took output) exchanged.2.awaited.are))

@@ -15,7 +15,7 @@ module _ {L : Type 0} (hears : L → ReadFault → L → Type 0) (limit : ℕ) w
   abbrev outcome_at : (text : List ℕ) → Result (Option Message) ReadFault
   outcome_at text = (reading_within limit text).outcome
 
-  -- where nothing that is no message stands, none is passed over
+  -- if nothing that is no message stands, none is passed over
   passed : (text rest : List ℕ) (old new : L) → PassesOver hears limit (text, old) (rest, new) → (fault : ReadFault) × (is_of_body fault ≡ true) × (outcome_at text ≡ Err fault)
   passed text rest old new passes = (passes.0, passes.1, ap (λ (r : Reading Message). r.outcome) passes.2)
 

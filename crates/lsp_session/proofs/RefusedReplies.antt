@@ -13,8 +13,8 @@ use Rattle.std.specs.List.{list_all}
 use Rattle.std.specs.Prelude.{Result, Ok, ◌&&◌}
 
 -- a message that came, for which this is sent
-abbrev said_for : Message → List Message → Exchange
-said_for m said = record { letter = Some m; said = said }
+abbrev sent_for : Message → List Message → Exchange
+sent_for m output = record { came = Some m; sent = output }
 
 replied_within : (before : List Exchange) (x : Exchange) (more : List Exchange) → AllReplied (before ++ x ∷ more) → IsReplied x
 replied_within [] x more all = all.0
@@ -35,41 +35,41 @@ replied_but_last (b ∷ before) (e ∷ earlier) x y l more cut all =
     let tails : before ++ x ∷ y ∷ more ≡ earlier ++ l ∷ [] = cc (cut) in
     replied_but_last before earlier x y l more tails all.1
 
-module _ (stop : Stop) (null : Option Message) (answer : SessionAnswer) where
+module _ (stop : Stop) (shutdown_reply : Option Message) (answer : SessionAnswer) where
   -- Whatever came before, a message that is not the last has its reply, and nothing else is sent for it.
-  passed_on : (before : List Exchange) (x y : Exchange) (more : List Exchange) → AnswersRequests (before ++ x ∷ y ∷ more) stop null answer → IsReplied x
+  passed_on : (before : List Exchange) (x y : Exchange) (more : List Exchange) → AnswersRequests (before ++ x ∷ y ∷ more) stop shutdown_reply answer → IsReplied x
   passed_on before x y more (inl all) = replied_within before x (y ∷ more) all
   passed_on before x y more (inr last) = replied_but_last before last.before x y _ more last.cut last.replied
 
   -- a request gets no reply, and the session goes on
   pub passed_over : (before : List Exchange) (i : Id) (method : List ℕ) (params : Data) (y : Exchange) (more : List Exchange)
-      → AnswersRequests (before ++ said_for (request i method params) [] ∷ y ∷ more) stop null answer → ⊥
-  passed_over before i method params y more answered = passed_on before (said_for (request i method params) []) y more answered
+      → AnswersRequests (before ++ sent_for (request i method params) [] ∷ y ∷ more) stop shutdown_reply answer → ⊥
+  passed_over before i method params y more answered = passed_on before (sent_for (request i method params) []) y more answered
 
   -- a request gets two replies, or a reply and another message
-  pub said_twice : (before : List Exchange) (i : Id) (method : List ℕ) (params : Data) (first second : Message) (others : List Message) (y : Exchange)
-      (more : List Exchange) → AnswersRequests (before ++ said_for (request i method params) (first ∷ second ∷ others) ∷ y ∷ more) stop null answer → ⊥
-  said_twice before i method params first second others y more answered =
-      (passed_on before (said_for (request i method params) (first ∷ second ∷ others)) y more answered).1
+  pub sent_twice : (before : List Exchange) (i : Id) (method : List ℕ) (params : Data) (first second : Message) (others : List Message) (y : Exchange)
+      (more : List Exchange) → AnswersRequests (before ++ sent_for (request i method params) (first ∷ second ∷ others) ∷ y ∷ more) stop shutdown_reply answer → ⊥
+  sent_twice before i method params first second others y more answered =
+      (passed_on before (sent_for (request i method params) (first ∷ second ∷ others)) y more answered).1
 
   -- a request gets the reply of another id
-  pub said_to_another : (before : List Exchange) (i j : Id) (method : List ℕ) (params : Data) (outcome : Result Data ErrorObject) (y : Exchange)
-      (more : List Exchange) → (j ≡ i → ⊥) → AnswersRequests (before ++ said_for (request i method params) (response j outcome ∷ []) ∷ y ∷ more) stop null answer → ⊥
-  said_to_another before i j method params outcome y more other answered =
-      let replied = (passed_on before (said_for (request i method params) (response j outcome ∷ [])) y more answered).0 in
+  pub sent_to_another : (before : List Exchange) (i j : Id) (method : List ℕ) (params : Data) (outcome : Result Data ErrorObject) (y : Exchange)
+      (more : List Exchange) → (j ≡ i → ⊥) → AnswersRequests (before ++ sent_for (request i method params) (response j outcome ∷ []) ∷ y ∷ more) stop shutdown_reply answer → ⊥
+  sent_to_another before i j method params outcome y more other answered =
+      let replied = (passed_on before (sent_for (request i method params) (response j outcome ∷ [])) y more answered).0 in
       let same : j ≡ i = cc (replied.1) in
       other same
 
   -- something is sent for a notification
-  pub said_unasked : (before : List Exchange) (method : List ℕ) (params : Data) (sent : Message) (others : List Message) (y : Exchange) (more : List Exchange)
-      → AnswersRequests (before ++ said_for (notification method params) (sent ∷ others) ∷ y ∷ more) stop null answer → ⊥
-  said_unasked before method params sent others y more answered =
-      passed_on before (said_for (notification method params) (sent ∷ others)) y more answered
+  pub sent_unasked : (before : List Exchange) (method : List ℕ) (params : Data) (sent : Message) (others : List Message) (y : Exchange) (more : List Exchange)
+      → AnswersRequests (before ++ sent_for (notification method params) (sent ∷ others) ∷ y ∷ more) stop shutdown_reply answer → ⊥
+  sent_unasked before method params sent others y more answered =
+      passed_on before (sent_for (notification method params) (sent ∷ others)) y more answered
 
   -- the session ended well, and its last request has no reply
   pub last_passed_over : (before : List Exchange) (i : Id) (method : List ℕ) (params : Data) (end : SessionEnd) → answer ≡ Ok end
-      → AnswersRequests (before ++ said_for (request i method params) [] ∷ []) stop null answer → ⊥
-  last_passed_over before i method params end is (inl all) = replied_within before (said_for (request i method params) []) [] all
+      → AnswersRequests (before ++ sent_for (request i method params) [] ∷ []) stop shutdown_reply answer → ⊥
+  last_passed_over before i method params end is (inl all) = replied_within before (sent_for (request i method params) []) [] all
   last_passed_over before i method params end is (inr last) = (rw is at last.unallowed)
 
 -- ---- what is sent before the client sent `initialized`
@@ -98,7 +98,7 @@ speaks_too_early exchanges before errors (early, rest, later, cut, sent, ends, i
 pub speaks_uninvited : (x : Exchange) (before : List Message) → OpenedBy (x ∷ []) before → ⊥
 speaks_uninvited x before (early, rest, later, cut, sent, ends, invited) = at early rest cut ends.before ends.cut invited
   where
-    at : (early rest : List Exchange) → x ∷ [] ≡ early ++ rest → (earlier : List Exchange) → early ≡ earlier ++ said_for (request ends.id ends.method ends.params) (response ends.id (Ok ends.result) ∷ []) ∷ []
+    at : (early rest : List Exchange) → x ∷ [] ≡ early ++ rest → (earlier : List Exchange) → early ≡ earlier ++ sent_for (request ends.id ends.method ends.params) (response ends.id (Ok ends.result) ∷ []) ∷ []
         → IsInvited rest → ⊥
     at early [] cut earlier ended invited = invited
     at [] (r ∷ rest) cut [] ended invited = cc (ended)

@@ -58,16 +58,16 @@ waited_grows event old new waits = (map gave waits.passed ++ gave event ∷ [], 
 met_grows : (listens : Receives (List Act)) (xs : List Exchange) (old new : Phase × List Act) → FoldsTo (Meets Gives listens Gets) old xs new → Grows old.1 new.1
 met_grows listens [] old new run = grows_none old.1 new.1 (ap (λ (a : Phase × List Act). a.1) run)
 met_grows listens (x ∷ xs) old new run =
-    grows_both old.1 run.1.met new.1 (waited_grows (event_of x.letter) old.1 run.1.met run.1.waited.0)
-    (grows_both run.1.met run.0.1 new.1 (sent_grows x.said run.1.met run.0.1 run.1.taken) (met_grows listens xs run.0 new run.2))
+    grows_both old.1 run.1.met new.1 (waited_grows (event_of x.came) old.1 run.1.met run.1.waited.0)
+    (grows_both run.1.met run.0.1 new.1 (sent_grows x.sent run.1.met run.0.1 run.1.taken) (met_grows listens xs run.0 new run.2))
 
-end_grows : (listens : Receives (List Act)) (phase : Phase) (count : ℕ) (stop : Stop) (null : Option Message) (last : List Exchange) (old new : List Act) → EndsTalk Gives listens Gets phase count stop null last old new → Grows old new
-end_grows listens phase count stop (Some null) last old new end =
+end_grows : (listens : Receives (List Act)) (phase : Phase) (count : ℕ) (stop : Stop) (shutdown_reply : Option Message) (last : List Exchange) (old new : List Act) → EndsTalk Gives listens Gets phase count stop shutdown_reply last old new → Grows old new
+end_grows listens phase count stop (Some shutdown_reply) last old new end =
     grows_both old end.met new (waited_grows (message end.ask) old end.met end.waited.0)
-    (grows_by end.met end.mid new (got null end.offered.outcome) end.offered.sent (grows_by end.mid new new (gave end.event) end.received (grows_none new new refl)))
+    (grows_by end.met end.mid new (got shutdown_reply end.offered.outcome) end.offered.sent (grows_by end.mid new new (gave end.event) end.received (grows_none new new refl)))
 end_grows listens phase count (refused fault) None last old new end =
-    grows_both old end.met new (waited_grows (event_of end.letter) old end.met end.waited.0)
-    (grows_both end.met end.mid new (sent_grows end.part end.met end.mid end.taken) (grows_by end.mid new new (got end.unsaid (Err fault)) end.refuses (grows_none new new refl)))
+    grows_both old end.met new (waited_grows (event_of end.came) old end.met end.waited.0)
+    (grows_both end.met end.mid new (sent_grows end.part end.met end.mid end.taken) (grows_by end.mid new new (got end.not_sent (Err fault)) end.refuses (grows_none new new refl)))
 end_grows listens phase count decided None last old new end = grows_none old new (sym end.1)
 end_grows listens phase count no_more None last old new end = elim end.1 [
   | inl waits ↦ waited_grows closed old new waits.0
@@ -78,28 +78,28 @@ end_grows listens phase count timed_out None last old new end = absurd end
 
 -- ---- It waits twice, and says nothing for the first message.
 
-no_more_of : (part : List Message) (unsaid : Message) → part ++ unsaid ∷ [] ≡ [] → ⊥
-no_more_of [] unsaid e = cc (e)
-no_more_of (m ∷ ms) unsaid e = cc (e)
+no_more_of : (part : List Message) (not_sent : Message) → part ++ not_sent ∷ [] ≡ [] → ⊥
+no_more_of [] not_sent e = cc (e)
+no_more_of (m ∷ ms) not_sent e = cc (e)
 
 module _ {S : Type 0} (may : Behavior S) (p : Phase) (ask : Message)
-    (speaks : (s s' : S) (said : List Message) (next : Phase) → Step may p s (Some ask) said next s' → said ≡ [] → ⊥) where
-  step_as : (x y : Exchange) (s s' : S) (next : Phase) → x ≡ y → x.letter ≡ Some ask → Step may p s y.letter y.said next s' → Step may p s (Some ask) x.said next s'
-  step_as x y s s' next same letter step = rw (sym letter, same) step
+    (speaks : (s s' : S) (sent : List Message) (next : Phase) → Step may p s (Some ask) sent next s' → sent ≡ [] → ⊥) where
+  step_as : (x y : Exchange) (s s' : S) (next : Phase) → x ≡ y → x.came ≡ Some ask → Step may p s y.came y.sent next s' → Step may p s (Some ask) x.sent next s'
+  step_as x y s s' next same came step = rw (sym came, same) step
 
-  -- something is said for the first message
-  says_some : (stop : Stop) (s s' : S) (q : Phase) (x : Exchange) (rest : List Exchange) → Reaches may stop p s (x ∷ rest) q s' → x.letter ≡ Some ask → x.said ≡ [] → ⊥
-  says_some (refused fault) s s' q x rest broken letter none = by_cut broken.earlier broken.cut broken.steps
+  -- something is sent for the first message
+  sends_some : (stop : Stop) (s s' : S) (q : Phase) (x : Exchange) (rest : List Exchange) → Reaches may stop p s (x ∷ rest) q s' → x.came ≡ Some ask → x.sent ≡ [] → ⊥
+  sends_some (refused fault) s s' q x rest broken came none = by_cut broken.earlier broken.cut broken.steps
     where
-      by_cut : (earlier : List Exchange) → x ∷ rest ≡ earlier ++ record { letter = broken.letter; said = broken.part ++ broken.unsaid ∷ [] } ∷ []
+      by_cut : (earlier : List Exchange) → x ∷ rest ≡ earlier ++ record { came = broken.came; sent = broken.part ++ broken.not_sent ∷ [] } ∷ []
           → Steps may p s earlier broken.next broken.mid → ⊥
       by_cut [] cut steps =
-          let same : x ≡ record { letter = broken.letter; said = broken.part ++ broken.unsaid ∷ [] } = cc (cut) in
-          no_more_of broken.part broken.unsaid (sym (ap (λ (y : Exchange). y.said) same) ∙ none)
+          let same : x ≡ record { came = broken.came; sent = broken.part ++ broken.not_sent ∷ [] } = cc (cut) in
+          no_more_of broken.part broken.not_sent (sym (ap (λ (y : Exchange). y.sent) same) ∙ none)
       by_cut (y ∷ ys) cut steps =
           let same : x ≡ y = cc (cut) in
-          speaks s steps.1 x.said steps.0 (step_as x y s steps.1 steps.0 same letter steps.2) none
-  says_some stop s s' q x rest steps letter none = speaks s steps.1 x.said steps.0 (rw letter at steps.2) none
+          speaks s steps.1 x.sent steps.0 (step_as x y s steps.1 steps.0 same came steps.2) none
+  sends_some stop s s' q x rest steps came none = speaks s steps.1 x.sent steps.0 (rw came at steps.2) none
 
   module _ (next : Event) (later : List Act) where
     -- it waits for the message, and then again
@@ -112,32 +112,32 @@ module _ {S : Type 0} (may : Behavior S) (p : Phase) (ask : Message)
     begins (timeout ∷ passed) event rest all e = absurd (cc (e))
     begins (other ∷ passed) event rest all e = absurd (cc (all))
 
-    asks : (letter : Option Message) → event_of letter ≡ message ask → letter ≡ Some ask
+    asks : (came : Option Message) → event_of came ≡ message ask → came ≡ Some ask
     asks None e = absurd (cc (e))
     asks (Some m) e = cc
 
-    -- after a wait something was said
-    says_one : (event : Event) (m : Message) (outcome : Result (Unit {0}) SendFault) (met here : List Act)
+    -- after a wait something was sent
+    sends_one : (event : Event) (m : Message) (outcome : Result (Unit {0}) SendFault) (met here : List Act)
         → WaitsFor Gives [] event met → here ≡ met ++ got m outcome ∷ [] → Grows here twice → ⊥
     unfolding grows_by
-    says_one event m outcome met here waits said more =
-        let grown = grows_by met here twice (got m outcome) said more in
+    sends_one event m outcome met here waits sent more =
+        let grown = grows_by met here twice (got m outcome) sent more in
         let all : (map gave waits.passed ++ gave event ∷ []) ++ got m outcome ∷ more.0 ≡ twice =
         ap (λ (l : List Act). l ++ got m outcome ∷ more.0) (sym (waited waits.passed event [] met waits.received)) ∙ sym grown.1 in
         let rest : got m outcome ∷ more.0 ≡ gave next ∷ later = (begins waits.passed event (got m outcome ∷ more.0) waits.only_timeouts all).1 in
         absurd (cc (rest))
 
-    says : (letter : Option Message) (said : List Message) (met mid : List Act) → WaitsFor Gives [] (event_of letter) met → FoldsTo (Takes Gets) met said mid
-        → Grows mid twice → (letter ≡ Some ask → said ≡ [] → ⊥) → ⊥
-    says letter [] met mid waits taken more some =
+    any_sent : (came : Option Message) (sent : List Message) (met mid : List Act) → WaitsFor Gives [] (event_of came) met → FoldsTo (Takes Gets) met sent mid
+        → Grows mid twice → (came ≡ Some ask → sent ≡ [] → ⊥) → ⊥
+    any_sent came [] met mid waits taken more some =
         let grown = grows_both met mid twice (grows_none met mid taken) more in
-        let all : (map gave waits.passed ++ gave (event_of letter) ∷ []) ++ grown.0 ≡ twice =
-        ap (λ (l : List Act). l ++ grown.0) (sym (waited waits.passed (event_of letter) [] met waits.received)) ∙ sym grown.1 in
-        some (asks letter (begins waits.passed (event_of letter) grown.0 waits.only_timeouts all).0) refl
-    says letter (m ∷ ms) met mid waits taken more some =
-        says_one (event_of letter) m (Ok tt) met taken.0 waits taken.1 (grows_both taken.0 mid twice (sent_grows ms taken.0 mid taken.2) more)
+        let all : (map gave waits.passed ++ gave (event_of came) ∷ []) ++ grown.0 ≡ twice =
+        ap (λ (l : List Act). l ++ grown.0) (sym (waited waits.passed (event_of came) [] met waits.received)) ∙ sym grown.1 in
+        some (asks came (begins waits.passed (event_of came) grown.0 waits.only_timeouts all).0) refl
+    any_sent came (m ∷ ms) met mid waits taken more some =
+        sends_one (event_of came) m (Ok tt) met taken.0 waits taken.1 (grows_both taken.0 mid twice (sent_grows ms taken.0 mid taken.2) more)
 
-    -- nothing was said
+    -- nothing was sent
     waits_alone : (event : Event) → WaitsFor Gives [] event twice → ⊥
     waits_alone event waits =
         let all : (map gave waits.passed ++ gave event ∷ []) ++ [] ≡ twice = append-nil (map gave waits.passed ++ gave event ∷ []) ∙ sym (waited waits.passed event [] twice waits.received) in
@@ -145,26 +145,26 @@ module _ {S : Type 0} (may : Behavior S) (p : Phase) (ask : Message)
         absurd (cc (rest))
 
     pub waits_twice : (listens : Receives (List Act)) (s s' : S) (answer : SessionAnswer) → Talks Gives listens Gets p (SessionFrom may p s s') [] answer twice → ⊥
-    waits_twice listens s s' answer talks = by_first talks.whole talks.last talks.stop talks.null talks.prompt talks.ends talks.part.reached
+    waits_twice listens s s' answer talks = by_first talks.whole talks.last talks.stop talks.shutdown_reply talks.prompt talks.ends talks.part.reached
       where
-        by_first : (whole last : List Exchange) (stop : Stop) (null : Option Message) → FoldsTo (Meets Gives listens Gets) (p, []) whole (talks.reached, talks.mid)
-            → EndsTalk Gives listens Gets talks.reached (length whole) stop null last talks.mid twice → Reaches may stop p s (whole ++ last) talks.part.last talks.part.after → ⊥
-        by_first (x ∷ xs) last stop null prompt end reached =
-            says x.letter x.said prompt.1.met prompt.0.1 prompt.1.waited.0 prompt.1.taken
-            (grows_both prompt.0.1 talks.mid twice (met_grows listens xs prompt.0 (talks.reached, talks.mid) prompt.2) (end_grows listens talks.reached (length (x ∷ xs)) stop null last talks.mid twice end))
-            (says_some stop s talks.part.after talks.part.last x (xs ++ last) reached)
-        by_first [] last stop null prompt end reached = by_end stop null (rw (ap (λ (a : Phase × List Act). a.1) (sym prompt)) at end)
+        by_first : (whole last : List Exchange) (stop : Stop) (shutdown_reply : Option Message) → FoldsTo (Meets Gives listens Gets) (p, []) whole (talks.reached, talks.mid)
+            → EndsTalk Gives listens Gets talks.reached (length whole) stop shutdown_reply last talks.mid twice → Reaches may stop p s (whole ++ last) talks.part.last talks.part.after → ⊥
+        by_first (x ∷ xs) last stop shutdown_reply prompt end reached =
+            any_sent x.came x.sent prompt.1.met prompt.0.1 prompt.1.waited.0 prompt.1.taken
+            (grows_both prompt.0.1 talks.mid twice (met_grows listens xs prompt.0 (talks.reached, talks.mid) prompt.2) (end_grows listens talks.reached (length (x ∷ xs)) stop shutdown_reply last talks.mid twice end))
+            (sends_some stop s talks.part.after talks.part.last x (xs ++ last) reached)
+        by_first [] last stop shutdown_reply prompt end reached = by_end stop shutdown_reply (rw (ap (λ (a : Phase × List Act). a.1) (sym prompt)) at end)
           where
-            by_end : (stop : Stop) (null : Option Message) → EndsTalk Gives listens Gets talks.reached 0 stop null last [] twice → ⊥
-            by_end stop (Some null) end = says_one (message end.ask) null end.offered.outcome end.met end.mid end.waited.0 end.offered.sent
+            by_end : (stop : Stop) (shutdown_reply : Option Message) → EndsTalk Gives listens Gets talks.reached 0 stop shutdown_reply last [] twice → ⊥
+            by_end stop (Some shutdown_reply) end = sends_one (message end.ask) shutdown_reply end.offered.outcome end.met end.mid end.waited.0 end.offered.sent
                 (grows_by end.mid twice twice (gave end.event) end.received (grows_none twice twice refl))
             by_end (refused fault) None end = by_part end.part end.taken
               where
                 by_part : (part : List Message) → FoldsTo (Takes Gets) end.met part end.mid → ⊥
-                by_part [] taken = says_one (event_of end.letter) end.unsaid (Err fault) end.met twice end.waited.0
-                    (end.refuses ∙ ap (λ (l : List Act). l ++ got end.unsaid (Err fault) ∷ []) (sym taken)) (grows_none twice twice refl)
-                by_part (m ∷ ms) taken = says_one (event_of end.letter) m (Ok tt) end.met taken.0 end.waited.0 taken.1
-                    (grows_both taken.0 end.mid twice (sent_grows ms taken.0 end.mid taken.2) (grows_by end.mid twice twice (got end.unsaid (Err fault)) end.refuses (grows_none twice twice refl)))
+                by_part [] taken = sends_one (event_of end.came) end.not_sent (Err fault) end.met twice end.waited.0
+                    (end.refuses ∙ ap (λ (l : List Act). l ++ got end.not_sent (Err fault) ∷ []) (sym taken)) (grows_none twice twice refl)
+                by_part (m ∷ ms) taken = sends_one (event_of end.came) m (Ok tt) end.met taken.0 end.waited.0 taken.1
+                    (grows_both taken.0 end.mid twice (sent_grows ms taken.0 end.mid taken.2) (grows_by end.mid twice twice (got end.not_sent (Err fault)) end.refuses (grows_none twice twice refl)))
             by_end decided None end = absurd (cc (end.1))
             by_end no_more None end = elim end.1 [
               | inl waits ↦ waits_alone closed waits.0
@@ -173,47 +173,47 @@ module _ {S : Type 0} (may : Behavior S) (p : Phase) (ask : Message)
             by_end exhausted None end = waits_alone (event_of end.1) end.2.0
             by_end timed_out None end = absurd end
 
-one_said : (m : Message) (said : List Message) → said ≡ m ∷ [] → said ≡ [] → ⊥
-one_said m said one none = cc (one, none)
+one_sent : (m : Message) (sent : List Message) → sent ≡ m ∷ [] → sent ≡ [] → ⊥
+one_sent m sent one none = cc (one, none)
 
-given_for : {S : Type 0} (may : Behavior S) (s s' : S) (m : Message) (said : List Message) (next : Phase) → is_served m ≡ true
-    → Step may serving s (Some m) said next s' → may.gives s m said s'
-given_for may s s' m said next served step = let given : may.gives s m said s' × (next ≡ serving) = rw served at step in given.0
+given_for : {S : Type 0} (may : Behavior S) (s s' : S) (m : Message) (sent : List Message) (next : Phase) → is_served m ≡ true
+    → Step may serving s (Some m) sent next s' → may.outputs s m sent s'
+given_for may s s' m sent next served step = let given : may.outputs s m sent s' × (next ≡ serving) = rw served at step in given.0
 
 module _ {S : Type 0} (may : Behavior S) (s s' : S) (answer : SessionAnswer) (i : Id) (method : List ℕ) (params : Data) (next : Event) (later : List Act) (listens : Receives (List Act)) where
   -- The first request gets no reply before something else is awaited: neither the result of `initialize` nor an error.
   pub first_reply_held : Talks Gives listens Gets starting (SessionOut may s s') [] answer (gave (message (request i method params)) ∷ gave next ∷ later) → ⊥
   first_reply_held = waits_twice may starting (request i method params) speaks next later listens s s' answer
     where
-      speaks : (s s' : S) (said : List Message) (next : Phase) → Step may starting s (Some (request i method params)) said next s' → said ≡ [] → ⊥
-      speaks s s' said next step none = by_method (is_initialize (request i method params)) step
+      speaks : (s s' : S) (sent : List Message) (next : Phase) → Step may starting s (Some (request i method params)) sent next s' → sent ≡ [] → ⊥
+      speaks s s' sent next step none = by_method (is_initialize (request i method params)) step
         where
           by_method : (b : Bool)
               → MatchBool b
-              ((outcome : Result Data ErrorObject) × may.initializes s params outcome s' × (said ≡ response i outcome ∷ []) × (next ≡ phase_after outcome))
-              ((reply : Message) × IsEarlyReply i reply × (said ≡ reply ∷ []) × (next ≡ starting) × (s' ≡ s)) → ⊥
-          by_method true step = one_said (response i step.0) said step.2 none
-          by_method false step = one_said step.0 said step.2 none
+              ((outcome : Result Data ErrorObject) × may.initializes s params outcome s' × (sent ≡ response i outcome ∷ []) × (next ≡ phase_after outcome))
+              ((reply : Message) × IsEarlyReply i reply × (sent ≡ reply ∷ []) × (next ≡ starting) × (s' ≡ s)) → ⊥
+          by_method true step = one_sent (response i step.0) sent step.2 none
+          by_method false step = one_sent step.0 sent step.2 none
 
-  -- `shutdown` gets no null before `exit` is awaited.
-  pub null_held : bytes_eq method (codes "shutdown") ≡ true
+  -- `shutdown` gets no reply before `exit` is awaited.
+  pub shutdown_reply_held : bytes_eq method (codes "shutdown") ≡ true
       → Talks Gives listens Gets serving (SessionFrom may serving s s') [] answer (gave (message (request i method params)) ∷ gave next ∷ later) → ⊥
-  null_held asks = waits_twice may serving (request i method params) speaks next later listens s s' answer
+  shutdown_reply_held asks = waits_twice may serving (request i method params) speaks next later listens s s' answer
     where
-      speaks : (s s' : S) (said : List Message) (next : Phase) → Step may serving s (Some (request i method params)) said next s' → said ≡ [] → ⊥
-      speaks s s' said next step none =
-          let left : Leaves (request i method params) said next × (s' ≡ s) = rw asks at step in
-          one_said (null_reply i) said left.0.0 none
+      speaks : (s s' : S) (sent : List Message) (next : Phase) → Step may serving s (Some (request i method params)) sent next s' → sent ≡ [] → ⊥
+      speaks s s' sent next step none =
+          let left : Leaves (request i method params) sent next × (s' ≡ s) = rw asks at step in
+          one_sent (null_reply i) sent left.0.0 none
 
   -- A service that says something for each request says nothing for one before something else is awaited.
   pub reply_held : is_served (request i method params) ≡ true
-      → ((s s' : S) (said : List Message) → may.gives s (request i method params) said s' → said ≡ [] → ⊥)
+      → ((s s' : S) (sent : List Message) → may.outputs s (request i method params) sent s' → sent ≡ [] → ⊥)
       → Talks Gives listens Gets serving (SessionFrom may serving s s') [] answer (gave (message (request i method params)) ∷ gave next ∷ later) → ⊥
   reply_held served gives = waits_twice may serving (request i method params) speaks next later listens s s' answer
     where
-      speaks : (s s' : S) (said : List Message) (next : Phase) → Step may serving s (Some (request i method params)) said next s' → said ≡ [] → ⊥
-      speaks s s' said next step none =
-          gives s s' said (given_for may s s' (request i method params) said next served step) none
+      speaks : (s s' : S) (sent : List Message) (next : Phase) → Step may serving s (Some (request i method params)) sent next s' → sent ≡ [] → ⊥
+      speaks s s' sent next step none =
+          gives s s' sent (given_for may s s' (request i method params) sent next served step) none
 
 -- ---- It goes on after a refused message.
 
@@ -241,7 +241,7 @@ fine_waited event old new waits = fine_after Gives (λ old e new step all. still
 
 fine_met : (listens : Receives (List Act)) (xs : List Exchange) (old new : Phase × List Act) → FoldsTo (Meets Gives listens Gets) old xs new → AllFine old.1 → AllFine new.1
 fine_met listens [] old new run all = let same : old ≡ new = run in rw same at all
-fine_met listens (x ∷ xs) old new run all = fine_met listens xs run.0 new run.2 (fine_sent x.said run.1.met run.0.1 run.1.taken (fine_waited (event_of x.letter) old.1 run.1.met run.1.waited.0 all))
+fine_met listens (x ∷ xs) old new run all = fine_met listens xs run.0 new run.2 (fine_sent x.sent run.1.met run.0.1 run.1.taken (fine_waited (event_of x.came) old.1 run.1.met run.1.waited.0 all))
 
 module _ (before : List Act) (m : Message) (fault : SendFault) (act : Act) (later : List Act) where
   -- a message is refused, and something is done after that
@@ -267,9 +267,9 @@ module _ (before : List Act) (m : Message) (fault : SendFault) (act : Act) (late
       let tails : xs ++ last ∷ [] ≡ bs ++ got m (Err fault) ∷ act ∷ later = cc (e) in
       not_last xs last bs (and-true (is_fine x) (list_all is_fine xs) all).1 tails
 
-  -- Nothing is awaited and nothing is sent after a message that was refused, where no null was sent: after a reply or the result of
+  -- Nothing is awaited and nothing is sent after a message that was refused, if no reply to `shutdown` was sent: after a reply or the result of
   -- `initialize`, for two.
-  pub goes_on_after_refusal : (listens : Receives (List Act)) (phase : Phase) (P : SessionPart) (answer : SessionAnswer) (talks : Talks Gives listens Gets phase P [] answer goes_on) → talks.null ≡ None → ⊥
+  pub goes_on_after_refusal : (listens : Receives (List Act)) (phase : Phase) (P : SessionPart) (answer : SessionAnswer) (talks : Talks Gives listens Gets phase P [] answer goes_on) → talks.shutdown_reply ≡ None → ⊥
   goes_on_after_refusal listens phase P answer talks none = by_end talks.stop (rw none at talks.ends)
     where
       so_far : AllFine talks.mid
@@ -277,8 +277,8 @@ module _ (before : List Act) (m : Message) (fault : SendFault) (act : Act) (late
 
       by_end : (stop : Stop) → EndsTalk Gives listens Gets talks.reached (length talks.whole) stop None talks.last talks.mid goes_on → ⊥
       by_end (refused lost) end =
-          not_last end.mid (got end.unsaid (Err lost)) before
-          (fine_sent end.part end.met end.mid end.taken (fine_waited (event_of end.letter) talks.mid end.met end.waited.0 so_far)) (sym end.refuses)
+          not_last end.mid (got end.not_sent (Err lost)) before
+          (fine_sent end.part end.met end.mid end.taken (fine_waited (event_of end.came) talks.mid end.met end.waited.0 so_far)) (sym end.refuses)
       by_end decided end = not_fine (ap (λ (l : List Act). list_all is_fine l) end.1 ∙ so_far)
       by_end no_more end = elim end.1 [
         | inl waits ↦ not_fine (fine_waited closed talks.mid goes_on waits.0 so_far)

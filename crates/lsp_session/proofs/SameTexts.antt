@@ -1,8 +1,8 @@
--- Two protocol errors are equal where both parts of their texts are.
+-- Two protocol errors are equal if both parts of their texts are.
 use Rattle.std.proofs.Common.{refl}
 use Rattle.std.specs.Prelude.{◌≡◌, Bool, true, false, ◌&&◌}
 use Rattle.std.specs.Str.{bytes_eq}
-use Rattle.lsp_session.specs.ProtocolError.{ProtocolFault, disconnected, expected_initialize, aborted, expected_initialized, unexpected_in_shutdown, shutdown_timeout, shutdown_disconnected, out_of_memory, fixed_text, open_text, fault_eq}
+use Rattle.lsp_session.specs.ProtocolError.{ProtocolFault, disconnected, expected_initialize, aborted, expected_initialized, unexpected_in_shutdown, shutdown_timeout, shutdown_disconnected, out_of_memory, refused_closed, refused_memory, fixed_text, open_text, fault_eq}
 
 and_true : (b : Bool) → (b && true) ≡ b
 and_true true = refl
@@ -25,3 +25,7 @@ same_text shutdown_disconnected shutdown_disconnected = refl
 same_text shutdown_disconnected b = refl
 same_text out_of_memory out_of_memory = refl
 same_text out_of_memory b = refl
+same_text refused_closed refused_closed = refl
+same_text refused_closed b = refl
+same_text refused_memory refused_memory = refl
+same_text refused_memory b = refl

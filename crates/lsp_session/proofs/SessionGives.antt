@@ -1,43 +1,36 @@
 -- A session over a reader and a writer, as its contract says it.
-use Rattle.lsp_message.proofs.Contents.{frame_unread}
-use Rattle.lsp_message.specs.Frame.{body_means, reading_within}
-use Rattle.lsp_message.specs.Letters.{Begins, is_exit}
+use Rattle.lsp_message.specs.Frame.{reading_within}
 use Rattle.lsp_message.specs.Message.{Message}
-use Rattle.lsp_message.specs.Reading.{Reading, Answers, StopsWithin}
+use Rattle.lsp_message.specs.Reading.{Answers, StopsWithin}
 use Rattle.lsp_message.specs.Written.{GetsFrames, GetsFramesAndPart, Writes}
 use Rattle.lsp_message.specs.declared.frame.ReadFault.TheVariants.{Input, Memory as NoMemoryToRead}
 use Rattle.lsp_message.specs.declared.frame.ReadFault.{ReadFault}
 use Rattle.lsp_message.specs.declared.frame.WriteFault.TheVariants.{Output, Memory as NoMemory}
 use Rattle.lsp_message.specs.declared.frame.WriteFault.{WriteFault}
-use Rattle.lsp_session.proofs.Handing.{begins, AreFramesOf-push, breaks_off, taken_frames, taken_keeps, Appends-Keeps}
-use Rattle.lsp_session.proofs.Ran.{is_no_exit, Facts}
-use Rattle.lsp_session.proofs.Waiting.{FoldsTo-split}
+use Rattle.lsp_session.proofs.Handing.{AreFramesOf-push, breaks_off, taken_frames, taken_keeps, Appends-Keeps}
 use Rattle.lsp_session.specs.Boxes.{Sends, Takes}
-use Rattle.lsp_session.specs.Event.{Event, closed, message, timeout, woken}
+use Rattle.lsp_session.specs.Event.{Event, closed, timeout}
 use Rattle.lsp_session.specs.Finish.{FinishAnswer, FinishesAt}
 use Rattle.lsp_session.specs.FrameBoxes.{FrameOutboxSends, Told, kept_write}
-use Rattle.lsp_session.specs.ProtocolError.{out_of_memory}
-use Rattle.lsp_session.specs.Session.{SessionAnswer, Stop, decided, no_more, timed_out, refused, exhausted}
-use Rattle.lsp_session.specs.SessionBytes.{IsUnsent, LeftAfter, Ends, Wrote, GetsAllButLast, LeftWithin}
-use Rattle.lsp_session.specs.SessionFault.{ran_out, came_to_no_more, plain_answer, read_fault, read_answer}
-use Rattle.lsp_session.specs.SessionRun.{came_in, is_open, Brings, all_of, OffersLast, RefusesLast, Gets}
+use Rattle.lsp_session.specs.Session.{SessionAnswer, Stop, decided, no_more, refused}
+use Rattle.lsp_session.specs.SessionBytes.{IsUnsent, LeftAfter, Ends, Wrote, GetsAllButLast}
+use Rattle.lsp_session.specs.Served.{reason_of}
+use Rattle.lsp_session.specs.SessionFault.{session_answer}
+use Rattle.lsp_session.specs.SessionRun.{all_of, OffersLast, RefusesLast, Gets}
 use Rattle.lsp_session.specs.StreamBoxes.{stream_of, StreamInboxGives}
-use Rattle.lsp_session.specs.Streams.{Stream, StreamGives, StreamReads, Reads}
+use Rattle.lsp_session.specs.Streams.{Stream, StreamGives, StreamReads}
 use Rattle.lsp_session.specs.declared.lifecycle.SendFault.TheVariants.{Closed as Shut, Memory as Full}
 use Rattle.lsp_session.specs.declared.lifecycle.SendFault.{SendFault}
-use Rattle.lsp_session.specs.declared.loops.ReadEnd.TheVariants.{End, Fault, Exit}
+use Rattle.lsp_session.specs.declared.loops.ReadEnd.TheVariants.{End, Fault}
 use Rattle.lsp_session.specs.declared.loops.ReadEnd.{ReadEnd}
 use Rattle.lsp_session.specs.declared.loops.frame_outbox.FrameOutbox.{FrameOutbox}
-use Rattle.lsp_session.specs.declared.loops.handler.SessionEnd.{SessionEnd}
+use Rattle.lsp_session.specs.declared.loops.served.StopReason.TheVariants.{Decided, NoMore}
 use Rattle.lsp_session.specs.declared.loops.stream_inbox.StreamInbox.{StreamInbox}
-use Rattle.lsp_session.specs.declared.loops.stream_session.SessionFault.TheVariants.{Memory}
-use Rattle.lsp_session.specs.declared.loops.stream_session.SessionFault.{SessionFault}
-use Rattle.std.proofs.Common.{◌≡◌, refl, sym, ◌∙◌, ap, subst, inl, inr, ℕ, Bool, true, false, true≢false, List, [], ◌∷◌, ◌++◌, append-nil, Some, None, Option}
+use Rattle.std.proofs.Common.{◌≡◌, refl, ◌∙◌, ap, inl, inr, ℕ, List, [], ◌∷◌, ◌++◌, Some, None, Option}
 use Rattle.std.proofs.KnownBytes.{Appends-trans}
-use Rattle.std.proofs.lemmas.List.Elements.{filter_map-append}
 use Rattle.std.specs.Io.KnownBytes.{Keeps}
-use Rattle.std.specs.List.{FoldsTo, list_all, filter_map}
-use Rattle.std.specs.Prelude.{Result, Ok, Err, MatchOption, if◌then◌else◌}
+use Rattle.std.specs.List.{FoldsTo}
+use Rattle.std.specs.Prelude.{Result, Ok, Err, MatchOption}
 
 module _ {R : Type 0} (remaining : R → Option (List ℕ)) (limit : ℕ) where
   -- receives from an inbox over a reader, as they are seen, and the reader that it was lent
@@ -61,77 +54,15 @@ module _ {R : Type 0} (remaining : R → Option (List ℕ)) (limit : ℕ) where
         rw (named (ap (λ (s : StreamInbox R). s.reader.ghost_name) lost.3), ← same)
         (new.end, inr (lost.0, lost.1, lost.2, ap (λ (s : StreamInbox R). stream_of remaining s) lost.3))
 
--- the messages of what came
-abbrev pub letters_in : List (Option Message) → List Message
-letters_in came = filter_map (λ (c : Option Message). c) came
+-- an inbox that reads has no timeouts
+pub no_timeout : (limit : ℕ) (old new : Stream) → StreamGives limit old timeout new → ⊥
+no_timeout limit old new gives = at old.end gives
+  where
+    at : (end : Option ReadEnd) → MatchOption end (StreamReads limit old.remaining timeout new.end new.remaining) (λ end. (timeout ≡ closed) × (new.end ≡ Some end) × Keeps old.remaining new.remaining) → ⊥
+    at None gives = gives
+    at (Some end) gives = cc (gives.0)
 
--- these are the first messages of the text, and the rest follows them
-abbrev pub BeginsWith : ℕ → List ℕ → List Message → List ℕ → Type 0
-BeginsWith limit = FoldsTo (Begins limit)
-
-module _ (limit : ℕ) where
-  -- what an inbox over a reader gives where others may wake it
-  abbrev pub WakingGives : Stream → Event → Stream → Type 0
-  WakingGives old woken new = new ≡ old
-  WakingGives old event new = StreamGives limit old event new
-
-  -- an inbox that has ended brings no message more
-  ended_brings : (events : List Event) (end : ReadEnd) (old new : Stream) → old.end ≡ Some end → FoldsTo WakingGives old events new → letters_in (filter_map came_in events) ≡ []
-  ended_brings [] end old new is run = refl
-  ended_brings (woken ∷ events) end old new is run = ended_brings events end old new is (rw run.1 at run.2)
-  ended_brings (closed ∷ events) end old new is run = ended_brings events end run.0 new (rw is at run.1).1 run.2
-  ended_brings (event ∷ events) end old new is run = absurd (cc ((rw is at run.1).0))
-
-  -- and its next event is that no more come
-  ended_closes : (events : List Event) (end : ReadEnd) (old new : Stream) → old.end ≡ Some end → FoldsTo WakingGives old events new → list_all is_open events ≡ true → old ≡ new
-  ended_closes [] end old new is run still_open = run
-  ended_closes (woken ∷ events) end old new is run still_open = ended_closes events end old new is (rw run.1 at run.2) still_open
-  ended_closes (closed ∷ events) end old new is run still_open = absurd (cc (still_open))
-  ended_closes (event ∷ events) end old new is run still_open = absurd (cc ((rw is at run.1).0))
-
-  -- what an inbox brought that may bring more, what it has left, and whether an `exit` came
-  pub record Brought (text : List ℕ) (letters : List Message) (new : Stream) : Type 0 where
-    pub at : List ℕ
-    pub read : BeginsWith limit text letters at
-    pub left : new.remaining ≡ Some at
-    pub end : new.end ≡ (if list_all is_no_exit letters then None else Some Exit)
-
-  module _ (m : Message) (text : List ℕ) (mid new : Stream) (events : List Event) (run : FoldsTo WakingGives mid events new) (still_open : list_all is_open events ≡ true) where
-    open_then : (b : Bool) → is_exit m ≡ b → mid.end ≡ (if b then Some Exit else None)
-        → Reads limit (Some text) (Ok (Some m)) mid.remaining
-        → ((rest : List ℕ) → mid.end ≡ None → mid.remaining ≡ Some rest → Brought rest (letters_in (filter_map came_in events)) new)
-        → Brought text (m ∷ letters_in (filter_map came_in events)) new
-    open_then true exits is reads later = rw (ended_brings events Exit mid new is run, sym (ended_closes events Exit mid new is run still_open)) (record {
-      at = (reading_within limit text).rest;
-      read = ((reading_within limit text).rest, begins limit text m reads.0.0, refl);
-      left = reads.0.1;
-      end = rw (exits, is) refl;
-    })
-    open_then false exits is reads later =
-        let more = later (reading_within limit text).rest is reads.0.1 in
-        record { at = more.at; read = ((reading_within limit text).rest, begins limit text m reads.0.0, more.read); left = more.left; end = rw exits more.end }
-
-  pub brought_open : (events : List Event) (text : List ℕ) (old new : Stream) → old.end ≡ None → old.remaining ≡ Some text → FoldsTo WakingGives old events new
-      → list_all is_open events ≡ true → Brought text (letters_in (filter_map came_in events)) new
-  brought_open [] text old new unended known run still_open = record { at = text; read = refl; left = rw (sym run) known; end = rw (sym run) unended }
-  brought_open (closed ∷ events) text old new unended known run still_open = absurd (cc (still_open))
-  brought_open (message m ∷ events) text old new unended known run still_open =
-      let step = rw (unended, known) at run.1 in
-      open_then m text run.0 new events run.2 still_open (is_exit m) refl step.0 step.1
-      (λ rest still left. brought_open events rest run.0 new still left run.2 still_open)
-  brought_open (woken ∷ events) text old new unended known run still_open = brought_open events text old new unended known (rw run.1 at run.2) still_open
-  brought_open (event ∷ events) text old new unended known run still_open = absurd (rw unended at run.1)
-
-  -- an inbox that reads has no timeouts
-  pub no_timeout : (earlier : List Event) (old new : Stream) → FoldsTo WakingGives old (earlier ++ timeout ∷ []) new → ⊥
-  no_timeout [] old new run = at old.end run.1
-    where
-      at : (end : Option ReadEnd) → MatchOption end (StreamReads limit old.remaining timeout run.0.end run.0.remaining) (λ end. (timeout ≡ closed) × (run.0.end ≡ Some end) × Keeps old.remaining run.0.remaining) → ⊥
-      at None gives = gives
-      at (Some end) gives = cc (gives.0)
-  no_timeout (event ∷ earlier) old new run = no_timeout earlier run.0 new run.2
-
--- what is written of messages where the write of the last one failed
+-- what is written of messages if the write of the last one failed
 abbrev pub GetsPart : WriteFault → List Message → Option (List ℕ) → Option (List ℕ) → Type 0
 GetsPart (Output kind) ms old new = (whole : List Message) × (last : Message) × (ms ≡ whole ++ last ∷ []) × GetsFramesAndPart whole last old new
 GetsPart NoMemory ms old new = GetsAllButLast ms old new
@@ -171,115 +102,84 @@ module _ {W : Type 0} (contents : W → Option (List ℕ)) where
       pick None both = (took both.0, both.1)
       pick (Some f) part = (lost, part)
 
-  module _ (old new : FrameOutbox W) (output : List Message) (null : Option Message) (unfailed : old.fault ≡ None) where
-    -- the output is written, or a part of it where a write failed
+  module _ (old new : FrameOutbox W) (output : List Message) (shutdown_reply : Option Message) (unfailed : old.fault ≡ None) where
+    -- the output is written, or a part of it if a write failed
     abbrev pub IsWritten : Stop → Type 0
     IsWritten stop =
-        MatchOption new.fault (NotRefused stop × GetsFrames (all_of output null) (at old) (at new)) (λ f. IsUnsent stop null × GetsPart f (all_of output null) (at old) (at new))
+        MatchOption new.fault (NotRefused stop × GetsFrames (all_of output shutdown_reply) (at old) (at new)) (λ f. IsUnsent stop shutdown_reply × GetsPart f (all_of output shutdown_reply) (at old) (at new))
 
-    taken_written : (stop : Stop) (mid : FrameOutbox W) → FoldsTo (Takes (FrameOutboxSends contents)) old output mid → OffersLast (FrameOutboxSends contents) mid null new
-        → MatchOption new.fault (Unit {0} × GetsFrames (all_of output null) (at old) (at new)) (λ f. IsUnsent stop null × GetsPart f (all_of output null) (at old) (at new))
-    taken_written stop mid taken offers = last null offers
+    taken_written : (stop : Stop) (mid : FrameOutbox W) → FoldsTo (Takes (FrameOutboxSends contents)) old output mid → OffersLast (FrameOutboxSends contents) mid shutdown_reply new
+        → MatchOption new.fault (Unit {0} × GetsFrames (all_of output shutdown_reply) (at old) (at new)) (λ f. IsUnsent stop shutdown_reply × GetsPart f (all_of output shutdown_reply) (at old) (at new))
+    taken_written stop mid taken offers = last shutdown_reply offers
       where
         frames : (mid.fault ≡ None) × GetsFrames output (at old) (at mid)
         frames = taken_frames contents old output mid unfailed taken
 
-        last : (null : Option Message) → OffersLast (FrameOutboxSends contents) mid null new
-            → MatchOption new.fault (Unit {0} × GetsFrames (all_of output null) (at old) (at new)) (λ f. IsUnsent stop null × GetsPart f (all_of output null) (at old) (at new))
+        last : (shutdown_reply : Option Message) → OffersLast (FrameOutboxSends contents) mid shutdown_reply new
+            → MatchOption new.fault (Unit {0} × GetsFrames (all_of output shutdown_reply) (at old) (at new)) (λ f. IsUnsent stop shutdown_reply × GetsPart f (all_of output shutdown_reply) (at old) (at new))
         last None same = rw (same, frames.0) (tt, frames.1)
-        last (Some null) offers = sent_after output null (at old) (at mid) mid new offers.outcome frames.0 refl frames.1 offers.sent (λ e. tt) tt
+        last (Some shutdown_reply) offers = sent_after output shutdown_reply (at old) (at mid) mid new offers.outcome frames.0 refl frames.1 offers.sent (λ e. tt) tt
 
-    refused_written : (fault : SendFault) → RefusesLast (FrameOutboxSends contents) old output fault new → null ≡ None → IsWritten (refused fault)
+    refused_written : (fault : SendFault) → RefusesLast (FrameOutboxSends contents) old output fault new → shutdown_reply ≡ None → IsWritten (refused fault)
     refused_written fault last none =
         let frames = taken_frames contents old last.0 last.2 unfailed last.4 in
         rw (none, last.3) (sent_after last.0 last.1 (at old) (at last.2) last.2 new (Err fault) frames.0 refl frames.1 last.5 (λ e. cc (e)) tt)
 
-    pub gets_written : (stop : Stop) → Gets (FrameOutboxSends contents) old output null stop new → IsWritten stop
+    pub gets_written : (stop : Stop) → Gets (FrameOutboxSends contents) old output shutdown_reply stop new → IsWritten stop
     gets_written (refused fault) got = refused_written fault got.0 got.1
     gets_written stop got = taken_written stop got.0 got.1 got.2
 
-  last_keeps : (null : Option Message) (mid new : FrameOutbox W) → OffersLast (FrameOutboxSends contents) mid null new → new.writer.ghost_name ≡ mid.writer.ghost_name
+  last_keeps : (shutdown_reply : Option Message) (mid new : FrameOutbox W) → OffersLast (FrameOutboxSends contents) mid shutdown_reply new → new.writer.ghost_name ≡ mid.writer.ghost_name
   last_keeps None mid new same = ap (λ (o : FrameOutbox W). o.writer.ghost_name) same
-  last_keeps (Some null) mid new offers = offers.sent.1
+  last_keeps (Some shutdown_reply) mid new offers = offers.sent.1
 
   -- an outbox keeps the writer that it was lent
-  pub gets_keeps : (old new : FrameOutbox W) (output : List Message) (null : Option Message) (stop : Stop) → Gets (FrameOutboxSends contents) old output null stop new
+  pub gets_keeps : (old new : FrameOutbox W) (output : List Message) (shutdown_reply : Option Message) (stop : Stop) → Gets (FrameOutboxSends contents) old output shutdown_reply stop new
       → new.writer.ghost_name ≡ old.writer.ghost_name
-  gets_keeps old new output null (refused fault) got = got.0.5.1 ∙ taken_keeps contents old got.0.0 got.0.2 got.0.4
-  gets_keeps old new output null stop got = last_keeps null got.0 new got.2 ∙ taken_keeps contents old output got.0 got.1
-
--- the answer of a session in which an allocation failed
-pub ran_out_answer : (answer : SessionAnswer) → ran_out answer ≡ true → answer ≡ Err out_of_memory
-ran_out_answer (Ok end) is = absurd (cc (is))
-ran_out_answer (Err out_of_memory) is = refl
-ran_out_answer (Err fault) is = absurd (cc (is))
-
-pub ran_out_gives : (end : Option ReadEnd) → read_answer (Err out_of_memory) end ≡ Err Memory
-ran_out_gives None = refl
-ran_out_gives (Some (Fault fault)) = refl
-ran_out_gives (Some end) = refl
+  gets_keeps old new output shutdown_reply (refused fault) got = got.0.5.1 ∙ taken_keeps contents old got.0.0 got.0.2 got.0.4
+  gets_keeps old new output shutdown_reply stop got = last_keeps shutdown_reply got.0 new got.2 ∙ taken_keeps contents old output got.0 got.1
 
 module _ (limit : ℕ) where
   -- a reading that failed
   unread_at : (fault : ReadFault) (at : List ℕ) → (reading_within limit at).outcome ≡ Err fault → reading_within limit at ≡ record { outcome = Err fault; rest = (reading_within limit at).rest }
   unread_at fault at is = ap (λ o. record { outcome = o; rest = (reading_within limit at).rest }) is
 
-  -- what is left, and what was written
-  module _ (null : Option Message) (sends : List Message) (a b : Option (List ℕ)) where
-    abbrev Ended : Option (List ℕ) → Result SessionEnd SessionFault → SessionAnswer → Stop → List ℕ → Type 0
-    Ended left result answer stop at = Ends limit left result answer stop null at × Wrote a b result stop null sends
+  -- What is left, and what was written, of a session that stopped so, whose messages ended so, and of which no write failed.
+  module _ (shutdown_reply : Option Message) (answer : SessionAnswer) (sends : List Message) (a b : Option (List ℕ)) (wrote : GetsFrames sends a b) where
+    abbrev pub EndsSo : Stop → Option ReadEnd → Option (List ℕ) → List ℕ → Type 0
+    EndsSo stop end left at =
+        Ends limit left (session_answer (reason_of stop) answer end None) answer stop shutdown_reply at × Wrote a b (session_answer (reason_of stop) answer end None) stop shutdown_reply sends
 
-    module _ (wrote : GetsFrames sends a b) where
-      -- a session that came to its end
-      plain_ends : (answer : SessionAnswer) (left : Option (List ℕ)) (stop : Stop) (at : List ℕ) → ran_out answer ≡ false → LeftAfter limit stop at left
-          → Ended left (plain_answer answer) answer stop at
-      plain_ends (Ok end) left stop at enough after = ((refl, after), wrote)
-      plain_ends (Err fault) left stop at enough after = rw enough ((refl, after), wrote)
+    fault_ends : (fault : ReadFault) (left : Option (List ℕ)) (at : List ℕ) → Answers (λ (m : Message). m) (Err fault) left (reading_within limit at)
+        → EndsSo no_more (Some (Fault fault)) left at
+    fault_ends (Input kind) left at answers = ((refl, answers), wrote)
+    fault_ends NoMemoryToRead left at answers = (answers, inl wrote)
+    fault_ends fault left at answers = ((refl, (reading_within limit at).rest, unread_at fault at answers.0, answers.1), wrote)
 
-      -- an allocation failed
-      exhausted_ends : (answer : SessionAnswer) → ran_out answer ≡ true → (end : Option ReadEnd) (left : Option (List ℕ)) (at : List ℕ)
-          → StopsWithin left (reading_within limit at)
-          → Ended left (read_answer answer end) answer exhausted at
-      exhausted_ends answer ran end left at stops = rw (ran_out_answer answer ran, ran_out_gives end) (stops, inl wrote)
+    -- no more came
+    pub closed_ends : (end : Option ReadEnd) (left : Option (List ℕ)) (at : List ℕ) → StreamReads limit (Some at) closed end left → EndsSo no_more end left at
+    closed_ends None left at reads = absurd reads
+    closed_ends (Some End) left at reads =
+        by_answer answer ((reading_within limit at).rest, ap (λ o. record { outcome = o; rest = (reading_within limit at).rest }) reads.0.0, reads.0.1)
+      where
+        by_answer : (answer : SessionAnswer) → LeftAfter limit no_more at left
+            → Ends limit left (session_answer NoMore answer (Some End) None) answer no_more shutdown_reply at × Wrote a b (session_answer NoMore answer (Some End) None) no_more shutdown_reply sends
+        by_answer (Ok end) after = ((refl, after), wrote)
+        by_answer (Err fault) after = ((refl, after), wrote)
+    closed_ends (Some (Fault fault)) left at reads = fault_ends fault left at reads.0
+    closed_ends (Some end) left at reads = absurd reads
 
-      module _ (answer : SessionAnswer) (letters : List Message) where
-        module _ (text : List ℕ) (new : Stream) (brought : Brought limit text letters new) where
-          -- a message decided
-          decided_ends : Facts decided letters answer → (goes : Bool) → list_all is_no_exit letters ≡ goes
-              → Ended new.remaining (read_answer answer new.end) answer decided brought.at
-          decided_ends facts false exits = rw (brought.end, exits) (plain_ends answer new.remaining decided brought.at facts.0 brought.left)
-          decided_ends facts true none = at (came_to_no_more answer) refl
-            where
-              at : (c : Bool) → came_to_no_more answer ≡ c → Ended new.remaining (read_answer answer new.end) answer decided brought.at
-              at false is = rw (brought.end, none, is) (plain_ends answer new.remaining decided brought.at facts.0 brought.left)
-              at true is = absurd (true≢false (sym none ∙ facts.1 is))
-
-          -- as many were taken as can be counted
-          many_ends : Facts no_more letters answer → Ended new.remaining (read_answer answer new.end) answer no_more brought.at
-          many_ends facts = rw (brought.end, facts.2, facts.1) ((refl, rw brought.left (frame_unread body_means limit brought.at)), wrote)
-
-        fault_ends : (fault : ReadFault) (left : Option (List ℕ)) (at : List ℕ) → Answers (λ (m : Message). m) (Err fault) left (reading_within limit at)
-            → Ended left (Err (read_fault fault)) answer no_more at
-        fault_ends (Input kind) left at answers = ((refl, answers), wrote)
-        fault_ends NoMemoryToRead left at answers = (answers, inl wrote)
-        fault_ends fault left at answers = ((refl, (reading_within limit at).rest, unread_at fault at answers.0, answers.1), wrote)
-
-        -- no more came
-        closed_ends : Facts no_more letters answer → (end : Option ReadEnd) (left : Option (List ℕ)) (at : List ℕ) → StreamReads limit (Some at) closed end left
-            → Ended left (read_answer answer end) answer no_more at
-        closed_ends facts None left at reads = absurd reads
-        closed_ends facts (Some End) left at reads = plain_ends answer left no_more at facts.0
-            ((reading_within limit at).rest, ap (λ o. record { outcome = o; rest = (reading_within limit at).rest }) reads.0.0, reads.0.1)
-        closed_ends facts (Some (Fault fault)) left at reads = rw facts.0 (fault_ends fault left at reads.0)
-        closed_ends facts (Some end) left at reads = absurd reads
-
-  -- the last of several events
-  last_event : (earlier : List Event) (event : Event) (old new : Stream) → FoldsTo (WakingGives limit) old (earlier ++ event ∷ []) new
-      → (mid : Stream) × FoldsTo (WakingGives limit) old earlier mid × WakingGives limit mid event new
-  last_event earlier event old new run = let parts = FoldsTo-split (WakingGives limit) earlier (event ∷ []) old new run in (parts.0, parts.1, rw parts.2.2 at parts.2.1)
+    -- a message decided
+    pub decided_ends : (end : Option ReadEnd) (left : Option (List ℕ)) (at : List ℕ) → left ≡ Some at → EndsSo decided end left at
+    decided_ends end left at after = by_answer answer
+      where
+        by_answer : (answer : SessionAnswer)
+            → Ends limit left (session_answer Decided answer end None) answer decided shutdown_reply at × Wrote a b (session_answer Decided answer end None) decided shutdown_reply sends
+        by_answer (Ok end) = ((refl, after), wrote)
+        by_answer (Err fault) = ((refl, after), wrote)
 
   -- no byte after the message that was read last was taken
-  reads_within : (at : List ℕ) (end : Option ReadEnd) (left : Option (List ℕ)) → StreamReads limit (Some at) closed end left → StopsWithin left (reading_within limit at)
+  pub reads_within : (at : List ℕ) (end : Option ReadEnd) (left : Option (List ℕ)) → StreamReads limit (Some at) closed end left → StopsWithin left (reading_within limit at)
   reads_within at None left reads = absurd reads
   reads_within at (Some End) left reads = ([], reads.0.1)
   reads_within at (Some (Fault fault)) left reads = fault_within fault reads.0
@@ -289,74 +189,3 @@ module _ (limit : ℕ) where
       fault_within NoMemoryToRead answers = answers
       fault_within fault answers = ([], answers.1)
   reads_within at (Some end) left reads = absurd reads
-
-  module _ (text : List ℕ) (old new : Stream) (unended : old.end ≡ None) (known : old.remaining ≡ Some text)
-      (events : List Event) (run : FoldsTo (WakingGives limit) old events new) where
-    -- what was left when an inbox told that no more come
-    pub record ClosedAt (letters : List Message) : Type 0 where
-      pub at : List ℕ
-      pub read : BeginsWith limit text letters at
-      pub reads : StreamReads limit (Some at) closed new.end new.remaining
-
-    closed_at : (earlier : List Event) (came : List (Option Message)) → events ≡ earlier ++ closed ∷ [] → list_all is_open earlier ≡ true → filter_map came_in events ≡ came
-        → list_all is_no_exit (letters_in came) ≡ true → ClosedAt (letters_in came)
-    closed_at earlier came cut still_open brings no_exit =
-        let last = last_event earlier closed old new (rw cut at run) in
-        let same : filter_map came_in earlier ≡ came = rw (sym brings, cut, filter_map-append came_in earlier (closed ∷ []), append-nil) refl in
-        let brought = rw same at (brought_open limit earlier text old last.0 unended known last.1 still_open) in
-        let unended' : last.0.end ≡ None = rw (brought.end, no_exit) refl in
-        record { at = brought.at; read = brought.read; reads = rw (unended', brought.left) at last.2 }
-
-    open_brought : (came : List (Option Message)) → filter_map came_in events ≡ came → list_all is_open events ≡ true → Brought limit text (letters_in came) new
-    open_brought came brings still_open = rw brings at (brought_open limit events text old new unended known run still_open)
-
-    open_within : (letters : List Message) → Brought limit text letters new → (at : List ℕ) × BeginsWith limit text letters at × StopsWithin new.remaining (reading_within limit at)
-    open_within letters brought = (brought.at, brought.read, rw brought.left (frame_unread body_means limit brought.at))
-
-    -- the letters that were used, and what is left after them
-    pub left_within : (came : List (Option Message)) (stop : Stop) (answer : SessionAnswer) → Brings events came stop → Facts stop (letters_in came) answer
-        → (at : List ℕ) × BeginsWith limit text (letters_in came) at × StopsWithin new.remaining (reading_within limit at)
-    left_within came no_more answer brought facts = elim brought.1 [
-      | inl last ↦ let closed' = closed_at last.0 came last.1 last.2 brought.0 facts.2 in (closed'.at, closed'.read, reads_within closed'.at new.end new.remaining closed'.reads)
-      | inr many ↦ open_within (letters_in came) (open_brought came brought.0 many.1)
-    ]
-    left_within came timed_out answer brought facts = absurd (no_timeout limit brought.1.0 old new (rw brought.1.1 at run))
-    left_within came exhausted answer (None, brought, still_open) facts =
-        let all = open_within (letters_in (came ++ None ∷ [])) (open_brought (came ++ None ∷ []) brought still_open) in
-        let same : letters_in (came ++ None ∷ []) ≡ letters_in came = filter_map-append (λ (c : Option Message). c) came (None ∷ []) ∙ append-nil (letters_in came) in
-        subst (λ letters. (at : List ℕ) × BeginsWith limit text letters at × StopsWithin new.remaining (reading_within limit at)) same all
-    left_within came exhausted answer (Some next, brought, still_open) facts =
-        let all = open_brought (came ++ Some next ∷ []) brought still_open in
-        let read = subst (λ letters. BeginsWith limit text letters all.at) (filter_map-append (λ (c : Option Message). c) came (Some next ∷ [])) all.read in
-        let parts = FoldsTo-split (Begins limit) (letters_in came) (next ∷ []) text all.at read in
-        let after : (reading_within limit parts.0).rest ≡ all.at = ap (λ (r : Reading Message). r.rest) parts.2.1 ∙ parts.2.2 in
-        (parts.0, parts.1, ([], rw after all.left))
-    left_within came stop answer brought facts = open_within (letters_in came) (open_brought came brought.0 brought.1)
-
-    module _ (came : List (Option Message)) (null : Option Message) (answer : SessionAnswer) where
-      -- what is left where a write or an allocation failed
-      pub left_after : (stop : Stop) → Brings events came stop → Facts stop (letters_in came) answer
-          → (at : List ℕ) × BeginsWith limit text (letters_in came) at × LeftWithin limit stop at new.remaining
-      left_after decided brought facts = let all = open_brought came brought.0 brought.1 in (all.at, all.read, all.left)
-      left_after (refused fault) brought facts = let all = open_brought came brought.0 brought.1 in (all.at, all.read, all.left)
-      left_after no_more brought facts = left_within came no_more answer brought facts
-      left_after timed_out brought facts = absurd (no_timeout limit brought.1.0 old new (rw brought.1.1 at run))
-      left_after exhausted brought facts = left_within came exhausted answer brought facts
-
-      -- no write failed
-      pub stop_ends : (sends : List Message) (a b : Option (List ℕ)) → GetsFrames sends a b → (stop : Stop) → Brings events came stop → NotRefused stop
-          → Facts stop (letters_in came) answer
-          → (at : List ℕ) × BeginsWith limit text (letters_in came) at × Ended null sends a b new.remaining (read_answer answer new.end) answer stop at
-      stop_ends sends a b wrote decided brought taken facts =
-          let all = open_brought came brought.0 brought.1 in
-          (all.at, all.read, decided_ends null sends a b wrote answer (letters_in came) text new all facts (list_all is_no_exit (letters_in came)) refl)
-      stop_ends sends a b wrote no_more brought taken facts = elim brought.1 [
-        | inl last ↦ let closed' = closed_at last.0 came last.1 last.2 brought.0 facts.2 in
-            (closed'.at, closed'.read, closed_ends null sends a b wrote answer (letters_in came) facts new.end new.remaining closed'.at closed'.reads)
-        | inr many ↦ let all = open_brought came brought.0 many.1 in (all.at, all.read, many_ends null sends a b wrote answer (letters_in came) text new all facts)
-      ]
-      stop_ends sends a b wrote timed_out brought taken facts = absurd (no_timeout limit brought.1.0 old new (rw brought.1.1 at run))
-      stop_ends sends a b wrote (refused fault) brought taken facts = absurd taken
-      stop_ends sends a b wrote exhausted brought taken facts =
-          let left = left_within came exhausted answer brought facts in
-          (left.0, left.1, exhausted_ends null sends a b wrote answer facts new.end new.remaining left.0 left.2)

@@ -1,10 +1,10 @@
--- What a line did in a session, act after act: it reads a message, takes all that is said for it, and only then reads again.
+-- What a line did in a session, act after act: it reads a message, takes all that is to be sent for it, and only then reads again.
 use Rattle.std.specs.List.{list_all}
 use Rattle.std.specs.Prelude.{◌≡◌, ◌≤◌, ◌-◌, ◌^◌, ◌⊎◌, ℕ, true, List, [], ◌∷◌, ◌++◌, length, map, Option, Some, None, Result, Ok, Err}
 use Rattle.lsp_message.specs.Message.{Message}
 use Rattle.lsp_session.specs.Boxes.{Sends, Receives, is_timeout}
 use Rattle.lsp_session.specs.Event.{Event, message, closed}
-use Rattle.lsp_session.specs.Prompt.{event_of, StopsAfterNull}
+use Rattle.lsp_session.specs.Prompt.{event_of, StopsAfterShutdown}
 use Rattle.lsp_session.specs.Session.{Exchange, SessionPart, is_shutdown, Stop, decided, no_more, timed_out, refused, exhausted}
 use Rattle.lsp_session.specs.declared.lifecycle.SendFault.{SendFault}
 
@@ -22,10 +22,13 @@ abbrev pub sending : Message → Result (Unit {0}) SendFault → Act
 sending m (Ok done) = took m
 sending m (Err fault) = lost m
 
--- The line keeps an account: each act is added where it is done, and no other.
-pub record KeepsAccount {L : Type 0} (receives : Receives L) (sends : Sends L) (account : L → List Act) : Type 0 where
-  pub receiving : (old : L) (event : Event) (new : L) → receives old event new → account new ≡ account old ++ gave event ∷ []
-  pub offering : (old : L) (m : Message) (outcome : Result (Unit {0}) SendFault) (new : L) → sends old m outcome new → account new ≡ account old ++ sending m outcome ∷ []
+-- The line keeps an account: each act is added when it is done, and no other.
+pub record KeepsAccount {L : Type 0} (receives : Receives L) (sends : Sends L) (account : L
+    → List Act) : Type 0 where
+  pub receiving : (old : L) (event : Event) (new : L) → receives old event new
+      → account new ≡ account old ++ gave event ∷ []
+  pub offering : (old : L) (m : Message) (outcome : Result (Unit {0}) SendFault) (new : L)
+      → sends old m outcome new → account new ≡ account old ++ sending m outcome ∷ []
 
 -- This event came, perhaps after receives in which nothing came in time.
 pub record Awaited (event : Event) (acts : List Act) : Type 0 where
@@ -33,61 +36,67 @@ pub record Awaited (event : Event) (acts : List Act) : Type 0 where
   pub only_timeouts : list_all is_timeout passed ≡ true
   pub are : acts ≡ map gave (passed ++ event ∷ [])
 
--- A message or a wake came, and then the line took all that is said for it, in order. Nothing else was awaited in between.
-pub record IsTurnOf (x : Exchange) (acts : List Act) : Type 0 where
+-- A message or a wake came, and then the line took all that was to be sent for it, in order. Nothing else was awaited in between.
+pub record AreActsOfOne (x : Exchange) (acts : List Act) : Type 0 where
   pub waits : List Act
-  pub awaited : Awaited (event_of x.letter) waits
-  pub are : acts ≡ waits ++ map took x.said
+  pub awaited : Awaited (event_of x.came) waits
+  pub are : acts ≡ waits ++ map took x.sent
 
--- the turns of these exchanges, one after another
-abbrev pub AreTurnsOf : List Exchange → List Act → Type 0
-AreTurnsOf [] acts = acts ≡ []
-AreTurnsOf (x ∷ xs) acts = (first : List Act) × (more : List Act) × IsTurnOf x first × AreTurnsOf xs more × (acts ≡ first ++ more)
+-- the acts of these exchanges, one after another
+abbrev pub AreActsOf : List Exchange → List Act → Type 0
+AreActsOf [] acts = acts ≡ []
+AreActsOf (x ∷ xs) acts = (first : List Act) × (more : List Act) × AreActsOfOne x first
+    × AreActsOf xs more × (acts ≡ first ++ more)
 
--- A last message or wake came, and the line took what is said for it up to a message that it refused. Nothing more was done.
-pub record BreaksTurn (last : List Exchange) (acts : List Act) : Type 0 where
-  pub letter : Option Message
+-- A last message or wake came, and the line took what was to be sent for it up to a message that it refused. Nothing more was done.
+pub record BreaksActs (last : List Exchange) (acts : List Act) : Type 0 where
+  pub came : Option Message
   pub part : List Message
-  pub unsaid : Message
-  pub is : last ≡ record { letter = letter; said = part ++ unsaid ∷ [] } ∷ []
+  pub not_sent : Message
+  pub is : last ≡ record { came = came; sent = part ++ not_sent ∷ [] } ∷ []
   pub waits : List Act
-  pub awaited : Awaited (event_of letter) waits
-  pub are : acts ≡ waits ++ (map took part ++ lost unsaid ∷ [])
+  pub awaited : Awaited (event_of came) waits
+  pub are : acts ≡ waits ++ (map took part ++ lost not_sent ∷ [])
 
--- `shutdown` came, then the null was sent, whatever the line answered, and only then one event was awaited, the last one.
-pub record NullInTurn (null : Message) (stop : Stop) (last : List Exchange) (acts : List Act) : Type 0 where
+-- `shutdown` came, then its reply was sent, whatever the line answered, and only then one event was awaited, the last one.
+pub record ShutdownReplyInOrder (shutdown_reply : Message) (stop : Stop) (last : List Exchange)
+    (acts : List Act) : Type 0 where
   pub ask : Message
   pub asks : is_shutdown ask ≡ true
   pub waits : List Act
   pub awaited : Awaited (message ask) waits
   pub outcome : Result (Unit {0}) SendFault
   pub event : Event
-  pub are : acts ≡ waits ++ sending null outcome ∷ gave event ∷ []
+  pub are : acts ≡ waits ++ sending shutdown_reply outcome ∷ gave event ∷ []
   pub later : List Exchange
-  pub stops : StopsAfterNull event stop later
-  pub is : last ≡ record { letter = Some ask; said = null ∷ [] } ∷ later
+  pub stops : StopsAfterShutdown event stop later
+  pub is : last ≡ record { came = Some ask; sent = shutdown_reply ∷ [] } ∷ later
 
--- The acts at the end of a session after so many whole exchanges, and its last exchanges. Where a message decided, nothing else was
--- awaited. Where no more came, that was the event, or 2^64 - 1 exchanges were all. Where an allocation failed, one more message or wake came.
-abbrev pub EndsInTurn : ℕ → Stop → Option Message → List Exchange → List Act → Type 0
-EndsInTurn count stop (Some null) last acts = NullInTurn null stop last acts
-EndsInTurn count (refused fault) None last acts = BreaksTurn last acts
-EndsInTurn count decided None last acts = (last ≡ []) × (acts ≡ [])
-EndsInTurn count no_more None last acts = (last ≡ []) × (Awaited closed acts ⊎ ((2 ^ 64 - 1 ≤ count) × (acts ≡ [])))
-EndsInTurn count exhausted None last acts = (last ≡ []) × (letter : Option Message) × Awaited (event_of letter) acts
-EndsInTurn count timed_out None last acts = ⊥
+-- The acts at the end of a session after so many whole exchanges, and its last exchanges. If a message decided, nothing else was
+-- awaited. If no more came, that was the event, or 2^64 - 1 exchanges were all. If an allocation failed, one more message or wake came.
+abbrev pub EndsInOrder : ℕ → Stop → Option Message → List Exchange → List Act → Type 0
+EndsInOrder count stop (Some shutdown_reply) last acts =
+    ShutdownReplyInOrder shutdown_reply stop last acts
+EndsInOrder count (refused fault) None last acts = BreaksActs last acts
+EndsInOrder count decided None last acts = (last ≡ []) × (acts ≡ [])
+EndsInOrder count no_more None last acts = (last ≡ [])
+    × (Awaited closed acts ⊎ ((2 ^ 64 - 1 ≤ count) × (acts ≡ [])))
+EndsInOrder count exhausted None last acts = (last ≡ []) × (came : Option Message)
+    × Awaited (event_of came) acts
+EndsInOrder count timed_out None last acts = ⊥
 
--- These are the acts of a session in its turns: the whole exchanges, and then its end.
-pub record TakesTurns (acts : List Act) (exchanges : List Exchange) (stop : Stop) (null : Option Message) : Type 0 where
+-- These are the acts of a session in order: those of the whole exchanges, and then its end.
+pub record ActsInOrder (acts : List Act) (exchanges : List Exchange) (stop : Stop)
+    (shutdown_reply : Option Message) : Type 0 where
   pub whole : List Exchange
   pub last : List Exchange
   pub cut : exchanges ≡ whole ++ last
-  pub turns : List Act
+  pub exchanged : List Act
   pub end : List Act
-  pub are : acts ≡ turns ++ end
-  pub in_turn : AreTurnsOf whole turns
-  pub ends : EndsInTurn (length whole) stop null last end
+  pub are : acts ≡ exchanged ++ end
+  pub in_order : AreActsOf whole exchanged
+  pub ends : EndsInOrder (length whole) stop shutdown_reply last end
 
 -- the same, as it is said of a session
-abbrev pub InTurn : List Act → SessionPart
-InTurn acts exchanges stop null answer = TakesTurns acts exchanges stop null
+abbrev pub InOrder : List Act → SessionPart
+InOrder acts exchanges stop shutdown_reply answer = ActsInOrder acts exchanges stop shutdown_reply

@@ -6,7 +6,7 @@ use Rattle.lsp_message.specs.Id.{Id}
 use Rattle.lsp_message.specs.Message.{Message, ErrorObject, request, response}
 use Rattle.lsp_message.specs.Methods.{request_id}
 use Rattle.lsp_session.specs.ProtocolError.{ShowsUnallowed}
-use Rattle.lsp_session.specs.Session.{Exchange, letters_of, SessionAnswer, SessionPart, Stop, decided}
+use Rattle.lsp_session.specs.Session.{Exchange, messages_of, SessionAnswer, SessionPart, Stop, decided}
 
 -- the message is a reply under this id
 abbrev pub RepliesTo : Id → Message → Type 0
@@ -17,11 +17,11 @@ abbrev pub RepliesToEach : List Id → List Message → Type 0
 RepliesToEach = AllZip RepliesTo
 
 abbrev pub requests_of : List Message → List Id
-requests_of letters = filter_map request_id letters
+requests_of messages = filter_map request_id messages
 
--- for this message, where it is a request, one reply is sent, and nothing else; nothing for a wake
+-- for this message, if it is a request, one reply is sent, and nothing else; nothing for a wake
 abbrev pub IsReplied : Exchange → Type 0
-IsReplied x = RepliesToEach (requests_of (letters_of (x ∷ []))) x.said
+IsReplied x = RepliesToEach (requests_of (messages_of (x ∷ []))) x.sent
 
 -- the same for each of these messages
 abbrev pub AllReplied : List Exchange → Type 0
@@ -29,16 +29,18 @@ AllReplied [] = Unit {0}
 AllReplied (x ∷ xs) = IsReplied x × AllReplied xs
 
 -- The last message is a request that the lifecycle does not allow, as the fault says, and nothing is sent for it.
-pub record LastUnanswered (exchanges : List Exchange) (stop : Stop) (answer : SessionAnswer) : Type 0 where
+pub record LastUnanswered (exchanges : List Exchange) (stop : Stop) (answer : SessionAnswer) :
+    Type 0 where
   pub before : List Exchange
   pub id : Id
   pub method : List ℕ
   pub params : Data
-  pub cut : exchanges ≡ before ++ record { letter = Some (request id method params); said = [] } ∷ []
+  pub cut : exchanges ≡ before ++ record { came = Some (request id method params); sent = [] } ∷ []
   pub replied : AllReplied before
   pub decides : stop ≡ decided
   pub unallowed : IsErrAnd answer ShowsUnallowed
 
 -- Each request gets exactly one reply, under its id, and nothing else is sent, but that a last request may be unanswered.
 abbrev pub AnswersRequests : SessionPart
-AnswersRequests exchanges stop null answer = AllReplied exchanges ⊎ LastUnanswered exchanges stop answer
+AnswersRequests exchanges stop shutdown_reply answer = AllReplied exchanges
+    ⊎ LastUnanswered exchanges stop answer

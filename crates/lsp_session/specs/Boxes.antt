@@ -40,7 +40,8 @@ pub record PassesTimeouts {I : Type 0} (receives : Receives I) (old new : I) : T
   pub received : FoldsTo receives old passed new
 
 -- Some receives gave nothing but timeouts, and the next one gave this event.
-pub record WaitsFor {I : Type 0} (receives : Receives I) (old : I) (event : Event) (new : I) : Type 0 where
+pub record WaitsFor {I : Type 0} (receives : Receives I) (old : I) (event : Event)
+    (new : I) : Type 0 where
   pub passed : List Event
   pub only_timeouts : list_all is_timeout passed ≡ true
   pub received : FoldsTo receives old (passed ++ event ∷ []) new

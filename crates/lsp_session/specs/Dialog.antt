@@ -4,7 +4,7 @@ use Rattle.lsp_message.specs.Message.{Message}
 use Rattle.lsp_session.specs.Account.{Act, gave, took, lost}
 use Rattle.lsp_session.specs.Answered.{RepliesToEach, requests_of}
 use Rattle.lsp_session.specs.Event.{message}
-use Rattle.lsp_session.specs.Session.{Behavior, Exchange, letters_of, sends_of, Phase, starting, ended, Steps}
+use Rattle.lsp_session.specs.Session.{Behavior, Exchange, messages_of, sends_of, Phase, starting, ended, Steps}
 
 -- A client by its own rule: whether it sends on, or closes, after it sent these messages and got those. Otherwise it waits for more.
 abbrev pub Client : Type 0
@@ -14,21 +14,25 @@ Client = List Message → List Message → Bool
 -- never wait for each other. It ends at a message that the line refused: after one the client gets nothing more.
 abbrev pub NeverBothWait : Client → List Message → List Message → List Act → Type 0
 NeverBothWait goes_on sent got [] = Unit {0}
-NeverBothWait goes_on sent got (gave (message m) ∷ acts) = (goes_on sent got ≡ true) × NeverBothWait goes_on (sent ++ m ∷ []) got acts
-NeverBothWait goes_on sent got (gave event ∷ acts) = (goes_on sent got ≡ true) × NeverBothWait goes_on sent got acts
+NeverBothWait goes_on sent got (gave (message m) ∷ acts) = (goes_on sent got ≡ true)
+    × NeverBothWait goes_on (sent ++ m ∷ []) got acts
+NeverBothWait goes_on sent got (gave event ∷ acts) = (goes_on sent got ≡ true)
+    × NeverBothWait goes_on sent got acts
 NeverBothWait goes_on sent got (took m ∷ acts) = NeverBothWait goes_on sent (got ++ m ∷ []) acts
 NeverBothWait goes_on sent got (lost m ∷ acts) = Unit {0}
 
 -- The client waits for replies to its requests, and for nothing else: once each has its one reply, it goes on.
 abbrev pub WaitsForReplies : Client → Type 0
-WaitsForReplies goes_on = (sent got : List Message) → RepliesToEach (requests_of sent) got → goes_on sent got ≡ true
+WaitsForReplies goes_on = (sent got : List Message) → RepliesToEach (requests_of sent) got
+    → goes_on sent got ≡ true
 
 -- something is awaited in the phase
 abbrev pub awaits : Phase → Type 0
-awaits (ended null answer) = ⊥
+awaits (ended shutdown_reply answer) = ⊥
 awaits phase = Unit {0}
 
--- The client waits for what the session says for its messages, and for nothing else: once it got all of that, it goes on.
+-- The client waits for what the session sends for its messages, and for nothing else: once it got all of that, it goes on.
 abbrev pub WaitsForItsDue : {S : Type 0} → Behavior S → S → Client → Type 0
-WaitsForItsDue may s goes_on = (exchanges : List Exchange) (phase : Phase) (s' : _) → Steps may starting s exchanges phase s' → awaits phase
-    → goes_on (letters_of exchanges) (sends_of exchanges) ≡ true
+WaitsForItsDue may s goes_on = (exchanges : List Exchange) (phase : Phase) (s' : _)
+    → Steps may starting s exchanges phase s' → awaits phase
+    → goes_on (messages_of exchanges) (sends_of exchanges) ≡ true

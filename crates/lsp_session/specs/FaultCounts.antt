@@ -13,8 +13,36 @@ more n = min (n + 1) (2 ^ 64 - 1)
 
 -- the counts after this fault
 abbrev pub counted : FaultCounts → ReadFault → FaultCounts
-counted c BodyNotText = record { not_text = more c.not_text; no_json = c.no_json; no_message = c.no_message; batches = c.batches }
-counted c NoJson = record { not_text = c.not_text; no_json = more c.no_json; no_message = c.no_message; batches = c.batches }
-counted c NoMessage = record { not_text = c.not_text; no_json = c.no_json; no_message = more c.no_message; batches = c.batches }
-counted c Batch = record { not_text = c.not_text; no_json = c.no_json; no_message = c.no_message; batches = more c.batches }
+counted c BodyNotText =
+    record {
+      not_text = more c.not_text;
+      no_json = c.no_json;
+      no_message = c.no_message;
+      batches =
+          c.batches;
+    }
+counted c NoJson =
+    record {
+      not_text = c.not_text;
+      no_json = more c.no_json;
+      no_message = c.no_message;
+      batches =
+          c.batches;
+    }
+counted c NoMessage =
+    record {
+      not_text = c.not_text;
+      no_json = c.no_json;
+      no_message = more c.no_message;
+      batches =
+          c.batches;
+    }
+counted c Batch =
+    record {
+      not_text = c.not_text;
+      no_json = c.no_json;
+      no_message = c.no_message;
+      batches =
+          more c.batches;
+    }
 counted c fault = c

@@ -26,7 +26,8 @@ IsUninvited fault = Shows expected_initialized fault ⊎ (fault ≡ out_of_memor
 
 -- the answer of an event that decides
 abbrev pub EventFinishes : Event → FinishAnswer → Type 0
-EventFinishes (message m) answer = MatchBool (is_initialized m) (answer ≡ Ok tt) (IsErrAnd answer IsUninvited)
+EventFinishes (message m) answer =
+    MatchBool (is_initialized m) (answer ≡ Ok tt) (IsErrAnd answer IsUninvited)
 EventFinishes closed answer = answer ≡ Err disconnected
 EventFinishes event answer = ⊥
 
@@ -39,11 +40,13 @@ Finishes (got event) answer = EventFinishes event answer
 pub record Awaits (turns : List Turn) (answer : Option FinishAnswer) : Type 0 where
   pub before : List Turn
   pub idle : list_all is_idle before ≡ true
-  pub end : MatchOption answer (turns ≡ before) (λ a. (last : Turn) × (turns ≡ before ++ last ∷ []) × Finishes last a)
+  pub end : MatchOption answer (turns ≡ before) (λ a. (last : Turn) × (turns ≡ before ++ last ∷ [])
+      × Finishes last a)
 
 module _ {G I : Type 0} (asks : G → Bool → G → Type 0) (receives : Receives I) where
   -- At most so many turns took the gate and the inbox from old to new, and gave this answer. None comes only after all.
-  pub record AwaitsWithin (limit : ℕ) (old : G × I) (answer : Option FinishAnswer) (new : G × I) : Type 0 where
+  pub record AwaitsWithin (limit : ℕ) (old : G × I) (answer : Option FinishAnswer) (new : G
+      × I) : Type 0 where
     pub turns : List Turn
     pub taken : FoldsTo (TakesTurn asks receives) old turns new
     pub few : length turns ≤ limit
@@ -51,15 +54,18 @@ module _ {G I : Type 0} (asks : G → Bool → G → Type 0) (receives : Receive
     pub awaits : Awaits turns answer
 
   module _ {O : Type 0} (sends : Sends O) where
-    -- The result is offered first. Where the outbox refuses it, no gate is asked and nothing is received.
+    -- The result is offered first. If the outbox refuses it, no gate is asked and nothing is received.
     abbrev pub FinishesWithin : ℕ → Message → G × I × O → Option FinishAnswer → G × I × O → Type 0
     FinishesWithin limit reply old answer new =
         (Takes sends old.2 reply new.2 × AwaitsWithin limit (old.0, old.1) answer (new.0, new.1))
-        ⊎ ((fault : SendFault) × sends old.2 reply (Err fault) new.2 × (answer ≡ Some (Err (fault_of_refusal fault))) × (new.0 ≡ old.0) × (new.1 ≡ old.1))
+        ⊎ ((fault : SendFault) × sends old.2 reply (Err fault) new.2
+        × (answer ≡ Some (Err (fault_of_refusal fault))) × (new.0 ≡ old.0) × (new.1 ≡ old.1))
 
 module _ {I O : Type 0} (receives : Receives I) (sends : Sends O) where
   -- The result is offered, and where it is taken one event is awaited without limit.
   abbrev pub FinishesAt : Message → I × O → FinishAnswer → I × O → Type 0
   FinishesAt reply old answer new =
-      (Takes sends old.1 reply new.1 × (event : Event) × WaitsFor receives old.0 event new.0 × EventFinishes event answer)
-      ⊎ ((fault : SendFault) × sends old.1 reply (Err fault) new.1 × (answer ≡ Err (fault_of_refusal fault)) × (new.0 ≡ old.0))
+      (Takes sends old.1 reply new.1 × (event : Event) × WaitsFor receives old.0 event new.0
+      × EventFinishes event answer)
+      ⊎ ((fault : SendFault) × sends old.1 reply (Err fault) new.1
+      × (answer ≡ Err (fault_of_refusal fault)) × (new.0 ≡ old.0))

@@ -29,9 +29,12 @@ IsClosed outcome = ⊥
 module _ {W : Type 0} (contents : W → Option (List ℕ)) where
   -- While no write has failed, the message is written, and a fault is kept. After one the outbox is closed and writes
   -- nothing more. It keeps the writer that it was lent.
-  abbrev pub FrameOutboxSends : FrameOutbox W → Message → Result (Unit {0}) SendFault → FrameOutbox W → Type 0
+  abbrev pub FrameOutboxSends : FrameOutbox W → Message → Result (Unit {0}) SendFault
+      → FrameOutbox W → Type 0
   FrameOutboxSends old m outcome new =
       MatchOption old.fault
-      (Writes m (contents old.writer.now) (kept_write new.fault) (contents new.writer.now) × Told outcome new.fault)
-      (λ fault. IsClosed outcome × (new.fault ≡ Some fault) × Keeps (contents old.writer.now) (contents new.writer.now))
+      (Writes m (contents old.writer.now) (kept_write new.fault) (contents new.writer.now)
+      × Told outcome new.fault)
+      (λ fault. IsClosed outcome × (new.fault ≡ Some fault)
+      × Keeps (contents old.writer.now) (contents new.writer.now))
       × (new.writer.ghost_name ≡ old.writer.ghost_name)

@@ -9,20 +9,24 @@ use Rattle.lsp_session.specs.Session.{Behavior}
 abbrev pub initialize_result : Data → Data
 initialize_result capabilities = object (member (codes "capabilities") capabilities no_members)
 
-module _ {H : Type 0} (answers : H → Id → List ℕ → Data → Result Data ErrorObject → H → Type 0) (notes : H → List ℕ → Data → H → Type 0) where
+module _ {H : Type 0} (answers : H → Id → List ℕ → Data → Result Data ErrorObject → H
+    → Type 0) (notes : H → List ℕ → Data → H → Type 0) where
   -- A request gets one reply, under its id, a notification is told to the handler, and a response is dropped.
   abbrev pub Handles : H → Message → List Message → H → Type 0
   Handles old (request i method params) replies new =
-      (outcome : Result Data ErrorObject) × answers old i method params outcome new × (replies ≡ response i outcome ∷ [])
-  Handles old (notification method params) replies new = notes old method params new × (replies ≡ [])
+      (outcome : Result Data ErrorObject) × answers old i method params outcome new
+      × (replies ≡ response i outcome ∷ [])
+  Handles old (notification method params) replies new = notes old method params new
+      × (replies ≡ [])
   Handles old (response i outcome) replies new = (new ≡ old) × (replies ≡ [])
 
-  -- `initialize` is answered with the capabilities, and nothing is said to `initialized` or at a wake. These leave the handler alone.
+  -- `initialize` is answered with the capabilities, and nothing is sent at `initialized` or at a wake. These leave the handler alone.
   abbrev pub of_handler : Data → Behavior H
   of_handler capabilities = record {
-    initializes = λ old params outcome new. (outcome ≡ Ok (initialize_result capabilities)) × (new ≡ old);
-    opens = λ old said new. (said ≡ []) × (new ≡ old);
-    gives = Handles;
-    wakes = λ old said new. (said ≡ []) × (new ≡ old);
-    starves = λ old new. new ≡ old;
+    initializes = λ old params outcome new. (outcome ≡ Ok (initialize_result capabilities))
+        × (new ≡ old);
+    at_initialized = λ old sent new. (sent ≡ []) × (new ≡ old);
+    outputs = Handles;
+    wakes = λ old sent new. (sent ≡ []) × (new ≡ old);
+    after_memory_fault = λ old new. new ≡ old;
   }

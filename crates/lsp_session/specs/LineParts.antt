@@ -16,11 +16,14 @@ module _ {L : Type 0} (receives : Receives L) (sends : Sends L) where
   -- The result is taken, and then one event is awaited; or it is refused, and nothing is.
   abbrev pub FinishesOn : Message → L → FinishAnswer → L → Type 0
   FinishesOn reply old answer new =
-      ((mid : L) × Takes sends old reply mid × (event : Event) × WaitsFor receives mid event new × EventFinishes event answer)
-      ⊎ ((fault : SendFault) × sends old reply (Err fault) new × (answer ≡ Err (fault_of_refusal fault)))
+      ((mid : L) × Takes sends old reply mid × (event : Event) × WaitsFor receives mid event new
+      × EventFinishes event answer)
+      ⊎ ((fault : SendFault) × sends old reply (Err fault) new
+      × (answer ≡ Err (fault_of_refusal fault)))
 
-  -- The null is offered, and then one event is received.
-  pub record OffersNullOn (id : Id) (old : L) (answer : ShutdownAnswer) (new : L) : Type 0 where
+  -- The reply is offered, and then one event is received.
+  pub record OffersShutdownReplyOn (id : Id) (old : L) (answer : ShutdownAnswer)
+      (new : L) : Type 0 where
     pub mid : L
     pub offered : Offers sends (null_reply id) old mid
     pub event : Event
@@ -31,6 +34,6 @@ module _ {L : Type 0} (receives : Receives L) (sends : Sends L) where
   abbrev pub ShutsDownOn : Message → L → ShutdownAnswer → L → Type 0
   ShutsDownOn (request i method params) old answer new =
       MatchBool (bytes_eq method (codes "shutdown"))
-      (OffersNullOn i old answer new ⊎ ((answer ≡ Err out_of_memory) × (new ≡ old)))
+      (OffersShutdownReplyOn i old answer new ⊎ ((answer ≡ Err out_of_memory) × (new ≡ old)))
       ((answer ≡ Ok false) × (new ≡ old))
   ShutsDownOn m old answer new = (answer ≡ Ok false) × (new ≡ old)

@@ -8,7 +8,8 @@ use Rattle.lsp_session.specs.declared.lifecycle.SendFault.{SendFault}
 
 module _ {O : Type 0} (sends : Sends O) where
   -- the outbox took some of these messages, and refused the next one
-  pub record RefusesOne (old : O) (ms : List Message) (fault : ProtocolFault) (new : O) : Type 0 where
+  pub record RefusesOne (old : O) (ms : List Message) (fault : ProtocolFault)
+      (new : O) : Type 0 where
     pub part : List Message
     pub unsent : Message
     pub more : List Message

@@ -25,6 +25,7 @@ module _ {L : Type 0} (hears : L → ReadFault → L → Type 0) (limit : ℕ) w
   -- what follows it is left. Each other event is that of an inbox which passes over nothing, and the listener hears nothing.
   abbrev pub TolerantGives : Stream × L → Event → Stream × L → Type 0
   TolerantGives old woken new =
-      (fault : ReadFault) × (is_of_body fault ≡ true) × Reads limit old.0.remaining (Err fault) new.0.remaining × hears old.1 fault new.1
+      (fault : ReadFault) × (is_of_body fault ≡ true)
+      × Reads limit old.0.remaining (Err fault) new.0.remaining × hears old.1 fault new.1
       × (old.0.end ≡ None) × (new.0.end ≡ None)
   TolerantGives old event new = StreamGives limit old.0 event new.0 × (new.1 ≡ old.1)

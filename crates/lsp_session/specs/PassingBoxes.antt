@@ -19,9 +19,11 @@ abbrev pub MayEnd : {L : Type 0} → (L → ReadFault → Type 0) → L → Opti
 MayEnd ends l (Some (Fault fault)) = ends l fault
 MayEnd ends l end = ⊥
 
--- A call ended the messages at a content part that is no message only where the listener may end them.
-abbrev pub EndsAtBody : {R L : Type 0} → (L → ReadFault → Type 0) → TolerantInbox R L → TolerantInbox R L → Type 0
-EndsAtBody ends old new = ended_at_body new.end ≡ true → (new.end ≡ old.end) ⊎ MayEnd ends old.listener.now new.end
+-- A call ended the messages at a content part that is no message only if the listener may end them.
+abbrev pub EndsAtBody : {R L : Type 0} → (L → ReadFault → Type 0) → TolerantInbox R L
+    → TolerantInbox R L → Type 0
+EndsAtBody ends old new = ended_at_body new.end ≡ true → (new.end ≡ old.end)
+    ⊎ MayEnd ends old.listener.now new.end
 
 -- what a read gives that did not fail
 abbrev pub next_view : Option msg.Message → Event
@@ -36,17 +38,23 @@ module _ {R L : Type 0} (remaining : R → Option (List ℕ)) where
   -- the reader and the listener that were lent are kept, and the limit
   abbrev pub KeepsLent : TolerantInbox R L → TolerantInbox R L → Type 0
   KeepsLent old new =
-      (new.reader.ghost_name ≡ old.reader.ghost_name) × (new.listener.ghost_name ≡ old.listener.ghost_name) × (new.limit ≡ old.limit)
+      (new.reader.ghost_name ≡ old.reader.ghost_name)
+      × (new.listener.ghost_name ≡ old.listener.ghost_name) × (new.limit ≡ old.limit)
 
   -- One read gives a message, or that no more come, or a fault that ends nothing yet. The listener hears nothing. For a private clause.
-  abbrev pub ReadsNext : TolerantInbox R L → Result (Option msg.Message) ReadFault → TolerantInbox R L → Type 0
+  abbrev pub ReadsNext : TolerantInbox R L → Result (Option msg.Message) ReadFault
+      → TolerantInbox R L → Type 0
   ReadsNext old (Ok next) new =
-      StreamGives old.limit (stream_of old) (next_view next) (stream_of new) × (new.listener.now ≡ old.listener.now) × KeepsLent old new
+      StreamGives old.limit (stream_of old) (next_view next) (stream_of new)
+      × (new.listener.now ≡ old.listener.now) × KeepsLent old new
   ReadsNext old (Err fault) new =
-      Reads old.limit (remaining old.reader.now) (Err fault) (remaining new.reader.now) × (old.end ≡ None) × (new.end ≡ None)
+      Reads old.limit (remaining old.reader.now) (Err fault) (remaining new.reader.now)
+      × (old.end ≡ None) × (new.end ≡ None)
       × (new.listener.now ≡ old.listener.now) × KeepsLent old new
 
   -- one receive
-  abbrev pub TolerantInboxGives : (L → ReadFault → L → Type 0) → TolerantInbox R L → Event → TolerantInbox R L → Type 0
+  abbrev pub TolerantInboxGives : (L → ReadFault → L → Type 0) → TolerantInbox R L → Event
+      → TolerantInbox R L → Type 0
   TolerantInboxGives hears old event new =
-      TolerantGives hears old.limit (stream_of old, old.listener.now) event (stream_of new, new.listener.now) × KeepsLent old new
+      TolerantGives hears old.limit (stream_of old, old.listener.now) event
+      (stream_of new, new.listener.now) × KeepsLent old new

@@ -14,12 +14,14 @@ use Rattle.lsp_session.specs.Passing.{is_of_body}
 abbrev pub PassesNothingOver : {L : Type 0} → (L → ReadFault → L → Type 0) → Type 0
 PassesNothingOver {L} hears = (old : L) (fault : ReadFault) (new : L) → hears old fault new → ⊥
 
--- of a text and a listener, where content parts have at most so many bytes
+-- of a text and a listener, if content parts have at most so many bytes
 module _ {L : Type 0} (hears : L → ReadFault → L → Type 0) (limit : ℕ) where
   -- The text begins with a content part that is no message. The listener hears its fault, and what follows it is left.
   abbrev pub PassesOver : List ℕ × L → List ℕ × L → Type 0
   PassesOver old new =
-      (fault : ReadFault) × (is_of_body fault ≡ true) × (reading_within limit old.0 ≡ record { outcome = Err fault; rest = new.0 }) × hears old.1 fault new.1
+      (fault : ReadFault) × (is_of_body fault ≡ true)
+      × (reading_within limit old.0 ≡ record { outcome = Err fault; rest = new.0 })
+      × hears old.1 fault new.1
 
   -- The first frame of the text is this message, and the listener hears nothing; or it is passed over, and the session is woken.
   abbrev pub ReadsFrame : List ℕ × L → Option Message → List ℕ × L → Type 0
@@ -33,6 +35,9 @@ module _ {L : Type 0} (hears : L → ReadFault → L → Type 0) (limit : ℕ) w
 
   -- A session whose messages and wakes are the first frames of a text. Of its end, of what is left of the text and of what was written
   -- the same is said as of a session that passes over nothing.
-  abbrev pub GivesAndTells : SessionPart → List ℕ → Option (List ℕ) → L → L → Option (List ℕ) → Option (List ℕ) → Result SessionEnd SessionFault → Type 0
+  abbrev pub GivesAndTells : SessionPart → List ℕ → Option (List ℕ) → L → L → Option (List ℕ)
+      → Option (List ℕ) → Result SessionEnd SessionFault → Type 0
   GivesAndTells P text left first last before after result =
-      SessionOver ReadsFrame P (text, first) (λ answer stop null at. Ends limit left result answer stop null at.0 × HearsLast stop at last) (Wrote before after result)
+      SessionOver ReadsFrame P (text, first) (λ answer stop shutdown_reply at.
+      Ends limit left result answer stop shutdown_reply at.0
+      × HearsLast stop at last) (Wrote before after result)

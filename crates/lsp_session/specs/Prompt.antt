@@ -1,6 +1,6 @@
--- A session over one value with both ends: all that is said for a message is sent before anything else is awaited. So a client may
+-- A session over one value with both ends: all that is to be sent for a message is sent before anything else is awaited. So a client may
 -- wait for it before it sends on. Of `initialize`, of each request before it and of `shutdown` it is the reply; of a request in between
--- it is the reply where the service answers at once, as `AnswersRequests` says. From `initialized` up to `shutdown` the session waits
+-- it is the reply if the service answers at once, as `AnswersRequests` says. From `initialized` up to `shutdown` the session waits
 -- for wakes too, as its line says. Of two values, each with one end, this says neither.
 use Rattle.std.specs.List.{FoldsTo}
 use Rattle.std.specs.Prelude.{◌≡◌, ◌≤◌, ◌-◌, ◌^◌, ◌⊎◌, ◌&&◌, if◌then◌else◌, ℕ, Bool, true, false, List, [], ◌∷◌, ◌++◌, length, Option, Some, None, Ok, Err}
@@ -15,29 +15,29 @@ abbrev pub event_of : Option Message → Event
 event_of None = woken
 event_of (Some m) = message m
 
--- After the null one event comes. A message decides, and nothing is said for it, or an allocation fails at it; nothing comes in time;
+-- After the reply to `shutdown` one event comes. A message decides, and nothing is sent for it, or an allocation fails at it; nothing comes in time;
 -- or no more comes.
-abbrev pub StopsAfterNull : Event → Stop → List Exchange → Type 0
-StopsAfterNull (message m) decided later = later ≡ record { letter = Some m; said = [] } ∷ []
-StopsAfterNull (message m) exhausted later = later ≡ []
-StopsAfterNull timeout timed_out later = later ≡ []
-StopsAfterNull closed no_more later = later ≡ []
-StopsAfterNull event stop later = ⊥
+abbrev pub StopsAfterShutdown : Event → Stop → List Exchange → Type 0
+StopsAfterShutdown (message m) decided later = later ≡ record { came = Some m; sent = [] } ∷ []
+StopsAfterShutdown (message m) exhausted later = later ≡ []
+StopsAfterShutdown timeout timed_out later = later ≡ []
+StopsAfterShutdown closed no_more later = later ≡ []
+StopsAfterShutdown event stop later = ⊥
 
 -- a response with a result
 abbrev pub is_result : Message → Bool
 is_result (response i (Ok result)) = true
 is_result m = false
 
--- the request `initialize` came, and its result is all that is said for it
+-- the request `initialize` came, and its result is all that is sent for it
 abbrev pub is_granted : Option Message → List Message → Bool
 is_granted (Some m) (reply ∷ []) = is_initialize m && is_result reply
-is_granted letter said = false
+is_granted came sent = false
 
 -- The phase after an exchange that a session goes on from, as the exchange itself tells: `initialize` gets a result, and then one more
 -- message comes, which is `initialized`, since a session goes on from no other there.
 abbrev pub next_phase : Phase → Exchange → Phase
-next_phase starting x = if is_granted x.letter x.said then replied else starting
+next_phase starting x = if is_granted x.came x.sent then replied else starting
 next_phase replied x = serving
 next_phase phase x = phase
 
@@ -52,59 +52,65 @@ module _ {L : Type 0} (receives listens : Receives L) where
   WaitsIn phase old event new = WaitsFor receives old event new × ListensIn phase old event new
 
   module _ (sends : Sends L) where
-    -- In this phase a message or a wake comes, and then all that is said for it is sent, in order, and taken. Nothing else is awaited
+    -- In this phase a message or a wake comes, and then all that is to be sent for it is sent, in order, and taken. Nothing else is awaited
     -- in between. Then it is the next phase.
     pub record Meets (old : Phase × L) (x : Exchange) (new : Phase × L) : Type 0 where
       pub met : L
-      pub waited : WaitsIn old.0 old.1 (event_of x.letter) met
-      pub taken : FoldsTo (Takes sends) met x.said new.1
+      pub waited : WaitsIn old.0 old.1 (event_of x.came) met
+      pub taken : FoldsTo (Takes sends) met x.sent new.1
       pub next : new.0 ≡ next_phase old.0 x
 
-    -- A last message or wake comes, and what is said for it is sent up to a message that is refused. Nothing is awaited after that.
-    pub record BreaksOff (phase : Phase) (fault : SendFault) (last : List Exchange) (old new : L) : Type 0 where
-      pub letter : Option Message
+    -- A last message or wake comes, and what is to be sent for it is sent up to a message that is refused. Nothing is awaited after that.
+    pub record BreaksOff (phase : Phase) (fault : SendFault) (last : List Exchange)
+        (old new : L) : Type 0 where
+      pub came : Option Message
       pub part : List Message
-      pub unsaid : Message
-      pub is : last ≡ record { letter = letter; said = part ++ unsaid ∷ [] } ∷ []
+      pub not_sent : Message
+      pub is : last ≡ record { came = came; sent = part ++ not_sent ∷ [] } ∷ []
       pub met : L
-      pub waited : WaitsIn phase old (event_of letter) met
+      pub waited : WaitsIn phase old (event_of came) met
       pub mid : L
       pub taken : FoldsTo (Takes sends) met part mid
-      pub refuses : sends mid unsaid (Err fault) new
+      pub refuses : sends mid not_sent (Err fault) new
 
-    -- `shutdown` comes, then the null is sent, whatever the line answers, and only then one event is received, the last one.
-    pub record OffersNullFirst (phase : Phase) (null : Message) (stop : Stop) (last : List Exchange) (old new : L) : Type 0 where
+    -- `shutdown` comes, then its reply is sent, whatever the line answers, and only then one event is received, the last one.
+    pub record OffersShutdownReplyFirst (phase : Phase) (shutdown_reply : Message) (stop : Stop)
+        (last : List Exchange) (old new : L) : Type 0 where
       pub ask : Message
       pub asks : is_shutdown ask ≡ true
       pub met : L
       pub waited : WaitsIn phase old (message ask) met
       pub mid : L
-      pub offered : Offers sends null met mid
+      pub offered : Offers sends shutdown_reply met mid
       pub event : Event
       pub received : receives mid event new
       pub later : List Exchange
-      pub stops : StopsAfterNull event stop later
-      pub is : last ≡ record { letter = Some ask; said = null ∷ [] } ∷ later
+      pub stops : StopsAfterShutdown event stop later
+      pub is : last ≡ record { came = Some ask; sent = shutdown_reply ∷ [] } ∷ later
 
-    -- How a session ends in this phase, after so many whole exchanges, and the exchanges of that end. Where a message decided, nothing
-    -- else is awaited. Where no more comes, that is the event, or 2^64 - 1 exchanges were all. Where an allocation fails, one more
+    -- How a session ends in this phase, after so many whole exchanges, and the exchanges of that end. If a message decided, nothing
+    -- else is awaited. If no more comes, that is the event, or 2^64 - 1 exchanges were all. If an allocation fails, one more
     -- message or wake came.
     abbrev pub EndsTalk : Phase → ℕ → Stop → Option Message → List Exchange → L → L → Type 0
-    EndsTalk phase count stop (Some null) last old new = OffersNullFirst phase null stop last old new
+    EndsTalk phase count stop (Some shutdown_reply) last old new =
+        OffersShutdownReplyFirst phase shutdown_reply stop last old new
     EndsTalk phase count (refused fault) None last old new = BreaksOff phase fault last old new
     EndsTalk phase count decided None last old new = (last ≡ []) × (new ≡ old)
-    EndsTalk phase count no_more None last old new = (last ≡ []) × (WaitsIn phase old closed new ⊎ ((2 ^ 64 - 1 ≤ count) × (new ≡ old)))
-    EndsTalk phase count exhausted None last old new = (last ≡ []) × (letter : Option Message) × WaitsIn phase old (event_of letter) new
+    EndsTalk phase count no_more None last old new = (last ≡ [])
+        × (WaitsIn phase old closed new ⊎ ((2 ^ 64 - 1 ≤ count) × (new ≡ old)))
+    EndsTalk phase count exhausted None last old new = (last ≡ []) × (came : Option Message)
+        × WaitsIn phase old (event_of came) new
     EndsTalk phase count timed_out None last old new = ⊥
 
     -- A session from some phase on: whole exchanges, one after another, and then its end.
-    pub record Talks (phase : Phase) (P : SessionPart) (old : L) (answer : SessionAnswer) (new : L) : Type 0 where
+    pub record Talks (phase : Phase) (P : SessionPart) (old : L) (answer : SessionAnswer)
+        (new : L) : Type 0 where
       pub whole : List Exchange
       pub last : List Exchange
       pub stop : Stop
-      pub null : Option Message
+      pub shutdown_reply : Option Message
       pub reached : Phase
       pub mid : L
       pub prompt : FoldsTo Meets (phase, old) whole (reached, mid)
-      pub ends : EndsTalk reached (length whole) stop null last mid new
-      pub part : P (whole ++ last) stop null answer
+      pub ends : EndsTalk reached (length whole) stop shutdown_reply last mid new
+      pub part : P (whole ++ last) stop shutdown_reply answer

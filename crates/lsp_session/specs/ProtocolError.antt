@@ -7,7 +7,7 @@ use Rattle.lsp_session.specs.declared.error.ProtocolRepr.TheVariants as variant
 use Rattle.lsp_session.specs.declared.lifecycle.SendFault.{SendFault}
 use Rattle.lsp_session.specs.declared.lifecycle.SendFault.TheVariants.{Closed, Memory}
 
--- the list of bytes, where there is one, is the end of the text, which shows the message that came
+-- the list of bytes, if there is one, is the end of the text, which shows the message that came
 pub data ProtocolFault : Type 0 where
   disconnected : ProtocolFault
   expected_initialize : List ℕ → ProtocolFault
@@ -17,6 +17,9 @@ pub data ProtocolFault : Type 0 where
   shutdown_timeout : ProtocolFault
   shutdown_disconnected : ProtocolFault
   out_of_memory : ProtocolFault
+  -- the outbox refused a message: it was closed, or an allocation failed in it
+  refused_closed : ProtocolFault
+  refused_memory : ProtocolFault
 
 -- how the text begins
 abbrev pub fixed_text : ProtocolFault → List ℕ
@@ -28,6 +31,8 @@ fixed_text (unexpected_in_shutdown shown) = codes "unexpected message during shu
 fixed_text shutdown_timeout = codes "timed out waiting for exit notification"
 fixed_text shutdown_disconnected = codes "channel disconnected waiting for exit notification"
 fixed_text out_of_memory = codes "out of memory"
+fixed_text refused_closed = codes "disconnected channel"
+fixed_text refused_memory = codes "out of memory"
 
 -- how it ends
 abbrev pub open_text : ProtocolFault → List ℕ
@@ -39,14 +44,16 @@ open_text fault = []
 abbrev pub fault_text : ProtocolFault → List ℕ
 fault_text fault = fixed_text fault ++ open_text fault
 
--- the inbox was closed
+-- the inbox was closed, or the outbox
 abbrev pub is_disconnected : ProtocolFault → Bool
 is_disconnected disconnected = true
 is_disconnected shutdown_disconnected = true
+is_disconnected refused_closed = true
 is_disconnected fault = false
 
 abbrev pub is_memory : ProtocolFault → Bool
 is_memory out_of_memory = true
+is_memory refused_memory = true
 is_memory fault = false
 
 -- the same text, and the same answer to whether the channel is disconnected
@@ -63,6 +70,8 @@ fault_kept (variant.UnexpectedInShutdown shown) = unexpected_in_shutdown (string
 fault_kept variant.ShutdownTimeout = shutdown_timeout
 fault_kept variant.ShutdownDisconnected = shutdown_disconnected
 fault_kept variant.OutOfMemory = out_of_memory
+fault_kept variant.RefusedClosed = refused_closed
+fault_kept variant.RefusedMemory = refused_memory
 
 -- the fault is of this kind, and shows a message
 abbrev pub Shows : (List ℕ → ProtocolFault) → ProtocolFault → Type 0
@@ -73,7 +82,7 @@ Shows fault answer = (shown : List ℕ) × (answer ≡ fault shown)
 abbrev pub ShowsUnallowed : ProtocolFault → Type 0
 ShowsUnallowed fault = Shows expected_initialized fault ⊎ Shows unexpected_in_shutdown fault
 
--- the fault where the outbox refuses a message
+-- the fault if the outbox refuses a message
 abbrev pub fault_of_refusal : SendFault → ProtocolFault
-fault_of_refusal (Closed back) = disconnected
-fault_of_refusal (Memory back) = out_of_memory
+fault_of_refusal (Closed back) = refused_closed
+fault_of_refusal (Memory back) = refused_memory

@@ -1,13 +1,11 @@
 -- A session over a reader and a writer: bytes in to bytes out (LSP 3.17, "Base Protocol" and "Server lifecycle").
 use Rattle.std.specs.List.{FoldsTo}
 use Rattle.std.specs.Prelude.{◌≡◌, ◌⊎◌, ℕ, List, [], ◌∷◌, ◌++◌, Option, Some, None, Result, Ok, Err}
-use Rattle.lsp_message.specs.Faults.{read_fault_text, write_fault_text}
 use Rattle.lsp_message.specs.Frame.{Begins, reading_within}
 use Rattle.lsp_message.specs.Message.{Message}
 use Rattle.lsp_message.specs.Reading.{StopsWithin}
 use Rattle.lsp_message.specs.Written.{GetsFrames, GetsFramesAndPart, IsOutput}
 use Rattle.lsp_message.specs.declared.frame.ReadFault.TheVariants.{Input, Memory as NoMemoryToRead}
-use Rattle.lsp_session.specs.ProtocolError.{fault_text}
 use Rattle.lsp_session.specs.Session.{SessionAnswer, SessionPart, Exchange, came_of, sends_of, Stop, decided, no_more, timed_out, refused}
 use Rattle.lsp_session.specs.declared.loops.handler.SessionEnd.{SessionEnd}
 use Rattle.lsp_session.specs.declared.loops.stream_session.SessionFault.{SessionFault}
@@ -21,36 +19,40 @@ ReadsMessage limit text None rest = ⊥
 
 -- the writer got frames of all of these messages but the last one
 abbrev pub GetsAllButLast : List Message → Option (List ℕ) → Option (List ℕ) → Type 0
-GetsAllButLast ms old new = (whole : List Message) × (last : Message) × (ms ≡ whole ++ last ∷ []) × GetsFrames whole old new
+GetsAllButLast ms old new = (whole : List Message) × (last : Message) × (ms ≡ whole ++ last ∷ [])
+    × GetsFrames whole old new
 
--- the last message was not sent: one that the outbox refused, or the null of `shutdown`
+-- the last message was not sent: one that the outbox refused, or the reply to `shutdown`
 abbrev pub IsUnsent : Stop → Option Message → Type 0
-IsUnsent stop (Some null) = Unit {0}
+IsUnsent stop (Some shutdown_reply) = Unit {0}
 IsUnsent (refused fault) None = Unit {0}
 IsUnsent stop None = ⊥
 
 -- A session whose messages and wakes are read from a text, one after another, as `reads` says of each. `Ends` is said of its end and
 -- of the rest of the text, `Wrote` of what was written. A session in threads has three tables of its own for this record.
-pub record SessionOver {At : Type 0} (reads : At → Option Message → At → Type 0) (P : SessionPart) (text : At)
-    (Ends : SessionAnswer → Stop → Option Message → At → Type 0) (Wrote : Stop → Option Message → List Message → Type 0) : Type 0 where
+pub record SessionOver {At : Type 0} (reads : At → Option Message → At
+    → Type 0) (P : SessionPart) (text : At)
+    (Ends : SessionAnswer → Stop → Option Message → At → Type 0) (Wrote : Stop → Option Message
+    → List Message → Type 0) : Type 0 where
   pub exchanges : List Exchange
   pub at : At
   pub read : FoldsTo reads text (came_of exchanges) at
   pub stop : Stop
-  pub null : Option Message
+  pub shutdown_reply : Option Message
   pub answer : SessionAnswer
-  pub part : P exchanges stop null answer
-  pub ends : Ends answer stop null at
-  pub wrote : Wrote stop null (sends_of exchanges)
+  pub part : P exchanges stop shutdown_reply answer
+  pub ends : Ends answer stop shutdown_reply at
+  pub wrote : Wrote stop shutdown_reply (sends_of exchanges)
 
--- What follows the last message is left, where that one decided. Where the text ended instead, what follows its end is left:
+-- What follows the last message is left, if that one decided. If the text ended instead, what follows its end is left:
 -- nothing. A session over bytes has no timeout, and its failures stand below.
 abbrev pub LeftAfter : ℕ → Stop → List ℕ → Option (List ℕ) → Type 0
 LeftAfter limit decided at left = left ≡ Some at
-LeftAfter limit no_more at left = (rest : List ℕ) × (reading_within limit at ≡ record { outcome = Ok None; rest = rest }) × (left ≡ Some rest)
+LeftAfter limit no_more at left = (rest : List ℕ)
+    × (reading_within limit at ≡ record { outcome = Ok None; rest = rest }) × (left ≡ Some rest)
 LeftAfter limit stop at left = ⊥
 
--- What is left where a write or an allocation failed. Where the last message decided, or the outbox refused what was sent for it, all
+-- What is left if a write or an allocation failed. If the last message decided, or the outbox refused what was sent for it, all
 -- that follows that message is left. Elsewhere a part of what came next may be taken, and nothing behind it.
 abbrev pub LeftWithin : ℕ → Stop → List ℕ → Option (List ℕ) → Type 0
 LeftWithin limit decided at left = left ≡ Some at
@@ -60,32 +62,36 @@ LeftWithin limit stop at left = StopsWithin left (reading_within limit at)
 
 -- For what a session over bytes answers: the answer by the lifecycle, and what is left of the text, of which `at` follows the last
 -- message that was used. The first row that fits counts.
-abbrev pub Ends : ℕ → Option (List ℕ) → Result SessionEnd SessionFault → SessionAnswer → Stop → Option Message → List ℕ → Type 0
-Ends limit left (Ok end) answer stop null at = (answer ≡ Ok end) × LeftAfter limit stop at left
-Ends limit left (Err (Protocol fault)) answer stop null at = (answer ≡ Err fault) × LeftAfter limit stop at left
-Ends limit left (Err (Read (Input kind))) answer stop null at = (stop ≡ no_more) × StopsWithin left (reading_within limit at)
-Ends limit left (Err (Read NoMemoryToRead)) answer stop null at = ⊥
-Ends limit left (Err (Read fault)) answer stop null at =
-    (stop ≡ no_more) × (rest : List ℕ) × (reading_within limit at ≡ record { outcome = Err fault; rest = rest }) × (left ≡ Some rest)
-Ends limit left (Err (Write fault)) answer stop null at = LeftWithin limit stop at left
-Ends limit left (Err Memory) answer stop null at = LeftWithin limit stop at left
+abbrev pub Ends : ℕ → Option (List ℕ) → Result SessionEnd SessionFault → SessionAnswer → Stop
+    → Option Message → List ℕ → Type 0
+Ends limit left (Ok end) answer stop shutdown_reply at = (answer ≡ Ok end)
+    × LeftAfter limit stop at left
+Ends limit left (Err (Protocol fault)) answer stop shutdown_reply at = (answer ≡ Err fault)
+    × LeftAfter limit stop at left
+Ends limit left (Err (Read (Input kind))) answer stop shutdown_reply at = (stop ≡ no_more)
+    × StopsWithin left (reading_within limit at)
+Ends limit left (Err (Read NoMemoryToRead)) answer stop shutdown_reply at = ⊥
+Ends limit left (Err (Read fault)) answer stop shutdown_reply at =
+    (stop ≡ no_more) × (rest : List ℕ)
+    × (reading_within limit at ≡ record { outcome = Err fault; rest = rest })
+    × (left ≡ Some rest)
+Ends limit left (Err (Write fault)) answer stop shutdown_reply at = LeftWithin limit stop at left
+Ends limit left (Err Memory) answer stop shutdown_reply at = LeftWithin limit stop at left
 
--- What the writer got of all that was sent: frames of it; or, where a write failed, frames of all but the last message, which was
--- not sent, and a beginning of a frame of that one; or, where an allocation failed, frames of all, or of all but the last message,
+-- What the writer got of all that was sent: frames of it; or, if a write failed, frames of all but the last message, which was
+-- not sent, and a beginning of a frame of that one; or, if an allocation failed, frames of all, or of all but the last message,
 -- which was not sent.
-abbrev pub Wrote : Option (List ℕ) → Option (List ℕ) → Result SessionEnd SessionFault → Stop → Option Message → List Message → Type 0
-Wrote old new (Err (Write fault)) stop null sends =
-    IsOutput fault × IsUnsent stop null × (whole : List Message) × (last : Message) × (sends ≡ whole ++ last ∷ []) × GetsFramesAndPart whole last old new
-Wrote old new (Err Memory) stop null sends = GetsFrames sends old new ⊎ (IsUnsent stop null × GetsAllButLast sends old new)
-Wrote old new result stop null sends = GetsFrames sends old new
+abbrev pub Wrote : Option (List ℕ) → Option (List ℕ) → Result SessionEnd SessionFault → Stop
+    → Option Message → List Message → Type 0
+Wrote old new (Err (Write fault)) stop shutdown_reply sends =
+    IsOutput fault × IsUnsent stop shutdown_reply × (whole : List Message) × (last : Message)
+    × (sends ≡ whole ++ last ∷ []) × GetsFramesAndPart whole last old new
+Wrote old new (Err Memory) stop shutdown_reply sends = GetsFrames sends old new
+    ⊎ (IsUnsent stop shutdown_reply × GetsAllButLast sends old new)
+Wrote old new result stop shutdown_reply sends = GetsFrames sends old new
 
 -- bytes in to bytes out
-abbrev pub Gives : ℕ → SessionPart → List ℕ → Option (List ℕ) → Option (List ℕ) → Option (List ℕ) → Result SessionEnd SessionFault → Type 0
-Gives limit P text left old new result = SessionOver (ReadsMessage limit) P text (Ends limit left result) (Wrote old new result)
-
--- what a fault prints
-abbrev pub session_fault_text : SessionFault → Option (List ℕ)
-session_fault_text (Protocol fault) = Some (fault_text fault)
-session_fault_text (Read fault) = read_fault_text fault
-session_fault_text (Write fault) = write_fault_text fault
-session_fault_text Memory = Some (Rattle.std.specs.Prelude.codes "out of memory")
+abbrev pub Gives : ℕ → SessionPart → List ℕ → Option (List ℕ) → Option (List ℕ) → Option (List ℕ)
+    → Result SessionEnd SessionFault → Type 0
+Gives limit P text left old new result =
+    SessionOver (ReadsMessage limit) P text (Ends limit left result) (Wrote old new result)

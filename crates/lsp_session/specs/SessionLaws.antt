@@ -11,12 +11,13 @@ use Rattle.lsp_message.specs.declared.msg.code.ErrorCode.TheVariants.{ServerNotI
 use Rattle.lsp_session.specs.Answered.{AllReplied}
 use Rattle.lsp_session.specs.ProtocolError.{ProtocolFault, Shows, disconnected, expected_initialize, expected_initialized, unexpected_in_shutdown, shutdown_timeout, shutdown_disconnected, out_of_memory, fault_of_refusal}
 use Rattle.lsp_session.specs.Replies.{null_reply}
-use Rattle.lsp_session.specs.Session.{Exchange, letters_of, sends_of, SessionAnswer, SessionPart, Stop, decided, no_more, timed_out, refused, exhausted, Phase, starting, replied as awaiting, serving, asked, ended, is_served}
+use Rattle.lsp_session.specs.Session.{Exchange, messages_of, sends_of, SessionAnswer, SessionPart, Stop, decided, no_more, timed_out, refused, exhausted, Phase, starting, replied as awaiting, serving, asked, ended, is_served}
 use Rattle.lsp_session.specs.declared.loops.handler.SessionEnd.TheVariants.{Closed, ShutDown}
 
 -- of one session, both hold, and of the same exchanges
 abbrev pub Both : SessionPart → SessionPart → SessionPart
-Both P Q exchanges stop null answer = P exchanges stop null answer × Q exchanges stop null answer
+Both P Q exchanges stop shutdown_reply answer = P exchanges stop shutdown_reply answer
+    × Q exchanges stop shutdown_reply answer
 
 -- a reply that is an error
 abbrev pub is_refusal : Message → Bool
@@ -44,18 +45,20 @@ AllUninitialized (m ∷ ms) = SaysUninitialized m × AllUninitialized ms
 
 -- What is sent for another request than `initialize` is that error.
 abbrev pub IsRefusedEarly : Option Message → List Message → Type 0
-IsRefusedEarly (Some (request i method params)) said = is_initialize (request i method params) ≡ false → AllUninitialized said
-IsRefusedEarly letter said = Unit {0}
+IsRefusedEarly (Some (request i method params)) sent =
+    is_initialize (request i method params) ≡ false → AllUninitialized sent
+IsRefusedEarly came sent = Unit {0}
 
 -- Such a message came at each of these, and no wake; and requests got that error.
 abbrev pub AllEarly : List Exchange → Type 0
 AllEarly [] = Unit {0}
-AllEarly (x ∷ xs) = IsSomeAnd x.letter (λ m. comes_early m ≡ true) × IsRefusedEarly x.letter x.said × AllEarly xs
+AllEarly (x ∷ xs) = IsSomeAnd x.came (λ m. comes_early m ≡ true) × IsRefusedEarly x.came x.sent
+    × AllEarly xs
 
 -- In this phase a session may stop so, and then gives this answer: what the table of `Stops` says of any service.
 abbrev pub StopsAt : Phase → Stop → SessionAnswer → Type 0
-StopsAt (ended null by) decided answer = answer ≡ by
-StopsAt (ended null by) stop answer = ⊥
+StopsAt (ended shutdown_reply by) decided answer = answer ≡ by
+StopsAt (ended shutdown_reply by) stop answer = ⊥
 StopsAt phase decided answer = ⊥
 StopsAt starting no_more answer = answer ≡ Err disconnected
 StopsAt awaiting no_more answer = answer ≡ Err disconnected
@@ -69,10 +72,12 @@ StopsAt phase exhausted answer = answer ≡ Err out_of_memory
 
 -- No message is left, and the session stopped in this phase; or one is left that is none of those awaited: it decided, nothing is sent
 -- for it, and the fault shows it.
-abbrev pub StopsBefore : Phase → (Message → Bool) → (List ℕ → ProtocolFault) → List Exchange → Stop → SessionAnswer → Type 0
+abbrev pub StopsBefore : Phase → (Message → Bool) → (List ℕ → ProtocolFault) → List Exchange → Stop
+    → SessionAnswer → Type 0
 StopsBefore phase is_awaited fault [] stop answer = StopsAt phase stop answer
 StopsBefore phase is_awaited fault (x ∷ rest) stop answer =
-    (rest ≡ []) × IsSomeAnd x.letter (λ m. is_awaited m ≡ false) × (x.said ≡ []) × (stop ≡ decided) × IsErrAnd answer (Shows fault)
+    (rest ≡ []) × IsSomeAnd x.came (λ m. is_awaited m ≡ false) × (x.sent ≡ []) × (stop ≡ decided)
+    × IsErrAnd answer (Shows fault)
 
 -- `initialize` got no result: the session stopped before, or at an `exit` or a response
 abbrev pub IsUnstarted : List Exchange → Stop → SessionAnswer → Type 0
@@ -86,70 +91,89 @@ pub record EndsWithResult (exchanges : List Exchange) : Type 0 where
   pub params : Data
   pub result : Data
   pub asks : is_initialize (request id method params) ≡ true
-  pub cut : exchanges ≡ before ++ record { letter = Some (request id method params); said = response id (Ok result) ∷ [] } ∷ []
+  pub cut : exchanges ≡ before ++ record {
+    came = Some (request id method params);
+    sent =
+        response id (Ok result) ∷ [];
+  } ∷ []
 
 -- `initialized` comes first
 abbrev pub IsInvited : List Exchange → Type 0
 IsInvited [] = ⊥
-IsInvited (x ∷ rest) = IsSomeAnd x.letter (λ m. is_initialized m ≡ true)
+IsInvited (x ∷ rest) = IsSomeAnd x.came (λ m. is_initialized m ≡ true)
 
 -- `initialized` did not come: the session stopped before, or at another message
 abbrev pub IsUnopened : List Exchange → Stop → SessionAnswer → Type 0
 IsUnopened = StopsBefore awaiting is_initialized expected_initialized
 
--- After the null, which went out under this id, no message comes, or one that decides, and nothing is sent for it. The session shut
--- down only where that one is `exit`.
-abbrev pub AfterNull : Id → List Exchange → Stop → SessionAnswer → Type 0
-AfterNull id [] stop answer = StopsAt (asked id) stop answer
-AfterNull id (x ∷ rest) stop answer =
-    (rest ≡ []) × (x.said ≡ []) × (stop ≡ decided)
-    × IsSomeAnd x.letter (λ m. MatchBool (is_exit m) (answer ≡ Ok ShutDown) (IsErrAnd answer (Shows unexpected_in_shutdown)))
+-- After the reply to `shutdown`, which went out under this id, no message comes, or one that decides, and nothing is sent for it. The session shut
+-- down only if that one is `exit`.
+abbrev pub AfterShutdown : Id → List Exchange → Stop → SessionAnswer → Type 0
+AfterShutdown id [] stop answer = StopsAt (asked id) stop answer
+AfterShutdown id (x ∷ rest) stop answer =
+    (rest ≡ []) × (x.sent ≡ []) × (stop ≡ decided)
+    × IsSomeAnd x.came (λ m.
+    MatchBool (is_exit m) (answer ≡ Ok ShutDown)
+    (IsErrAnd answer (Shows unexpected_in_shutdown)))
 
 -- the first `shutdown` gets null, under its id, and that is the last message that is sent; no `exit` comes before it
-pub record EndsWithNull (exchanges : List Exchange) (stop : Stop) (null : Option Message) (answer : SessionAnswer) : Type 0 where
+pub record EndsWithShutdown (exchanges : List Exchange) (stop : Stop)
+    (shutdown_reply : Option Message) (answer : SessionAnswer) : Type 0 where
   pub before : List Exchange
   pub id : Id
   pub method : List ℕ
   pub params : Data
   pub after : List Exchange
-  pub cut : exchanges ≡ before ++ record { letter = Some (request id method params); said = null_reply id ∷ [] } ∷ after
-  pub none_before : list_all is_served (letters_of before) ≡ true
+  pub cut : exchanges ≡ before ++ record {
+    came = Some (request id method params);
+    sent =
+        null_reply id ∷ [];
+  } ∷ after
+  pub none_before : list_all is_served (messages_of before) ≡ true
   pub asks : is_shutdown (request id method params) ≡ true
-  pub is_null : null ≡ Some (null_reply id)
-  pub after_null : AfterNull id after stop answer
+  pub is_null_reply : shutdown_reply ≡ Some (null_reply id)
+  pub after_shutdown : AfterShutdown id after stop answer
 
 -- `exit` is the last of these messages, and the first one: it decided, and nothing is sent for it
-pub record EndsWithExit (exchanges : List Exchange) (stop : Stop) (answer : SessionAnswer) : Type 0 where
+pub record EndsWithExit (exchanges : List Exchange) (stop : Stop) (answer : SessionAnswer) :
+    Type 0 where
   pub before : List Exchange
   pub last : Message
-  pub cut : exchanges ≡ before ++ record { letter = Some last; said = [] } ∷ []
-  pub none_before : list_all is_served (letters_of before) ≡ true
+  pub cut : exchanges ≡ before ++ record { came = Some last; sent = [] } ∷ []
+  pub none_before : list_all is_served (messages_of before) ≡ true
   pub leaves : is_exit last ≡ true
   pub decides : stop ≡ decided
   pub closes : answer ≡ Ok Closed
 
--- No `shutdown` comes, no null is sent, and no message comes after `exit`. Where none comes the session stopped as it does while it serves.
+-- No `shutdown` comes, no reply to `shutdown` is sent, and no message comes after `exit`. Where none comes the session stopped as it does while it serves.
 abbrev pub HasNoShutdown : List Exchange → Stop → Option Message → SessionAnswer → Type 0
-HasNoShutdown exchanges stop null answer =
-    (((list_all is_served (letters_of exchanges) ≡ true) × StopsAt serving stop answer) ⊎ EndsWithExit exchanges stop answer) × (null ≡ None)
+HasNoShutdown exchanges stop shutdown_reply answer =
+    (((list_all is_served (messages_of exchanges) ≡ true) × StopsAt serving stop answer)
+    ⊎ EndsWithExit exchanges stop answer) × (shutdown_reply ≡ None)
 
--- `initialize` got its result, and errors alone came before it. Then `initialized` comes, and from there on `shutdown` gets the null
--- that is the last message sent. Where `initialized` does not come, nothing more is sent.
-pub record IsOpened (early rest : List Exchange) (stop : Stop) (null : Option Message) (answer : SessionAnswer) : Type 0 where
+-- `initialize` got its result, and errors alone came before it. Then `initialized` comes, and from there on `shutdown` gets the reply
+-- that is the last message sent. If `initialized` does not come, nothing more is sent.
+pub record IsOpened (early rest : List Exchange) (stop : Stop) (shutdown_reply : Option Message)
+    (answer : SessionAnswer) : Type 0 where
   pub ends : EndsWithResult early
   pub refused : AllRefused ends.before
   pub came : AllEarly ends.before
-  pub later : (IsInvited rest × (HasNoShutdown rest stop null answer ⊎ EndsWithNull rest stop null answer)) ⊎ (IsUnopened rest stop answer × (null ≡ None))
+  pub later : (IsInvited rest
+      × (HasNoShutdown rest stop shutdown_reply answer
+      ⊎ EndsWithShutdown rest stop shutdown_reply answer))
+      ⊎ (IsUnopened rest stop answer × (shutdown_reply ≡ None))
 
 -- Up to and with `initialize` each request gets one reply, and nothing else is sent: errors, and last its result. The errors of other
 -- requests have the code -32002. Neither `exit` nor a response comes before that result, unless it is the last message and decides. Each
 -- end has the answer of its phase.
-pub record KeepsOrder (exchanges : List Exchange) (stop : Stop) (null : Option Message) (answer : SessionAnswer) : Type 0 where
+pub record KeepsOrder (exchanges : List Exchange) (stop : Stop) (shutdown_reply : Option Message)
+    (answer : SessionAnswer) : Type 0 where
   pub early : List Exchange
   pub rest : List Exchange
   pub cut : exchanges ≡ early ++ rest
   pub replied : AllReplied early
-  pub opened : IsOpened early rest stop null answer ⊎ (AllRefused early × AllEarly early × IsUnstarted rest stop answer × (null ≡ None))
+  pub opened : IsOpened early rest stop shutdown_reply answer
+      ⊎ (AllRefused early × AllEarly early × IsUnstarted rest stop answer × (shutdown_reply ≡ None))
 
 abbrev pub is_reply : Message → Bool
 is_reply (response i outcome) = true
@@ -159,4 +183,5 @@ is_reply m = false
 abbrev pub OpenedBy : List Exchange → List Message → Type 0
 OpenedBy exchanges sent =
     (early : List Exchange) × (rest : List Exchange) × (later : List Message)
-    × (exchanges ≡ early ++ rest) × (sent ≡ sends_of early ++ later) × EndsWithResult early × IsInvited rest
+    × (exchanges ≡ early ++ rest) × (sent ≡ sends_of early ++ later) × EndsWithResult early
+    × IsInvited rest

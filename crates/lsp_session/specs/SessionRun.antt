@@ -7,7 +7,7 @@ use Rattle.lsp_session.specs.Event.{Event, message, timeout, closed, woken}
 use Rattle.lsp_session.specs.Session.{SessionAnswer, SessionPart, Exchange, came_of, sends_of, is_shutdown, Stop, decided, no_more, timed_out, refused, exhausted}
 use Rattle.lsp_session.specs.declared.lifecycle.SendFault.{SendFault}
 
--- what an event brings to a session: a message, or none where it is a wake
+-- what an event brings to a session: a message, or none if it is a wake
 abbrev pub came_in : Event → Option (Option Message)
 came_in (message m) = Some (Some m)
 came_in woken = Some None
@@ -24,54 +24,64 @@ abbrev pub Brings : List Event → List (Option Message) → Stop → Type 0
 Brings events came decided = (filter_map came_in events ≡ came) × (list_all is_open events ≡ true)
 Brings events came no_more =
     (filter_map came_in events ≡ came)
-    × (((earlier : List Event) × (events ≡ earlier ++ closed ∷ []) × (list_all is_open earlier ≡ true))
+    × (((earlier : List Event) × (events ≡ earlier ++ closed ∷ [])
+    × (list_all is_open earlier ≡ true))
     ⊎ ((2 ^ 64 - 1 ≤ length events) × (list_all is_open events ≡ true)))
 Brings events came timed_out =
-    (filter_map came_in events ≡ came) × ((earlier : List Event) × (events ≡ earlier ++ timeout ∷ []) × (list_all is_open earlier ≡ true))
-Brings events came (refused fault) = (filter_map came_in events ≡ came) × (list_all is_open events ≡ true)
-Brings events came exhausted = (next : Option Message) × (filter_map came_in events ≡ came ++ next ∷ []) × (list_all is_open events ≡ true)
+    (filter_map came_in events ≡ came)
+    × ((earlier : List Event) × (events ≡ earlier ++ timeout ∷ [])
+    × (list_all is_open earlier ≡ true))
+Brings events came (refused fault) = (filter_map came_in events ≡ came)
+    × (list_all is_open events ≡ true)
+Brings events came exhausted = (next : Option Message)
+    × (filter_map came_in events ≡ came ++ next ∷ []) × (list_all is_open events ≡ true)
 
 -- After the message `shutdown`, which is answered with null, exactly one event was awaited.
 abbrev pub AwaitsExit : List Event → Option Message → Type 0
 AwaitsExit events None = Unit {0}
-AwaitsExit events (Some null) = (earlier : List Event) × (m : Message) × (last : Event) × (events ≡ earlier ++ message m ∷ last ∷ []) × (is_shutdown m ≡ true)
+AwaitsExit events (Some shutdown_reply) = (earlier : List Event) × (m : Message) × (last : Event)
+    × (events ≡ earlier ++ message m ∷ last ∷ []) × (is_shutdown m ≡ true)
 
--- all that a session sends, the null of `shutdown` last
+-- all that a session sends, the reply to `shutdown` last
 abbrev pub all_of : List Message → Option Message → List Message
 all_of output None = output
-all_of output (Some null) = output ++ null ∷ []
+all_of output (Some shutdown_reply) = output ++ shutdown_reply ∷ []
 
 module _ {O : Type 0} (sends : Sends O) where
-  -- the null, where there is one, is offered, whatever the outbox answers
+  -- the reply to `shutdown`, if there is one, is offered, whatever the outbox answers
   abbrev pub OffersLast : O → Option Message → O → Type 0
   OffersLast old None new = new ≡ old
-  OffersLast old (Some null) new = Offers sends null old new
+  OffersLast old (Some shutdown_reply) new = Offers sends shutdown_reply old new
 
   -- the outbox took all but the last message, and refused that one
   abbrev pub RefusesLast : O → List Message → SendFault → O → Type 0
   RefusesLast old output fault new =
       (taken : List Message) × (reply : Message) × (mid : O)
-      × (output ≡ taken ++ reply ∷ []) × FoldsTo (Takes sends) old taken mid × sends mid reply (Err fault) new
+      × (output ≡ taken ++ reply ∷ []) × FoldsTo (Takes sends) old taken mid
+      × sends mid reply (Err fault) new
 
   -- the outbox got the output: it took all of it, but for a last reply that it refused
   abbrev pub Gets : O → List Message → Option Message → Stop → O → Type 0
-  Gets old output null (refused fault) new = RefusesLast old output fault new × (null ≡ None)
-  Gets old output null stop new = (mid : O) × FoldsTo (Takes sends) old output mid × OffersLast mid null new
+  Gets old output shutdown_reply (refused fault) new = RefusesLast old output fault new
+      × (shutdown_reply ≡ None)
+  Gets old output shutdown_reply stop new = (mid : O) × FoldsTo (Takes sends) old output mid
+      × OffersLast mid shutdown_reply new
 
 module _ {I O : Type 0} (receives : Receives I) (sends : Sends O) where
   -- The boxes went from old to new in a part of a session that P describes, in which events were awaited so.
-  pub record RunsAwaiting (Awaits : List Event → Option Message → Type 0) (P : SessionPart) (old : I × O) (answer : SessionAnswer) (new : I × O) : Type 0 where
+  pub record RunsAwaiting (Awaits : List Event → Option Message → Type 0) (P : SessionPart) (old : I
+      × O) (answer : SessionAnswer) (new : I × O) : Type 0 where
     pub events : List Event
     pub received : FoldsTo receives old.0 events new.0
     pub exchanges : List Exchange
     pub stop : Stop
     pub brought : Brings events (came_of exchanges) stop
     pub output : List Message
-    pub null : Option Message
-    pub all : all_of output null ≡ sends_of exchanges
-    pub awaited : Awaits events null
-    pub got : Gets sends old.1 output null stop new.1
-    pub part : P exchanges stop null answer
+    pub shutdown_reply : Option Message
+    pub all : all_of output shutdown_reply ≡ sends_of exchanges
+    pub awaited : Awaits events shutdown_reply
+    pub got : Gets sends old.1 output shutdown_reply stop new.1
+    pub part : P exchanges stop shutdown_reply answer
 
   -- the same of a whole session, or of its part from some message on
   abbrev pub Runs : SessionPart → I × O → SessionAnswer → I × O → Type 0

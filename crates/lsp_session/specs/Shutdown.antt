@@ -17,16 +17,18 @@ ShutdownAnswer = Result Bool ProtocolFault
 abbrev pub IsNoExit : ProtocolFault → Type 0
 IsNoExit fault = Shows unexpected_in_shutdown fault ⊎ (fault ≡ out_of_memory)
 
--- the answer of the event that comes after the null was offered
+-- the answer of the event that comes after the reply to `shutdown` was offered
 abbrev pub EventShutsDown : Event → ShutdownAnswer → Type 0
-EventShutsDown (message m) answer = MatchBool (is_exit m) (answer ≡ Ok true) (IsErrAnd answer IsNoExit)
+EventShutsDown (message m) answer =
+    MatchBool (is_exit m) (answer ≡ Ok true) (IsErrAnd answer IsNoExit)
 EventShutsDown timeout answer = answer ≡ Err shutdown_timeout
 EventShutsDown closed answer = answer ≡ Err shutdown_disconnected
 EventShutsDown woken answer = ⊥
 
 module _ {I O : Type 0} (receives : Receives I) (sends : Sends O) where
-  -- The null is offered, whatever the outbox answers, and one event gives the answer.
-  pub record OffersNull (id : Id) (old : I × O) (answer : ShutdownAnswer) (new : I × O) : Type 0 where
+  -- The reply is offered, whatever the outbox answers, and one event gives the answer.
+  pub record OffersShutdownReply (id : Id) (old : I × O) (answer : ShutdownAnswer) (new : I
+      × O) : Type 0 where
     pub offered : Offers sends (null_reply id) old.1 new.1
     pub event : Event
     pub received : receives old.0 event new.0
@@ -36,7 +38,7 @@ module _ {I O : Type 0} (receives : Receives I) (sends : Sends O) where
   abbrev pub ShutsDown : Id → List ℕ → I × O → ShutdownAnswer → I × O → Type 0
   ShutsDown id method old answer new =
       MatchBool (bytes_eq method (codes "shutdown"))
-      (OffersNull id old answer new ⊎ ((answer ≡ Err out_of_memory) × (new ≡ old)))
+      (OffersShutdownReply id old answer new ⊎ ((answer ≡ Err out_of_memory) × (new ≡ old)))
       ((answer ≡ Ok false) × (new ≡ old))
 
   -- the same of any message, of which only a request can be `shutdown`

@@ -34,8 +34,10 @@ is_undecided turn = false
 
 -- the answer of a message that decides
 abbrev pub MessageDecides : Message → StartAnswer → Type 0
-MessageDecides (request i method params) answer = (bytes_eq method (codes "initialize") ≡ true) × (answer ≡ Ok (i, params))
-MessageDecides (notification method params) answer = (bytes_eq method (codes "exit") ≡ true) × IsErrAnd answer (Shows expected_initialize)
+MessageDecides (request i method params) answer = (bytes_eq method (codes "initialize") ≡ true)
+    × (answer ≡ Ok (i, params))
+MessageDecides (notification method params) answer = (bytes_eq method (codes "exit") ≡ true)
+    × IsErrAnd answer (Shows expected_initialize)
 MessageDecides (response i outcome) answer = IsErrAnd answer (Shows expected_initialize)
 
 -- the answer of a turn that decides
@@ -52,7 +54,8 @@ request_of turn = None
 
 module _ {O : Type 0} (sends : Sends O) where
   -- These turns leave the handshake undecided. The requests among them, in order, give the replies that the outbox takes.
-  pub record PassesOver (old : O) (turns : List Turn) (replies : List Message) (new : O) : Type 0 where
+  pub record PassesOver (old : O) (turns : List Turn) (replies : List Message)
+      (new : O) : Type 0 where
     pub undecided : list_all is_undecided turns ≡ true
     pub each_replied : AllZip IsEarlyReply (filter_map request_of turns) replies
     pub taken : FoldsTo (Takes sends) old replies new
@@ -71,19 +74,25 @@ module _ {O : Type 0} (sends : Sends O) where
   abbrev pub Ends : O → Turn → StartAnswer → O → Type 0
   Ends old turn answer new =
       (Decides turn answer × (new ≡ old))
-      ⊎ ((fault : SendFault) × RefusesReply old turn fault new × (answer ≡ Err (fault_of_refusal fault)))
-      ⊎ ((m : Message) × (turn ≡ got (message m)) × (is_shown m ≡ true) × (answer ≡ Err out_of_memory) × (new ≡ old))
+      ⊎ ((fault : SendFault) × RefusesReply old turn fault new
+      × (answer ≡ Err (fault_of_refusal fault)))
+      ⊎ ((m : Message) × (turn ≡ got (message m)) × (is_shown m ≡ true)
+      × (answer ≡ Err out_of_memory) × (new ≡ old))
 
   -- The first turn that ends the handshake gives the answer. With none, there is no answer.
-  pub record Starts (old : O) (turns : List Turn) (answer : Option StartAnswer) (replies : List Message) (new : O) : Type 0 where
+  pub record Starts (old : O) (turns : List Turn) (answer : Option StartAnswer)
+      (replies : List Message) (new : O) : Type 0 where
     pub before : List Turn
     pub mid : O
     pub passed : PassesOver old before replies mid
-    pub end : MatchOption answer ((turns ≡ before) × (new ≡ mid)) (λ a. (last : Turn) × (turns ≡ before ++ last ∷ []) × Ends mid last a new)
+    pub end : MatchOption answer ((turns ≡ before) × (new ≡ mid)) (λ a. (last : Turn)
+        × (turns ≡ before ++ last ∷ []) × Ends mid last a new)
 
-module _ {G I O : Type 0} (asks : G → Bool → G → Type 0) (receives : Receives I) (sends : Sends O) where
+module _ {G I O : Type 0} (asks : G → Bool → G
+    → Type 0) (receives : Receives I) (sends : Sends O) where
   -- At most so many turns took the contents of the boxes from old to new, and gave this answer. None comes only after all of them.
-  pub record StartsWithin (limit : ℕ) (old : G × I × O) (answer : Option StartAnswer) (new : G × I × O) : Type 0 where
+  pub record StartsWithin (limit : ℕ) (old : G × I × O) (answer : Option StartAnswer) (new : G × I
+      × O) : Type 0 where
     pub turns : List Turn
     pub taken : FoldsTo (TakesTurn asks receives) (old.0, old.1) turns (new.0, new.1)
     pub few : length turns ≤ limit

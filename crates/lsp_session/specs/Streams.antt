@@ -11,7 +11,7 @@ use Rattle.lsp_session.specs.Event.{Event, message, closed}
 use Rattle.lsp_session.specs.declared.loops.ReadEnd.{ReadEnd}
 use Rattle.lsp_session.specs.declared.loops.ReadEnd.TheVariants.{Exit, End, Fault}
 
--- what is seen of an inbox over a reader: the bytes that it has left, where they are known, and what ended its messages
+-- what is seen of an inbox over a reader: the bytes that it has left, if they are known, and what ended its messages
 pub record Stream : Type 0 where
   pub remaining : Option (List ℕ)
   pub end : Option ReadEnd
@@ -21,11 +21,14 @@ module _ (limit : ℕ) where
   -- One read of a message: what the bytes begin with, and what follows it is left. A reader that fails and an allocation that
   -- fails stop within the message.
   abbrev pub Reads : Option (List ℕ) → Result (Option Message) ReadFault → Option (List ℕ) → Type 0
-  Reads known outcome rest = IfSome known (λ text. Answers (λ m. m) outcome rest (reading_within limit text)) × TakesFront known rest
+  Reads known outcome rest =
+      IfSome known (λ text. Answers (λ m. m) outcome rest (reading_within limit text))
+      × TakesFront known rest
 
   -- what one receive reads
   abbrev pub StreamReads : Option (List ℕ) → Event → Option ReadEnd → Option (List ℕ) → Type 0
-  StreamReads known (message m) end rest = (end ≡ (if is_exit m then Some Exit else None)) × Reads known (Ok (Some m)) rest
+  StreamReads known (message m) end rest = (end ≡ (if is_exit m then Some Exit else None))
+      × Reads known (Ok (Some m)) rest
   StreamReads known closed (Some End) rest = Reads known (Ok None) rest
   StreamReads known closed (Some (Fault fault)) rest = Reads known (Err fault) rest
   StreamReads known event end rest = ⊥

@@ -1,8 +1,10 @@
 //! Why a handshake, or the end of a session, failed.
 ghost use Rattle.std.specs.Prelude.{◌≡◌, ◌⊎◌, IfOk};
 ghost use Rattle.lsp_session.specs.ProtocolError.{disconnected, expected_initialize, aborted, expected_initialized, unexpected_in_shutdown, shutdown_timeout, shutdown_disconnected, out_of_memory, Shows};
+ghost use Rattle.lsp_session.specs.Served.{reason_of_fault};
 
 use crate::lifecycle::SendFault;
+use crate::loops::StopReason;
 use lsp_message::Message;
 use std::alloc::{AllocError, Global};
 use std::error::Error;
@@ -20,6 +22,10 @@ enum ProtocolRepr {
     ShutdownTimeout,
     ShutdownDisconnected,
     OutOfMemory,
+    /// The outbox was closed to a message.
+    RefusedClosed,
+    /// An allocation of the outbox failed.
+    RefusedMemory,
 }
 
 /// Why a handshake, or the end of a session, failed (LSP 3.17, "Server lifecycle").
@@ -59,8 +65,8 @@ impl From<SendFault> for ProtocolError {
     /// The fault of a session whose outbox refuses a message: `disconnected channel`, or `out of memory`.
     fn from(fault: SendFault) -> ProtocolError {
         match fault {
-            SendFault::Closed(_) => ProtocolError::disconnected(),
-            SendFault::Memory(_) => ProtocolError::out_of_memory(),
+            SendFault::Closed(_) => ProtocolError(ProtocolRepr::RefusedClosed),
+            SendFault::Memory(_) => ProtocolError(ProtocolRepr::RefusedMemory),
         }
     }
 }
@@ -83,7 +89,9 @@ impl ProtocolError {
     {
         matches!(
             &self.0,
-            ProtocolRepr::Disconnected | ProtocolRepr::ShutdownDisconnected
+            ProtocolRepr::Disconnected
+                | ProtocolRepr::ShutdownDisconnected
+                | ProtocolRepr::RefusedClosed
         )
     }
 
@@ -91,7 +99,10 @@ impl ProtocolError {
     pub fn is_out_of_memory(&self) -> bool
         ensures { result ≡ is_memory self.now }
     {
-        matches!(&self.0, ProtocolRepr::OutOfMemory)
+        matches!(
+            &self.0,
+            ProtocolRepr::OutOfMemory | ProtocolRepr::RefusedMemory
+        )
     }
 }
 
@@ -101,6 +112,22 @@ impl ProtocolError {
         ensures { result ≡ disconnected }
     {
         ProtocolError(ProtocolRepr::Disconnected)
+    }
+
+    /// Why a session stopped that ends with this error.
+    pub(crate) fn stop_reason(&self) -> StopReason
+        ensures { result ≡ reason_of_fault self.now }
+    {
+        match &self.0 {
+            ProtocolRepr::Disconnected | ProtocolRepr::ShutdownDisconnected => StopReason::NoMore,
+            ProtocolRepr::ShutdownTimeout => StopReason::TimedOut,
+            ProtocolRepr::RefusedClosed | ProtocolRepr::RefusedMemory => StopReason::Refused,
+            ProtocolRepr::OutOfMemory => StopReason::Exhausted,
+            ProtocolRepr::ExpectedInitialize(_)
+            | ProtocolRepr::Aborted
+            | ProtocolRepr::ExpectedInitialized(_)
+            | ProtocolRepr::UnexpectedInShutdown(_) => StopReason::Decided,
+        }
     }
 
     // The gate said no.
@@ -170,7 +197,7 @@ impl ProtocolError {
         ensures { result.now ≡ fixed_text self.now }
     {
         match &self.0 {
-            ProtocolRepr::Disconnected => "disconnected channel",
+            ProtocolRepr::Disconnected | ProtocolRepr::RefusedClosed => "disconnected channel",
             ProtocolRepr::ExpectedInitialize(_) => "expected initialize request, got ",
             ProtocolRepr::Aborted => "Initialization has been aborted during initialization",
             ProtocolRepr::ExpectedInitialized(_) => "expected initialized notification, got: ",
@@ -178,7 +205,7 @@ impl ProtocolError {
             ProtocolRepr::ShutdownTimeout => "timed out waiting for exit notification",
             ProtocolRepr::ShutdownDisconnected =>
                 "channel disconnected waiting for exit notification",
-            ProtocolRepr::OutOfMemory => "out of memory",
+            ProtocolRepr::OutOfMemory | ProtocolRepr::RefusedMemory => "out of memory",
         }
     }
 
@@ -194,7 +221,9 @@ impl ProtocolError {
             | ProtocolRepr::Aborted
             | ProtocolRepr::ShutdownTimeout
             | ProtocolRepr::ShutdownDisconnected
-            | ProtocolRepr::OutOfMemory => "",
+            | ProtocolRepr::OutOfMemory
+            | ProtocolRepr::RefusedClosed
+            | ProtocolRepr::RefusedMemory => "",
         }
     }
 }
@@ -254,6 +283,8 @@ impl Clone for ProtocolError {
             ProtocolRepr::ShutdownTimeout => ProtocolRepr::ShutdownTimeout,
             ProtocolRepr::ShutdownDisconnected => ProtocolRepr::ShutdownDisconnected,
             ProtocolRepr::OutOfMemory => ProtocolRepr::OutOfMemory,
+            ProtocolRepr::RefusedClosed => ProtocolRepr::RefusedClosed,
+            ProtocolRepr::RefusedMemory => ProtocolRepr::RefusedMemory,
         }))
     }
 }

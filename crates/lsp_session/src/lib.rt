@@ -14,7 +14,8 @@ pub use lifecycle::{
 };
 pub use loops::{
     EndSession, FaultCounts, FrameOutbox, Handler, HandlerService, Ignore, Listener, Output,
-    ReadEnd, Service, SessionEnd, SessionFault, StreamInbox, StreamLine, TolerantInbox, WriteEnd,
-    initialize_result, is_of_body, read_loop, read_loop_within, serve, serve_line, serve_service,
-    session, session_answer, session_of_service, session_within, write_loop,
+    ReadEnd, Served, Service, SessionEnd, SessionFault, StopReason, StreamInbox, StreamLine,
+    TolerantInbox, WriteEnd, initialize_result, is_of_body, read_loop, read_loop_within, serve,
+    serve_line, serve_service, session, session_answer, session_of_service, session_within,
+    write_loop,
 };

@@ -14,7 +14,7 @@
 //! | the end of the messages | `disconnected channel` | `disconnected channel` | `channel disconnected waiting for exit notification` |
 //! | a gate that says no | `Initialization has been aborted during initialization` | the same | no gate is asked |
 //!
-//! A closed outbox ends the handshake with `disconnected channel`, and a failed allocation with `out of memory`. If the null of
+//! A closed outbox ends the handshake with `disconnected channel`, and a failed allocation with `out of memory`. If the reply to
 //! `shutdown` can't be sent, it waits for `exit` all the same.
 ghost use Rattle.std.specs.Prelude.{◌≡◌, ◌≢◌, IfErr};
 ghost use Rattle.lsp_message.specs.View.{message_view};
@@ -84,7 +84,7 @@ pub trait Inbox {
     /// One receive may give this event, and change the contents so.
     ghost receives: { Self → Event → Self → Type 0 };
 
-    /// What a wait that also gives wakes says besides. An inbox that wakes says here that such a wait passes over none, where
+    /// What a wait that also gives wakes says besides. An inbox that wakes says here that such a wait passes over none, if
     /// `receive` may.
     ghost listens: { Self → Event → Self → Type 0 } = { λ _ _ _. ⊤ };
 

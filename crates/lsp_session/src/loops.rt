@@ -17,6 +17,7 @@ mod handler;
 mod handler_service;
 mod line;
 mod listener;
+mod served;
 mod service;
 mod stream_inbox;
 mod stream_line;
@@ -30,6 +31,7 @@ pub use handler::{Handler, SessionEnd, initialize_result, serve};
 pub use handler_service::HandlerService;
 pub use line::serve_line;
 pub use listener::{EndSession, FaultCounts, Ignore, Listener};
+pub use served::{Served, StopReason};
 pub use service::{Output, Service};
 pub use stream_inbox::StreamInbox;
 pub use stream_line::StreamLine;
@@ -94,7 +96,7 @@ pub fn read_loop_within<R: BufRead, O: Outbox>(
     ReadEnd::Fault(ReadFault::Input(ErrorKind::Other))
 }
 
-/// How reading ends where a message is refused.
+/// How reading ends if a message is refused.
 fn end_at(fault: SendFault) -> ReadEnd
     ensures { result ≡ refused_end fault }
 {

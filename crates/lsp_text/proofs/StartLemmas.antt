@@ -176,7 +176,7 @@ line_starts-replaced i j p xs ys kept tail ij jl pi k t =
     let s : starts_in 0 ((take i xs ++ ys) ++ drop j xs) 0 ≡ ((starts_in 0 (take p xs) (get_or xs p 0) ++ starts_in p q f1) ++ starts_in i ys f2) ++ starts_in (i + length ys) (drop j xs) 0 = cc in
     rw (m, k) (ap (λ (zs : List ℕ). 0 ∷ zs) (sym s))
 
--- the moved starts fit where the edited text does
+-- the moved starts fit if the edited text does
 pub moved_fit : (from to m : ℕ) (xs tail : List ℕ) → tail ≡ starts_in to (drop to xs) 0 → from ≤ to → to ≤ length xs → length xs + m < 2 ^ 64 →
     (k : ℕ) → k < length tail → (to ≤ get_or tail k 0) × (get_or tail k 0 - to + (from + m) < 2 ^ 64)
 moved_fit from to m xs tail t ft tl fits k l =

@@ -21,7 +21,9 @@ character_units Utf32 c = 1
 -- the characters of the first line of a text that stand before n units
 abbrev pub characters_before : PositionEncoding → ℕ → List ℕ → List ℕ
 characters_before e n [] = []
-characters_before e n (c ∷ cs) = cond (is_line_end c || nat_lt n (character_units e c)) [] (c ∷ characters_before e (n - character_units e c) cs)
+characters_before e n (c ∷ cs) =
+    cond (is_line_end c || nat_lt n (character_units e c)) []
+    (c ∷ characters_before e (n - character_units e c) cs)
 
 -- how many units the first line of a text has
 abbrev pub line_units : PositionEncoding → List ℕ → ℕ

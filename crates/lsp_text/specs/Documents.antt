@@ -7,7 +7,7 @@ pub record Change : Type 0 where
   pub range : Option Range
   pub text : List ℕ
 
--- the language and the text are the bytes of their UTF-8. The version is none where the client gave none
+-- the language and the text are the bytes of their UTF-8. The version is none if the client gave none
 pub record Document : Type 0 where
   pub language_id : List ℕ
   pub version : Option ℤ

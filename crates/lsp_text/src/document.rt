@@ -36,7 +36,11 @@ pub struct TextDocument {
 impl Model for TextDocument {
     ghost Value = { Document };
 
-    ghost view = { λ d. record { language_id = string_bytes d.language_id; version = d.version; text = d.text } };
+    ghost view = { λ d. record {
+      language_id = string_bytes d.language_id;
+      version = d.version;
+      text = d.text;
+    } };
 }
 
 impl TextDocument {
@@ -47,7 +51,8 @@ impl TextDocument {
         version: Option<i32>,
         text: &str,
     ) -> Result<TextDocument, AllocError>
-        ensures { IfOk result (λ d. d ≡ record { language_id = language_id.now; version = version; text = text.now }) }
+        ensures { IfOk result (λ d.
+            d ≡ record { language_id = language_id.now; version = version; text = text.now }) }
     {
         let text = Text::new(alloc, text)?;
         let language_id = String::from_str(alloc, language_id)?;
@@ -73,7 +78,7 @@ impl TextDocument {
         language_id
     }
 
-    /// The version, as the client counts it, where it gave one.
+    /// The version, as the client counts it, if it gave one.
     pub fn version(&self) -> Option<i32>
         ensures { result ≡ self.now.version }
     {
@@ -87,7 +92,7 @@ impl TextDocument {
         &self.text
     }
 
-    /// Makes the changes of one notification, each in the text that the one before it left. Where memory runs out, the document
+    /// Makes the changes of one notification, each in the text that the one before it left. If memory runs out, the document
     /// stays as it was. Without a change no memory is needed.
     pub fn change(
         &mut self,
@@ -96,7 +101,12 @@ impl TextDocument {
         encoding: PositionEncoding,
         changes: &[ContentChange],
     ) -> Result<(), AllocError>
-        ensures ok { OnOk result (self.new ≡ record { language_id = self.old.language_id; version = version; text = edited_by encoding self.old.text changes.now }) }
+        ensures ok { OnOk result
+            (self.new ≡ record {
+              language_id = self.old.language_id;
+              version = version;
+              text = edited_by encoding self.old.text changes.now;
+            }) }
         ensures err { OnErr result (self.new ≡ self.old) }
         ensures none { length changes.now ≡ 0 → is_err result ≡ false }
     {

@@ -9,6 +9,9 @@ ghost use Rattle.lsp_text.specs.declared.position.PositionEncoding.{PositionEnco
 /// `char::encode_utf16`, in UTF-32 one for each. Before a number of units stand the bytes of the whole characters that take no
 /// more, and a line has the units of its characters.
 pub fn columns_count_characters()
-    ensures before { (e : PositionEncoding) (n : ℕ) (cs : List ℕ) → column_len e n (encode_utf8_all cs) ≡ length (encode_utf8_all (characters_before e n cs)) }
-    ensures line { (e : PositionEncoding) (cs : List ℕ) → width e (encode_utf8_all cs) ≡ line_units e cs }
+    ensures before { (e : PositionEncoding) (n : ℕ) (cs : List ℕ)
+        → column_len e n (encode_utf8_all cs)
+        ≡ length (encode_utf8_all (characters_before e n cs)) }
+    ensures line { (e : PositionEncoding) (cs : List ℕ)
+        → width e (encode_utf8_all cs) ≡ line_units e cs }
 {}

@@ -6,7 +6,7 @@ ghost use Rattle.lsp_text.specs.Columns.{line_of};
 
 use std::alloc::{AllocError, Global};
 
-/// Whether a byte is the last one of what ends a line, where another one follows.
+/// Whether a byte is the last one of what ends a line, if another one follows.
 fn ends_line(byte: u8, next: u8) -> bool
     ensures { result ≡ is_ended byte next }
 {
@@ -42,8 +42,10 @@ pub fn push_starts(
 /// Moves the starts of lines, of all but the first ones, from behind one place to behind another.
 fn move_starts(starts: &mut [usize], first: usize, from: usize, to: usize)
     requires within { first ≤ length starts.old }
-    requires fits { (k : ℕ) → first ≤ k → k < length starts.old → (from ≤ slice_index starts.old k) × (slice_index starts.old k - from + to < 2 ^ 64) }
-    ensures { starts.new ≡ take first starts.old ++ map (λ s. s - from + to) (drop first starts.old) }
+    requires fits { (k : ℕ) → first ≤ k → k < length starts.old → (from ≤ slice_index starts.old k)
+        × (slice_index starts.old k - from + to < 2 ^ 64) }
+    ensures { starts.new ≡ take first starts.old
+        ++ map (λ s. s - from + to) (drop first starts.old) }
 {
     for i in first..starts.len() {
         starts[i] = starts[i] - from + to;
@@ -53,8 +55,11 @@ fn move_starts(starts: &mut [usize], first: usize, from: usize, to: usize)
 /// Moves the starts of lines of an index, of all but the first ones.
 fn move_behind(starts: &mut Vec<usize>, first: usize, from: usize, to: usize)
     requires within { first ≤ length starts.old.items }
-    requires fits { (k : ℕ) → first ≤ k → k < length starts.old.items → (from ≤ slice_index starts.old.items k) × (slice_index starts.old.items k - from + to < 2 ^ 64) }
-    ensures { starts.new.items ≡ take first starts.old.items ++ map (λ s. s - from + to) (drop first starts.old.items) }
+    requires fits { (k : ℕ) → first ≤ k → k < length starts.old.items
+        → (from ≤ slice_index starts.old.items k)
+        × (slice_index starts.old.items k - from + to < 2 ^ 64) }
+    ensures { starts.new.items ≡ take first starts.old.items
+        ++ map (λ s. s - from + to) (drop first starts.old.items) }
 {
     move_starts(starts.as_mut_slice(), first, from, to);
 }
@@ -77,10 +82,12 @@ fn put_starts(
 
 /// How many of the starts are at most a place: they are in order.
 pub fn starts_to(starts: &[usize], place: usize) -> usize
-    requires { (i j : ℕ) → i ≤ j → j < length starts.now → slice_index starts.now i ≤ slice_index starts.now j }
+    requires { (i j : ℕ) → i ≤ j → j < length starts.now
+        → slice_index starts.now i ≤ slice_index starts.now j }
     ensures within { result ≤ length starts.now }
     ensures below { (k : ℕ) → k < result → slice_index starts.now k ≤ place }
-    ensures above { (k : ℕ) → result ≤ k → k < length starts.now → place < slice_index starts.now k }
+    ensures above { (k : ℕ) → result ≤ k → k < length starts.now
+        → place < slice_index starts.now k }
 {
     let mut low = 0;
     let mut high = starts.len();
@@ -111,7 +118,8 @@ pub fn line_at(text: &[u8], starts: &[usize], place: usize) -> usize
     ensures value { result ≡ line_of text.now place }
     ensures within { result < length starts.now }
     ensures begins { (k : ℕ) → k < result + 1 → slice_index starts.now k ≤ place }
-    ensures last { (k : ℕ) → result + 1 ≤ k → k < length starts.now → place < slice_index starts.now k }
+    ensures last { (k : ℕ) → result + 1 ≤ k → k < length starts.now
+        → place < slice_index starts.now k }
 {
     let count = starts_to(starts, place);
     count - 1
@@ -128,7 +136,7 @@ pub fn starts_of(alloc: Global, text: &[u8]) -> Result<Vec<usize>, AllocError>
     Ok(starts)
 }
 
-/// Makes the starts of the lines of a text those of the text in which other bytes take the place of some. Where memory runs
+/// Makes the starts of the lines of a text those of the text in which other bytes take the place of some. If memory runs
 /// out, they stay as they were.
 pub fn replace_starts(
     alloc: Global,
@@ -142,7 +150,8 @@ pub fn replace_starts(
     requires in_order { from ≤ to }
     requires within { to ≤ length text.now }
     requires fits { length text.now + length new.now < 2 ^ 64 }
-    ensures ok { OnOk result (starts.new.items ≡ line_starts (replace_range text.now from to new.now)) }
+    ensures ok { OnOk result
+        (starts.new.items ≡ line_starts (replace_range text.now from to new.now)) }
     ensures err { OnErr result (starts.new.items ≡ starts.old.items) }
 {
     // Whether a carriage return before the edit ends a line depends on what follows it.

@@ -63,8 +63,12 @@ impl Text {
 
     /// Where a position is, and how many units are left of its character there.
     fn reach(&self, position: Position, encoding: PositionEncoding) -> Reached
-        ensures value { result.place ≡ offset_of encoding self.now position.line position.character }
-        ensures left { position.line < length (line_starts self.now) → result.left ≡ column_left encoding position.character (drop (slice_index (line_starts self.now) position.line) self.now) }
+        ensures value { result.place
+            ≡ offset_of encoding self.now position.line position.character }
+        ensures left { position.line < length (line_starts self.now)
+            → result.left
+            ≡ column_left encoding position.character
+            (drop (slice_index (line_starts self.now) position.line) self.now) }
         ensures fewer { result.left ≤ position.character }
         ensures boundary { IsSplitPoint self.now result.place }
     {
@@ -83,8 +87,11 @@ impl Text {
 
     /// Where the end of a range is. In the line of the range's start, which was reached, the way goes on from there.
     fn end_of(&self, range: Range, encoding: PositionEncoding, start: Reached) -> usize
-        requires place { start.place ≡ offset_of encoding self.now range.start.line range.start.character }
-        requires left { range.start.line < length (line_starts self.now) → start.left ≡ column_left encoding range.start.character (drop (slice_index (line_starts self.now) range.start.line) self.now) }
+        requires place { start.place
+            ≡ offset_of encoding self.now range.start.line range.start.character }
+        requires left { range.start.line < length (line_starts self.now)
+            → start.left ≡ column_left encoding range.start.character
+            (drop (slice_index (line_starts self.now) range.start.line) self.now) }
         requires fewer { start.left ≤ range.start.character }
         requires boundary { IsSplitPoint self.now start.place }
         ensures value { result ≡ offset_of encoding self.now range.end.line range.end.character }
@@ -104,9 +111,12 @@ impl Text {
     /// The position of an offset, in bytes of UTF-8. An offset past the text's end is its end, one within the end of a line is
     /// that line's end, and one within a character counts that character. A number that does not fit is the greatest one.
     pub fn position_at(&self, offset: usize, encoding: PositionEncoding) -> Position
-        ensures line { result.line ≡ min (line_of self.now (min offset (length self.now))) 0xFFFF_FFFF }
-        ensures character { result.character ≡ min (column_of encoding self.now (min offset (length self.now))) 0xFFFF_FFFF }
-        ensures inverse { IsPlace self.now offset → length self.now < 2 ^ 30 → offset_of encoding self.now result.line result.character ≡ offset }
+        ensures line { result.line ≡ min (line_of self.now (min offset (length self.now)))
+            0xFFFF_FFFF }
+        ensures character { result.character
+            ≡ min (column_of encoding self.now (min offset (length self.now))) 0xFFFF_FFFF }
+        ensures inverse { IsPlace self.now offset → length self.now < 2 ^ 30
+            → offset_of encoding self.now result.line result.character ≡ offset }
     {
         let text = self.text.as_bytes();
         let place = offset.min(text.len());
@@ -118,7 +128,7 @@ impl Text {
         }
     }
 
-    /// Puts other text in the place of the bytes between two offsets, where no character is cut.
+    /// Puts other text in the place of the bytes between two offsets, if no character is cut.
     pub fn replace(
         &mut self,
         alloc: Global,

@@ -5,14 +5,13 @@ use Rattle.std.specs.Io.KnownBytes.{Keeps}
 use Rattle.std.specs.List.{FoldsTo}
 use Rattle.lsp_message.proofs.ContentParts.{content_outcome, end_outcome, fault_outcome}
 use Rattle.lsp_message.specs.Frame.{body_means, content_within, reading_within}
-use Rattle.lsp_message.specs.Reading.{Answers, Reading, found}
+use Rattle.lsp_message.specs.Reading.{Answers, found}
 use Rattle.lsp_message.specs.declared.frame.ReadFault.{ReadFault}
 use Rattle.lsp_message.specs.declared.frame.ReadFault.TheVariants.{Input, Memory as NoMemory}
 use Rattle.lsp_message.specs.Message.{Message}
 use Rattle.lsp_relay.specs.Relay.{ended, IsOpen}
 use Rattle.lsp_relay.specs.declared.ends.Parcel.{Parcel}
 use Rattle.lsp_relay.specs.declared.ends.Parcel.TheVariants as parcel
-use Rattle.lsp_session.specs.Passing.{is_of_body}
 use Rattle.lsp_session.specs.declared.loops.ReadEnd.{ReadEnd}
 use Rattle.lsp_session.specs.declared.loops.ReadEnd.TheVariants.{Exit, End, Fault}
 use Rattle.lsp_threads.proofs.HeaderFaults.{is_of_no_body}
@@ -33,7 +32,7 @@ contents_of-push sent contents =
 pub contents_of-end : (sent : List (Parcel Contents)) → contents_of (sent ++ parcel.End ∷ []) ≡ contents_of sent
 contents_of-end sent = contents_of-append sent (parcel.End ∷ []) ∙ append-nil (contents_of sent)
 
--- where no End was sent, messages were
+-- if no End was sent, messages were
 open_parcels : {M : Type 0} (sent : List (Parcel M)) → IsOpen sent → (parcels : List M) × (sent ≡ map parcel.Message parcels)
 open_parcels [] still_open = ([], refl)
 open_parcels (parcel.Message x ∷ rest) still_open = let more = open_parcels rest still_open in (x ∷ more.0, ap (λ l. parcel.Message x ∷ l) more.1)
@@ -82,7 +81,7 @@ module _ (limit : ℕ) where
   abbrev pub Passed : Option (List ℕ) → Option (List ℕ) → List (List ℕ) → Type 0
   Passed a b contents = IfSome a (λ text. IsSomeAnd b (λ at. FoldsTo (BeginsWithContent limit) text contents at))
 
-  -- what follows where both are known
+  -- what follows if both are known
   known : {R A : List ℕ → Type 0} (a b : Option (List ℕ)) (contents : List (List ℕ)) → Passed a b contents → IfSome b A
       → ((text at : List ℕ) → FoldsTo (BeginsWithContent limit) text contents at → A at → R text) → IfSome a R
   known None b contents passed read then = tt

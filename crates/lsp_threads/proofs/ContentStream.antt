@@ -1,5 +1,5 @@
 -- What an inbox over content parts gave: it is what an inbox over the text itself gives.
-use Rattle.std.proofs.Common.{arith, ◌≡◌, ◌≤◌, ◌+◌, ◌||◌, List, [], ◌∷◌, ◌++◌, ◌∙◌, ℕ, ap, sym, refl, append_assoc, append-nil, inl, inr, Option, Some, None, is_some, Result, Ok, Err, subst, Bool, true, false, true≢false}
+use Rattle.std.proofs.Common.{arith, ◌≡◌, ◌≤◌, ◌||◌, List, [], ◌∷◌, ◌++◌, ◌∙◌, ℕ, ap, sym, refl, append_assoc, append-nil, inl, inr, Option, Some, None, is_some, Result, Ok, Err, subst, Bool, true, false, true≢false}
 use Rattle.std.proofs.lemmas.List.{append_cancel_left}
 use Rattle.std.specs.Bool.{MatchBool}
 use Rattle.std.specs.Io.KnownBytes.{Keeps}
@@ -7,9 +7,9 @@ use Rattle.std.specs.List.{FoldsTo}
 use mathlib.Core.List.{IsPrefix}
 use Rattle.lsp_message.proofs.ContentParts.{content_outcome, same_rest}
 use Rattle.lsp_message.proofs.Contents.{frame_unread}
-use Rattle.lsp_message.specs.Frame.{body_means, content_within, reading_within}
+use Rattle.lsp_message.specs.Frame.{body_means, reading_within}
 use Rattle.lsp_message.specs.Gathering.{TakesFront}
-use Rattle.lsp_message.specs.Letters.{Begins, is_exit}
+use Rattle.lsp_message.specs.Messages.{is_exit}
 use Rattle.lsp_message.specs.Message.{Message}
 use Rattle.lsp_message.specs.Reading.{Reading, found}
 use Rattle.lsp_message.specs.ReadingSteps.{Decodes}
@@ -144,7 +144,7 @@ module _ (limit : ℕ) where
   closes (Fault fault) at stops = (Some (reading_within limit at).rest, ((ap (λ (r : Reading Message). r.outcome) stops.2, refl), front at))
   closes end at stops = absurd stops
 
-  -- an inbox that ends as `new`, where these parcels follow up to End; a wake that was taken tells that others can wake it
+  -- an inbox that ends as `new`, if these parcels follow up to End; a wake that was taken tells that others can wake it
   module _ {L : Type 0} (hears : L → ReadFault → L → Type 0) (others : Type 0) (read : ReadEnd) (new : Receiving × L) (woke : 1 ≤ new.0.wakes → others)
       (rest : List (Parcel Contents)) (parcels : List Contents) (whole : new.0.taken ++ rest ≡ ended parcels) where
     -- these content parts come after those that were given

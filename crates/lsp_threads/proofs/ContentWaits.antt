@@ -1,22 +1,14 @@
 -- An inbox over content parts that waits: what it collects, wakes that it passes over, and content parts that are no messages.
-use Rattle.std.proofs.Common.{arith, ◌≡◌, ◌≤◌, ◌+◌, ◌||◌, List, [], ◌∷◌, ◌++◌, ◌∙◌, ℕ, ap, sym, refl, append_assoc, append-nil, inl, inr, map, Option, Some, None, is_some, Result, Ok, Err, subst, Bool, true, false, true≢false, Vec, Global, length, if◌then◌else◌}
+use Rattle.std.proofs.Common.{arith, ◌≡◌, ◌≤◌, List, [], ◌∷◌, ◌++◌, ◌∙◌, ℕ, ap, sym, refl, append_assoc, append-nil, inl, inr, Some, Ok, Err, Bool, true, false, true≢false, Vec, Global, length}
 use Rattle.std.specs.Bool.{MatchBool}
-use Rattle.lsp_message.specs.Frame.{body_means}
 use Rattle.lsp_message.specs.Message.{Message}
-use Rattle.lsp_message.specs.Methods.{is_exit}
-use Rattle.lsp_message.specs.ReadingSteps.{Decodes}
 use Rattle.lsp_message.specs.declared.frame.ReadFault.{ReadFault}
-use Rattle.lsp_message.specs.declared.frame.ReadFault.TheVariants.{BodyNotText, NoJson, NoMessage, Batch}
-use Rattle.lsp_relay.specs.Relay.{has_end}
 use Rattle.lsp_relay.specs.declared.ends.Parcel.{Parcel}
 use Rattle.lsp_relay.specs.declared.ends.Parcel.TheVariants as parcel
-use Rattle.lsp_session.specs.Event.{Event, message, closed, woken}
-use Rattle.lsp_session.specs.Passing.{ended_at_body, is_of_body}
-use Rattle.lsp_session.specs.declared.loops.ReadEnd.{ReadEnd}
-use Rattle.lsp_session.specs.declared.loops.ReadEnd.TheVariants.{Exit, Fault}
+use Rattle.lsp_session.specs.Event.{message, closed, woken}
+use Rattle.lsp_session.specs.declared.loops.ReadEnd.TheVariants.{Fault}
 use Rattle.lsp_threads.proofs.ContentReads.{contents_of-append}
-use Rattle.lsp_threads.specs.Contents.{bytes_of, Collects, ComesNext, Contents, contents_of, ContentsGive, ContentsListen, HearsNothing, is_over, NextIs, OpenGives, PassesPart, Receiving, Taking}
-use Rattle.lsp_threads.specs.declared.content_parts.Next.TheVariants as next
+use Rattle.lsp_threads.specs.Contents.{bytes_of, Collects, ComesNext, Contents, contents_of, ContentsGive, HearsNothing, is_over, OpenGives, Receiving}
 
 pub empty_list : {A : Type 0} (xs : List A) → length xs ≡ 0 → xs ≡ []
 empty_list [] none = refl
@@ -30,7 +22,7 @@ collects_then a b c x y z first second = (
   ap (λ l. x ++ l) (contents_of-append first.0 second.0) ∙ sym (append_assoc x (contents_of first.0) (contents_of second.0)) ∙ ap (λ l. l ++ contents_of second.0) first.2 ∙ second.2,
 )
 
--- one parcel, where no content part waits
+-- one parcel, if no content part waits
 pub collects_parcel : (taken new : List (Parcel Contents)) (waiting items : List (Vec ℕ Global)) (contents : Contents) → waiting ≡ [] → new ≡ taken ++ parcel.Message contents ∷ []
     → items ≡ contents.items → Collects taken (bytes_of waiting) new (bytes_of items)
 collects_parcel taken new waiting items contents none grown same =

@@ -5,7 +5,7 @@ use Rattle.std.specs.Io.KnownBytes.{Keeps}
 use Rattle.std.specs.List.{FoldsTo}
 use mathlib.Core.List.{IsPrefix}
 use Rattle.lsp_message.specs.Message as plain
-use Rattle.lsp_message.specs.Written.{AppendsBeginning, AreFramesOf, GetsFramesAndPart, IsFrameOf, GetsFrames}
+use Rattle.lsp_message.specs.Written.{AppendsBeginning, AreFramesOf, IsFrameOf, GetsFrames}
 use Rattle.lsp_message.specs.declared.frame.WriteFault.{WriteFault}
 use Rattle.lsp_relay.proofs.Parcels.{same_messages}
 use Rattle.lsp_relay.specs.Relay.{ended, IsOpen, Sending}
@@ -13,14 +13,15 @@ use Rattle.lsp_relay.specs.declared.ends.Parcel.{Parcel}
 use Rattle.lsp_relay.specs.declared.ends.Parcel.TheVariants as parcel
 use Rattle.lsp_session.proofs.Handing.{Handed}
 use Rattle.lsp_session.specs.Boxes.{Takes}
-use Rattle.lsp_session.specs.ReadLoop.{Hands}
+use Rattle.lsp_session.specs.ReadLoop.{HasRead, Hands}
 use Rattle.lsp_session.specs.declared.loops.ReadEnd.{ReadEnd}
 use Rattle.lsp_session.specs.declared.loops.ReadEnd.TheVariants.{Exit, End, Fault, Closed, Memory}
-use Rattle.lsp_threads.proofs.Handed.{After, HandedOn, handed_on, Told, ReadsTo, reads_split}
+use Rattle.lsp_threads.proofs.Handed.{After, extent_of, HandedOn, handed_on, IsNotClosed, ReadsTo, reads_split}
 use Rattle.lsp_threads.specs.Framing.{parcel_bytes, AreEnded, Framing, FramingSends, Gathers, HandsFrames, WritesBytes, WritesParcels, WritesUnlessFailed}
 use Rattle.lsp_message.specs.declared.frame.ReadFault.TheVariants.{Input, Memory as NoMemoryToRead}
 use Rattle.lsp_message.specs.declared.frame.WriteFault.TheVariants.{Output, Memory as NoMemory}
 use Rattle.lsp_threads.specs.Pump.{Pumps, pump_answer}
+use Rattle.lsp_threads.specs.Threads.{BreaksOffWithin}
 
 -- ---- bytes of parcels
 pub parcel_bytes-append : (a b : List (Parcel (String Global))) → parcel_bytes (a ++ b) ≡ parcel_bytes a ++ parcel_bytes b
@@ -36,7 +37,7 @@ parcel_bytes-push sent text = parcel_bytes-append sent (parcel.Message text ∷ 
 pub parcel_bytes-end : (sent : List (Parcel (String Global))) → parcel_bytes (sent ++ parcel.End ∷ []) ≡ parcel_bytes sent
 parcel_bytes-end sent = parcel_bytes-append sent (parcel.End ∷ []) ∙ append-nil (parcel_bytes sent)
 
--- where no End was sent, texts were
+-- if no End was sent, texts were
 open_texts : (sent : List (Parcel (String Global))) → IsOpen sent → (texts : List (String Global)) × (sent ≡ map parcel.Message texts)
 open_texts [] still_open = ([], refl)
 open_texts (parcel.Message text ∷ rest) still_open = let more = open_texts rest still_open in (text ∷ more.0, ap (λ l. parcel.Message text ∷ l) more.1)
@@ -218,11 +219,11 @@ breaks_in (m ∷ ms) text part rest (first, more, is, are, same) split some =
         one_more (x ∷ later) cut (again (x ∷ later) others (omega (arith, ap length others)))
 
 pub breaks : (ms : List plain.Message) (text : List ℕ) (a b : Option (List ℕ)) → AreFramesOf ms text → 0 < length text → AppendsBeginning a b text
-    → (whole : List plain.Message) × (next : plain.Message) × (unwritten : List plain.Message) × (ms ≡ whole ++ next ∷ unwritten) × GetsFramesAndPart whole next a b
+    → BreaksOffWithin ms a b
 breaks ms text a b are some (part, rest, split, got) = at (breaks_in ms text part rest are split some)
   where
     at : Broken ms part
-        → (whole : List plain.Message) × (next : plain.Message) × (unwritten : List plain.Message) × (ms ≡ whole ++ next ∷ unwritten) × GetsFramesAndPart whole next a b
+        → BreaksOffWithin ms a b
     at (whole, next, unwritten, cut, frames, are', frame, is', begun, missing, split', all) = (
       whole,
       next,
@@ -234,24 +235,24 @@ breaks ms text a b are some (part, rest, split, got) = at (breaks_in ms text par
 module _ (limit : ℕ) where
   module _ (text : List ℕ) (a b : Option (List ℕ)) (ms : List plain.Message) where
     -- all was written
-    whole_pumped : (end : ReadEnd) → Told limit text end ms → GetsFrames ms a b → Pumps limit text a b (pump_answer end None)
-    whole_pumped Exit (rest, letters) frames = inl (record { messages = ms; rest = rest; letters = letters; written = frames })
-    whole_pumped End (rest, letters) frames = inr (record { messages = ms; rest = rest; letters = letters; written = frames })
-    whole_pumped (Fault (Input kind)) (at, passed) frames = record { messages = ms; at = at; passed = passed; written = frames }
-    whole_pumped (Fault NoMemoryToRead) (at, passed) frames = record { messages = ms; at = at; passed = passed; written = frames }
-    whole_pumped (Fault fault) (rest, letters) frames = record { messages = ms; rest = rest; letters = letters; written = frames }
-    whole_pumped Closed told frames = absurd told
-    whole_pumped Memory (at, passed) frames = record { messages = ms; at = at; passed = passed; written = frames }
+    whole_pumped : (end : ReadEnd) (rest : List ℕ) → HasRead limit (extent_of end) text ms rest → IsNotClosed end → GetsFrames ms a b → Pumps limit text a b (pump_answer end None)
+    whole_pumped Exit rest read open_still frames = inl (record { messages = ms; rest = rest; read = read; got = frames; left = tt })
+    whole_pumped End rest read open_still frames = inr (record { messages = ms; rest = rest; read = read; got = frames; left = tt })
+    whole_pumped (Fault (Input kind)) rest read open_still frames = record { messages = ms; rest = rest; read = read; got = frames; left = tt }
+    whole_pumped (Fault NoMemoryToRead) rest read open_still frames = record { messages = ms; rest = rest; read = read; got = frames; left = tt }
+    whole_pumped (Fault fault) rest read open_still frames = record { messages = ms; rest = rest; read = read; got = frames; left = tt }
+    whole_pumped Closed rest read open_still frames = absurd open_still
+    whole_pumped Memory rest read open_still frames = record { messages = ms; rest = rest; read = read; got = frames; left = tt }
 
     -- all was written, or a write failed
-    pumped : (bytes : List ℕ) (read : ReadEnd) (fault : Option WriteFault) → AreFramesOf ms bytes → Told limit text read ms → ReadsTo limit text read ms → WritesBytes bytes fault a b
-        → Pumps limit text a b (pump_answer read fault)
-    pumped bytes read None frames told reads written = whole_pumped read told (bytes, frames, written)
-    pumped bytes read (Some (Output kind)) frames told reads (output, some, begun) =
+    pumped : (bytes : List ℕ) (end : ReadEnd) (fault : Option WriteFault) (rest : List ℕ) → AreFramesOf ms bytes → HasRead limit (extent_of end) text ms rest → IsNotClosed end
+        → ReadsTo limit text end ms → WritesBytes bytes fault a b → Pumps limit text a b (pump_answer end fault)
+    pumped bytes end None rest frames read open_still reads written = whole_pumped end rest read open_still (bytes, frames, written)
+    pumped bytes end (Some (Output kind)) rest frames read open_still reads (output, some, begun) =
         let broken = breaks ms bytes a b frames some begun in
-        let parts = reads_split limit broken.0 broken.1 broken.2 text read (rw broken.3 at reads) in
-        record { messages = broken.0; at = parts.0; passed = parts.2; next = broken.1; rest = parts.1; begins = parts.3; written = broken.4 }
-    pumped bytes read (Some NoMemory) frames told reads (output, some, begun) = absurd output
+        let parts = reads_split limit broken.0 broken.1 broken.2 text end (rw broken.3 at reads) in
+        (broken.1, record { messages = broken.0; rest = parts.1; read = (parts.0, parts.2, parts.3); got = broken.4; left = tt })
+    pumped bytes end (Some NoMemory) rest frames read open_still reads (output, some, begun) = absurd output
 
   -- the same of what was sent on a relay and what was taken from it
   pub pumped_over : (known : Option (List ℕ)) (a b : Option (List ℕ)) (tx back : Sending (String Global)) (taken : List (Parcel (String Global))) (read : ReadEnd) (fault : Option WriteFault)
@@ -262,4 +263,4 @@ module _ (limit : ℕ) where
       let all = sent_frames limit tx back text read handed in
       let on = all.1 in
       let frames = subst (λ ps. AreFramesOf on.messages (parcel_bytes ps)) (same_parcels taken back.sent written.0 handed.4 settled) all.2 in
-      pumped text a b on.messages (parcel_bytes taken) read fault frames on.told on.reads written.1
+      pumped text a b on.messages (parcel_bytes taken) read fault on.rest frames on.read on.never_closed on.reads written.1

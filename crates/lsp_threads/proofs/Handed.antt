@@ -3,18 +3,31 @@ use Rattle.std.proofs.Common.{◌≡◌, ℕ, Bool, true, false, List, [], ◌�
 use Rattle.std.specs.Bool.{MatchBool}
 use Rattle.std.specs.List.{FoldsTo}
 use Rattle.lsp_message.specs.Frame.{reading_within}
-use Rattle.lsp_message.specs.Letters.{Begins, PassesAll, is_exit, exited, ended, failed, Letters}
+use Rattle.lsp_message.specs.Messages.{Begins, PassesAll, is_exit, exited, ended, failed}
 use Rattle.lsp_message.specs.Message.{Message}
 use Rattle.lsp_message.specs.declared.frame.ReadFault.TheVariants.{Input, Memory as NoMemory}
 use Rattle.lsp_message.specs.declared.msg.Message as msg
 use Rattle.lsp_session.specs.Boxes.{Sends, Takes}
-use Rattle.lsp_session.specs.ReadLoop.{Hands}
+use Rattle.lsp_session.specs.ReadLoop.{Extent, to_end, in_part, HasRead, Hands}
 use Rattle.lsp_session.specs.declared.lifecycle.SendFault.TheVariants.{Closed as IsClosed, Memory as IsFull}
 use Rattle.lsp_session.specs.declared.loops.ReadEnd.{ReadEnd}
 use Rattle.lsp_session.specs.declared.loops.ReadEnd.TheVariants.{Exit, End, Fault, Closed, Memory}
 
+-- how far reading came that ended so, unless the outbox was closed
+abbrev pub extent_of : ReadEnd → Extent
+extent_of Exit = to_end exited
+extent_of End = to_end ended
+extent_of (Fault (Input kind)) = in_part
+extent_of (Fault NoMemory) = in_part
+extent_of (Fault fault) = to_end (failed fault)
+extent_of end = in_part
+
+abbrev pub IsNotClosed : ReadEnd → Type 0
+IsNotClosed Closed = ⊥
+IsNotClosed end = Unit {0}
+
 module _ (limit : ℕ) where
-  -- reading may end so at this text; where an outbox was full, nothing is said
+  -- reading may end so at this text; if an outbox was full, nothing is said
   abbrev pub EndsAt : List ℕ → ReadEnd → Type 0
   EndsAt text Exit = ⊥
   EndsAt text End = (rest : List ℕ) × (reading_within limit text ≡ record { outcome = Ok None; rest = rest })
@@ -48,16 +61,6 @@ module _ (limit : ℕ) where
       at true exits none again = absurd (omega (arith, length-append ms (last ∷ more), ap length none.0))
       at false goes later again = let split = again later in (split.0, split.1, (reads.0, (reads.1, goes), split.2), split.3)
 
-  -- the same in the words of `pump`
-  abbrev pub Told : List ℕ → ReadEnd → List Message → Type 0
-  Told text Exit ms = (rest : List ℕ) × Letters limit text ms exited rest
-  Told text End ms = (rest : List ℕ) × Letters limit text ms ended rest
-  Told text (Fault (Input kind)) ms = (at : List ℕ) × PassesAll limit text ms at
-  Told text (Fault NoMemory) ms = (at : List ℕ) × PassesAll limit text ms at
-  Told text (Fault fault) ms = (rest : List ℕ) × Letters limit text ms (failed fault) rest
-  Told text Closed ms = ⊥
-  Told text Memory ms = (at : List ℕ) × PassesAll limit text ms at
-
   module _ {O : Type 0} (sends : Sends O) where
     -- the outbox after the last message that it took: it refused one more, if an allocation failed
     abbrev pub After : O → ReadEnd → O → Type 0
@@ -70,28 +73,31 @@ module _ (limit : ℕ) where
       pub mid : O
       pub taken : FoldsTo (Takes sends) old messages mid
       pub after : After mid end new
-      pub told : Told text end messages
+      pub rest : List ℕ
+      pub read : HasRead limit (extent_of end) text messages rest
+      pub never_closed : IsNotClosed end
       pub reads : ReadsTo text end messages
 
     module _ (never : (old : O) (m : Message) (back : msg.Message) (new : O) → sends old m (Err (IsClosed back)) new → ⊥) (text : List ℕ) (old new : O) (left : Option (List ℕ)) where
       pub handed_on : (end : ReadEnd) → Hands limit sends text old new left end → HandedOn text old end new
       handed_on Exit h =
-          let l = h.letters in
+          let l = h.read in
           let reads : ReadsTo text Exit h.messages = rw l.3 (passed_then l.0 (l.1 ∷ []) text l.2 Exit l.4 (h.rest, l.5, rw l.6 (refl, refl))) in
-          record { messages = h.messages; mid = new; taken = h.taken; after = refl; told = (h.rest, l); reads = reads }
+          record { messages = h.messages; mid = new; taken = h.got; after = refl; rest = h.rest; read = l; never_closed = tt; reads = reads }
       handed_on End h =
-          let l = h.letters in
-          record { messages = h.messages; mid = new; taken = h.taken; after = refl; told = (h.rest, l); reads = passed_to h.messages text l.0 End l.1 (h.rest, l.2) }
+          let reads = passed_to h.messages text h.read.0 End h.read.1 (h.rest, h.read.2) in
+          record { messages = h.messages; mid = new; taken = h.got; after = refl; rest = h.rest; read = h.read; never_closed = tt; reads = reads }
       handed_on (Fault (Input kind)) h =
-          let reads = passed_to h.messages text h.at (Fault (Input kind)) h.passed tt in
-          record { messages = h.messages; mid = new; taken = h.taken; after = refl; told = (h.at, h.passed); reads = reads }
+          let reads = passed_to h.messages text h.rest (Fault (Input kind)) h.read tt in
+          record { messages = h.messages; mid = new; taken = h.got; after = refl; rest = h.rest; read = h.read; never_closed = tt; reads = reads }
       handed_on (Fault NoMemory) h =
-          let reads = passed_to h.messages text h.at (Fault NoMemory) h.passed tt in
-          record { messages = h.messages; mid = new; taken = h.taken; after = refl; told = (h.at, h.passed); reads = reads }
+          let reads = passed_to h.messages text h.rest (Fault NoMemory) h.read tt in
+          record { messages = h.messages; mid = new; taken = h.got; after = refl; rest = h.rest; read = h.read; never_closed = tt; reads = reads }
       handed_on (Fault fault) h =
-          let l = h.letters in
-          record { messages = h.messages; mid = new; taken = h.taken; after = refl; told = (h.rest, l); reads = passed_to h.messages text l.0 (Fault fault) l.1 (h.rest, l.2) }
-      handed_on Closed h = absurd (never h.mid h.next h.back new h.refused)
+          let reads = passed_to h.messages text h.read.0 (Fault fault) h.read.1 (h.rest, h.read.2) in
+          record { messages = h.messages; mid = new; taken = h.got; after = refl; rest = h.rest; read = h.read; never_closed = tt; reads = reads }
+      handed_on Closed h = absurd (never h.1.got.0 h.0 h.1.got.2 new h.1.got.3)
       handed_on Memory h =
-          let reads = passed_to h.messages text h.at Memory h.passed tt in
-          record { messages = h.messages; mid = h.mid; taken = h.taken; after = (h.next, h.back, h.refused); told = (h.at, h.passed); reads = reads }
+          let at = h.1.read.0 in
+          let reads = passed_to h.1.messages text at Memory h.1.read.1 tt in
+          record { messages = h.1.messages; mid = h.1.got.0; taken = h.1.got.1; after = (h.0, h.1.got.2, h.1.got.3); rest = at; read = h.1.read.1; never_closed = tt; reads = reads }

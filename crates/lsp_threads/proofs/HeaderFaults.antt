@@ -1,5 +1,5 @@
 -- A frame that can't be read has a fault of its header part, or its content part is short or too long: it is no fault of a body.
-use Rattle.std.proofs.Common.{◌≡◌, ap, sym, refl, subst, ◌∙◌, ℕ, ◌-◌, Bool, true, false, not, cond, List, [], ◌∷◌, length, take, drop, nat_eq, nat_lt, codes, Option, Some, None, option_map, Result, Ok, Err}
+use Rattle.std.proofs.Common.{◌≡◌, refl, subst, ℕ, ◌-◌, Bool, true, false, not, cond, List, [], ◌∷◌, length, take, drop, nat_eq, nat_lt, codes, Option, Some, None, option_map, Result, Ok, Err}
 use Rattle.std.specs.List.{ends_with}
 use Rattle.std.specs.Option.{ok_or}
 use Rattle.std.specs.Str.{is_utf8}

@@ -39,7 +39,7 @@ module _ {L : Type 0} (hears : L → ReadFault → L → Type 0) (old new : Rece
   pub hears_a_message : (m : Message) → (new.1 ≡ old.1 → ⊥) → OpenGives hears old (message m) new → ⊥
   hears_a_message m other gives = other gives.1
 
--- where it is to be asked, the messages end at a content part that is no message though the listener never ends them
+-- if it is to be asked, the messages end at a content part that is no message though the listener never ends them
 pub ends_without_leave : {L : Type 0} (ends : L → ReadFault → Type 0) (event : Event) (old new : Receiving × L)
     → ((fault : ReadFault) → ends old.1 fault → ⊥) → ContentsListen ends old event new → ended_at_body new.0.end ≡ true → new.0.end ≡ old.0.end
 ends_without_leave ends event old new never listens at_body = elim (listens.1 at_body) [

@@ -18,21 +18,21 @@ use Rattle.lsp_threads.specs.Threads.{ReadsFrameOrWakes, ReadsOrWakes, ThreadsGi
 
 -- at some place the session answered a wake
 abbrev pub TellsAWake : SessionPart
-TellsAWake exchanges stop null answer =
-    (earlier : List Exchange) × (said : List Message) × (later : List Exchange) × (exchanges ≡ earlier ++ record { letter = None; said = said } ∷ later)
+TellsAWake exchanges stop shutdown_reply answer =
+    (earlier : List Exchange) × (sent : List Message) × (later : List Exchange) × (exchanges ≡ earlier ++ record { came = None; sent = sent } ∷ later)
 
 module _ (limit : ℕ) where
-  tells_none : (said : List Message) (earlier later : List Exchange) (text at : List ℕ)
-      → FoldsTo (ReadsOrWakes false limit) text (came_of (earlier ++ record { letter = None; said = said } ∷ later)) at → ⊥
-  tells_none said [] later text at run = let e : false ≡ true = run.1.0 in absurd (cc (e))
-  tells_none said (x ∷ earlier) later text at run = tells_none said earlier later run.0 at run.2
+  tells_none : (sent : List Message) (earlier later : List Exchange) (text at : List ℕ)
+      → FoldsTo (ReadsOrWakes false limit) text (came_of (earlier ++ record { came = None; sent = sent } ∷ later)) at → ⊥
+  tells_none sent [] later text at run = let e : false ≡ true = run.1.0 in absurd (cc (e))
+  tells_none sent (x ∷ earlier) later text at run = tells_none sent earlier later run.0 at run.2
 
   -- nobody can wake the session, and it answers a wake
   pub refuses_a_wake : (P : SessionPart) (text : List ℕ) (before after : Option (List ℕ)) (result : Result SessionEnd SessionFault)
       → ThreadsGive limit (Both P TellsAWake) text before after result → ⊥
   refuses_a_wake P text before after result gives =
-      let (earlier, said, later, are) = gives.part.1 in
-      tells_none said earlier later text gives.at (subst (λ xs. FoldsTo (ReadsOrWakes false limit) text (came_of xs) gives.at) are gives.read)
+      let (earlier, sent, later, are) = gives.part.1 in
+      tells_none sent earlier later text gives.at (subst (λ xs. FoldsTo (ReadsOrWakes false limit) text (came_of xs) gives.at) are gives.read)
 
   -- what came to it is what one thread would have read
   pub reads_messages : (came : List (Option Message)) (text at : List ℕ) → FoldsTo (ReadsOrWakes false limit) text came at → FoldsTo (ReadsMessage limit) text came at
@@ -40,7 +40,7 @@ module _ (limit : ℕ) where
   reads_messages (Some m ∷ came) text at run = (run.0, run.1, reads_messages came run.0 at run.2)
   reads_messages (None ∷ came) text at run = let e : false ≡ true = run.1.0 in absurd (cc (e))
 
-  -- where a waker was made, a wake may come at any place, and reads nothing
+  -- if a waker was made, a wake may come at any place, and reads nothing
   pub woken_by_others : (text : List ℕ) → ReadsOrWakes true limit text None text
   woken_by_others text = (refl, refl)
 

@@ -1,9 +1,9 @@
 -- Replies that an outbox made frames of, and what is written of all that it was offered. A session over such an outbox, as its contract says it.
-use Rattle.std.proofs.Common.{◌≡◌, refl, sym, ◌∙◌, ap, subst, inl, inr, append-nil, append_assoc, ℕ, Bool, true, false, true≢false, List, [], ◌∷◌, ◌++◌, Some, None, Option, Result, Ok, Err, String, Global}
+use Rattle.std.proofs.Common.{◌≡◌, refl, sym, ◌∙◌, ap, inl, inr, append-nil, append_assoc, ℕ, Bool, true, false, true≢false, List, [], ◌∷◌, ◌++◌, Some, None, Option, Result, Ok, Err, String, Global}
 use Rattle.std.specs.List.{FoldsTo}
 use mathlib.Core.List.{IsPrefix}
 use Rattle.lsp_message.specs.Message.{Message}
-use Rattle.lsp_message.specs.Written.{AreFramesOf, GetsFrames}
+use Rattle.lsp_message.specs.Written.{AreFramesOf}
 use Rattle.lsp_message.specs.declared.frame.ReadFault.{ReadFault}
 use Rattle.lsp_message.specs.declared.frame.WriteFault.{WriteFault}
 use Rattle.lsp_message.specs.declared.frame.WriteFault.TheVariants.{Output, Memory as NoMemory}
@@ -14,20 +14,22 @@ use Rattle.lsp_session.proofs.Passing.{frames_end, GivesOr, left_after, ReadsFra
 use Rattle.lsp_session.proofs.SessionGives.{NotRefused}
 use Rattle.lsp_session.specs.Boxes.{Sends, Receives, Takes}
 use Rattle.lsp_session.specs.PassingBytes.{HearsLast}
-use Rattle.lsp_session.specs.Session.{came_of, letters_of, sends_of, Exchange, SessionAnswer, SessionPart, Stop, refused}
+use Rattle.lsp_session.specs.Session.{came_of, messages_of, sends_of, Exchange, SessionAnswer, SessionPart, Stop, refused}
 use Rattle.lsp_session.specs.SessionBytes.{LeftWithin, Wrote}
-use Rattle.lsp_session.specs.SessionFault.{read_answer, session_answer}
+use Rattle.lsp_session.specs.Served.{reason_of, StopsFor}
+use Rattle.lsp_session.specs.SessionFault.{session_answer}
 use Rattle.lsp_session.specs.SessionRun.{all_of, Gets, OffersLast, RefusesLast, Runs}
 use Rattle.lsp_session.specs.Streams.{Stream}
 use Rattle.lsp_session.specs.declared.lifecycle.SendFault.{SendFault}
 use Rattle.lsp_session.specs.declared.lifecycle.SendFault.TheVariants.{Closed as Shut, Memory as IsFull}
 use Rattle.lsp_session.specs.declared.loops.handler.SessionEnd.{SessionEnd}
+use Rattle.lsp_session.specs.declared.loops.served.StopReason.{StopReason}
 use Rattle.lsp_session.specs.declared.loops.stream_session.SessionFault.{SessionFault}
 use Rattle.lsp_session.specs.declared.loops.stream_session.SessionFault.TheVariants.{Write, Memory}
 use Rattle.lsp_threads.proofs.Frames.{breaks, same_parcels}
 use Rattle.lsp_threads.specs.Framing.{parcel_bytes, AreEnded, WritesBytes, WritesParcels}
 use Rattle.lsp_threads.specs.Replies.{Replying, RepliesSend, reply_fault, IsWhole, WritesReplies}
-use Rattle.lsp_threads.specs.Threads.{BreaksOffWithin, EndsInThreads, GetsFirst, ReadsFrameOrWakes, ThreadsTellOver, WroteInThreads}
+use Rattle.lsp_threads.specs.Threads.{EndsInThreads, ReadsFrameOrWakes, ThreadsTellOver, WroteInThreads}
 
 -- ---- what was sent
 -- messages that an outbox took added their frames
@@ -106,18 +108,18 @@ module _ (old mid new : Replying) (ms : List Message) (run : FoldsTo (Takes Repl
         whole = λ none. (refl, whole);
       }
 
-  last_replied : (stop : Stop) → IsWhole stop → (null : Option Message) → OffersLast RepliesSend mid null new → Replied old new stop (all_of ms null)
+  last_replied : (stop : Stop) → IsWhole stop → (shutdown_reply : Option Message) → OffersLast RepliesSend mid shutdown_reply new → Replied old new stop (all_of ms shutdown_reply)
   last_replied stop whole None same = all_taken stop whole same
-  last_replied stop whole (Some null) offers = one_offered null stop whole offers.outcome offers.sent
+  last_replied stop whole (Some shutdown_reply) offers = one_offered shutdown_reply stop whole offers.outcome offers.sent
 
-refused_replied : (old new : Replying) (output : List Message) (fault : SendFault) (null : Option Message) → RefusesLast RepliesSend old output fault new → null ≡ None
-    → Replied old new (refused fault) (all_of output null)
-refused_replied old new output fault null last none = rw (none, last.3) (one_refused old last.2 new last.0 last.4 last.1 (refused fault) fault last.5)
+refused_replied : (old new : Replying) (output : List Message) (fault : SendFault) (shutdown_reply : Option Message) → RefusesLast RepliesSend old output fault new → shutdown_reply ≡ None
+    → Replied old new (refused fault) (all_of output shutdown_reply)
+refused_replied old new output fault shutdown_reply last none = rw (none, last.3) (one_refused old last.2 new last.0 last.4 last.1 (refused fault) fault last.5)
 
-pub all_replied : (old new : Replying) (output : List Message) (null : Option Message) (stop : Stop) → Gets RepliesSend old output null stop new
-    → Replied old new stop (all_of output null)
-all_replied old new output null (refused fault) got = refused_replied old new output fault null got.0 got.1
-all_replied old new output null stop got = last_replied old got.0 new output got.1 stop tt null got.2
+pub all_replied : (old new : Replying) (output : List Message) (shutdown_reply : Option Message) (stop : Stop) → Gets RepliesSend old output shutdown_reply stop new
+    → Replied old new stop (all_of output shutdown_reply)
+all_replied old new output shutdown_reply (refused fault) got = refused_replied old new output fault shutdown_reply got.0 got.1
+all_replied old new output shutdown_reply stop got = last_replied old got.0 new output got.1 stop tt shutdown_reply got.2
 
 -- ---- what was written
 module _ (stop : Stop) (ms : List Message) (a b : Option (List ℕ)) where
@@ -133,13 +135,7 @@ module _ (stop : Stop) (ms : List Message) (a b : Option (List ℕ)) where
     some_written : (fault : WriteFault) → WritesBytes text (Some fault) a b → WritesReplies stop ms (Some fault) a b
     some_written (Output kind) (output, some, begun) =
         let broken = breaks sent text a b frames some begun in
-        record {
-          whole = broken.0;
-          next = broken.1;
-          unwritten = broken.2 ++ unsent;
-          cut = cut ∙ ap (λ l. l ++ unsent) broken.3 ∙ append_assoc broken.0 (broken.1 ∷ broken.2) unsent;
-          got = broken.4;
-        }
+        (broken.0, broken.1, broken.2 ++ unsent, cut ∙ ap (λ l. l ++ unsent) broken.3 ∙ append_assoc broken.0 (broken.1 ∷ broken.2) unsent, broken.4)
     some_written NoMemory (output, some, begun) = absurd output
 
     bytes_written : (fault : Option WriteFault) (failed : Bool) → (failed ≡ false → (unsent ≡ []) × IsWhole stop) → WritesBytes text fault a b
@@ -158,25 +154,26 @@ module _ (stop : Stop) (ms : List Message) (a b : Option (List ℕ)) where
 
 -- ---- a session over such an outbox
 -- what was written of a session over bytes, as one in threads says it
-wrote_so : (a b : Option (List ℕ)) (result : Result SessionEnd SessionFault) (stop : Stop) (null : Option Message) (sends : List Message) → Wrote a b result stop null sends
-    → WroteInThreads a b result stop null sends
-wrote_so a b (Err (Write fault)) stop null sends (output, unsent, whole, last, cut, got) =
-    (output, record { whole = whole; next = last; unwritten = []; cut = cut; got = got })
-wrote_so a b (Err Memory) stop null sends (inl wrote) = (sends, [], sym (append-nil sends), wrote)
-wrote_so a b (Err Memory) stop null sends (inr most) = (most.1.0, most.1.1 ∷ [], most.1.2, most.1.3)
-wrote_so a b result stop null sends wrote = wrote
+wrote_so : (a b : Option (List ℕ)) (result : Result SessionEnd SessionFault) (stop : Stop) (shutdown_reply : Option Message) (sends : List Message) → Wrote a b result stop shutdown_reply sends
+    → WroteInThreads a b result stop shutdown_reply sends
+wrote_so a b (Err (Write fault)) stop shutdown_reply sends (output, unsent, whole, last, cut, got) =
+    (output, (whole, last, [], cut, got))
+wrote_so a b (Err Memory) stop shutdown_reply sends (inl wrote) = (sends, [], sym (append-nil sends), wrote)
+wrote_so a b (Err Memory) stop shutdown_reply sends (inr most) = (most.1.0, most.1.1 ∷ [], most.1.2, most.1.3)
+wrote_so a b result stop shutdown_reply sends wrote = wrote
 
 not_refused : (stop : Stop) → IsWhole stop → NotRefused stop
 not_refused (refused fault) whole = absurd whole
 not_refused stop whole = tt
 
-module _ {I O L : Type 0} (receives : Receives I) (sends : Sends O) (wakeable : Bool) (hears : L → ReadFault → L → Type 0) (limit : ℕ) (P : SessionPart)
-    (knows : (xs : List Exchange) (stop : Stop) (null : Option Message) (answer : SessionAnswer) → P xs stop null answer → Facts stop (letters_of xs) answer)
+module _ {I O L : Type 0} (receives : Receives I) (sends : Sends O) (wakeable : Bool) (hears : L → ReadFault → L → Type 0) (limit : ℕ) (P Q : SessionPart) (reason : StopReason)
+    (knows : (xs : List Exchange) (stop : Stop) (shutdown_reply : Option Message) (answer : SessionAnswer) → P xs stop shutdown_reply answer
+    → Q xs stop shutdown_reply answer × StopsFor reason xs stop shutdown_reply answer × Facts stop (messages_of xs))
     (a b : Option (List ℕ)) (old new : I × O) (answer : SessionAnswer) (runs : Runs receives sends P old answer new) where
-  facts : Facts runs.stop (letters_of runs.exchanges) answer
-  facts = knows runs.exchanges runs.stop runs.null answer runs.part
+  known_of : Q runs.exchanges runs.stop runs.shutdown_reply answer × StopsFor reason runs.exchanges runs.stop runs.shutdown_reply answer × Facts runs.stop (messages_of runs.exchanges)
+  known_of = knows runs.exchanges runs.stop runs.shutdown_reply answer runs.part
 
-  -- others wake it only where they can
+  -- others wake it only if they can
   abbrev Others : Type 0
   Others = wakeable ≡ true
 
@@ -193,30 +190,30 @@ module _ {I O L : Type 0} (receives : Receives I) (sends : Sends O) (wakeable : 
     start = (record { remaining = Some text; end = None }, first)
 
     over : (result : Result SessionEnd SessionFault) (at : List ℕ × L) → ReadsFrames Others hears limit (text, first) (came_of runs.exchanges) at
-        → HearsLast hears limit runs.stop at s.1 → EndsInThreads limit result answer runs.stop runs.null at.0
-        → WroteInThreads a b result runs.stop runs.null (sends_of runs.exchanges) → ThreadsTellOver wakeable hears limit P text first s.1 a b result
+        → HearsLast hears limit runs.stop at s.1 → EndsInThreads limit result answer runs.stop runs.shutdown_reply at.0
+        → WroteInThreads a b result runs.stop runs.shutdown_reply (sends_of runs.exchanges) → ThreadsTellOver wakeable hears limit Q text first s.1 a b result
     over result at read heard ends wrote = record {
       exchanges = runs.exchanges;
       at = at;
       read = reads_all (came_of runs.exchanges) (text, first) at read;
       stop = runs.stop;
-      null = runs.null;
+      shutdown_reply = runs.shutdown_reply;
       answer = answer;
-      part = runs.part;
+      part = known_of.0;
       ends = (ends, heard);
       wrote = wrote;
     }
 
     read : (at : List ℕ × L) × ReadsFrames Others hears limit (text, first) (came_of runs.exchanges) at × HearsLast hears limit runs.stop at s.1
         × LeftWithin limit runs.stop at.0 s.0.remaining
-    read = left_after Others hears limit text start s refl refl runs.events run (came_of runs.exchanges) answer runs.stop runs.brought facts
+    read = left_after Others hears limit text start s refl refl runs.events run (came_of runs.exchanges) runs.stop runs.brought known_of.2
 
     pub session_gives : (fault : Option WriteFault) → WritesReplies runs.stop (sends_of runs.exchanges) fault a b
-        → ThreadsTellOver wakeable hears limit P text first s.1 a b (session_answer answer s.0.end fault)
+        → ThreadsTellOver wakeable hears limit Q text first s.1 a b (session_answer reason answer s.0.end fault)
     session_gives None (whole, written) =
-        let all = frames_end Others hears limit text start s refl refl runs.events run (came_of runs.exchanges) runs.null answer (sends_of runs.exchanges) a b written
-        runs.stop runs.brought (not_refused runs.stop whole) facts in
-        over (read_answer answer s.0.end) all.0 all.1 all.2 (s.0.remaining, all.3.0)
-        (wrote_so a b (read_answer answer s.0.end) runs.stop runs.null (sends_of runs.exchanges) all.3.1)
+        let all = frames_end Others hears limit text start s refl refl runs.events run (came_of runs.exchanges) runs.shutdown_reply answer (sends_of runs.exchanges) a b written
+        runs.stop runs.brought (not_refused runs.stop whole) known_of.2 in
+        let result = session_answer (reason_of runs.stop) answer s.0.end None in
+        rw known_of.1 (over result all.0 all.1 all.2 (s.0.remaining, all.3.0) (wrote_so a b result runs.stop runs.shutdown_reply (sends_of runs.exchanges) all.3.1))
     session_gives (Some (Output kind)) broken = over (Err (Write (Output kind))) read.0 read.1 read.2 (s.0.remaining, read.3) (tt, broken)
     session_gives (Some NoMemory) first' = over (Err Memory) read.0 read.1 read.2 (s.0.remaining, read.3) first'

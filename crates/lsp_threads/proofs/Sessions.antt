@@ -1,5 +1,5 @@
 -- A session over relays, as its contract says it: it is one over bytes, but what is left of them is not known.
-use Rattle.std.proofs.Common.{arith, ◌≡◌, ◌≤◌, refl, sym, ◌∙◌, ap, subst, inl, inr, ℕ, Bool, true, false, List, [], ◌∷◌, ◌++◌, Some, None, Option, IfSome, String, Global}
+use Rattle.std.proofs.Common.{arith, ◌≡◌, ◌≤◌, refl, ◌∙◌, ap, subst, inl, inr, ℕ, Bool, true, false, List, [], ◌∷◌, ◌++◌, Some, None, Option, IfSome, String, Global}
 use Rattle.std.specs.Bool.{MatchBool}
 use Rattle.std.specs.List.{FoldsTo}
 use Rattle.std.specs.Prelude.{Result, Ok, Err, IfOk}
@@ -13,11 +13,13 @@ use Rattle.lsp_session.proofs.Lending.{over_as}
 use Rattle.lsp_session.proofs.Ran.{Facts}
 use Rattle.lsp_session.specs.Event.{Event}
 use Rattle.lsp_session.specs.PassingBytes.{PassesNothingOver}
-use Rattle.lsp_session.specs.Session.{came_of, Exchange, letters_of, SessionAnswer, SessionPart, sends_of, Stop}
+use Rattle.lsp_session.specs.Session.{came_of, Exchange, messages_of, SessionAnswer, SessionPart, sends_of, Stop}
+use Rattle.lsp_session.specs.Served.{StopsFor}
 use Rattle.lsp_session.specs.SessionFault.{session_answer}
 use Rattle.lsp_session.specs.SessionRun.{Runs}
 use Rattle.lsp_session.specs.declared.loops.ReadEnd.{ReadEnd}
 use Rattle.lsp_session.specs.declared.loops.handler.SessionEnd.{SessionEnd}
+use Rattle.lsp_session.specs.declared.loops.served.StopReason.{StopReason}
 use Rattle.lsp_session.specs.declared.loops.stream_session.SessionFault.{SessionFault}
 use Rattle.lsp_threads.proofs.ContentStream.{as_stream}
 use Rattle.lsp_threads.proofs.Replies.{all_replied, replies_written, session_gives}
@@ -36,8 +38,9 @@ seen_all hears (event ∷ events) old new run =
     let rest = seen_all hears events run.0 new run.2 in
     ((seen_of run.0, run.1.0, rest.0), (rest.1.0 ∙ run.1.1.0, rest.1.1 ∙ run.1.1.1))
 
-module _ {L : Type 0} (hears : L → ReadFault → L → Type 0) (limit : ℕ) (P : SessionPart)
-    (knows : (xs : List Exchange) (stop : Stop) (null : Option Sent) (answer : SessionAnswer) → P xs stop null answer → Facts stop (letters_of xs) answer)
+module _ {L : Type 0} (hears : L → ReadFault → L → Type 0) (limit : ℕ) (P Q : SessionPart) (reason : StopReason)
+    (knows : (xs : List Exchange) (stop : Stop) (shutdown_reply : Option Sent) (answer : SessionAnswer) → P xs stop shutdown_reply answer
+    → Q xs stop shutdown_reply answer × StopsFor reason xs stop shutdown_reply answer × Facts stop (messages_of xs))
     (a b : Option (List ℕ)) {R : Type 0} (inbox inbox' : ContentInbox R L) (outbox outbox' : Replying) (answer : SessionAnswer)
     (runs : Runs (InboxGives hears) RepliesSend P (inbox, outbox) answer (inbox', outbox')) where
   -- what the threads of a session come to in bytes
@@ -51,7 +54,7 @@ module _ {L : Type 0} (hears : L → ReadFault → L → Type 0) (limit : ℕ) (
     output_written : WritesReplies runs.stop (sends_of runs.exchanges) (reply_fault fault outbox'.failed) a b
     output_written =
         subst (λ ms. WritesReplies runs.stop ms (reply_fault fault outbox'.failed) a b) runs.all
-        (replies_written runs.stop _ a b outbox outbox' unsent (all_replied outbox outbox' runs.output runs.null runs.stop runs.got) replies_taken replies all finished replies_settled fault written)
+        (replies_written runs.stop _ a b outbox outbox' unsent (all_replied outbox outbox' runs.output runs.shutdown_reply runs.stop runs.got) replies_taken replies all finished replies_settled fault written)
 
     -- a wake that was taken was given by others
     woke : (wakeable : Bool) → (wakeable ≡ false → (seen_of inbox').0.wakes ≡ 0) → 1 ≤ (seen_of inbox').0.wakes → wakeable ≡ true
@@ -59,22 +62,22 @@ module _ {L : Type 0} (hears : L → ReadFault → L → Type 0) (limit : ℕ) (
     woke false silent' some = absurd (omega (arith, silent' refl, some))
 
     pub threads_tell : (known : Option (List ℕ)) → IfSome known (λ text. HandsContents limit text tx read back)
-        → IfSome known (λ text. ThreadsTellOver tx.wakeable hears limit P text (seen_of inbox).1 (seen_of inbox').1 a b
-        (session_answer answer (session_end (seen_of inbox').0.end (has_end (seen_of inbox').0.taken) read) (reply_fault fault outbox'.failed)))
+        → IfSome known (λ text. ThreadsTellOver tx.wakeable hears limit Q text (seen_of inbox).1 (seen_of inbox').1 a b
+        (session_answer reason answer (session_end (seen_of inbox').0.end (has_end (seen_of inbox').0.taken) read) (reply_fault fault outbox'.failed)))
     threads_tell None handed = tt
     threads_tell (Some text) handed =
         let s = as_stream limit hears (tx.wakeable ≡ true) (seen_of inbox) (seen_of inbox') none all_given unended runs.events (seen_all hears runs.events inbox inbox' runs.received).0
         (woke tx.wakeable (λ e. silent (handed.2 ∙ e))) taken tx back drained settled read text handed in
-        subst (λ heard. ThreadsTellOver tx.wakeable hears limit P text (seen_of inbox).1 heard a b
-        (session_answer answer (session_end (seen_of inbox').0.end (has_end (seen_of inbox').0.taken) read) (reply_fault fault outbox'.failed))) s.1.2
-        (subst (λ end. ThreadsTellOver tx.wakeable hears limit P text (seen_of inbox).1 s.0.1 a b (session_answer answer end (reply_fault fault outbox'.failed))) s.1.1
-        (session_gives (InboxGives hears) RepliesSend tx.wakeable hears limit P knows a b (inbox, outbox) (inbox', outbox') answer runs
+        subst (λ heard. ThreadsTellOver tx.wakeable hears limit Q text (seen_of inbox).1 heard a b
+        (session_answer reason answer (session_end (seen_of inbox').0.end (has_end (seen_of inbox').0.taken) read) (reply_fault fault outbox'.failed))) s.1.2
+        (subst (λ end. ThreadsTellOver tx.wakeable hears limit Q text (seen_of inbox).1 s.0.1 a b (session_answer reason answer end (reply_fault fault outbox'.failed))) s.1.1
+        (session_gives (InboxGives hears) RepliesSend tx.wakeable hears limit P Q reason knows a b (inbox, outbox) (inbox', outbox') answer runs
         text (seen_of inbox).1 s.0 s.1.0 (reply_fault fault outbox'.failed) output_written))
 
 -- A session in threads that is described otherwise.
 module _ (P Q : SessionPart)
-    (to : (xs : List Exchange) (stop : Stop) (null : Option Sent) (answer : SessionAnswer) → P xs stop null answer → Q xs stop null answer) (wakeable : Bool) (limit : ℕ) where
-  -- where the bytes are known, and both threads were started
+    (to : (xs : List Exchange) (stop : Stop) (shutdown_reply : Option Sent) (answer : SessionAnswer) → P xs stop shutdown_reply answer → Q xs stop shutdown_reply answer) (wakeable : Bool) (limit : ℕ) where
+  -- if the bytes are known, and both threads were started
   pub started_as : {T F : Type 0} (contents : T → Option (List ℕ)) (answer_of : T → Result SessionEnd SessionFault) (known old : Option (List ℕ)) (result : Result T F)
       → IfSome known (λ text. IfOk result (λ done. ThreadsGiveOver wakeable limit P text old (contents done) (answer_of done)))
       → IfSome known (λ text. IfOk result (λ done. ThreadsGiveOver wakeable limit Q text old (contents done) (answer_of done)))
@@ -85,7 +88,7 @@ module _ (P Q : SessionPart)
 -- The same of one that asks a listener.
 module _ (wakeable : Bool) {L : Type 0} (hears : L → ReadFault → L → Type 0) (limit : ℕ) (first last : L) where
   pub started_told_as : (P Q : SessionPart)
-      (to : (xs : List Exchange) (stop : Stop) (null : Option Sent) (answer : SessionAnswer) → P xs stop null answer → Q xs stop null answer)
+      (to : (xs : List Exchange) (stop : Stop) (shutdown_reply : Option Sent) (answer : SessionAnswer) → P xs stop shutdown_reply answer → Q xs stop shutdown_reply answer)
       {T F : Type 0} (contents : T → Option (List ℕ)) (answer_of : T → Result SessionEnd SessionFault) (known old : Option (List ℕ)) (result : Result T F)
       → IfSome known (λ text. IfOk result (λ done. ThreadsTellOver wakeable hears limit P text first last old (contents done) (answer_of done)))
       → IfSome known (λ text. IfOk result (λ done. ThreadsTellOver wakeable hears limit Q text first last old (contents done) (answer_of done)))
@@ -111,14 +114,14 @@ module _ (wakeable : Bool) {L : Type 0} (hears : L → ReadFault → L → Type 
       at = tells.at.0;
       read = reads_or_wakes (came_of tells.exchanges) (text, first) tells.at tells.read;
       stop = tells.stop;
-      null = tells.null;
+      shutdown_reply = tells.shutdown_reply;
       answer = tells.answer;
       part = tells.part;
       ends = tells.ends.0;
       wrote = tells.wrote;
     }
 
-    -- where the bytes are known, and both threads were started
+    -- if the bytes are known, and both threads were started
     pub started_untold : (P : SessionPart) {T F : Type 0} (contents : T → Option (List ℕ)) (answer_of : T → Result SessionEnd SessionFault) (known old : Option (List ℕ)) (result : Result T F)
         → IfSome known (λ text. IfOk result (λ done. ThreadsTellOver wakeable hears limit P text first last old (contents done) (answer_of done)))
         → IfSome known (λ text. IfOk result (λ done. ThreadsGiveOver wakeable limit P text old (contents done) (answer_of done)))

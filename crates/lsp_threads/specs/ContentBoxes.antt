@@ -10,22 +10,36 @@ module _ {R L : Type 0} where
   -- what is seen of the inbox, and its listener
   abbrev pub seen_of : ContentInbox R L → Receiving × L
   seen_of inbox =
-      let parts = inbox.parts.now in
-      (record { relay = parts.relay; taken = parts.taken; waiting = parts.waiting; end = inbox.end; wakes = parts.wakes }, inbox.listener.now)
+      let parts = inbox.parts.now in (
+        record {
+          relay = parts.relay;
+          taken = parts.taken;
+          waiting = parts.waiting;
+          end = inbox.end;
+          wakes = parts.wakes;
+        },
+        inbox.listener.now,
+      )
 
   -- the relay's end and the listener that were lent are kept
   abbrev pub KeepsLent : ContentInbox R L → ContentInbox R L → Type 0
-  KeepsLent old new = (new.parts.ghost_name ≡ old.parts.ghost_name) × (new.listener.ghost_name ≡ old.listener.ghost_name)
+  KeepsLent old new = (new.parts.ghost_name ≡ old.parts.ghost_name)
+      × (new.listener.ghost_name ≡ old.listener.ghost_name)
 
   -- one receive
-  abbrev pub InboxGives : (L → ReadFault → L → Type 0) → ContentInbox R L → Event → ContentInbox R L → Type 0
-  InboxGives hears old event new = ContentsGive hears (seen_of old) event (seen_of new) × KeepsLent old new
+  abbrev pub InboxGives : (L → ReadFault → L → Type 0) → ContentInbox R L → Event → ContentInbox R L
+      → Type 0
+  InboxGives hears old event new = ContentsGive hears (seen_of old) event (seen_of new)
+      × KeepsLent old new
 
   -- a wait for wakes too
-  abbrev pub InboxListens : (L → ReadFault → Type 0) → ContentInbox R L → Event → ContentInbox R L → Type 0
+  abbrev pub InboxListens : (L → ReadFault → Type 0) → ContentInbox R L → Event → ContentInbox R L
+      → Type 0
   InboxListens ends old event new = ContentsListen ends (seen_of old) event (seen_of new)
 
   -- For a private clause: what comes next, before the listener is asked.
   abbrev pub ReadsNext : ContentInbox R L → Result Arrival ReadFault → ContentInbox R L → Type 0
-  ReadsNext old (Ok arrival) new = ComesNext (seen_of old) (Ok (arrival_view arrival)) (seen_of new) × KeepsLent old new
-  ReadsNext old (Err fault) new = ComesNext (seen_of old) (Err fault) (seen_of new) × KeepsLent old new
+  ReadsNext old (Ok arrival) new = ComesNext (seen_of old) (Ok (arrival_view arrival)) (seen_of new)
+      × KeepsLent old new
+  ReadsNext old (Err fault) new = ComesNext (seen_of old) (Err fault) (seen_of new)
+      × KeepsLent old new

@@ -57,28 +57,33 @@ module _ (limit : ℕ) where
   -- message it may not: that one is handed on, and the session finds what it is. A reader that fails and an allocation that fails may stop
   -- reading anywhere, and so may a session that takes no more, which stops it as a reader that fails does.
   abbrev pub StopsAt : List ℕ → ReadEnd → Type 0
-  StopsAt text End = (rest : List ℕ) × (reading_within limit text ≡ record { outcome = Ok None; rest = rest })
+  StopsAt text End = (rest : List ℕ)
+      × (reading_within limit text ≡ record { outcome = Ok None; rest = rest })
   StopsAt text (Fault (Input kind)) = Unit {0}
   StopsAt text (Fault NoMemory) = Unit {0}
   StopsAt text (Fault fault) =
-      (is_of_body fault ≡ false) × (rest : List ℕ) × (reading_within limit text ≡ record { outcome = Err fault; rest = rest })
+      (is_of_body fault ≡ false) × (rest : List ℕ)
+      × (reading_within limit text ≡ record { outcome = Err fault; rest = rest })
   StopsAt text end = ⊥
 
   -- the text begins with a frame of this content part, and the rest follows it
   abbrev pub BeginsWithContent : List ℕ → List ℕ → List ℕ → Type 0
-  BeginsWithContent text content rest = content_within limit text ≡ record { outcome = Ok (Some content); rest = rest }
+  BeginsWithContent text content rest =
+      content_within limit text ≡ record { outcome = Ok (Some content); rest = rest }
 
-  -- The text begins with frames of these content parts, messages or not, and reading stopped so after them: by `Exit` only where the last
+  -- The text begins with frames of these content parts, messages or not, and reading stopped so after them: by `Exit` only if the last
   -- one is `exit`.
   abbrev pub ReadsContents : List ℕ → ReadEnd → List (List ℕ) → Type 0
   ReadsContents text end [] = StopsAt text end
   ReadsContents text end (content ∷ more) =
-      (rest : List ℕ) × BeginsWithContent text content rest × (((more ≡ []) × (end ≡ Exit) × IsExit content) ⊎ ReadsContents rest end more)
+      (rest : List ℕ) × BeginsWithContent text content rest
+      × (((more ≡ []) × (end ≡ Exit) × IsExit content) ⊎ ReadsContents rest end more)
 
   -- What was sent on a relay is the content parts of the text, up to where reading stopped so, and then End. No waker was made.
   abbrev pub HandsContents : List ℕ → Sending Contents → ReadEnd → Sending Contents → Type 0
   HandsContents text old end new =
-      ((parcels : List Contents) × (new.sent ≡ ended parcels)) × ReadsContents text end (contents_of new.sent) × (new.wakeable ≡ old.wakeable)
+      ((parcels : List Contents) × (new.sent ≡ ended parcels))
+      × ReadsContents text end (contents_of new.sent) × (new.wakeable ≡ old.wakeable)
 
 -- an outbox that gathers content parts, as callers see it: those that were sent, and then those that wait to be sent
 pub record Gathering : Type 0 where
@@ -109,14 +114,18 @@ abbrev pub is_over : Receiving → Bool
 is_over inbox = has_end inbox.taken || is_some inbox.end
 
 -- parcels were taken, and these content parts come next then
-abbrev pub Collects : List (Parcel Contents) → List (List ℕ) → List (Parcel Contents) → List (List ℕ) → Type 0
+abbrev pub Collects : List (Parcel Contents) → List (List ℕ) → List (Parcel Contents)
+    → List (List ℕ) → Type 0
 Collects old_taken old_waiting taken waiting =
-    (more : List (Parcel Contents)) × (taken ≡ old_taken ++ more) × (old_waiting ++ contents_of more ≡ waiting)
+    (more : List (Parcel Contents)) × (taken ≡ old_taken ++ more)
+    × (old_waiting ++ contents_of more ≡ waiting)
 
 -- For private clauses: what came next from the relay.
-abbrev pub NextIs : List (Parcel Contents) → List (List ℕ) → ℕ → Next → List (Parcel Contents) → List (List ℕ) → ℕ → Type 0
+abbrev pub NextIs : List (Parcel Contents) → List (List ℕ) → ℕ → Next → List (Parcel Contents)
+    → List (List ℕ) → ℕ → Type 0
 NextIs old_taken old_waiting old_wakes (next.Content content) taken waiting wakes =
-    Collects old_taken old_waiting taken (content.items ∷ waiting) × (has_end taken ≡ false) × (wakes ≡ old_wakes)
+    Collects old_taken old_waiting taken (content.items ∷ waiting) × (has_end taken ≡ false)
+    × (wakes ≡ old_wakes)
 NextIs old_taken old_waiting old_wakes next.Wake taken waiting wakes =
     Collects old_taken old_waiting taken waiting × (has_end taken ≡ false) × (wakes ≡ old_wakes + 1)
 NextIs old_taken old_waiting old_wakes next.End taken waiting wakes =
@@ -125,14 +134,17 @@ NextIs old_taken old_waiting old_wakes next.End taken waiting wakes =
 -- For private clauses: a content part gives a message, and `exit` is the last one; or it is none, or an allocation failed at it, and no
 -- more come.
 abbrev pub ArrivesAs : List ℕ → Event → Option ReadEnd → Type 0
-ArrivesAs content (message m) end = (body_means content ≡ Ok m) × (end ≡ (if is_exit m then Some Exit else None))
-ArrivesAs content closed (Some (Fault fault)) = Decodes (λ (m : Message). m) (Err fault) (body_means content)
+ArrivesAs content (message m) end = (body_means content ≡ Ok m)
+    × (end ≡ (if is_exit m then Some Exit else None))
+ArrivesAs content closed (Some (Fault fault)) =
+    Decodes (λ (m : Message). m) (Err fault) (body_means content)
 ArrivesAs content event end = ⊥
 
 module _ (old new : Receiving) where
   -- the next content part came
   abbrev pub TakesContent : List ℕ → Type 0
-  TakesContent content = Collects old.taken old.waiting new.taken (content ∷ new.waiting) × (has_end new.taken ≡ false)
+  TakesContent content = Collects old.taken old.waiting new.taken (content ∷ new.waiting)
+      × (has_end new.taken ≡ false)
 
   -- it gave this event
   abbrev pub GivesContent : Event → Type 0
@@ -140,18 +152,21 @@ module _ (old new : Receiving) where
 
   -- all content parts were given, and then End was taken
   abbrev pub Drains : Type 0
-  Drains = Collects old.taken old.waiting new.taken [] × (has_end new.taken ≡ true) × (new.end ≡ None)
+  Drains = Collects old.taken old.waiting new.taken [] × (has_end new.taken ≡ true)
+      × (new.end ≡ None)
 
   -- a wake of the relay came, and no content part was given
   abbrev pub TakesWake : Type 0
-  TakesWake = Collects old.taken old.waiting new.taken new.waiting × (has_end new.taken ≡ false) × (new.end ≡ None) × (new.wakes ≡ old.wakes + 1)
+  TakesWake = Collects old.taken old.waiting new.taken new.waiting × (has_end new.taken ≡ false)
+      × (new.end ≡ None) × (new.wakes ≡ old.wakes + 1)
 
 -- of an inbox and its listener
 module _ {L : Type 0} (hears : L → ReadFault → L → Type 0) where
   -- The next content part is no message. The listener heard of it, and the messages go on. No wake of the relay was taken.
   abbrev pub PassesPart : Receiving × L → Receiving × L → Type 0
   PassesPart old new =
-      (content : List ℕ) × (fault : ReadFault) × TakesContent old.0 new.0 content × (new.0.end ≡ None) × (new.0.wakes ≡ old.0.wakes)
+      (content : List ℕ) × (fault : ReadFault) × TakesContent old.0 new.0 content
+      × (new.0.end ≡ None) × (new.0.wakes ≡ old.0.wakes)
       × (is_of_body fault ≡ true) × (body_means content ≡ Err fault) × hears old.1 fault new.1
 
   -- Of an open inbox: it gives the message that the next content part is. It gives a wake for one of the relay, or for a content part that
@@ -159,24 +174,28 @@ module _ {L : Type 0} (hears : L → ReadFault → L → Type 0) where
   -- passed over, and once End was taken it is over.
   abbrev pub OpenGives : Receiving × L → Event → Receiving × L → Type 0
   OpenGives old (message m) new = GivesContent old.0 new.0 (message m) × (new.1 ≡ old.1)
-  OpenGives old closed new = (Drains old.0 new.0 ⊎ GivesContent old.0 new.0 closed) × (new.1 ≡ old.1)
+  OpenGives old closed new = (Drains old.0 new.0 ⊎ GivesContent old.0 new.0 closed)
+      × (new.1 ≡ old.1)
   OpenGives old woken new = (TakesWake old.0 new.0 × (new.1 ≡ old.1)) ⊎ PassesPart old new
   OpenGives old event new = ⊥
 
   -- Once it is over it gives `closed`, and nothing changes. Wakes of the relay may be passed over before an event that is none.
   abbrev pub ContentsGive : Receiving × L → Event → Receiving × L → Type 0
   ContentsGive old event new =
-      (new.0.relay ≡ old.0.relay) × (old.0.wakes ≤ new.0.wakes) × MatchBool (is_over old.0) ((event ≡ closed) × (new ≡ old)) (OpenGives old event new)
+      (new.0.relay ≡ old.0.relay) × (old.0.wakes ≤ new.0.wakes)
+      × MatchBool (is_over old.0) ((event ≡ closed) × (new ≡ old)) (OpenGives old event new)
 
 -- no wake of the relay is passed over; of a wake that is given the clause above says which it is
 abbrev pub CountsWakes : Event → ℕ → ℕ → Type 0
 CountsWakes woken old new = new ≤ old + 1
 CountsWakes event old new = new ≡ old
 
--- A wait for wakes too passes over none, and the messages end at a content part that is no message only where the listener may end them.
-abbrev pub ContentsListen : {L : Type 0} → (L → ReadFault → Type 0) → Receiving × L → Event → Receiving × L → Type 0
+-- A wait for wakes too passes over none, and the messages end at a content part that is no message only if the listener may end them.
+abbrev pub ContentsListen : {L : Type 0} → (L → ReadFault → Type 0) → Receiving × L → Event
+    → Receiving × L → Type 0
 ContentsListen ends old event new =
-    CountsWakes event old.0.wakes new.0.wakes × (ended_at_body new.0.end ≡ true → (new.0.end ≡ old.0.end) ⊎ MayEnd ends old.1 new.0.end)
+    CountsWakes event old.0.wakes new.0.wakes
+    × (ended_at_body new.0.end ≡ true → (new.0.end ≡ old.0.end) ⊎ MayEnd ends old.1 new.0.end)
 
 -- For private clauses: a listener that is not asked hears nothing.
 abbrev pub HearsNothing : {L : Type 0} → L → ReadFault → L → Type 0
@@ -184,10 +203,14 @@ HearsNothing old fault new = ⊥
 
 -- For private clauses: what comes next, before the listener is asked. At a fault a content part came that is no message, or an allocation
 -- failed at it, and nothing has ended yet.
-abbrev pub ComesNext : {L : Type 0} → Receiving × L → Result Event ReadFault → Receiving × L → Type 0
+abbrev pub ComesNext : {L : Type 0} → Receiving × L → Result Event ReadFault → Receiving × L
+    → Type 0
 ComesNext old (Ok event) new =
     ContentsGive HearsNothing old event new × CountsWakes event old.0.wakes new.0.wakes
     × (ended_at_body new.0.end ≡ true → new.0.end ≡ old.0.end)
 ComesNext old (Err fault) new =
-    (is_over old.0 ≡ false) × ((content : List ℕ) × TakesContent old.0 new.0 content × Decodes (λ (m : Message). m) (Err fault) (body_means content))
-    × (new.0.end ≡ None) × (new.0.wakes ≡ old.0.wakes) × (new.0.relay ≡ old.0.relay) × (new.1 ≡ old.1)
+    (is_over old.0 ≡ false)
+    × ((content : List ℕ) × TakesContent old.0 new.0 content
+    × Decodes (λ (m : Message). m) (Err fault) (body_means content))
+    × (new.0.end ≡ None) × (new.0.wakes ≡ old.0.wakes) × (new.0.relay ≡ old.0.relay)
+    × (new.1 ≡ old.1)

@@ -26,7 +26,8 @@ pub record Framing : Type 0 where
 
 -- the outbox adds a frame of each message; if an allocation fails, nothing; it is never closed
 abbrev pub FramingSends : Framing → plain.Message → Result (Unit {0}) SendFault → Framing → Type 0
-FramingSends old m (Ok done) new = (new.relay ≡ old.relay) × ((frame : List ℕ) × IsFrameOf m frame × (new.bytes ≡ old.bytes ++ frame))
+FramingSends old m (Ok done) new = (new.relay ≡ old.relay)
+    × ((frame : List ℕ) × IsFrameOf m frame × (new.bytes ≡ old.bytes ++ frame))
 FramingSends old m (Err (Closed back)) new = ⊥
 FramingSends old m (Err (Memory back)) new = new ≡ old
 
@@ -35,24 +36,31 @@ abbrev pub AreEnded : List (Parcel (String Global)) → Type 0
 AreEnded sent = (texts : List (String Global)) × (sent ≡ ended texts)
 
 -- what was sent is the frames that a loop over the messages of the text hands on, whose content parts have at most so many bytes, and then End
-abbrev pub HandsFrames : ℕ → List ℕ → Sending (String Global) → ReadEnd → Sending (String Global) → Type 0
+abbrev pub HandsFrames : ℕ → List ℕ → Sending (String Global) → ReadEnd → Sending (String Global)
+    → Type 0
 HandsFrames limit text old end new = (mid : Framing) × (left : Option (List ℕ))
-    × Hands limit FramingSends text (record { relay = old.relay; bytes = [] }) mid left end × (parcel_bytes new.sent ≡ mid.bytes) × AreEnded new.sent
+    × Hands limit FramingSends text (record { relay = old.relay; bytes = [] }) mid left end
+    × (parcel_bytes new.sent ≡ mid.bytes) × AreEnded new.sent
 
 -- the bytes were written, or a write failed so after a beginning of them
 abbrev pub WritesBytes : List ℕ → Option WriteFault → Option (List ℕ) → Option (List ℕ) → Type 0
 WritesBytes bytes None old new = Appends old new bytes
-WritesBytes bytes (Some fault) old new = IsOutput fault × (0 < length bytes) × AppendsBeginning old new bytes
+WritesBytes bytes (Some fault) old new = IsOutput fault × (0 < length bytes)
+    × AppendsBeginning old new bytes
 
 -- the bytes were written, unless a write had failed before
-abbrev pub WritesUnlessFailed : Option WriteFault → List ℕ → Option WriteFault → Option (List ℕ) → Option (List ℕ) → Type 0
+abbrev pub WritesUnlessFailed : Option WriteFault → List ℕ → Option WriteFault → Option (List ℕ)
+    → Option (List ℕ) → Type 0
 WritesUnlessFailed None bytes fault old new = WritesBytes bytes fault old new
 WritesUnlessFailed (Some before) bytes fault old new = (fault ≡ Some before) × (new ≡ old)
 
 -- For private clauses: the first of these bytes were written, unless a write had failed before, and the last ones are left.
-abbrev pub Gathers : Option WriteFault → List ℕ → List ℕ → Option WriteFault → Option (List ℕ) → Option (List ℕ) → Type 0
-Gathers before bytes left fault old new = (done : List ℕ) × (bytes ≡ done ++ left) × WritesUnlessFailed before done fault old new
+abbrev pub Gathers : Option WriteFault → List ℕ → List ℕ → Option WriteFault → Option (List ℕ)
+    → Option (List ℕ) → Type 0
+Gathers before bytes left fault old new = (done : List ℕ) × (bytes ≡ done ++ left)
+    × WritesUnlessFailed before done fault old new
 
 -- texts and then End were taken, and written
-abbrev pub WritesParcels : List (Parcel (String Global)) → Option WriteFault → Option (List ℕ) → Option (List ℕ) → Type 0
+abbrev pub WritesParcels : List (Parcel (String Global)) → Option WriteFault → Option (List ℕ)
+    → Option (List ℕ) → Type 0
 WritesParcels taken fault old new = AreEnded taken × WritesBytes (parcel_bytes taken) fault old new

@@ -2,12 +2,13 @@
 use Rattle.std.specs.Io.KnownBytes.{Keeps}
 use Rattle.std.specs.Prelude.{◌⊎◌, ℕ, List, Option, Some, None, Result, Ok, Err, codes}
 use Rattle.lsp_message.specs.Faults.{read_fault_text, write_fault_text}
-use Rattle.lsp_message.specs.Letters.{Begins, PassesAll, Ending, exited, ended, failed, Letters}
+use Rattle.lsp_message.specs.Messages.{exited, ended, failed}
 use Rattle.lsp_message.specs.Message.{Message}
 use Rattle.lsp_message.specs.Written.{GetsFrames, GetsFramesAndPart}
 use Rattle.lsp_message.specs.declared.frame.ReadFault.TheVariants.{Input, Memory}
 use Rattle.lsp_message.specs.declared.frame.WriteFault.TheVariants.{Output, Memory as NoMemory}
 use Rattle.lsp_message.specs.declared.frame.WriteFault.{WriteFault}
+use Rattle.lsp_session.specs.ReadLoop.{Extent, to_end, in_part, up_to, ReadsOver}
 use Rattle.lsp_session.specs.declared.loops.ReadEnd.{ReadEnd}
 use Rattle.lsp_session.specs.declared.loops.ReadEnd.TheVariants.{Exit, End, Fault, Closed, Memory as Full}
 use Rattle.lsp_threads.specs.declared.pumping.PumpFault.{PumpFault}
@@ -17,37 +18,25 @@ use Rattle.lsp_threads.specs.declared.workers.StartFault.TheVariants.{Memory as 
 
 -- content parts have at most so many bytes
 module _ (limit : ℕ) (text : List ℕ) (old new : Option (List ℕ)) where
-  -- the writer got frames of all messages of the text, in order, which ended so
-  pub record PassesOn (ending : Ending) : Type 0 where
-    pub messages : List Message
-    pub rest : List ℕ
-    pub letters : Letters limit text messages ending rest
-    pub written : GetsFrames messages old new
+  -- The writer got frames of the messages of the text so far, in order. The reader is gone, so nothing
+  -- is said of what is left.
+  abbrev pub PassesOn : Extent → Type 0
+  PassesOn extent = ReadsOver limit extent text (λ ms. GetsFrames ms old new) (λ rest. Unit {0})
 
-  -- the writer got frames of the first messages of the text, in order
-  pub record PassesOnSome : Type 0 where
-    pub messages : List Message
-    pub at : List ℕ
-    pub passed : PassesAll limit text messages at
-    pub written : GetsFrames messages old new
-
-  -- the writer got frames of the first messages of the text, in order, and a beginning of a frame of the next
-  pub record BreaksOff : Type 0 where
-    pub messages : List Message
-    pub at : List ℕ
-    pub passed : PassesAll limit text messages at
-    pub next : Message
-    pub rest : List ℕ
-    pub begins : Begins limit at next rest
-    pub written : GetsFramesAndPart messages next old new
+  -- It got frames of the first messages, and a beginning of a frame of the next.
+  abbrev pub BreaksOff : Type 0
+  BreaksOff =
+      (next : Message)
+      × ReadsOver limit (up_to next) text (λ ms. GetsFramesAndPart ms next old new) (λ rest.
+      Unit {0})
 
   abbrev pub Pumps : Result (Unit {0}) PumpFault → Type 0
-  Pumps (Ok done) = PassesOn exited ⊎ PassesOn ended
-  Pumps (Err (Read (Input kind))) = PassesOnSome
-  Pumps (Err (Read Memory)) = PassesOnSome
-  Pumps (Err (Read fault)) = PassesOn (failed fault)
+  Pumps (Ok done) = PassesOn (to_end exited) ⊎ PassesOn (to_end ended)
+  Pumps (Err (Read (Input kind))) = PassesOn in_part
+  Pumps (Err (Read Memory)) = PassesOn in_part
+  Pumps (Err (Read fault)) = PassesOn (to_end (failed fault))
   Pumps (Err (Write (Output kind))) = BreaksOff
-  Pumps (Err (Write NoMemory)) = PassesOnSome
+  Pumps (Err (Write NoMemory)) = PassesOn in_part
   Pumps (Err (Start fault)) = Keeps old new
 
 -- A fault of writing comes before one of reading. A frame that could not be made ends the reading. For private clauses: reading never ends at a closed outbox.

@@ -21,7 +21,8 @@ pub record Replying : Type 0 where
 -- never closed.
 abbrev pub RepliesSend : Replying → plain.Message → Result (Unit {0}) SendFault → Replying → Type 0
 RepliesSend old m (Ok done) new =
-    (new.relay ≡ old.relay) × (old.failed ≡ false) × (new.failed ≡ false) × ((frame : List ℕ) × IsFrameOf m frame × (new.bytes ≡ old.bytes ++ frame))
+    (new.relay ≡ old.relay) × (old.failed ≡ false) × (new.failed ≡ false)
+    × ((frame : List ℕ) × IsFrameOf m frame × (new.bytes ≡ old.bytes ++ frame))
 RepliesSend old m (Err (Closed back)) new = ⊥
 RepliesSend old m (Err (Memory back)) new = new ≡ record old { failed = true }
 
@@ -36,8 +37,9 @@ abbrev pub IsWhole : Stop → Type 0
 IsWhole (refused fault) = ⊥
 IsWhole stop = Unit {0}
 
--- For private clauses: what the writer got of all that was sent, by the first fault. Where there is none, no message was refused.
-abbrev pub WritesReplies : Stop → List plain.Message → Option WriteFault → Option (List ℕ) → Option (List ℕ) → Type 0
+-- For private clauses: what the writer got of all that was sent, by the first fault. If there is none, no message was refused.
+abbrev pub WritesReplies : Stop → List plain.Message → Option WriteFault → Option (List ℕ)
+    → Option (List ℕ) → Type 0
 WritesReplies stop sends None old new = IsWhole stop × GetsFrames sends old new
 WritesReplies stop sends (Some (Output kind)) old new = BreaksOffWithin sends old new
 WritesReplies stop sends (Some NoMemory) old new = GetsFirst sends old new

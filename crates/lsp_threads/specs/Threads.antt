@@ -12,17 +12,16 @@ use Rattle.lsp_session.specs.declared.loops.handler.SessionEnd.{SessionEnd}
 use Rattle.lsp_session.specs.declared.loops.stream_session.SessionFault.{SessionFault}
 use Rattle.lsp_session.specs.declared.loops.stream_session.SessionFault.TheVariants.{Write, Memory}
 
--- The writer got frames of the first of these messages, and a beginning of a frame of the next.
-pub record BreaksOffWithin (ms : List Message) (old new : Option (List ℕ)) : Type 0 where
-  pub whole : List Message
-  pub next : Message
-  pub unwritten : List Message
-  pub cut : ms ≡ whole ++ next ∷ unwritten
-  pub got : GetsFramesAndPart whole next old new
+-- the writer got frames of the first of these messages, and a beginning of a frame of the next
+abbrev pub BreaksOffWithin : List Message → Option (List ℕ) → Option (List ℕ) → Type 0
+BreaksOffWithin ms old new =
+    (whole : List Message) × (next : Message) × (unwritten : List Message)
+    × (ms ≡ whole ++ next ∷ unwritten) × GetsFramesAndPart whole next old new
 
 -- the writer got frames of the first of these messages, and nothing of the others
 abbrev pub GetsFirst : List Message → Option (List ℕ) → Option (List ℕ) → Type 0
-GetsFirst ms old new = (sent : List Message) × (unsent : List Message) × (ms ≡ sent ++ unsent) × GetsFrames sent old new
+GetsFirst ms old new = (sent : List Message) × (unsent : List Message) × (ms ≡ sent ++ unsent)
+    × GetsFrames sent old new
 
 -- The first frame of the text is this message, and the rest follows it; or others woke the session, if they can, and nothing was read.
 abbrev pub ReadsOrWakes : Bool → ℕ → List ℕ → Option Message → List ℕ → Type 0
@@ -30,23 +29,30 @@ ReadsOrWakes wakeable limit text (Some m) rest = Begins limit text m rest
 ReadsOrWakes wakeable limit text None rest = (wakeable ≡ true) × (rest ≡ text)
 
 -- For what a session in threads answers: as one over bytes ends, whatever is left of the text, since the reader is gone.
-abbrev pub EndsInThreads : ℕ → Result SessionEnd SessionFault → SessionAnswer → Stop → Option Message → List ℕ → Type 0
-EndsInThreads limit result answer stop null at = (left : Option (List ℕ)) × Ends limit left result answer stop null at
+abbrev pub EndsInThreads : ℕ → Result SessionEnd SessionFault → SessionAnswer → Stop
+    → Option Message → List ℕ → Type 0
+EndsInThreads limit result answer stop shutdown_reply at = (left : Option (List ℕ))
+    × Ends limit left result answer stop shutdown_reply at
 
--- What the writer got of all that was sent: frames of it; or, where a write failed, frames of the first messages and a beginning of
--- the next; or, where an allocation failed, frames of the first messages.
-abbrev pub WroteInThreads : Option (List ℕ) → Option (List ℕ) → Result SessionEnd SessionFault → Stop → Option Message → List Message → Type 0
-WroteInThreads old new (Err (Write fault)) stop null sends = IsOutput fault × BreaksOffWithin sends old new
-WroteInThreads old new (Err Memory) stop null sends = GetsFirst sends old new
-WroteInThreads old new result stop null sends = GetsFrames sends old new
+-- What the writer got of all that was sent: frames of it; or, if a write failed, frames of the first messages and a beginning of
+-- the next; or, if an allocation failed, frames of the first messages.
+abbrev pub WroteInThreads : Option (List ℕ) → Option (List ℕ) → Result SessionEnd SessionFault
+    → Stop → Option Message → List Message → Type 0
+WroteInThreads old new (Err (Write fault)) stop shutdown_reply sends = IsOutput fault
+    × BreaksOffWithin sends old new
+WroteInThreads old new (Err Memory) stop shutdown_reply sends = GetsFirst sends old new
+WroteInThreads old new result stop shutdown_reply sends = GetsFrames sends old new
 
 -- bytes in to bytes out, of a session that passes over nothing, and that others can wake or not
-abbrev pub ThreadsGiveOver : Bool → ℕ → SessionPart → List ℕ → Option (List ℕ) → Option (List ℕ) → Result SessionEnd SessionFault → Type 0
+abbrev pub ThreadsGiveOver : Bool → ℕ → SessionPart → List ℕ → Option (List ℕ) → Option (List ℕ)
+    → Result SessionEnd SessionFault → Type 0
 ThreadsGiveOver wakeable limit P text old new result =
-    SessionOver (ReadsOrWakes wakeable limit) P text (EndsInThreads limit result) (WroteInThreads old new result)
+    SessionOver (ReadsOrWakes wakeable limit) P text (EndsInThreads limit result)
+    (WroteInThreads old new result)
 
 -- nobody can wake the session
-abbrev pub ThreadsGive : ℕ → SessionPart → List ℕ → Option (List ℕ) → Option (List ℕ) → Result SessionEnd SessionFault → Type 0
+abbrev pub ThreadsGive : ℕ → SessionPart → List ℕ → Option (List ℕ) → Option (List ℕ)
+    → Result SessionEnd SessionFault → Type 0
 ThreadsGive = ThreadsGiveOver false
 
 -- of a session that asks a listener at content parts which are no messages, and that others can wake or not
@@ -55,19 +61,23 @@ module _ (wakeable : Bool) {L : Type 0} (hears : L → ReadFault → L → Type 
   -- nothing was read; or since the first frame is passed over, of which the listener hears.
   abbrev pub ReadsFrameOrWakes : List ℕ × L → Option Message → List ℕ × L → Type 0
   ReadsFrameOrWakes old (Some m) new = Begins limit old.0 m new.0 × (new.1 ≡ old.1)
-  ReadsFrameOrWakes old None new = ((wakeable ≡ true) × (new ≡ old)) ⊎ PassesOver hears limit old new
+  ReadsFrameOrWakes old None new = ((wakeable ≡ true) × (new ≡ old))
+      ⊎ PassesOver hears limit old new
 
   -- Bytes in to bytes out. Of its end and of what was written the same is said as of a session that passes over nothing.
-  abbrev pub ThreadsTellOver : SessionPart → List ℕ → L → L → Option (List ℕ) → Option (List ℕ) → Result SessionEnd SessionFault → Type 0
+  abbrev pub ThreadsTellOver : SessionPart → List ℕ → L → L → Option (List ℕ) → Option (List ℕ)
+      → Result SessionEnd SessionFault → Type 0
   ThreadsTellOver P text first last old new result =
       SessionOver ReadsFrameOrWakes P (text, first)
-      (λ answer stop null at. EndsInThreads limit result answer stop null at.0 × HearsLast hears limit stop at last) (WroteInThreads old new result)
+      (λ answer stop shutdown_reply at. EndsInThreads limit result answer stop shutdown_reply at.0
+      × HearsLast hears limit stop at last) (WroteInThreads old new result)
 
 -- nobody can wake the session but for a content part that is passed over
-abbrev pub ThreadsTell : {L : Type 0} → (L → ReadFault → L → Type 0) → ℕ → SessionPart → List ℕ → L → L → Option (List ℕ) → Option (List ℕ) → Result SessionEnd SessionFault → Type 0
+abbrev pub ThreadsTell : {L : Type 0} → (L → ReadFault → L → Type 0) → ℕ → SessionPart → List ℕ → L
+    → L → Option (List ℕ) → Option (List ℕ) → Result SessionEnd SessionFault → Type 0
 ThreadsTell = ThreadsTellOver false
 
--- What ended the messages of a session whose inbox ended so, or took End so: a reader's end counts where the session came to it.
+-- What ended the messages of a session whose inbox ended so, or took End so: a reader's end counts if the session came to it.
 -- For private clauses.
 abbrev pub session_end : Option ReadEnd → Bool → ReadEnd → Option ReadEnd
 session_end (Some end) drained read = Some end

@@ -36,7 +36,12 @@ impl<R: Wait + Drop> Model for ContentOutbox<R> {
 
     ghost Value = { Gathering };
 
-    ghost view = { λ b. record { relay = b.tx.relay; contents = contents_of b.tx.sent ++ bytes_of b.pending.items; wakeable = b.tx.wakeable } };
+    ghost view = { λ b.
+        record {
+          relay = b.tx.relay;
+          contents = contents_of b.tx.sent ++ bytes_of b.pending.items;
+          wakeable = b.tx.wakeable;
+        } };
 
     ghost invariant = { λ b. IsOpen b.tx.sent };
 }
@@ -63,7 +68,13 @@ impl<R: Wait + Drop> ContentOutbox<R> {
 
     /// Adds a content part. What would not fit into one parcel with it is handed over first. The error means that an allocation failed.
     pub fn add(&mut self, content: Vec<u8>) -> Result<(), AllocError>
-        ensures ok { OnOk result (self.new ≡ record { relay = self.old.relay; contents = self.old.contents ++ content.items ∷ []; wakeable = self.old.wakeable }) }
+        ensures ok { OnOk result
+            (self.new ≡ record {
+              relay = self.old.relay;
+              contents = self.old.contents ++ content.items ∷ [];
+              wakeable =
+                  self.old.wakeable;
+            }) }
         ensures err { OnErr result (self.new ≡ self.old) }
     {
         let size = self.size.saturating_add(content.len());
@@ -75,7 +86,13 @@ impl<R: Wait + Drop> ContentOutbox<R> {
 
     /// Adds a content part to those that wait.
     fn gather(&mut self, content: Vec<u8>) -> Result<(), AllocError>
-        ensures ok { OnOk result (self.new ≡ record { relay = self.old.relay; contents = self.old.contents ++ content.items ∷ []; wakeable = self.old.wakeable }) }
+        ensures ok { OnOk result
+            (self.new ≡ record {
+              relay = self.old.relay;
+              contents = self.old.contents ++ content.items ∷ [];
+              wakeable =
+                  self.old.wakeable;
+            }) }
         ensures err { OnErr result (self.new ≡ self.old) }
     {
         let size = self.size.saturating_add(content.len());
@@ -161,7 +178,8 @@ pub fn weight(contents: &Contents) -> u64 {
 fn deliver_contents<R: Wait>(rt: &R, tx: &mut RelayTx<Contents>, contents: Contents)
     requires { IsOpen tx.old.sent }
     ensures relay { tx.new.relay ≡ tx.old.relay }
-    ensures contents { contents_of tx.new.sent ≡ contents_of tx.old.sent ++ bytes_of contents.items }
+    ensures contents { contents_of tx.new.sent ≡ contents_of tx.old.sent
+        ++ bytes_of contents.items }
     ensures still_open { IsOpen tx.new.sent }
     ensures wakeable { tx.new.wakeable ≡ tx.old.wakeable }
 {

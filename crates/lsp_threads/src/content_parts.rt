@@ -40,7 +40,14 @@ impl<R: Wait + Drop> Model for ContentParts<R> {
 
     ghost Value = { Taking };
 
-    ghost view = { λ b. record { relay = b.rx.relay; taken = b.rx.taken; waiting = bytes_of b.waiting.items; wakes = b.rx.wakes } };
+    ghost view = { λ b.
+        record {
+          relay = b.rx.relay;
+          taken = b.rx.taken;
+          waiting = bytes_of b.waiting.items;
+          wakes =
+              b.rx.wakes;
+        } };
 
     ghost invariant = { λ b. b.drained ≡ has_end b.rx.taken };
 }
@@ -48,7 +55,12 @@ impl<R: Wait + Drop> Model for ContentParts<R> {
 impl<R: Wait + Drop> ContentParts<R> {
     pub fn new(rt: R, alloc: Global, rx: RelayRx<Contents>, takes: Takes) -> ContentParts<R>
         requires { has_end rx.taken ≡ false }
-        ensures { result ≡ record { relay = rx.relay; taken = rx.taken; waiting = []; wakes = rx.wakes } }
+        ensures { result ≡ record {
+          relay = rx.relay;
+          taken = rx.taken;
+          waiting = [];
+          wakes = rx.wakes;
+        } }
     {
         ContentParts {
             rt,
@@ -78,7 +90,8 @@ impl<R: Wait + Drop> ContentParts<R> {
     pub fn take_next(&mut self) -> Next
         requires { has_end self.old.taken ≡ false }
         ensures relay { self.new.relay ≡ self.old.relay }
-        ensures next { NextIs self.old.taken self.old.waiting self.old.wakes result self.new.taken self.new.waiting self.new.wakes }
+        ensures next { NextIs self.old.taken self.old.waiting self.old.wakes result self.new.taken
+            self.new.waiting self.new.wakes }
     {
         match next_content(&self.rt, &mut self.rx, &self.takes, &mut self.waiting) {
             Next::Content(content) => Next::Content(content),
@@ -95,11 +108,12 @@ impl<R: Wait + Drop> ContentParts<R> {
         self.takes.go_on(&self.rt);
     }
 
-    /// Takes the parcels up to End, where End is not taken yet, and gives the relay's end back. From the first on, the thread that reads
+    /// Takes the parcels up to End, if End is not taken yet, and gives the relay's end back. From the first on, the thread that reads
     /// waits no more: not for what is unread, and not for a session that might go on.
     pub fn drain(self) -> RelayRx<Contents>
         ensures relay { result.relay ≡ self.relay }
-        ensures taken { MatchBool (has_end self.taken) (result.taken ≡ self.taken) ((more : List Carried) × (result.taken ≡ self.taken ++ ended more)) }
+        ensures taken { MatchBool (has_end self.taken) (result.taken ≡ self.taken)
+            ((more : List Carried) × (result.taken ≡ self.taken ++ ended more)) }
         ensures wakes { self.wakes ≤ result.wakes }
     {
         let ContentParts {
@@ -126,7 +140,8 @@ fn next_content<R: Wait>(
 ) -> Next
     requires { has_end rx.old.taken ≡ false }
     ensures relay { rx.new.relay ≡ rx.old.relay }
-    ensures next { NextIs rx.old.taken (bytes_of waiting.old.items) rx.old.wakes result rx.new.taken (bytes_of waiting.new.items) rx.new.wakes }
+    ensures next { NextIs rx.old.taken (bytes_of waiting.old.items) rx.old.wakes result rx.new.taken
+        (bytes_of waiting.new.items) rx.new.wakes }
 {
     for _ in rt.forever() {
         match waiting.pop_front() {

@@ -34,7 +34,8 @@ fn read_contents<R: Wait + Drop, S: BufRead>(
     limit: u64,
 ) -> ReadEnd
     requires { outbox.old.contents ≡ [] }
-    ensures read { IfSome (S.remaining reader.old.inner) (λ text. ReadsContents limit text result outbox.new.contents) }
+    ensures read { IfSome (S.remaining reader.old.inner) (λ text.
+        ReadsContents limit text result outbox.new.contents) }
     ensures relay { outbox.new.relay ≡ outbox.old.relay }
     ensures wakeable { outbox.new.wakeable ≡ outbox.old.wakeable }
 {
@@ -104,7 +105,8 @@ impl ReadsInto for Vec<Vec<u8>> {
     ) -> (RelayTx<Contents>, ReadEnd)
         requires { tx.sent ≡ [] }
         ensures relay { result.0.relay ≡ tx.relay }
-        ensures sent { IfSome (S.remaining reader) (λ text. HandsContents limit text tx result.1 result.0) }
+        ensures sent { IfSome (S.remaining reader) (λ text.
+            HandsContents limit text tx result.1 result.0) }
     {
         let mut reader = PeekingReader::new(reader);
         let mut outbox = ContentOutbox::new(rt, alloc, tx, unread);

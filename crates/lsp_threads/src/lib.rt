@@ -6,6 +6,7 @@ mod content_inbox;
 mod content_outbox;
 mod content_parts;
 mod content_reader;
+pub mod give_back;
 mod goes_on;
 pub mod laws;
 mod peeking_reader;
@@ -16,7 +17,6 @@ mod relay_texts;
 mod reply_outbox;
 mod run;
 mod serving;
-pub mod spent;
 mod unread;
 mod workers;
 

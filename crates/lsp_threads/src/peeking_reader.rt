@@ -49,7 +49,8 @@ impl<R: BufRead> PeekingReader<R> {
     /// Finds out how many bytes the reader shows: none at its end.
     fn look(&mut self) -> io::Result<()>
         ensures kept { Keeps (R.remaining self.old.inner) (R.remaining self.new.inner) }
-        ensures end { OnOk result (self.new.left ≡ 0 → IfSome (R.remaining self.old.inner) (λ text. text ≡ [])) }
+        ensures end { OnOk result (self.new.left ≡ 0
+            → IfSome (R.remaining self.old.inner) (λ text. text ≡ [])) }
     {
         if let Some(fault) = self.fault.take() {
             return Err(fault);

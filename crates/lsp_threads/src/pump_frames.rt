@@ -60,7 +60,8 @@ impl ReadsInto for String {
     ) -> (RelayTx<String>, ReadEnd)
         requires { tx.sent ≡ [] }
         ensures relay { result.0.relay ≡ tx.relay }
-        ensures sent { IfSome (S.remaining reader) (λ text. HandsFrames limit text tx result.1 result.0) }
+        ensures sent { IfSome (S.remaining reader) (λ text.
+            HandsFrames limit text tx result.1 result.0) }
     {
         let mut reader = PeekingReader::new(reader);
         let mut outbox = FramingOutbox::new(rt, alloc, tx);

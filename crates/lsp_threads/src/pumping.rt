@@ -63,7 +63,8 @@ where
     T: Threads + Wait + Copy + Drop + Send + 'static,
     R: BufRead + Drop + Send + 'static,
     W: Write,
-    ensures { IfSome (R.remaining reader) (λ text. Pumps no_limit text (W.contents writer.old) (W.contents writer.new) result) }
+    ensures { IfSome (R.remaining reader) (λ text.
+        Pumps no_limit text (W.contents writer.old) (W.contents writer.new) result) }
 {
     pump_within(rt, alloc, reader, writer, u64::MAX)
 }
@@ -81,7 +82,8 @@ where
     T: Threads + Wait + Copy + Drop + Send + 'static,
     R: BufRead + Drop + Send + 'static,
     W: Write,
-    ensures { IfSome (R.remaining reader) (λ text. Pumps limit text (W.contents writer.old) (W.contents writer.new) result) }
+    ensures { IfSome (R.remaining reader) (λ text.
+        Pumps limit text (W.contents writer.old) (W.contents writer.new) result) }
 {
     pump_by(rt, Builder::new(), alloc, reader, writer, limit)
 }
@@ -99,7 +101,8 @@ where
     T: Threads + Wait + Copy + Drop + Send + 'static,
     R: BufRead + Drop + Send + 'static,
     W: Write,
-    ensures { IfSome (R.remaining reader) (λ text. Pumps limit text (W.contents writer.old) (W.contents writer.new) result) }
+    ensures { IfSome (R.remaining reader) (λ text.
+        Pumps limit text (W.contents writer.old) (W.contents writer.new) result) }
 {
     let Ok((tx, rx)) = relay::<String>(alloc, PARCEL_ROOM) else {
         return Err(PumpFault::Start(StartFault::Memory));

@@ -34,7 +34,8 @@ impl<R: Wait + Drop> Model for FramingOutbox<R> {
 
     ghost Value = { Framing };
 
-    ghost view = { λ b. record { relay = b.tx.relay; bytes = parcel_bytes b.tx.sent ++ string_bytes b.pending } };
+    ghost view = { λ b.
+        record { relay = b.tx.relay; bytes = parcel_bytes b.tx.sent ++ string_bytes b.pending } };
 
     ghost invariant = { λ b. IsOpen b.tx.sent };
 }
@@ -54,7 +55,8 @@ impl<R: Wait + Drop> FramingOutbox<R> {
 
     /// Adds the frame of a message. The error means that an allocation failed.
     pub fn add(&mut self, message: &Message) -> Result<(), AllocError>
-        ensures ok { OnOk result (FramingSends self.old (message_view message.now) (Ok tt) self.new) }
+        ensures ok { OnOk result
+            (FramingSends self.old (message_view message.now) (Ok tt) self.new) }
         ensures err { OnErr result (self.new ≡ self.old) }
     {
         let frame = message.to_frame(self.alloc)?;
@@ -63,7 +65,8 @@ impl<R: Wait + Drop> FramingOutbox<R> {
 
     /// Adds a frame to those that were gathered. If there are none, it is moved and not copied.
     fn join(&mut self, frame: String) -> Result<(), AllocError>
-        ensures ok { OnOk result ((self.new.relay ≡ self.old.relay) × (self.new.bytes ≡ self.old.bytes ++ string_bytes frame)) }
+        ensures ok { OnOk result ((self.new.relay ≡ self.old.relay)
+            × (self.new.bytes ≡ self.old.bytes ++ string_bytes frame)) }
         ensures err { OnErr result (self.new ≡ self.old) }
     {
         if self.pending.is_empty() {
@@ -120,7 +123,7 @@ pub fn deliver_text<R: Wait>(rt: &R, tx: &mut RelayTx<String>, text: String)
     }
 }
 
-/// Writes each text up to End, and those that wait together as one: it waits for a text only where it has written all that it took. After
+/// Writes each text up to End, and those that wait together as one: it waits for a text only if it has written all that it took. After
 /// a fault it writes nothing more, and drops the texts.
 pub fn write_texts<R: Wait, W: Write>(
     rt: &R,
@@ -130,7 +133,8 @@ pub fn write_texts<R: Wait, W: Write>(
 ) -> (RelayRx<String>, Option<WriteFault>)
     requires { rx.taken ≡ [] }
     ensures relay { result.0.relay ≡ rx.relay }
-    ensures written { WritesParcels result.0.taken result.1 (W.contents writer.old) (W.contents writer.new) }
+    ensures written { WritesParcels result.0.taken result.1 (W.contents writer.old)
+        (W.contents writer.new) }
 {
     let mut rx = rx;
     let mut fault = None;
@@ -167,7 +171,7 @@ fn next_parcel<R: Wait, M: Drop>(rt: &R, rx: &mut RelayRx<M>, waits: bool) -> Op
     }
 }
 
-/// Puts a text behind those that are not written. Where it can't join them, the others are written first, unless a write failed before.
+/// Puts a text behind those that are not written. If it can't join them, the others are written first, unless a write failed before.
 /// Gives what is left, and the first fault.
 fn gather<W: Write>(
     before: Option<WriteFault>,
@@ -175,7 +179,8 @@ fn gather<W: Write>(
     text: String,
     writer: &mut W,
 ) -> (String, Option<WriteFault>)
-    ensures { Gathers before (string_bytes pending ++ string_bytes text) (string_bytes result.0) result.1 (W.contents writer.old) (W.contents writer.new) }
+    ensures { Gathers before (string_bytes pending ++ string_bytes text) (string_bytes result.0)
+        result.1 (W.contents writer.old) (W.contents writer.new) }
 {
     let mut pending = pending;
     if joins(&mut pending, &text) {
@@ -188,7 +193,8 @@ fn gather<W: Write>(
 /// Adds a text to those that are not written. False means that it was not added: there are none, they have no room together, or an
 /// allocation failed.
 fn joins(pending: &mut String, text: &str) -> bool
-    ensures { MatchBool result (string_bytes pending.new ≡ string_bytes pending.old ++ text.now) (string_bytes pending.new ≡ string_bytes pending.old) }
+    ensures { MatchBool result (string_bytes pending.new ≡ string_bytes pending.old ++ text.now)
+        (string_bytes pending.new ≡ string_bytes pending.old) }
 {
     if pending.is_empty() || text.len() > FULL_PARCEL.saturating_sub(pending.len()) {
         return false;
@@ -205,7 +211,8 @@ fn write_after<W: Write>(
     text: &str,
     writer: &mut W,
 ) -> Option<WriteFault>
-    ensures none { before ≡ None → WritesBytes text.now result (W.contents writer.old) (W.contents writer.new) }
+    ensures none { before ≡ None
+        → WritesBytes text.now result (W.contents writer.old) (W.contents writer.new) }
     ensures some { OnSome before ((result ≡ before) × (writer.new ≡ writer.old)) }
 {
     if before.is_some() || text.is_empty() {

@@ -33,7 +33,8 @@ impl<R: Wait + Drop> Model for ReplyOutbox<R> {
 
     ghost Value = { Replying };
 
-    ghost view = { λ b. record { relay = b.tx.relay; bytes = parcel_bytes b.tx.sent; failed = b.failed } };
+    ghost view = { λ b.
+        record { relay = b.tx.relay; bytes = parcel_bytes b.tx.sent; failed = b.failed } };
 
     ghost invariant = { λ b. IsOpen b.tx.sent };
 }

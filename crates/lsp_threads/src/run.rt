@@ -84,7 +84,9 @@ where
     W: Write + Drop + Send + 'static,
     H: Handler,
     ensures { IfSome (R.remaining reader) (λ text. IfOk result (λ done.
-        ThreadsGive no_limit (SessionOut (of_handler H.answers H.notes (view capabilities)) handler.old handler.new) text (W.contents writer) (W.contents done.writer) done.answer)) }
+        ThreadsGive no_limit
+        (SessionOut (of_handler H.answers H.notes (view capabilities)) handler.old handler.new)
+        text (W.contents writer) (W.contents done.writer) done.answer)) }
 {
     run_threads_within(rt, alloc, reader, writer, capabilities, handler, u64::MAX)
 }
@@ -106,7 +108,9 @@ where
     W: Write + Drop + Send + 'static,
     H: Handler,
     ensures { IfSome (R.remaining reader) (λ text. IfOk result (λ done.
-        ThreadsGive limit (SessionOut (of_handler H.answers H.notes (view capabilities)) handler.old handler.new) text (W.contents writer) (W.contents done.writer) done.answer)) }
+        ThreadsGive limit
+        (SessionOut (of_handler H.answers H.notes (view capabilities)) handler.old handler.new)
+        text (W.contents writer) (W.contents done.writer) done.answer)) }
 {
     let mut capabilities = capabilities;
     let mut service = HandlerService::new(alloc, &mut capabilities, handler);
@@ -130,7 +134,7 @@ where
 /// written while the service goes on.
 ///
 /// At a content part that is no message (see `lsp_session::is_of_body`) the listener `bad_bodies` is asked, at once and on your thread. Where
-/// it reads on, nothing is answered, the service is woken, and the next frame follows. That is so from `initialized` up to `shutdown`, where
+/// it reads on, nothing is answered, the service is woken, and the next frame follows. That is so from `initialized` up to `shutdown`, if
 /// a service can be woken. Where the listener ends the session, and before and after in any case, such a part is `SessionFault::Read`, and
 /// nothing more is read. So is each other fault of reading at any time. With `EndSession` nothing is ever passed over
 /// (`laws::nothing_is_passed_over_in_threads`). A handler's session reads on as the service `HandlerService`.
@@ -187,7 +191,8 @@ where
     requires fresh { (ends.0.sent ≡ []) × (ends.1.taken ≡ []) }
     requires same { ends.1.relay ≡ ends.0.relay }
     ensures { IfSome (R.remaining reader) (λ text. IfOk result (λ done.
-        ThreadsTellOver ends.0.wakeable L.hears options.limit (SessionOut S.behavior service.old service.new) text
+        ThreadsTellOver ends.0.wakeable L.hears options.limit
+        (SessionOut S.behavior service.old service.new) text
         bad_bodies.old bad_bodies.new (W.contents writer) (W.contents done.writer) done.answer)) }
 {
     match start_both(rt, options, alloc, ends, reader, writer) {

@@ -44,10 +44,14 @@ where
     W: Write + Drop + Send + 'static,
     requires fresh { (ends.0.sent ≡ []) × (ends.1.taken ≡ []) }
     requires same { ends.1.relay ≡ ends.0.relay }
-    ensures reading { IfOk result (λ workers. (workers.rx.taken ≡ []) × (workers.reading.promise.tx.value.relay ≡ workers.rx.relay)
-        × (workers.reading.promise.tx.value.sent ≡ []) × (workers.reading.promise.reader.value ≡ reader) × (workers.reading.promise.limit ≡ options.limit)
+    ensures reading { IfOk result (λ workers. (workers.rx.taken ≡ [])
+        × (workers.reading.promise.tx.value.relay ≡ workers.rx.relay)
+        × (workers.reading.promise.tx.value.sent ≡ [])
+        × (workers.reading.promise.reader.value ≡ reader)
+        × (workers.reading.promise.limit ≡ options.limit)
         × (workers.reading.promise.tx.value.wakeable ≡ ends.0.wakeable)) }
-    ensures writing { IfOk result (λ workers. (workers.replies.sent ≡ []) × (workers.writing.promise.rx.value.relay ≡ workers.replies.relay)
+    ensures writing { IfOk result (λ workers. (workers.replies.sent ≡ [])
+        × (workers.writing.promise.rx.value.relay ≡ workers.replies.relay)
         × (workers.writing.promise.writer.value ≡ writer)) }
 {
     let Ok((replies, replies_rx)) = relay::<String>(alloc, ROOM) else {
@@ -111,11 +115,16 @@ where
     W: Write + Drop,
     S: Service,
     L: Listener,
-    requires reading { (workers.rx.taken ≡ []) × (workers.reading.promise.tx.value.relay ≡ workers.rx.relay) × (workers.reading.promise.tx.value.sent ≡ []) }
-    requires writing { (workers.replies.sent ≡ []) × (workers.writing.promise.rx.value.relay ≡ workers.replies.relay) }
+    requires reading { (workers.rx.taken ≡ [])
+        × (workers.reading.promise.tx.value.relay ≡ workers.rx.relay)
+        × (workers.reading.promise.tx.value.sent ≡ []) }
+    requires writing { (workers.replies.sent ≡ [])
+        × (workers.writing.promise.rx.value.relay ≡ workers.replies.relay) }
     ensures { IfSome (R.remaining workers.reading.promise.reader.value) (λ text.
-        ThreadsTellOver workers.reading.promise.tx.value.wakeable L.hears workers.reading.promise.limit (SessionOut S.behavior service.old service.new) text
-        listener.old listener.new (W.contents workers.writing.promise.writer.value) (W.contents result.writer) result.answer) }
+        ThreadsTellOver workers.reading.promise.tx.value.wakeable L.hears
+        workers.reading.promise.limit (SessionOut S.behavior service.old service.new) text
+        listener.old listener.new (W.contents workers.writing.promise.writer.value)
+        (W.contents result.writer) result.answer) }
 {
     let Workers {
         rx,
@@ -127,7 +136,7 @@ where
     let mut parts = ContentParts::new(*rt, alloc, rx, takes);
     let mut inbox = ContentInbox::new(alloc, &mut parts, listener);
     let mut outbox = ReplyOutbox::new(*rt, alloc, replies);
-    let answer = serve_service(alloc, &mut inbox, &mut outbox, service);
+    let served = serve_service(alloc, &mut inbox, &mut outbox, service);
     let ended = inbox.end();
     let drained = parts.is_drained();
     let (replies, failed) = outbox.finish();
@@ -139,7 +148,7 @@ where
     settle_all(rt, rx, tx);
     settle_all(rt, replies_rx, replies);
     let fault = reply_fault(unwritten, failed);
-    let answer = session_answer(answer, session_end(ended, drained, read), fault);
+    let answer = session_answer(served, session_end(ended, drained, read), fault);
     Threaded { writer, answer }
 }
 

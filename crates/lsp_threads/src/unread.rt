@@ -75,7 +75,7 @@ pub struct Takes {
 }
 
 impl Takes {
-    /// Tells that a parcel of this weight was taken. It doesn't wait: where the bell rings already, the other end will look anew.
+    /// Tells that a parcel of this weight was taken. It doesn't wait: if the bell rings already, the other end will look anew.
     pub fn took<R: Wait>(&self, rt: &R, weight: u64) {
         self.taken.fetch_add(weight, Ordering::SeqCst);
         let _ = self.ring.try_send(rt, ());

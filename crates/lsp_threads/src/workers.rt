@@ -45,7 +45,7 @@ impl fmt::Display for StartFault {
 impl Error for StartFault {}
 
 /// What a thread that reads sends on a relay. The thread is started for any such type, since the check finds that it may own the end
-/// of its relay only where it need not look into the type.
+/// of its relay only if it need not look into the type.
 pub trait ReadsInto: Drop {
     ghost use Rattle.std.specs.Prelude.{ℕ, List};
     ghost use Rattle.lsp_relay.specs.Relay.{Sending};
@@ -55,7 +55,7 @@ pub trait ReadsInto: Drop {
     /// end is this then.
     ghost hands_on: { ℕ → List ℕ → Sending Self → read_end → Sending Self → Type 0 };
 
-    /// Sends the messages of a reader, whose content parts have at most `limit` bytes, and then End. Where `unread` is there, it waits
+    /// Sends the messages of a reader, whose content parts have at most `limit` bytes, and then End. If `unread` is there, it waits
     /// as that says.
     fn read_into<R: Wait + Drop, S: BufRead + Drop>(
         rt: R,
@@ -67,7 +67,8 @@ pub trait ReadsInto: Drop {
     ) -> (RelayTx<Self>, ReadEnd)
         requires { tx.sent ≡ [] }
         ensures relay { result.0.relay ≡ tx.relay }
-        ensures sent { IfSome (S.remaining reader) (λ text. hands_on limit text tx result.1 result.0) };
+        ensures sent { IfSome (S.remaining reader) (λ text.
+            hands_on limit text tx result.1 result.0) };
 }
 
 /// What a thread that writes takes from a relay. The thread is started for any such type, for the same reason.
@@ -77,7 +78,8 @@ pub trait WritesFrom: Drop {
     ghost use Rattle.lsp_relay.specs.declared.ends.Parcel.{Parcel as parcel};
 
     /// These parcels were taken and written, but if there is a fault, not from the failed write on.
-    ghost writes: { List (parcel Self) → Option fault → Option (List ℕ) → Option (List ℕ) → Type 0 };
+    ghost writes: { List (parcel Self) → Option fault → Option (List ℕ) → Option (List ℕ)
+        → Type 0 };
 
     /// Writes what it takes up to End. After a fault, the answer, it writes nothing more.
     fn write_out<R: Wait + Drop, W: Write + Drop>(
@@ -88,7 +90,8 @@ pub trait WritesFrom: Drop {
     ) -> (RelayRx<Self>, W, Option<WriteFault>)
         requires { rx.taken ≡ [] }
         ensures relay { result.0.relay ≡ rx.relay }
-        ensures written { writes result.0.taken result.2 (W.contents writer) (W.contents result.1) };
+        ensures written { writes result.0.taken result.2 (W.contents writer)
+            (W.contents result.1) };
 }
 
 /// What the thread that reads gives back: the sender's end of the relay that it was given, on which all was sent.
@@ -103,7 +106,8 @@ impl<S: BufRead, M: ReadsInto> Promise<(RelayTx<M>, ReadEnd)> for Reader<S, M> {
     ghost use Rattle.std.specs.Prelude.{◌≡◌, IfSome};
 
     ghost kept_by = { λ p r. (r.0.relay ≡ p.tx.value.relay)
-        × IfSome (S.remaining p.reader.value) (λ text. M.hands_on p.limit text p.tx.value r.1 r.0) };
+        × IfSome (S.remaining p.reader.value) (λ text.
+        M.hands_on p.limit text p.tx.value r.1 r.0) };
 }
 
 /// What the thread that writes gives back: the receiver's end of the relay that it was given, of which all was taken, and
@@ -136,7 +140,8 @@ where
     R: Threads + Wait + Copy + Drop + Send + 'static,
     S: BufRead + Drop + Send + 'static,
     requires { tx.sent ≡ [] }
-    ensures { IfOk result (λ handle. (handle.promise.reader.value ≡ reader) × (handle.promise.limit ≡ limit) × (handle.promise.tx.value ≡ tx)) }
+    ensures { IfOk result (λ handle. (handle.promise.reader.value ≡ reader)
+        × (handle.promise.limit ≡ limit) × (handle.promise.tx.value ≡ tx)) }
 {
     let promise = Reader {
         reader: Snapshot::of(&reader),
@@ -167,7 +172,8 @@ where
     R: Threads + Wait + Copy + Drop + Send + 'static,
     W: Write + Drop + Send + 'static,
     requires { rx.taken ≡ [] }
-    ensures { IfOk result (λ handle. (handle.promise.writer.value ≡ writer) × (handle.promise.rx.value ≡ rx)) }
+    ensures { IfOk result (λ handle. (handle.promise.writer.value ≡ writer)
+        × (handle.promise.rx.value ≡ rx)) }
 {
     let promise = Writer {
         writer: Snapshot::of(&writer),
@@ -193,7 +199,8 @@ impl WritesFrom for String {
     ) -> (RelayRx<String>, W, Option<WriteFault>)
         requires { rx.taken ≡ [] }
         ensures relay { result.0.relay ≡ rx.relay }
-        ensures written { WritesParcels result.0.taken result.2 (W.contents writer) (W.contents result.1) }
+        ensures written { WritesParcels result.0.taken result.2 (W.contents writer)
+            (W.contents result.1) }
     {
         let mut writer = writer;
         let (rx, fault) = write_texts(&rt, alloc, rx, &mut writer);

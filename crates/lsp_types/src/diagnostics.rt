@@ -55,7 +55,14 @@ impl Diagnostic {
 
     /// A part of a document, how severe it is, and what is wrong there.
     pub fn new(range: Range, severity: DiagnosticSeverity, message: String) -> Diagnostic
-        ensures { result ≡ record { range = range; severity = Some severity; code = None; source = None; message = message; «data» = None } }
+        ensures { result ≡ record {
+          range = range;
+          severity = Some severity;
+          code = None;
+          source = None;
+          message = message;
+          «data» = None;
+        } }
     {
         Diagnostic {
             range,

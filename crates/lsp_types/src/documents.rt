@@ -89,11 +89,11 @@ pub struct VersionedTextDocumentIdentifier {
 
 /// A document with its text (LSP 3.17, "TextDocumentItem").
 #[derive(Drop, Deserialize)]
-#[serde(rename_all = "camelCase")]
 pub struct TextDocumentItem {
     /// Its URI.
     pub uri: String,
     /// The language that it is in, as `rust`.
+    #[serde(rename = "languageId")]
     pub language_id: String,
     /// Its version, which grows with each change.
     pub version: i32,
@@ -103,19 +103,20 @@ pub struct TextDocumentItem {
 
 /// The params of `textDocument/didOpen` (LSP 3.17, "DidOpenTextDocument Notification").
 #[derive(Drop, Deserialize)]
-#[serde(rename_all = "camelCase")]
 pub struct DidOpenTextDocumentParams {
     /// The document that was opened.
+    #[serde(rename = "textDocument")]
     pub text_document: TextDocumentItem,
 }
 
 /// The params of `textDocument/didChange` (LSP 3.17, "DidChangeTextDocument Notification").
 #[derive(Drop, Deserialize)]
-#[serde(rename_all = "camelCase")]
 pub struct DidChangeTextDocumentParams {
     /// The document, at its version after all changes.
+    #[serde(rename = "textDocument")]
     pub text_document: VersionedTextDocumentIdentifier,
     /// The changes. Each is of the text that the one before it left.
+    #[serde(rename = "contentChanges")]
     pub content_changes: Vec<TextDocumentContentChangeEvent>,
 }
 
@@ -130,27 +131,27 @@ pub struct TextDocumentContentChangeEvent {
 
 /// The params of `textDocument/didSave` (LSP 3.17, "DidSaveTextDocument Notification").
 #[derive(Drop, Deserialize)]
-#[serde(rename_all = "camelCase")]
 pub struct DidSaveTextDocumentParams {
     /// The document that was saved.
+    #[serde(rename = "textDocument")]
     pub text_document: TextDocumentIdentifier,
-    /// Its text, where the server asked for it.
+    /// Its text, if the server asked for it.
     pub text: Option<String>,
 }
 
 /// The params of `textDocument/didClose` (LSP 3.17, "DidCloseTextDocument Notification").
 #[derive(Drop, Deserialize)]
-#[serde(rename_all = "camelCase")]
 pub struct DidCloseTextDocumentParams {
     /// The document that was closed.
+    #[serde(rename = "textDocument")]
     pub text_document: TextDocumentIdentifier,
 }
 
 /// A place in a document: the params of hover, definition and others (LSP 3.17, "TextDocumentPositionParams").
 #[derive(Drop, Deserialize)]
-#[serde(rename_all = "camelCase")]
 pub struct TextDocumentPositionParams {
     /// The document.
+    #[serde(rename = "textDocument")]
     pub text_document: TextDocumentIdentifier,
     /// The place in it.
     pub position: Position,

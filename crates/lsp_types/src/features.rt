@@ -38,7 +38,10 @@ impl Hover {
 
     /// A text, about the place that was asked for.
     pub fn new(kind: MarkupKind, value: String) -> Hover
-        ensures { result ≡ record { contents = record { kind = kind; value = value }; range = None } }
+        ensures { result ≡ record {
+          contents = record { kind = kind; value = value };
+          range = None;
+        } }
     {
         Hover {
             contents: MarkupContent { kind, value },
@@ -89,7 +92,7 @@ impl InsertTextFormat {
 #[derive(Drop, Serialize)]
 #[serde(rename_all = "camelCase")]
 pub struct CompletionItem {
-    /// What is shown, and inserted where nothing else is said.
+    /// What is shown, and inserted if nothing else is said.
     pub label: String,
     /// What it is.
     #[serde(skip_serializing_if = "Option::is_none")]

@@ -1,4 +1,6 @@
 //! What a server shows, and what it asks of its client.
+ghost use Rattle.std.specs.Prelude.{◌≡◌};
+
 use serde::Serialize;
 use std::alloc::{AllocError, Global};
 
@@ -16,6 +18,14 @@ impl MessageType {
     pub const INFO: MessageType = MessageType(3);
     /// A line of a log.
     pub const LOG: MessageType = MessageType(4);
+}
+
+impl From<MessageType> for u32 {
+    ghost from_gives = { λ kind number. number ≡ kind.0 };
+
+    fn from(kind: MessageType) -> u32 {
+        kind.0
+    }
 }
 
 /// The params of `window/showMessage` and `window/logMessage` (LSP 3.17, "ShowMessage Notification").
@@ -36,13 +46,14 @@ pub struct ConfigurationParams {
 }
 
 impl ConfigurationParams {
-    ghost use Rattle.std.specs.Prelude.{◌≡◌, ◌∷◌, [], Some, None, IfOk, option_map, string_bytes};
+    ghost use Rattle.std.specs.Prelude.{◌∷◌, [], Some, None, IfOk, option_map, string_bytes};
     ghost use Rattle.lsp_types.specs.declared.window.ConfigurationItem.{ConfigurationItem as Item};
 
     /// One section, of no document. `Err` means that an allocation failed.
     pub fn section(alloc: Global, section: &str) -> Result<ConfigurationParams, AllocError>
         ensures { IfOk result (λ params. (item : Item) × (params.items.items ≡ item ∷ [])
-            × (item.scope_uri ≡ None) × (option_map string_bytes item.«section» ≡ Some «section».now)) }
+            × (item.scope_uri ≡ None)
+            × (option_map string_bytes item.«section» ≡ Some «section».now)) }
     {
         let item = ConfigurationItem {
             scope_uri: None,

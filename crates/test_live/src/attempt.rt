@@ -44,7 +44,7 @@ pub enum Stop {
 }
 
 impl Stop {
-    /// The exit status: 2 where a call did not do what it promises, and else 1.
+    /// The exit status: 2 if a call did not do what it promises, and else 1.
     pub fn status(self) -> u8 {
         match self {
             Stop::Broken(_) => 2,

@@ -1,4 +1,4 @@
-// The reader and the writer of all rows, which threads may own. Each fails once, where it is told to, and goes on, so that a call
+// The reader and the writer of all rows, which threads may own. Each fails once, if it is told to, and goes on, so that a call
 // that tries again is seen.
 use crate::signals::{Signal, Signals};
 use std::io::{BufRead, ErrorKind, Read, Write};

@@ -1,8 +1,11 @@
 // The job of all rows.
+ghost use Rattle.serde_json.specs.Data.{Data};
+ghost use Rattle.std.specs.Prelude.{ℕ, List};
+
 use crate::signals::{Signal, Signals};
-use lsp_jobs::{CancellationToken, Job, Progress};
+use lsp_jobs::{CancellationToken, Job, PartialResults, Progress, WorkDone};
 use lsp_message::{ErrorCode, Notification, RequestId, ResponseError};
-use serde_json::{Map, Value};
+use serde_json::{Map, Value, json};
 use std::alloc::{AllocError, Global};
 use std::sync::Arc;
 use std::thread;
@@ -10,13 +13,17 @@ use std::thread;
 /// Does what its script says, and comes to its value. A script has words, `, ` between them:
 ///
 /// - `soon`: nothing. `after N`: waits until N messages were written. `cancelled`: waits until its token is cancelled.
-/// - `reports N`: makes N reports, numbered on from those before.
+/// - `reports N`: makes N reports, numbered on from those before. `sends N`: the same of notifications that are not to be dropped.
+/// - `begins`, `steps N`, `ends`: tells of its work, if the client gave a token for that. `parts N`: sends N partial results, if the
+///   client gave a token for those.
 /// - `counted`: comes to the count of reports that were taken. `fails`: comes to an error. `starves`: finds no memory.
 #[derive(Drop)]
 pub struct Scripted {
     pub alloc: Global,
     pub signals: Arc<Signals>,
     pub script: String,
+    pub work: WorkDone,
+    pub parts: PartialResults,
     pub value: Value,
 }
 
@@ -29,31 +36,40 @@ enum Ending {
     NoMemory,
 }
 
-/// How far a job is: the reports that it made, those of them that were taken, and what it will come to.
-#[derive(Clone, Copy)]
+/// How far a job is: the reports that it made, those of them that were taken, what it told by a token, and what it will come to.
+#[derive(Drop)]
 struct Course {
+    alloc: Global,
+    signals: Arc<Signals>,
+    work: Option<WorkDone>,
+    parts: PartialResults,
     made: u64,
     taken: u64,
+    told: u32,
     ending: Ending,
 }
 
-impl Scripted {
+impl Course {
     fn act<P: Progress>(
-        &self,
+        &mut self,
         word: &str,
         token: &CancellationToken,
         progress: &mut P,
-        course: &mut Course,
-    ) -> Result<(), AllocError> {
+    ) -> Result<(), AllocError>
+        requires { (method : List ℕ) (params : Data) → P.may method params }
+    {
         let (name, number) = word.split_once(" ").unwrap_or((word, "0"));
         let number = number.parse::<u64>().unwrap_or(0);
         match name {
             "after" => self.await_written(number),
             "cancelled" => self.await_cancelled(token),
-            "reports" => self.report(number, progress, course)?,
-            "counted" => course.ending = Ending::Count,
-            "fails" => course.ending = Ending::Error,
-            "starves" => course.ending = Ending::NoMemory,
+            "reports" => self.report(number, progress)?,
+            "sends" => self.send(number, progress)?,
+            "begins" | "steps" | "ends" => self.tell_work(name, number, progress)?,
+            "parts" => self.send_parts(number, progress)?,
+            "counted" => self.ending = Ending::Count,
+            "fails" => self.ending = Ending::Error,
+            "starves" => self.ending = Ending::NoMemory,
             _ => {}
         }
         Ok(())
@@ -73,17 +89,76 @@ impl Scripted {
         }
     }
 
-    fn report<P: Progress>(
-        &self,
+    fn report<P: Progress>(&mut self, number: u64, progress: &mut P) -> Result<(), AllocError>
+        requires { (method : List ℕ) (params : Data) → P.may method params }
+    {
+        for _ in 0..number {
+            self.made = self.made.saturating_add(1);
+            if progress.report(progress_of(self.alloc, self.made)?) {
+                self.taken = self.taken.saturating_add(1);
+            }
+        }
+        self.signals.tell(Signal::Reported);
+        Ok(())
+    }
+
+    fn send<P: Progress>(&mut self, number: u64, progress: &mut P) -> Result<(), AllocError>
+        requires { (method : List ℕ) (params : Data) → P.may method params }
+    {
+        for _ in 0..number {
+            self.made = self.made.saturating_add(1);
+            if progress.send(progress_of(self.alloc, self.made)?) {
+                self.taken = self.taken.saturating_add(1);
+            }
+        }
+        Ok(())
+    }
+
+    fn tell_work<P: Progress>(
+        &mut self,
+        name: &str,
         number: u64,
         progress: &mut P,
-        course: &mut Course,
-    ) -> Result<(), AllocError> {
+    ) -> Result<(), AllocError>
+        requires { (method : List ℕ) (params : Data) → P.may method params }
+    {
+        let Some(work) = self.work.take() else {
+            return Ok(());
+        };
+        match name {
+            "begins" => work.begin(progress, "Working", None, Some(0))?,
+            "steps" => self.tell_steps(&work, number, progress)?,
+            _ => return work.end(progress, Some("done")),
+        }
+        self.work = Some(work);
+        Ok(())
+    }
+
+    fn tell_steps<P: Progress>(
+        &mut self,
+        work: &WorkDone,
+        number: u64,
+        progress: &mut P,
+    ) -> Result<(), AllocError>
+        requires { (method : List ℕ) (params : Data) → P.may method params }
+    {
         for _ in 0..number {
-            course.made = course.made.saturating_add(1);
-            if progress.report(progress_of(self.alloc, course.made)?) {
-                course.taken = course.taken.saturating_add(1);
-            }
+            self.told = self.told.saturating_add(1);
+            let told = self.told;
+            let message = format!(in self.alloc; "step {told}")?;
+            work.report(progress, Some(message.as_str()), Some(told))?;
+        }
+        self.signals.tell(Signal::Reported);
+        Ok(())
+    }
+
+    fn send_parts<P: Progress>(&mut self, number: u64, progress: &mut P) -> Result<(), AllocError>
+        requires { (method : List ℕ) (params : Data) → P.may method params }
+    {
+        for _ in 0..number {
+            self.told = self.told.saturating_add(1);
+            let part = json!(in self.alloc; [self.told])?;
+            self.parts.send(progress, part)?;
         }
         Ok(())
     }
@@ -107,21 +182,34 @@ impl Job for Scripted {
         token: &CancellationToken,
         progress: &mut P,
     ) -> Result<Result<Value, ResponseError>, AllocError> {
-        self.signals.tell(Signal::Begun);
+        let Scripted {
+            alloc,
+            signals,
+            script,
+            work,
+            parts,
+            value,
+        } = self;
+        signals.tell(Signal::Begun);
         let mut course = Course {
+            alloc,
+            signals,
+            work: Some(work),
+            parts,
             made: 0,
             taken: 0,
+            told: 0,
             ending: Ending::Value,
         };
-        for word in self.script.as_str().split(", ") {
-            self.act(word, token, progress, &mut course)?;
+        for word in script.as_str().split(", ") {
+            course.act(word, token, progress)?;
         }
-        self.signals.tell(Signal::Ended);
+        course.signals.tell(Signal::Ended);
         match course.ending {
-            Ending::Value => Ok(Ok(self.value)),
+            Ending::Value => Ok(Ok(value)),
             Ending::Count => Ok(Ok(Value::from(course.taken))),
             Ending::Error => Ok(Err(ResponseError::new(
-                self.alloc,
+                alloc,
                 ErrorCode::RequestFailed,
                 "it failed",
             )?)),

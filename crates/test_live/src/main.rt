@@ -150,7 +150,7 @@ where
     }
 }
 
-/// Runs a case at each of its places. What came is printed where it is another than at the place before.
+/// Runs a case at each of its places. What came is printed if it is another than at the place before.
 fn run_case<R>(rt: &R, alloc: Global, case: Case<'_>, given: &Given) -> Result<(), Stop>
 where
     R: Print + Threads + Wait + Clock + AllocGlobal + Copy + Drop + Send + 'static,

@@ -10,7 +10,7 @@ use std::sync::{Arc, Wait};
 use std::thread;
 use std::thread::Threads;
 
-/// Plays the part: how many messages waited at most, where that is told, and what the threads answer.
+/// Plays the part: how many messages waited at most, if that is told, and what the threads answer.
 pub fn parted<R: Threads + Wait>(
     rt: &R,
     run: Run,

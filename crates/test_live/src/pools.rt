@@ -1,22 +1,22 @@
-// A pool by hand: `pool WORKERS STEP; STEP ..`, or `WORKERS:WAITING` where only so many jobs may wait. A step is one of these, with what is
+// A pool by hand: `pool WORKERS STEP; STEP ..`, or `WORKERS:WAITING` if only so many jobs may wait. A step is one of these, with what is
 // told of it:
 //
-// - `take ID VALUE SCRIPT`: takes a job on (`jobs.rt`), which comes to the list of the value: `taken`, `full` or `no memory`.
-// - `begun N`, `ended N`: waits until N jobs began or ended; nothing is told.
-// - `hear`: waits until a job has news: `heard ID`, or `closed`.
-// - `news ID`: takes its news: `report PARAMS`, `outcome VALUE`, `error CODE`, `nothing` or `no memory`.
-// - `listen N`: N times `hear`, and the news of the id that was heard.
+// - `submit ID KEY SCRIPT`: gives the pool a job (`jobs.rt`), which comes to the list of the key: `taken`, `full KEY` or `no memory`.
+// - `begun N`, `ended N`, `reported N`: waits until N jobs began, ended or were done with their reports; nothing is told.
+// - `hear`: waits until a job has a message: `heard ID`, or `closed`.
+// - `message ID`: takes its message: `report PARAMS`, `outcome VALUE of KEY`, `error CODE of KEY`, `nothing` or `no memory`.
+// - `listen N`: N times `hear`, and the message of the id that was heard.
 // - `waits ID`: `waits` or `free`. `forget ID`: nothing is told.
 //
-// At the end the pool is ended, no more news may come then, and it is told how many jobs began and how many saw their cancellation.
+// The client of such a job gave the tokens `w` and 7. At the end the pool is ended, nothing more may be heard then, and it is told how many jobs began and how many saw their cancellation.
 use crate::attempt::{Attempt, Stop};
 use crate::jobs::Scripted;
 use crate::signals::{Signal, Signals};
 use crate::table::pool_of;
 use crossbeam_channel::Receiver;
-use lsp_jobs::{JobNews, JobPool, TakeFault};
+use lsp_jobs::{JobMessage, JobPool, PartialResults, SubmitFault, WorkDone};
 use lsp_message::RequestId;
-use serde_json::Value;
+use serde_json::{Value, json};
 use std::alloc::{AllocError, Global};
 use std::fmt::Write;
 use std::sync::{Arc, Wait};
@@ -28,8 +28,8 @@ struct Bench<R: Wait + Drop> {
     rt: R,
     alloc: Global,
     signals: Arc<Signals>,
-    pool: JobPool<R, Scripted>,
-    news: Receiver<RequestId>,
+    pool: JobPool<R, Scripted, i32>,
+    woken: Receiver<RequestId>,
     told: String,
 }
 
@@ -40,7 +40,7 @@ where
 {
     let (size, steps) = row.split_once(" ").ok_or(Stop::Table)?;
     let size = pool_of(size).ok_or(Stop::Table)?;
-    let Ok((pool, news)) = JobPool::start(rt, alloc, size) else {
+    let Ok((pool, woken)) = JobPool::start(rt, alloc, size) else {
         return Ok(Attempt::refused(alloc, "start")?);
     };
     let mut bench = Bench {
@@ -48,7 +48,7 @@ where
         alloc,
         signals: Arc::new(alloc, Signals::new())?,
         pool,
-        news,
+        woken,
         told: String::new(alloc),
     };
     for step in steps.split("; ") {
@@ -57,13 +57,13 @@ where
     let Bench {
         signals,
         pool,
-        news,
+        woken,
         mut told,
         ..
     } = bench;
     pool.end();
     // This would wait for ever if the pool still held its end.
-    for id in news.iter(rt) {
+    for id in woken.iter(rt) {
         drop(id);
     }
     let (begun, stopped) = (signals.count(Signal::Begun), signals.count(Signal::Stopped));
@@ -71,7 +71,7 @@ where
     Ok(Attempt::Came(told))
 }
 
-/// The number of an id or a value. What is no such number is 0.
+/// The number of an id or a key. What is no such number is 0.
 fn small_of(text: &str) -> i32 {
     text.parse::<i32>().unwrap_or(0)
 }
@@ -90,12 +90,13 @@ impl<R: Wait + Drop> Bench<R> {
     fn go(&mut self, step: &str) -> Result<(), Stop> {
         let (name, rest) = step.split_once(" ").unwrap_or((step, ""));
         match name {
-            "take" => self.take(rest)?,
+            "submit" => self.submit(rest)?,
             "begun" => self.signals.wait(Signal::Begun, count_of(rest))?,
             "ended" => self.signals.wait(Signal::Ended, count_of(rest))?,
+            "reported" => self.signals.wait(Signal::Reported, count_of(rest))?,
             "hear" => self.hear()?,
             "listen" => self.listen(count_of(rest))?,
-            "news" => self.take_news(&id_of(rest))?,
+            "message" => self.take_message(&id_of(rest))?,
             "waits" => self.tell_waiting(&id_of(rest))?,
             "forget" => self.pool.forget(&id_of(rest)),
             _ => return Err(Stop::Table),
@@ -103,21 +104,20 @@ impl<R: Wait + Drop> Bench<R> {
         Ok(())
     }
 
-    fn take(&mut self, words: &str) -> Result<(), AllocError> {
+    fn submit(&mut self, words: &str) -> Result<(), AllocError> {
         let (id, words) = words.split_once(" ").unwrap_or(("", words));
-        let (value, script) = words.split_once(" ").unwrap_or(("", words));
-        let job = job_of(self.alloc, &self.signals, script, small_of(value))?;
-        match self.pool.take_on(id_of(id), job) {
+        let (key, script) = words.split_once(" ").unwrap_or(("", words));
+        let key = small_of(key);
+        let job = job_of(self.alloc, &self.signals, script, key)?;
+        match self.pool.submit(id_of(id), job, key) {
             Ok(()) => self.told.push_str("taken, "),
-            Err(fault) => self.told.push_str(match fault {
-                TakeFault::Full => "full, ",
-                TakeFault::Memory => "no memory, ",
-            }),
+            Err(SubmitFault::Full(key)) => write!(self.told, "full {key}, "),
+            Err(SubmitFault::Memory) => self.told.push_str("no memory, "),
         }
     }
 
     fn hear(&mut self) -> Result<(), AllocError> {
-        match self.news.recv(&self.rt) {
+        match self.woken.recv(&self.rt) {
             Ok(id) => write!(self.told, "heard {id}, ")?,
             Err(_) => self.told.push_str("closed, ")?,
         }
@@ -126,30 +126,30 @@ impl<R: Wait + Drop> Bench<R> {
 
     fn listen(&mut self, times: u64) -> Result<(), AllocError> {
         for _ in 0..times {
-            match self.news.recv(&self.rt) {
-                Ok(id) => self.take_news(&id)?,
+            match self.woken.recv(&self.rt) {
+                Ok(id) => self.take_message(&id)?,
                 Err(_) => self.told.push_str("closed, ")?,
             }
         }
         Ok(())
     }
 
-    fn take_news(&mut self, id: &RequestId) -> Result<(), AllocError> {
-        let Ok(found) = self.pool.take_news(id) else {
+    fn take_message(&mut self, id: &RequestId) -> Result<(), AllocError> {
+        let Ok(found) = self.pool.take_message(id) else {
             return self.told.push_str("no memory, ");
         };
         match found {
-            Some(news) => self.tell_news(news),
+            Some(message) => self.tell_message(message),
             None => self.told.push_str("nothing, "),
         }
     }
 
-    fn tell_news(&mut self, news: JobNews) -> Result<(), AllocError> {
-        match news {
-            JobNews::Report(report) => write!(self.told, "report {}, ", report.params),
-            JobNews::Outcome(outcome) => match outcome {
-                Ok(value) => write!(self.told, "outcome {value}, "),
-                Err(error) => write!(self.told, "error {}, ", error.code),
+    fn tell_message(&mut self, message: JobMessage<i32>) -> Result<(), AllocError> {
+        match message {
+            JobMessage::Report(report) => write!(self.told, "report {}, ", report.params),
+            JobMessage::Outcome(outcome, key) => match outcome {
+                Ok(value) => write!(self.told, "outcome {value} of {key}, "),
+                Err(error) => write!(self.told, "error {} of {key}, ", error.code),
             },
         }
     }
@@ -167,14 +167,15 @@ fn job_of(
     alloc: Global,
     signals: &Arc<Signals>,
     script: &str,
-    number: i32,
+    key: i32,
 ) -> Result<Scripted, AllocError> {
-    let mut value = Vec::new(alloc);
-    value.push(Value::from(number))?;
+    let params = json!(in alloc; { "workDoneToken": "w", "partialResultToken": 7 })?;
     Ok(Scripted {
         alloc,
         signals: Arc::try_clone(signals)?,
         script: String::from_str(alloc, script)?,
-        value: Value::Array(value),
+        work: WorkDone::of(alloc, &params)?,
+        parts: PartialResults::of(alloc, &params)?,
+        value: json!(in alloc; [key])?,
     })
 }

@@ -1,7 +1,7 @@
 // The handler of all rows, and their server: it speaks, asks, and starts jobs.
 use crate::jobs::{Scripted, own_id};
 use crate::signals::{Signal, Signals};
-use lsp_jobs::{JobServer, Start};
+use lsp_jobs::{AnsweredBy, JobEnd, JobServer, NewJob, PartialResults, WorkDone};
 use lsp_message::{Notification, Request, RequestId, ResponseError};
 use lsp_service::{Act, Server};
 use lsp_session::Handler;
@@ -51,25 +51,30 @@ pub enum Asked {
 /// - It says `demo/hello` first, and asks for the configuration.
 /// - It answers `demo/echo` with its params, asks its client `demo/asked` at `demo/ask` and answers with the reply, keeps `demo/hold`
 ///   until the next notification, and knows no other method but two:
-/// - `job SCRIPT` starts a job with this script (`jobs.rt`), which comes to the params. `later SCRIPT` is one that it starts at the
-///   notification `start`.
+/// - `job SCRIPT` gives a job with this script (`jobs.rt`), which comes to the params. `later SCRIPT` is one that it starts at the
+///   notification `start`. What it keeps for a job is the job's number, from 1.
 /// - The notification `job SCRIPT` starts a job under an id of its own, whose outcome it publishes. At `answer` it answers the request
 ///   whose id is the first of the params itself. At one whose method begins with `$/` it does nothing.
 /// - At another notification it pushes its params, asks for the configuration and answers what it keeps.
 /// - At a reply with the configuration it pushes the number of the question.
+/// - Of a job that found no room it first pushes the number.
 #[derive(Drop)]
 pub struct Talker {
     alloc: Global,
     signals: Arc<Signals>,
     questions: u64,
     held: Vec<RequestId>,
-    starts: Vec<Start<Scripted>>,
-    later: Vec<Start<Scripted>>,
-    /// The ids of the jobs whose outcome it saw, each behind a space.
+    numbered: u64,
+    starts: Vec<Numbered>,
+    later: Vec<Numbered>,
+    /// The ids and numbers of the jobs whose end it saw, each behind a space.
     pub finished: String,
 }
 
 type Acts = Vec<Act<Asked>>;
+
+/// A job with its number.
+type Numbered = NewJob<Scripted, u64>;
 
 impl Talker {
     /// A server to which nothing came.
@@ -79,6 +84,7 @@ impl Talker {
             signals,
             questions: 0,
             held: Vec::new(alloc),
+            numbered: 0,
             starts: Vec::new(alloc),
             later: Vec::new(alloc),
             finished: String::new(alloc),
@@ -102,38 +108,32 @@ impl Talker {
         Ok(Act::Ask(method, Value::Null, Asked::Configuration(self.questions)))
     }
 
-    fn start_of(
-        &self,
-        id: RequestId,
-        script: &str,
-        value: Value,
-    ) -> Result<Start<Scripted>, AllocError> {
+    /// A job with this script, and its number.
+    fn job_of(&mut self, script: &str, value: Value) -> Result<(Scripted, u64), AllocError> {
+        self.numbered = self.numbered.saturating_add(1);
         let job = Scripted {
             alloc: self.alloc,
             signals: Arc::try_clone(&self.signals)?,
             script: String::from_str(self.alloc, script)?,
+            work: WorkDone::of(self.alloc, &value)?,
+            parts: PartialResults::of(self.alloc, &value)?,
             value,
         };
-        Ok(Start { id, job })
+        Ok((job, self.numbered))
     }
 
-    /// Does what a method of jobs asks for. Other requests come back.
-    fn take_job(&mut self, request: Request) -> Result<Option<Request>, AllocError> {
+    /// Keeps the job of a request `later SCRIPT`. Other requests come back.
+    fn keep_job(&mut self, request: Request) -> Result<Option<Request>, AllocError> {
         let Request { id, method, params } = request;
-        if let Some(script) = method.as_str().strip_prefix("job ") {
-            let start = self.start_of(id, script, params)?;
-            self.starts.push(start)?;
-            return Ok(None);
-        }
-        if let Some(script) = method.as_str().strip_prefix("later ") {
-            let start = self.start_of(id, script, params)?;
-            self.later.push(start)?;
-            return Ok(None);
-        }
-        Ok(Some(Request { id, method, params }))
+        let Some(script) = method.as_str().strip_prefix("later ") else {
+            return Ok(Some(Request { id, method, params }));
+        };
+        let (job, key) = self.job_of(script, params)?;
+        self.later.push(NewJob { id, job, key })?;
+        Ok(None)
     }
 
-    /// What it does at a notification that is no push: nothing comes back where it is one.
+    /// What it does at a notification that is no push: nothing comes back if it is one.
     fn note(&mut self, notification: &Notification) -> Result<Option<Acts>, AllocError> {
         let method = notification.method.as_str();
         let acts = Vec::new(self.alloc);
@@ -142,9 +142,9 @@ impl Talker {
             return Ok(Some(acts));
         }
         if let Some(script) = method.strip_prefix("job ") {
-            let params = notification.params.clone()?;
-            let start = self.start_of(own_id(self.alloc)?, script, params)?;
-            self.starts.push(start)?;
+            let (job, key) = self.job_of(script, notification.params.clone()?)?;
+            let id = own_id(self.alloc)?;
+            self.starts.push(NewJob { id, job, key })?;
             return Ok(Some(acts));
         }
         if method == "answer" {
@@ -185,7 +185,7 @@ impl Server for Talker {
     }
 
     fn request(&mut self, request: Request) -> Result<Acts, AllocError> {
-        let Some(request) = self.take_job(request)? else {
+        let Some(request) = self.keep_job(request)? else {
             return Ok(Vec::new(self.alloc));
         };
         let Request { id, method, params } = request;
@@ -234,22 +234,48 @@ impl Server for Talker {
 }
 
 impl JobServer<Scripted> for Talker {
-    fn take_jobs(&mut self) -> Result<Vec<Start<Scripted>>, AllocError> {
-        Ok(mem::replace(&mut self.starts, Vec::new(self.alloc)))
+    ghost use Rattle.std.specs.Prelude.{⊤};
+
+    type Key = u64;
+
+    ghost starts = { λ _ _ _. ⊤ };
+
+    ghost finishes = { λ _ _ _ _ _ _. ⊤ };
+
+    fn job(&mut self, request: Request) -> Result<AnsweredBy<Scripted, u64>, AllocError> {
+        let Some(script) = request.method.as_str().strip_prefix("job ") else {
+            return Ok(AnsweredBy::Server(request));
+        };
+        let script = String::from_str(self.alloc, script)?;
+        let (job, number) = self.job_of(script.as_str(), request.params)?;
+        Ok(AnsweredBy::Job(job, number))
+    }
+
+    fn take_jobs(&mut self, alloc: Global) -> Result<Vec<Numbered>, AllocError> {
+        Ok(mem::replace(&mut self.starts, Vec::new(alloc)))
     }
 
     fn finished(
         &mut self,
         id: &RequestId,
-        outcome: &Result<Value, ResponseError>,
+        key: u64,
+        end: &JobEnd,
+        alloc: Global,
     ) -> Result<Acts, AllocError> {
-        write!(self.finished, " {id}")?;
-        if *id != own_id(self.alloc)? {
-            return Ok(Vec::new(self.alloc));
+        write!(self.finished, " {id}:{key}")?;
+        let outcome = match end {
+            JobEnd::Outcome(outcome) => outcome,
+            JobEnd::Refused => {
+                self.finished.push_str(" refused")?;
+                return self.one(self.tell("refused", json!(in alloc; [key])?)?);
+            }
+        };
+        if *id != own_id(alloc)? {
+            return Ok(Vec::new(alloc));
         }
         match outcome {
             Ok(value) => self.one(self.tell("published", value.clone()?)?),
-            Err(_) => Ok(Vec::new(self.alloc)),
+            Err(_) => Ok(Vec::new(alloc)),
         }
     }
 }

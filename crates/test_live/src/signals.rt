@@ -27,6 +27,8 @@ pub enum Signal {
     Stopped,
     /// So many jobs came to the end of their script.
     Ended,
+    /// So many times a job was done with its reports.
+    Reported,
     /// A server was asked so often whether to go on.
     Turns,
 }
@@ -44,12 +46,13 @@ pub struct Signals {
     begun: AtomicU64,
     stopped: AtomicU64,
     ended: AtomicU64,
+    reported: AtomicU64,
     turns: AtomicU64,
     /// How many waits were given up.
     late: AtomicU64,
 }
 
-/// How often a wait looks for its signal, before it is given up: for a minute or so, and longer where the machine is busy.
+/// How often a wait looks for its signal, before it is given up: for a minute or so, and longer if the machine is busy.
 pub const LOOKS: u64 = 100_000_000;
 
 impl Signals {
@@ -66,6 +69,7 @@ impl Signals {
             begun: AtomicU64::new(0),
             stopped: AtomicU64::new(0),
             ended: AtomicU64::new(0),
+            reported: AtomicU64::new(0),
             turns: AtomicU64::new(0),
             late: AtomicU64::new(0),
         }
@@ -83,6 +87,7 @@ impl Signals {
             Signal::Begun => &self.begun,
             Signal::Stopped => &self.stopped,
             Signal::Ended => &self.ended,
+            Signal::Reported => &self.reported,
             Signal::Turns => &self.turns,
         }
     }

@@ -135,7 +135,7 @@ pub enum Device {
     Limits,
     /// The connection has a bound: what is unread weighs at most so much.
     Bounds,
-    /// No memory holds the content part, so the refusal is the answer. The count is the limit, or 0 where there is none.
+    /// No memory holds the content part, so the refusal is the answer. The count is the limit, or 0 if there is none.
     Huge,
     /// The reader waits after so many bytes until the bytes that the case names were written and flushed.
     Waits,
@@ -143,7 +143,7 @@ pub enum Device {
     Slow,
     /// The writer waits for a request to come to the handler, which waits for the second pause of the text.
     Gated,
-    /// Content parts that are no messages are passed over, where a session can. It says how many were not UTF-8, no JSON, no message,
+    /// Content parts that are no messages are passed over, if a session can. It says how many were not UTF-8, no JSON, no message,
     /// and lists.
     Passes,
     /// The thread that reads is not started.
@@ -152,7 +152,7 @@ pub enum Device {
     NoWriter,
 }
 
-/// The case of these words. There is none where they are no case.
+/// The case of these words. There is none if they are no case.
 pub fn case_of<'a>(call: &str, rest: &'a str) -> Option<Case<'a>> {
     let call = named(&CALLS, call)?;
     let mut words = rest.split(' ');
@@ -173,7 +173,7 @@ pub fn case_of<'a>(call: &str, rest: &'a str) -> Option<Case<'a>> {
     })
 }
 
-/// `WORKERS`, or `WORKERS:WAITING` where only so many jobs may wait. A call without jobs has the word `threads`.
+/// `WORKERS`, or `WORKERS:WAITING` if only so many jobs may wait. A call without jobs has the word `threads`.
 pub fn pool_of(word: &str) -> Option<PoolSize> {
     if word == "threads" {
         return Some(PoolSize::from(1));

@@ -26,7 +26,7 @@ pub struct Events<'a> {
     pub sent: &'a Cell<bool>,
     /// Whether it is ready to wake.
     pub is_ready: bool,
-    /// For how many seconds it was last asked to wait at most, or 0 where it was without limit.
+    /// For how many seconds it was last asked to wait at most, or 0 if it was without limit.
     pub seconds: u64,
 }
 

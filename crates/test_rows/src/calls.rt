@@ -52,7 +52,7 @@ impl Run<'_> {
         }
     }
 
-    /// What was refused is the answer where no memory can hold the content part.
+    /// What was refused is the answer if no memory can hold the content part.
     fn answer(self, text: String, is_refused: bool) -> Attempt {
         if is_refused && self.case.device != "huge" {
             Attempt::Refused(text)
@@ -314,7 +314,7 @@ fn line_answer(
     ended_answer(alloc, run, end, writer, "")
 }
 
-/// The same where content parts are passed over, and how many of each kind: not UTF-8, no JSON, no message, lists. With a limit the server is
+/// The same if content parts are passed over, and how many of each kind: not UTF-8, no JSON, no message, lists. With a limit the server is
 /// told of none.
 fn tolerant_answer(
     alloc: Global,

@@ -1,4 +1,4 @@
-// A reader and a writer. Each fails once, where it is told to, and goes on, so that a call that tries again is seen.
+// A reader and a writer. Each fails once, if it is told to, and goes on, so that a call that tries again is seen.
 use std::cell::Cell;
 use std::io;
 use std::io::{BufRead, ErrorKind, Read, Write};

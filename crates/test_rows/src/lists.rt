@@ -54,7 +54,7 @@ fn inbox<'a>(
     })
 }
 
-/// How many messages an outbox takes, and how many bytes a writer, without a new allocation. Where that fails in a call, the null of
+/// How many messages an outbox takes, and how many bytes a writer, without a new allocation. If that fails in a call, the reply to `shutdown` of
 /// `shutdown` may be missing, and a message that is handed on: both are no refusal.
 const MESSAGES: usize = 32;
 
@@ -212,11 +212,11 @@ pub fn session(alloc: Global, word: &str, row: &str) -> Result<String, Stop> {
         }
         "woken" => {
             let mut service = WokenQueuedServer::new(alloc, Talker::new(alloc));
-            serve_service(alloc, &mut inbox, &mut outbox, &mut service)
+            serve_service(alloc, &mut inbox, &mut outbox, &mut service).answer
         }
         "served" => {
             let mut service = QueuedServer::new(alloc, Talker::new(alloc));
-            serve_service(alloc, &mut inbox, &mut outbox, &mut service)
+            serve_service(alloc, &mut inbox, &mut outbox, &mut service).answer
         }
         _ => return Err(Stop::Table),
     };

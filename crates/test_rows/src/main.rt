@@ -30,6 +30,7 @@ mod rows;
 mod servers;
 mod stop;
 mod table;
+mod typed;
 mod writing;
 
 use rows::Rows;

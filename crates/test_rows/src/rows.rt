@@ -80,7 +80,7 @@ impl Rows {
         }
     }
 
-    /// Runs a case at each of its places. What came is told where it is another than at the place before.
+    /// Runs a case at each of its places. What came is told if it is another than at the place before.
     fn run_case(&self, said: &mut String, case: Case<'_>) -> Result<(), Stop> {
         let mut last = String::new(self.alloc);
         for count in case.from..=case.to {

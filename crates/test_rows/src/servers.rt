@@ -1,4 +1,5 @@
 // A handler, and a server that speaks.
+use crate::typed;
 use lsp_message::{Notification, Request, RequestId, ResponseError};
 use lsp_service::{Act, Server, WokenServer};
 use lsp_session::Handler;
@@ -55,7 +56,7 @@ pub enum Asked {
 ///
 /// - It says `demo/hello` first, and asks for the configuration.
 /// - It answers `demo/echo` with its params, asks its client `demo/asked` at `demo/ask` and answers with the reply, keeps `demo/hold`
-///   until the next notification or wake, and knows no other method.
+///   until the next notification or wake, and knows no other method but those of `typed`.
 /// - At a notification it pushes its params, asks for the configuration and answers what it keeps.
 /// - At a reply with the configuration it pushes the number of the question.
 /// - At a wake it pushes `demo/woken`, and answers what it keeps.
@@ -118,6 +119,9 @@ impl Server for Talker {
     }
 
     fn request(&mut self, request: Request) -> Result<Acts, AllocError> {
+        if request.method.as_str().starts_with("typed/") {
+            return typed::asked(self.alloc, request);
+        }
         let Request { id, method, params } = request;
         match method.as_str() {
             "demo/echo" => self.one(Act::Reply(id, Ok(params))),
@@ -134,6 +138,9 @@ impl Server for Talker {
     }
 
     fn notification(&mut self, notification: Notification) -> Result<Acts, AllocError> {
+        if notification.method.as_str().starts_with("typed/") {
+            return typed::noticed(self.alloc, notification);
+        }
         let mut acts = self.one(self.tell("demo/pushed", notification.params)?)?;
         acts.push(self.configuration()?)?;
         self.release(acts)

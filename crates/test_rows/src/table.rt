@@ -70,7 +70,7 @@ impl Given {
 /// | `fills` | the writer fails once after so many bytes, and takes more |
 /// | `flushes` | the flush of this number fails, from 1 |
 /// | `limits` | the call has a limit: a content part has at most so many bytes |
-/// | `huge` | no memory holds the content part, so the refusal is the answer; the count is the limit, or 0 where there is none |
+/// | `huge` | no memory holds the content part, so the refusal is the answer; the count is the limit, or 0 if there is none |
 #[derive(Clone, Copy)]
 pub struct Case<'a> {
     pub call: &'a str,

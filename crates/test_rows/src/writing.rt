@@ -45,7 +45,7 @@ fn member<'v>(found: &'v Value, key: &str) -> Result<&'v Value, Stop> {
     }
 }
 
-/// A member as it is read: a text, a number, a range, or `None` where there is none.
+/// A member as it is read: a text, a number, a range, or `None` if there is none.
 fn read<T: DeserializeOwned>(alloc: Global, found: &Value, key: &str) -> Result<T, Stop> {
     let value = found.get(key).unwrap_or(&Value::Null).clone()?;
     Ok(from_value(alloc, value)?)

@@ -5,7 +5,7 @@ ghost use Rattle.lsp_message.specs.Frame.{body_of};
 ghost use Rattle.lsp_message.specs.Reading.{Answers, found};
 ghost use Rattle.lsp_message.specs.Gathering.{TakesFront, TakesInto, IsFromReader};
 
-use crate::frame::ReadFault;
+use crate::frame::{ReadFault, unless_interrupted};
 use std::alloc::Global;
 use std::io::{BufRead, ErrorKind};
 
@@ -16,7 +16,8 @@ pub(crate) fn read_body<R: BufRead>(
     count: u64,
 ) -> Result<Vec<u8>, ReadFault>
     ensures exact { IfSome (R.remaining reader.old) (λ text.
-        Answers (λ body. body.items) (found result) (R.remaining reader.new) (body_of Ok count text)) }
+        Answers (λ body. body.items) (found result) (R.remaining reader.new)
+        (body_of Ok count text)) }
     ensures begun { TakesFront (R.remaining reader.old) (R.remaining reader.new) }
     ensures unread { result ≡ Err ReadFault.Memory → reader.new ≡ reader.old }
 {
@@ -34,7 +35,7 @@ pub(crate) fn read_body<R: BufRead>(
     Err(ReadFault::Input(ErrorKind::Other))
 }
 
-/// Takes what the reader shows of the missing bytes. Is false where the input ended.
+/// Takes what the reader shows of the missing bytes. Is false if the input ended.
 fn take_part<R: BufRead>(
     reader: &mut R,
     missing: usize,
@@ -42,21 +43,18 @@ fn take_part<R: BufRead>(
 ) -> Result<bool, ReadFault>
     requires some { 0 < missing }
     requires room { vec_len body.old + missing ≤ vec_capacity body.old }
-    ensures part { TakesInto body.old.items (R.remaining reader.old) body.new.items (R.remaining reader.new) }
+    ensures part { TakesInto body.old.items (R.remaining reader.old) body.new.items
+        (R.remaining reader.new) }
     ensures fits { vec_len body.new ≤ vec_len body.old + missing }
     ensures room_kept { vec_capacity body.old ≤ vec_capacity body.new }
-    ensures end { result ≡ Ok false → OnSome (R.remaining reader.old) (IsAtEnd (R.remaining reader.new)) }
+    ensures end { result ≡ Ok false
+        → OnSome (R.remaining reader.old) (IsAtEnd (R.remaining reader.new)) }
     ensures short { result ≡ Ok false → vec_len body.new ≡ vec_len body.old }
     ensures fault { IfErr result IsFromReader }
 {
     let shown = match reader.fill_buf() {
         Ok(shown) => shown,
-        Err(error) => {
-            return match error.kind() {
-                ErrorKind::Interrupted => Ok(true),
-                kind => Err(ReadFault::Input(kind)),
-            };
-        }
+        Err(error) => return unless_interrupted(error, true),
     };
     let count = shown.len().min(missing);
     body.extend_from_slice(&shown[..count]).unwrap();

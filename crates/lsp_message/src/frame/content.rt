@@ -21,7 +21,8 @@ pub fn read_content_within<R: BufRead>(
     limit: u64,
 ) -> Result<Option<Vec<u8>>, ReadFault>
     ensures exact { IfSome (R.remaining reader.old) (λ text.
-        Answers (λ content. content.items) result (R.remaining reader.new) (content_within limit text)) }
+        Answers (λ content. content.items) result (R.remaining reader.new)
+        (content_within limit text)) }
     ensures begun { TakesFront (R.remaining reader.old) (R.remaining reader.new) }
     ensures memory { result ≡ Err ReadFault.Memory → IfSome (R.remaining reader.old) (λ text.
         RunsOutBefore limit text (R.remaining reader.new)) }

@@ -2,17 +2,19 @@
 ghost use Rattle.std.specs.Prelude.{◌≡◌, true, false, Ok, Err, OnOk, OnErr, OnSome, IfErr};
 ghost use Rattle.lsp_message.specs.Gathering.{TakesFront, IsFromOutside, KeepsLine, EndsLine, LeavesSome, StaysInLine};
 
-use crate::frame::ReadFault;
+use crate::frame::{ReadFault, unless_interrupted};
 use memchr::memchr;
 use std::io::{BufRead, ErrorKind};
 
 /// Gathers what the input has of its first line, up to and with the line feed, or to the end of the input.
 pub(crate) fn gather_line<R: BufRead>(reader: &mut R, line: &mut Vec<u8>) -> Result<(), ReadFault>
-    ensures line { OnOk result (EndsLine line.old.items (R.remaining reader.old) line.new.items (R.remaining reader.new)) }
+    ensures line { OnOk result
+        (EndsLine line.old.items (R.remaining reader.old) line.new.items (R.remaining reader.new)) }
     ensures stays { OnErr result (StaysInLine (R.remaining reader.old) (R.remaining reader.new)) }
     ensures begun { TakesFront (R.remaining reader.old) (R.remaining reader.new) }
     ensures fault { IfErr result IsFromOutside }
-    ensures memory { result ≡ Err ReadFault.Memory → OnSome (R.remaining reader.old) (LeavesSome (R.remaining reader.new)) }
+    ensures memory { result ≡ Err ReadFault.Memory
+        → OnSome (R.remaining reader.old) (LeavesSome (R.remaining reader.new)) }
 {
     for _ in 0..u64::MAX {
         if gather_some(reader, line)? {
@@ -24,21 +26,20 @@ pub(crate) fn gather_line<R: BufRead>(reader: &mut R, line: &mut Vec<u8>) -> Res
 
 /// Takes what the reader shows of the line, and says whether the line is at its end.
 fn gather_some<R: BufRead>(reader: &mut R, line: &mut Vec<u8>) -> Result<bool, ReadFault>
-    ensures more { result ≡ Ok false → KeepsLine line.old.items (R.remaining reader.old) line.new.items (R.remaining reader.new) }
-    ensures end { result ≡ Ok true → EndsLine line.old.items (R.remaining reader.old) line.new.items (R.remaining reader.new) }
+    ensures more { result ≡ Ok false
+        → KeepsLine line.old.items (R.remaining reader.old) line.new.items
+        (R.remaining reader.new) }
+    ensures end { result ≡ Ok true
+        → EndsLine line.old.items (R.remaining reader.old) line.new.items (R.remaining reader.new) }
     ensures stays { OnErr result (StaysInLine (R.remaining reader.old) (R.remaining reader.new)) }
     ensures begun { TakesFront (R.remaining reader.old) (R.remaining reader.new) }
     ensures fault { IfErr result IsFromOutside }
-    ensures memory { result ≡ Err ReadFault.Memory → OnSome (R.remaining reader.old) (LeavesSome (R.remaining reader.new)) }
+    ensures memory { result ≡ Err ReadFault.Memory
+        → OnSome (R.remaining reader.old) (LeavesSome (R.remaining reader.new)) }
 {
     let shown = match reader.fill_buf() {
         Ok(shown) => shown,
-        Err(error) => {
-            return match error.kind() {
-                ErrorKind::Interrupted => Ok(false),
-                kind => Err(ReadFault::Input(kind)),
-            };
-        }
+        Err(error) => return unless_interrupted(error, false),
     };
     let (count, is_whole) = match memchr(b'\n', shown) {
         Some(at) => (at + 1, true),

@@ -3,10 +3,10 @@ ghost use Rattle.std.specs.Prelude.{IfSome};
 ghost use Rattle.lsp_message.specs.ReadingSteps.{AnswersInPlace};
 ghost use Rattle.lsp_message.specs.Gathering.{TakesFront};
 
-use crate::frame::ReadFault;
 use crate::frame::header::{HeaderLine, header_line};
+use crate::frame::{ReadFault, unless_interrupted};
 use memchr::memchr;
-use std::io::{BufRead, ErrorKind};
+use std::io::BufRead;
 
 /// The next line, as far as the reader shows it at once.
 #[derive(Clone, Copy)]
@@ -19,19 +19,15 @@ pub(crate) enum InPlace {
     AtEnd,
 }
 
-/// The next line, where the reader shows it whole. Otherwise nothing is taken.
+/// The next line, if the reader shows it whole. Otherwise nothing is taken.
 pub(crate) fn line_in_place<R: BufRead>(reader: &mut R) -> Result<InPlace, ReadFault>
-    ensures exact { IfSome (R.remaining reader.old) (AnswersInPlace result (R.remaining reader.new)) }
+    ensures exact { IfSome (R.remaining reader.old)
+        (AnswersInPlace result (R.remaining reader.new)) }
     ensures begun { TakesFront (R.remaining reader.old) (R.remaining reader.new) }
 {
     let shown = match reader.fill_buf() {
         Ok(shown) => shown,
-        Err(error) => {
-            return match error.kind() {
-                ErrorKind::Interrupted => Ok(InPlace::Cut),
-                kind => Err(ReadFault::Input(kind)),
-            };
-        }
+        Err(error) => return unless_interrupted(error, InPlace::Cut),
     };
     let count = match memchr(b'\n', shown) {
         Some(at) => at + 1,

@@ -16,7 +16,8 @@ pub(crate) fn read_header<R: BufRead>(
     alloc: Global,
     reader: &mut R,
 ) -> Result<Option<u64>, ReadFault>
-    ensures exact { IfSome (R.remaining reader.old) (λ text. AnswersHeader (λ n. n) result (R.remaining reader.new) (header_of text)) }
+    ensures exact { IfSome (R.remaining reader.old) (λ text.
+        AnswersHeader (λ n. n) result (R.remaining reader.new) (header_of text)) }
     ensures begun { TakesFront (R.remaining reader.old) (R.remaining reader.new) }
 {
     let mut gathered = Vec::new(alloc);
@@ -50,7 +51,8 @@ fn read_line<R: BufRead>(
     reader: &mut R,
     gathered: &mut Vec<u8>,
 ) -> Result<Option<HeaderLine>, ReadFault>
-    ensures exact { IfSome (R.remaining reader.old) (λ text. AnswersHeader (λ line. line) result (R.remaining reader.new) (first_line text)) }
+    ensures exact { IfSome (R.remaining reader.old) (λ text.
+        AnswersHeader (λ line. line) result (R.remaining reader.new) (first_line text)) }
     ensures begun { TakesFront (R.remaining reader.old) (R.remaining reader.new) }
 {
     match line_in_place(reader)? {
@@ -65,7 +67,8 @@ fn gathered_line<R: BufRead>(
     reader: &mut R,
     gathered: &mut Vec<u8>,
 ) -> Result<Option<HeaderLine>, ReadFault>
-    ensures exact { IfSome (R.remaining reader.old) (λ text. AnswersHeader (λ line. line) result (R.remaining reader.new) (first_line text)) }
+    ensures exact { IfSome (R.remaining reader.old) (λ text.
+        AnswersHeader (λ line. line) result (R.remaining reader.new) (first_line text)) }
     ensures begun { TakesFront (R.remaining reader.old) (R.remaining reader.new) }
 {
     gathered.clear();

@@ -3,9 +3,8 @@ ghost use Rattle.std.specs.Prelude.{◌≡◌, ◌≤◌, ℕ, length, Ok};
 ghost use Rattle.lsp_message.specs.Front.{front_of, at_header_end};
 ghost use Rattle.lsp_message.specs.HeaderPart.{at_last_line};
 
-use crate::frame::ReadFault;
-use crate::frame::extent::Front;
 use crate::frame::header::{HeaderLine, header_line};
+use crate::frame::{Front, ReadFault};
 use memchr::memchr;
 
 /// Finds out how much of the bytes that have arrived is their first message (LSP 3.17, "Base Protocol"). It does not allocate.

@@ -17,8 +17,10 @@ pub(crate) fn write_body<W: Write>(
     writer: &mut W,
     body: String,
 ) -> Result<(), WriteFault>
-    ensures ok { OnOk result (Appends (W.contents writer.old) (W.contents writer.new) (frame_text (string_bytes body))) }
-    ensures begun { AppendsBeginning (W.contents writer.old) (W.contents writer.new) (frame_text (string_bytes body)) }
+    ensures ok { OnOk result
+        (Appends (W.contents writer.old) (W.contents writer.new) (frame_text (string_bytes body))) }
+    ensures begun { AppendsBeginning (W.contents writer.old) (W.contents writer.new)
+        (frame_text (string_bytes body)) }
     ensures memory { result ≡ Err WriteFault.Memory → writer.new ≡ writer.old }
     ensures length { OnOk result (length (string_bytes body) < 2 ^ 64) }
 {

@@ -43,7 +43,7 @@ pub fn write_as<T: Serialize>(
     }
 }
 
-/// The error to reply with where a conversion failed.
+/// The error to reply with if a conversion failed.
 fn fault(
     alloc: Global,
     code: ErrorCode,
@@ -67,7 +67,13 @@ impl ResponseError {
     ///
     /// `Err` means that an allocation failed.
     pub fn new(alloc: Global, code: ErrorCode, message: &str) -> Result<ResponseError, AllocError>
-        ensures { IfOk result (λ e. error_view e ≡ record { code = number_of code; message = message.now; details = None }) }
+        ensures { IfOk result (λ e.
+            error_view e ≡ record {
+              code = number_of code;
+              message = message.now;
+              details =
+                  None;
+            }) }
     {
         Ok(ResponseError {
             code: code.number(),
@@ -227,8 +233,10 @@ impl Response {
         value: R,
     ) -> Result<Response, serde_json::Error>
         ensures id { IfOk result (λ r. r.id ≡ id) }
-        ensures ok { IfOk result (λ r. IsOkAnd r.response_result (λ v. depth (view v) ≤ max_depth)) }
-        ensures value { IfOk result (λ r. IsOkAnd r.response_result (λ v. IsTreeOf (R.writes value) (view v))) }
+        ensures ok { IfOk result (λ r.
+            IsOkAnd r.response_result (λ v. depth (view v) ≤ max_depth)) }
+        ensures value { IfOk result (λ r.
+            IsOkAnd r.response_result (λ v. IsTreeOf (R.writes value) (view v))) }
     {
         let value = serde_json::to_value(alloc, &value)?;
         Ok(Response {
@@ -254,7 +262,12 @@ impl Response {
     /// Makes a reply with an error and no data (JSON-RPC 2.0, section 5.1). It does not allocate. For `code` take the `number` of
     /// an `ErrorCode`.
     pub fn new_err(id: RequestId, code: i32, message: String) -> Response
-        ensures { result ≡ record { id = id; response_result = Err (record { code = code; message = message; «data» = None }) } }
+        ensures { result
+            ≡ record {
+              id = id;
+              response_result =
+                  Err (record { code = code; message = message; «data» = None });
+            } }
     {
         Response {
             id,

@@ -1,8 +1,9 @@
 // Messages, read from a reader and written to a writer.
-ghost use Rattle.std.specs.Prelude.{◌≡◌, ◌≢◌, ◌<◌, ◌≤◌, length, Err, IfOk, IfSome, OnOk, string_bytes};
+ghost use Rattle.std.specs.Prelude.{◌≡◌, ◌≢◌, ◌<◌, ◌≤◌, length, Err, IfOk, IfSome, OnOk, Some, string_bytes};
+ghost use Rattle.std.specs.Result.{result_map_both};
 ghost use Rattle.serde_json.specs.Read.{read as read_json, max_depth};
 ghost use Rattle.serde_json.specs.View.{view};
-ghost use Rattle.lsp_message.specs.Frame.{body_means, tree_means, no_message, RunsOut, no_limit, reading_of, reading_within};
+ghost use Rattle.lsp_message.specs.Frame.{body_means, tree_means, RunsOut, no_limit, reading_of, reading_within};
 ghost use Rattle.lsp_message.specs.Gathering.{TakesFront};
 ghost use Rattle.lsp_message.specs.Ranges.{nesting};
 ghost use Rattle.lsp_message.specs.Readable.{WritesReadably};
@@ -78,10 +79,12 @@ impl Message {
     /// After `WriteFault::Output` the writer got a beginning of the frame, after `WriteFault::Memory` nothing. If the message
     /// nests at most 127 levels, `Message::read` gives it back from its frame, whatever follows the frame.
     pub fn write<W: Write>(&self, alloc: Global, writer: &mut W) -> Result<(), WriteFault>
-        ensures frame { Writes (message_view self.now) (W.contents writer.old) result (W.contents writer.new) }
+        ensures frame { Writes (message_view self.now) (W.contents writer.old) result
+            (W.contents writer.new) }
         ensures memory { result ≡ Err WriteFault.Memory → writer.new ≡ writer.old }
         ensures reads_back { OnOk result (
-            WritesReadably (message_view self.now) (W.contents writer.old) (W.contents writer.new)) }
+            WritesReadably (message_view self.now) (W.contents writer.old)
+            (W.contents writer.new)) }
     {
         let body = self.body_text(alloc)?;
         write_body(alloc, writer, body)
@@ -105,13 +108,7 @@ fn message_in_text(alloc: Global, text: &str) -> Result<Message, ReadFault>
     ensures some { result ≡ Err ReadFault.Memory → 0 < length text.now }
 {
     match Value::from_str(alloc, text) {
-        Ok(tree) => {
-            let refusal = refusal_of(&tree);
-            match Message::from_tree(tree) {
-                Some(message) => Ok(message),
-                None => Err(refusal),
-            }
-        }
+        Ok(tree) => message_in_tree(tree),
         Err(error) => {
             if error.is_memory() {
                 return Err(ReadFault::Memory);
@@ -121,12 +118,12 @@ fn message_in_text(alloc: Global, text: &str) -> Result<Message, ReadFault>
     }
 }
 
-/// The fault of a tree that is no message: a list is a batch.
-fn refusal_of(tree: &Value) -> ReadFault
-    ensures { result ≡ no_message (view tree.now) }
+/// The message that a tree is. One that is none is a fault: a list is a batch.
+fn message_in_tree(tree: Value) -> Result<Message, ReadFault>
+    ensures { result_map_both message_view (λ fault. fault) result ≡ tree_means (Some (view tree)) }
 {
     match tree {
-        Value::Array(_) => ReadFault::Batch,
-        _ => ReadFault::NoMessage,
+        Value::Array(_) => Err(ReadFault::Batch),
+        tree => Message::from_tree(tree).ok_or(ReadFault::NoMessage),
     }
 }

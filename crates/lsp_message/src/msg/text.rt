@@ -38,9 +38,10 @@ fn is_plain(text: &str) -> bool
         .all(|&byte| byte >= b' ' && byte != b'"' && byte != b'\\')
 }
 
-// Adds a text in quotes, with JSON's escapes. Where there are none, it is copied once.
+// Adds a text in quotes, with JSON's escapes. If there are none, it is copied once.
 pub(super) fn push_quoted(out: &mut String, alloc: Global, text: &str) -> Result<(), AllocError>
-    ensures { OnOk result (string_bytes out.new ≡ string_bytes out.old ++ compact_text (string text.now)) }
+    ensures { OnOk result (string_bytes out.new ≡ string_bytes out.old
+        ++ compact_text (string text.now)) }
 {
     if is_plain(text) {
         out.push_str("\"")?;
@@ -112,7 +113,7 @@ fn push_id(out: &mut String, alloc: Global, before: &str, id: &RequestId) -> Res
     id.push_text(out, alloc)
 }
 
-// Adds a member after others, where there is a value.
+// Adds a member after others, if there is a value.
 fn push_later_member(
     out: &mut String,
     alloc: Global,
@@ -129,9 +130,10 @@ fn push_later_member(
     Ok(())
 }
 
-// Adds the params of a message, which are not written where they are null.
+// Adds the params of a message, which are not written if they are null.
 fn push_params(out: &mut String, alloc: Global, params: &Value) -> Result<(), AllocError>
-    ensures { OnOk result (Adds (IsLaterMember (codes "params") (unless_null (Some (view params.now))))
+    ensures { OnOk result
+        (Adds (IsLaterMember (codes "params") (unless_null (Some (view params.now))))
         (string_bytes out.old) (string_bytes out.new)) }
 {
     match params {
@@ -209,7 +211,8 @@ fn push_failure(
     id: &RequestId,
     error: &ResponseError,
 ) -> Result<(), AllocError>
-    ensures text { OnOk result (Adds (IsTextFrom before.now (response id.now (Err (error_view error.now))))
+    ensures text { OnOk result
+        (Adds (IsTextFrom before.now (response id.now (Err (error_view error.now))))
         (string_bytes out.old) (string_bytes out.new)) }
     ensures range { OnOk result (IsIdInRange id.now × (is_i32 error.now.code ≡ true)) }
 {
@@ -240,7 +243,8 @@ impl Message {
     }
 
     fn text_from(&self, alloc: Global, before: &str) -> Result<String, AllocError>
-        ensures text { IfOk result (λ s. IsTextFrom before.now (message_view self.now) (string_bytes s)) }
+        ensures text { IfOk result (λ s.
+            IsTextFrom before.now (message_view self.now) (string_bytes s)) }
         ensures range { OnOk result (IsInRange (message_view self.now)) }
     {
         let mut out = String::with_capacity(alloc, USUAL_LENGTH)?;

@@ -39,7 +39,8 @@ fn id_of(value: Value) -> Option<RequestId>
 
 // Takes the value of a member out of an object.
 fn take_member(members: &mut Map<String, Value>, name: &str) -> Option<Value>
-    ensures value { option_map view result ≡ get_member name.now (members_view members.old.entries) }
+    ensures value { option_map view result
+        ≡ get_member name.now (members_view members.old.entries) }
     ensures others { (q : List ℕ) → bytes_eq q name.now ≡ false
         → get_member q (members_view members.new.entries)
         ≡ get_member q (members_view members.old.entries) }

@@ -14,7 +14,8 @@ use std::alloc::{AllocError, Global};
 
 fn error_tree(alloc: Global, error: &ResponseError) -> Result<Value, AllocError>
     ensures tree { IfOk result (λ v. view v ≡ error_tree_of (error_view error.now)) }
-    ensures good { OnOk result (code_of (number (of_integer error.now.code)) ≡ Some error.now.code) }
+    ensures good { OnOk result (code_of (number (of_integer error.now.code))
+        ≡ Some error.now.code) }
 {
     let mut members = Map::new(alloc);
     put(&mut members, alloc, "code", Value::from(error.code))?;
@@ -80,7 +81,8 @@ fn outcome_tree(
     outcome: Value,
 ) -> Result<Value, AllocError>
     ensures tree { IfOk result (λ v. view v
-        ≡ object (with_member name.now (view outcome) (member (codes "id") (id_tree id.now) no_members))) }
+        ≡ object (with_member name.now (view outcome)
+        (member (codes "id") (id_tree id.now) no_members))) }
     ensures good { OnOk result (as_id (id_tree id.now) ≡ Some id.now) }
 {
     let mut members = Map::new(alloc);

@@ -2,7 +2,7 @@
 ghost use Rattle.serde_json.specs.Data.{Data};
 ghost use Rattle.std.specs.Prelude.{◌≡◌, List, [], ◌++◌, Option};
 ghost use Rattle.lsp_message.specs.Message.{Message};
-ghost use Rattle.lsp_session.specs.Account.{Act, KeepsAccount, InTurn};
+ghost use Rattle.lsp_session.specs.Account.{Act, KeepsAccount, InOrder};
 ghost use Rattle.lsp_session.specs.Dialog.{Client, NeverBothWait, WaitsForReplies, WaitsForItsDue};
 ghost use Rattle.lsp_session.specs.HandlerSession.{of_handler};
 ghost use Rattle.lsp_session.specs.Prompt.{Talks};
@@ -12,25 +12,34 @@ ghost use Rattle.lsp_session.specs.SessionLaws.{Both};
 use crate::lifecycle::{Inbox, Outbox};
 use crate::loops::{Handler, Service};
 
-/// Over a line that keeps an account of its acts, a session takes its turns: a message is read, all that is said for it is sent, and
-/// only then the next is read. So the result of `initialize` is sent before `initialized` is read, and the null of `shutdown` before
-/// `exit` is (LSP 3.17, "Server lifecycle"). These turns are said of the same exchanges as all else.
-pub fn session_takes_turns<L: Inbox + Outbox, S: Service>()
+/// Over a line that keeps an account of its acts, a session acts in order: a message is read, all that is to be sent for it is sent, and
+/// only then the next is read. So the result of `initialize` is sent before `initialized` is read, and the reply to `shutdown` before
+/// `exit` is (LSP 3.17, "Server lifecycle"). This is said of the same exchanges as all else.
+pub fn session_acts_in_order<L: Inbox + Outbox, S: Service>()
     ensures { (account : L → List Act) (old new : S) (before after : L) (answer : SessionAnswer)
-        → KeepsAccount L.receives L.sends account → Talks L.receives L.listens L.sends starting (SessionOut S.behavior old new) before answer after
+        → KeepsAccount L.receives L.sends account
+        → Talks L.receives L.listens L.sends starting (SessionOut S.behavior old new) before answer
+        after
         → (acts : List Act) × (account after ≡ account before ++ acts)
-        × Talks L.receives L.listens L.sends starting (Both (SessionOut S.behavior old new) (InTurn acts)) before answer after }
+        × Talks L.receives L.listens L.sends starting
+        (Both (SessionOut S.behavior old new) (InOrder acts)) before answer after }
 {}
 
-/// A client that waits only for what is owed to it is never kept waiting by a session that takes its turns: whenever the session awaits
+/// A client that waits only for what is owed to it is never kept waiting by a session that acts in order: whenever the session awaits
 /// something, the client goes on. So the two never wait for each other, whatever the client sends, in whatever order, up to the end of
-/// the session or a message that the line refuses. What is owed is what the session says for the messages that it read, such as the
-/// result of `initialize` and the null of `shutdown`. In a handler's session it is one reply to each request, in their order.
+/// the session or a message that the line refuses. What is owed is what the session sends for the messages that it read, such as the
+/// result of `initialize` and the reply to `shutdown`. In a handler's session it is one reply to each request, in their order.
 pub fn client_is_never_kept_waiting<S: Service, H: Handler>()
-    ensures due { (goes_on : Client) (acts : List Act) (old new : S) (exchanges : List Exchange) (stop : Stop) (null : Option Message) (answer : SessionAnswer)
-        → WaitsForItsDue S.behavior old goes_on → Both (SessionOut S.behavior old new) (InTurn acts) exchanges stop null answer
+    ensures due { (goes_on : Client) (acts : List Act) (old new : S) (exchanges : List Exchange)
+        (stop : Stop) (shutdown_reply : Option Message) (answer : SessionAnswer)
+        → WaitsForItsDue S.behavior old goes_on
+        → Both (SessionOut S.behavior old new) (InOrder acts) exchanges stop shutdown_reply answer
         → NeverBothWait goes_on [] [] acts }
-    ensures replies { (capabilities : Data) (goes_on : Client) (acts : List Act) (old new : H) (exchanges : List Exchange) (stop : Stop) (null : Option Message) (answer : SessionAnswer)
-        → WaitsForReplies goes_on → Both (SessionOut (of_handler H.answers H.notes capabilities) old new) (InTurn acts) exchanges stop null answer
+    ensures replies { (capabilities : Data) (goes_on : Client) (acts : List Act) (old new : H)
+        (exchanges : List Exchange) (stop : Stop) (shutdown_reply : Option Message)
+        (answer : SessionAnswer)
+        → WaitsForReplies goes_on
+        → Both (SessionOut (of_handler H.answers H.notes capabilities) old new) (InOrder acts)
+        exchanges stop shutdown_reply answer
         → NeverBothWait goes_on [] [] acts }
 {}

@@ -18,28 +18,40 @@ use crate::loops::{Handler, Listener, Service};
 /// With a listener that passes over nothing, such as `EndSession`, a session of `session_of_service` is one in which each frame is a
 /// message: what `session` says of its session is so of this one.
 pub fn nothing_is_passed_over<S: Service, L: Listener>()
-    ensures { (limit : ℕ) (old new : S) (text : List ℕ) (left : Option (List ℕ)) (first last : L) (before after : Option (List ℕ)) (answer : Result EndOfSession FaultOfSession)
-        → PassesNothingOver L.hears → GivesAndTells L.hears limit (SessionOut S.behavior old new) text left first last before after answer
+    ensures { (limit : ℕ) (old new : S) (text : List ℕ) (left : Option (List ℕ)) (first last : L)
+        (before after : Option (List ℕ)) (answer : Result EndOfSession FaultOfSession)
+        → PassesNothingOver L.hears
+        → GivesAndTells L.hears limit (SessionOut S.behavior old new) text left first last before
+        after answer
         → Gives limit (SessionOut S.behavior old new) text left before after answer }
 {}
 
 /// `sessions::session_keeps_order` of a session with a listener: a fact of each session that was run by `session_of_service`.
 pub fn session_that_asks_keeps_order<S: Service, L: Listener>()
-    ensures { (limit : ℕ) (old new : S) (text : List ℕ) (left : Option (List ℕ)) (first last : L) (before after : Option (List ℕ)) (answer : Result EndOfSession FaultOfSession)
-        → GivesAndTells L.hears limit (SessionOut S.behavior old new) text left first last before after answer
-        → GivesAndTells L.hears limit (Both (SessionOut S.behavior old new) KeepsOrder) text left first last before after answer }
+    ensures { (limit : ℕ) (old new : S) (text : List ℕ) (left : Option (List ℕ)) (first last : L)
+        (before after : Option (List ℕ)) (answer : Result EndOfSession FaultOfSession)
+        → GivesAndTells L.hears limit (SessionOut S.behavior old new) text left first last before
+        after answer
+        → GivesAndTells L.hears limit (Both (SessionOut S.behavior old new) KeepsOrder) text left
+        first last before after answer }
 {}
 
 /// A session of a handler as a service (`HandlerService`) is one of the handler, which answers `initialize` with the capabilities that the
 /// service was lent: what `session` says is so of each session that is run over such a service, and each request gets exactly one reply
 /// (`sessions::session_answers_requests`). So a handler's session can read on too.
 pub fn handler_service_runs_its_handler<H: Handler, L: Listener>()
-    ensures exchanges { (old new : ServiceOf H) (exchanges : List Exchange) (stop : Stop) (null : Option Message) (answer : SessionAnswer)
-        → SessionOut (lent_handler H.answers H.notes) old new exchanges stop null answer
-        → SessionOut (of_handler H.answers H.notes (view old.capabilities.now)) old.handler.now new.handler.now exchanges stop null answer }
-    ensures bytes { (limit : ℕ) (old new : ServiceOf H) (text : List ℕ) (left : Option (List ℕ)) (first last : L) (before after : Option (List ℕ)) (answer : Result EndOfSession FaultOfSession)
-        → GivesAndTells L.hears limit (SessionOut (lent_handler H.answers H.notes) old new) text left first last before after answer
+    ensures exchanges { (old new : ServiceOf H) (exchanges : List Exchange) (stop : Stop)
+        (shutdown_reply : Option Message) (answer : SessionAnswer)
+        → SessionOut (lent_handler H.answers H.notes) old new exchanges stop shutdown_reply answer
+        → SessionOut (of_handler H.answers H.notes (view old.capabilities.now)) old.handler.now
+        new.handler.now exchanges stop shutdown_reply answer }
+    ensures bytes { (limit : ℕ) (old new : ServiceOf H) (text : List ℕ) (left : Option (List ℕ))
+        (first last : L) (before after : Option (List ℕ))
+        (answer : Result EndOfSession FaultOfSession)
+        → GivesAndTells L.hears limit (SessionOut (lent_handler H.answers H.notes) old new) text
+        left first last before after answer
         → GivesAndTells L.hears limit
-        (Both (SessionOut (of_handler H.answers H.notes (view old.capabilities.now)) old.handler.now new.handler.now) (Both AnswersRequests KeepsOrder))
+        (Both (SessionOut (of_handler H.answers H.notes (view old.capabilities.now)) old.handler.now
+        new.handler.now) (Both AnswersRequests KeepsOrder))
         text left first last before after answer }
 {}

@@ -5,12 +5,15 @@ ghost use Rattle.lsp_message.specs.Message.{Message};
 ghost use Rattle.lsp_session.specs.Answered.{AllReplied, AnswersRequests};
 ghost use Rattle.lsp_session.specs.HandlerSession.{of_handler};
 ghost use Rattle.lsp_session.specs.ProtocolError.{ProtocolFault, is_disconnected};
-ghost use Rattle.lsp_session.specs.Session.{Exchange, SessionAnswer, Stop, sends_of, refused, SessionOut};
+ghost use Rattle.lsp_session.specs.Prompt.{Talks};
+ghost use Rattle.lsp_session.specs.Session.{starting, Exchange, SessionAnswer, Stop, sends_of, refused, SessionOut};
+ghost use Rattle.lsp_session.specs.Served.{StopsFor};
 ghost use Rattle.lsp_session.specs.SessionBytes.{Gives};
 ghost use Rattle.lsp_session.specs.SessionLaws.{Both, KeepsOrder, is_reply, OpenedBy};
 ghost use Rattle.lsp_session.specs.SessionRun.{Runs};
 ghost use Rattle.lsp_session.specs.declared.lifecycle.SendFault.{SendFault as RefusedSend};
 ghost use Rattle.lsp_session.specs.declared.loops.handler.SessionEnd.{SessionEnd as EndOfSession};
+ghost use Rattle.lsp_session.specs.declared.loops.served.StopReason.{StopReason as Reason};
 ghost use Rattle.lsp_session.specs.declared.loops.stream_session.SessionFault.{SessionFault as FaultOfSession};
 
 use crate::lifecycle::{Inbox, Outbox};
@@ -22,52 +25,88 @@ use crate::loops::{Handler, Service};
 /// well (`session_keeps_order`). A fact of each session that was run, over its exchanges, over boxes, and from bytes to bytes with a
 /// limit or without one.
 pub fn session_answers_requests<I: Inbox, O: Outbox, H: Handler>()
-    ensures exchanges { (capabilities : Data) (old new : H) (exchanges : List Exchange) (stop : Stop) (null : Option Message) (answer : SessionAnswer)
-        → SessionOut (of_handler H.answers H.notes capabilities) old new exchanges stop null answer
-        → Both AnswersRequests KeepsOrder exchanges stop null answer }
-    ensures boxes { (capabilities : Data) (old new : H) (before after : I × O) (answer : SessionAnswer)
-        → Runs I.receives O.sends (SessionOut (of_handler H.answers H.notes capabilities) old new) before answer after
-        → Runs I.receives O.sends (Both (SessionOut (of_handler H.answers H.notes capabilities) old new) (Both AnswersRequests KeepsOrder)) before answer after }
-    ensures bytes { (limit : ℕ) (capabilities : Data) (old new : H) (text : List ℕ) (left before after : Option (List ℕ)) (answer : Result EndOfSession FaultOfSession)
-        → Gives limit (SessionOut (of_handler H.answers H.notes capabilities) old new) text left before after answer
-        → Gives limit (Both (SessionOut (of_handler H.answers H.notes capabilities) old new) (Both AnswersRequests KeepsOrder)) text left before after answer }
+    ensures exchanges { (capabilities : Data) (old new : H) (exchanges : List Exchange)
+        (stop : Stop) (shutdown_reply : Option Message) (answer : SessionAnswer)
+        → SessionOut (of_handler H.answers H.notes capabilities) old new exchanges stop
+        shutdown_reply answer
+        → Both AnswersRequests KeepsOrder exchanges stop shutdown_reply answer }
+    ensures boxes { (capabilities : Data) (old new : H) (before after : I
+        × O) (answer : SessionAnswer)
+        → Runs I.receives O.sends (SessionOut (of_handler H.answers H.notes capabilities) old new)
+        before answer after
+        → Runs I.receives O.sends
+        (Both (SessionOut (of_handler H.answers H.notes capabilities) old new)
+        (Both AnswersRequests KeepsOrder)) before answer after }
+    ensures bytes { (limit : ℕ) (capabilities : Data) (old new : H) (text : List ℕ)
+        (left before after : Option (List ℕ)) (answer : Result EndOfSession FaultOfSession)
+        → Gives limit (SessionOut (of_handler H.answers H.notes capabilities) old new) text left
+        before after answer
+        → Gives limit
+        (Both (SessionOut (of_handler H.answers H.notes capabilities) old new)
+        (Both AnswersRequests KeepsOrder)) text left before after answer }
 {}
 
-/// Where the answer is that the client is gone, each request that the session read has its reply: a request is left without
-/// one only where the fault shows it.
+/// The reason why a session stopped may be left out, so the laws of sessions hold of each that `serve_service` or
+/// `serve_line` ran.
+pub fn session_without_its_reason<I: Inbox, O: Outbox, L: Inbox + Outbox, S: Service>()
+    ensures boxes { (old new : S) (reason : Reason) (before after : I × O) (answer : SessionAnswer)
+        → Runs I.receives O.sends (Both (SessionOut S.behavior old new) (StopsFor reason)) before
+        answer after
+        → Runs I.receives O.sends (SessionOut S.behavior old new) before answer after }
+    ensures line { (old new : S) (reason : Reason) (before after : L) (answer : SessionAnswer)
+        → Talks L.receives L.listens L.sends starting
+        (Both (SessionOut S.behavior old new) (StopsFor reason)) before answer after
+        → Talks L.receives L.listens L.sends starting (SessionOut S.behavior old new) before answer
+        after }
+{}
+
+/// If the answer is that the client is gone, each request that the session read has its reply: a request is left without
+/// one only if the fault shows it.
 #[tactic(auto, using(crate::proofs::Ordering::all_answered))]
 pub fn lost_client_was_answered()
-    ensures { (exchanges : List Exchange) (stop : Stop) (null : Option Message) (fault : ProtocolFault)
-        → is_disconnected fault ≡ true → AnswersRequests exchanges stop null (Err fault) → AllReplied exchanges }
+    ensures { (exchanges : List Exchange) (stop : Stop) (shutdown_reply : Option Message)
+        (fault : ProtocolFault)
+        → is_disconnected fault ≡ true → AnswersRequests exchanges stop shutdown_reply (Err fault)
+        → AllReplied exchanges }
 {}
 
-/// After a message that the outbox refused nothing more is sent, the null of `shutdown` neither: a fact of each session.
-#[tactic(auto, using(crate::proofs::Ordering::no_null))]
+/// After a message that the outbox refused nothing more is sent, the reply to `shutdown` neither: a fact of each session.
+#[tactic(auto, using(crate::proofs::Ordering::no_shutdown_reply))]
 pub fn nothing_follows_a_refusal<S: Service>()
-    ensures { (old new : S) (exchanges : List Exchange) (fault : RefusedSend) (null : Option Message) (answer : SessionAnswer)
-        → SessionOut S.behavior old new exchanges (refused fault) null answer → null ≡ None }
+    ensures { (old new : S) (exchanges : List Exchange) (fault : RefusedSend)
+        (shutdown_reply : Option Message) (answer : SessionAnswer)
+        → SessionOut S.behavior old new exchanges (refused fault) shutdown_reply answer
+        → shutdown_reply ≡ None }
 {}
 
 /// Whatever is no reply is sent after the client sent `initialize` and then `initialized`, and after the result of
 /// `initialize` (LSP 3.17, "Server lifecycle"): a fact of each session that keeps its order.
 pub fn only_replies_come_first()
-    ensures { (exchanges : List Exchange) (stop : Stop) (null : Option Message) (answer : SessionAnswer) (before more : List Message) (sent : Message)
-        → KeepsOrder exchanges stop null answer → sends_of exchanges ≡ before ++ sent ∷ more → is_reply sent ≡ false → OpenedBy exchanges before }
+    ensures { (exchanges : List Exchange) (stop : Stop) (shutdown_reply : Option Message)
+        (answer : SessionAnswer) (before more : List Message) (sent : Message)
+        → KeepsOrder exchanges stop shutdown_reply answer
+        → sends_of exchanges ≡ before ++ sent ∷ more → is_reply sent ≡ false
+        → OpenedBy exchanges before }
 {}
 
 /// A session keeps the order of the lifecycle (LSP 3.17, "Server lifecycle"), whatever its service gives: up to and with `initialize`
 /// each request gets one reply, errors first and last the result of `initialize`, and nothing else is sent before `initialized` comes;
-/// then the first `shutdown` gets null, which is the last message that is sent. Where no `initialize` gets a result, nothing but
+/// then the first `shutdown` gets null, which is the last message that is sent. If no `initialize` gets a result, nothing but
 /// errors is sent. No message comes after an `exit`, nor after a response that comes before `initialize`. The answer is that of the
-/// phase in which the session stopped: it is shut down only by an `exit` after the null of `shutdown`. A fact of each session that was
+/// phase in which the session stopped: it is shut down only by an `exit` after the reply to `shutdown`. A fact of each session that was
 /// run, over its exchanges, over boxes, and from bytes to bytes with a limit or without one.
 pub fn session_keeps_order<I: Inbox, O: Outbox, S: Service>()
-    ensures exchanges { (old new : S) (exchanges : List Exchange) (stop : Stop) (null : Option Message) (answer : SessionAnswer)
-        → SessionOut S.behavior old new exchanges stop null answer → KeepsOrder exchanges stop null answer }
+    ensures exchanges { (old new : S) (exchanges : List Exchange) (stop : Stop)
+        (shutdown_reply : Option Message) (answer : SessionAnswer)
+        → SessionOut S.behavior old new exchanges stop shutdown_reply answer
+        → KeepsOrder exchanges stop shutdown_reply answer }
     ensures boxes { (old new : S) (before after : I × O) (answer : SessionAnswer)
         → Runs I.receives O.sends (SessionOut S.behavior old new) before answer after
-        → Runs I.receives O.sends (Both (SessionOut S.behavior old new) KeepsOrder) before answer after }
-    ensures bytes { (limit : ℕ) (old new : S) (text : List ℕ) (left before after : Option (List ℕ)) (answer : Result EndOfSession FaultOfSession)
+        → Runs I.receives O.sends (Both (SessionOut S.behavior old new) KeepsOrder) before answer
+        after }
+    ensures bytes { (limit : ℕ) (old new : S) (text : List ℕ) (left before after : Option (List ℕ))
+        (answer : Result EndOfSession FaultOfSession)
         → Gives limit (SessionOut S.behavior old new) text left before after answer
-        → Gives limit (Both (SessionOut S.behavior old new) KeepsOrder) text left before after answer }
+        → Gives limit (Both (SessionOut S.behavior old new) KeepsOrder) text left before after
+        answer }
 {}

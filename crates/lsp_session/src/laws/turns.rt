@@ -12,9 +12,13 @@ use crate::lifecycle::{Gate, Outbox};
 /// list with fewer events than the call had turns, whatever gate and outbox it had: a fact of each call that was made.
 pub fn list_is_answered<G: Gate, O: Outbox>()
     ensures start { (limit : ℕ) (old new : G × ListInbox × O) (answer : Option StartAnswer)
-        → StartsWithin G.asks ListGives O.sends limit old answer new → length old.1.events.items < limit → IsSome answer }
+        → StartsWithin G.asks ListGives O.sends limit old answer new
+        → length old.1.events.items < limit → IsSome answer }
     ensures wait { (limit : ℕ) (old new : G × ListInbox) (answer : Option FinishAnswer)
-        → AwaitsWithin G.asks ListGives limit old answer new → length old.1.events.items < limit → IsSome answer }
-    ensures finish { (limit : ℕ) (reply : Message) (old new : G × ListInbox × O) (answer : Option FinishAnswer)
-        → FinishesWithin G.asks ListGives O.sends limit reply old answer new → length old.1.events.items < limit → IsSome answer }
+        → AwaitsWithin G.asks ListGives limit old answer new → length old.1.events.items < limit
+        → IsSome answer }
+    ensures finish { (limit : ℕ) (reply : Message) (old new : G × ListInbox
+        × O) (answer : Option FinishAnswer)
+        → FinishesWithin G.asks ListGives O.sends limit reply old answer new
+        → length old.1.events.items < limit → IsSome answer }
 {}

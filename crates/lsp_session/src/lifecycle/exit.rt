@@ -19,7 +19,7 @@ pub(crate) const EXIT_SECONDS: u64 = 30;
 /// If the request is `shutdown`, answers it with null and waits up to 30 seconds for the notification `exit`: then `Ok(true)`. For
 /// any other request it gives `Ok(false)`, and nothing is sent or received (LSP 3.17, "Shutdown Request").
 ///
-/// If the null can't be sent, it waits for `exit` all the same. If the id can't be copied because an allocation failed, nothing
+/// If that reply can't be sent, it waits for `exit` all the same. If the id can't be copied because an allocation failed, nothing
 /// is sent or received. The table of the module has the errors.
 pub fn shutdown<I: Inbox, O: Outbox>(
     alloc: Global,

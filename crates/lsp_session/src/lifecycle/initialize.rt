@@ -53,8 +53,10 @@ pub(crate) fn start_on<O: Outbox>(
     event: Event,
 ) -> Option<Result<(RequestId, Value), ProtocolError>>
     ensures { MatchOption result
-        ((replies : List PlainMessage) × PassesOver O.sends outbox.old (got (event_view event) ∷ []) replies outbox.new)
-        (λ answer. Ends O.sends outbox.old (got (event_view event)) (start_view answer) outbox.new) }
+        ((replies : List PlainMessage)
+        × PassesOver O.sends outbox.old (got (event_view event) ∷ []) replies outbox.new)
+        (λ answer. Ends O.sends outbox.old (got (event_view event)) (start_view answer)
+        outbox.new) }
 {
     match event {
         Event::Timeout => None,
@@ -70,8 +72,11 @@ fn start_on_message<O: Outbox>(
     message: Message,
 ) -> Option<Result<(RequestId, Value), ProtocolError>>
     ensures { MatchOption result
-        ((replies : List PlainMessage) × PassesOver O.sends outbox.old (got (message_event (message_view message)) ∷ []) replies outbox.new)
-        (λ answer. Ends O.sends outbox.old (got (message_event (message_view message))) (start_view answer) outbox.new) }
+        ((replies : List PlainMessage)
+        × PassesOver O.sends outbox.old (got (message_event (message_view message)) ∷ []) replies
+        outbox.new)
+        (λ answer. Ends O.sends outbox.old (got (message_event (message_view message)))
+        (start_view answer) outbox.new) }
 {
     match message {
         Message::Request(request) => {
@@ -102,8 +107,11 @@ fn refuse_early<O: Outbox>(
 ) -> Option<Result<(RequestId, Value), ProtocolError>>
     requires { bytes_eq (string_bytes request.method) (codes "initialize") ≡ false }
     ensures { MatchOption result
-        ((replies : List PlainMessage) × PassesOver O.sends outbox.old (got (message_event (request_view request)) ∷ []) replies outbox.new)
-        (λ answer. Ends O.sends outbox.old (got (message_event (request_view request))) (start_view answer) outbox.new) }
+        ((replies : List PlainMessage)
+        × PassesOver O.sends outbox.old (got (message_event (request_view request)) ∷ []) replies
+        outbox.new)
+        (λ answer. Ends O.sends outbox.old (got (message_event (request_view request)))
+        (start_view answer) outbox.new) }
 {
     let Ok(reply) = early_reply(alloc, request) else {
         return Some(Err(ProtocolError::out_of_memory()));

@@ -23,7 +23,8 @@ pub fn wait_within<I: Inbox, G: Gate>(
     turns: u64,
 ) -> Option<Result<(), ProtocolError>>
     requires { G.can_ask gate.old }
-    ensures awaits { AwaitsWithin G.asks I.receives turns (gate.old, inbox.old) result (gate.new, inbox.new) }
+    ensures awaits { AwaitsWithin G.asks I.receives turns (gate.old, inbox.old) result
+        (gate.new, inbox.new) }
     ensures again { G.can_ask gate.new }
 {
     for _turn in 0..turns {
@@ -61,7 +62,8 @@ pub fn finish_within<I: Inbox, O: Outbox, G: Gate>(
     turns: u64,
 ) -> Option<Result<(), ProtocolError>>
     requires { G.can_ask gate.old }
-    ensures finishes { FinishesWithin G.asks I.receives O.sends turns (ok_reply_spec id (view initialize_result))
+    ensures finishes { FinishesWithin G.asks I.receives O.sends turns
+        (ok_reply_spec id (view initialize_result))
         (gate.old, inbox.old, outbox.old) result (gate.new, inbox.new, outbox.new) }
     ensures again { G.can_ask gate.new }
 {

@@ -29,7 +29,8 @@ impl Inbox for ListInbox {
     ghost use Rattle.lsp_session.specs.Event.{event_view};
     ghost use Rattle.lsp_session.specs.Lists.{GivesNext};
 
-    ghost receives = { λ old event new. GivesNext (map event_view old.events.items) event (map event_view new.events.items) };
+    ghost receives = { λ old event new.
+        GivesNext (map event_view old.events.items) event (map event_view new.events.items) };
 
     fn receive_for(&mut self, _seconds: u64) -> Event {
         match self.events.pop_front() {
@@ -85,7 +86,8 @@ impl Outbox for ListOutbox {
     ghost use Rattle.lsp_session.specs.Lists.{TakesUpToRoom};
 
     ghost sends = { λ old message outcome new.
-        TakesUpToRoom old.room new.room (map message_view old.sent.items) message outcome (map message_view new.sent.items) };
+        TakesUpToRoom old.room new.room (map message_view old.sent.items) message outcome
+        (map message_view new.sent.items) };
 
     fn send(&mut self, message: Message) -> Result<(), SendFault> {
         if self.sent.len() >= self.room {

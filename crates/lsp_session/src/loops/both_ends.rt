@@ -1,13 +1,14 @@
 // A session of a server over an inbox and an outbox (LSP 3.17, "Server lifecycle").
 ghost use Rattle.std.specs.Prelude.{◌≢◌};
 ghost use Rattle.lsp_session.specs.Event.{event_view, timeout};
+ghost use Rattle.lsp_session.specs.Served.{StopsFor};
 ghost use Rattle.lsp_session.specs.Session.{SessionOut};
+ghost use Rattle.lsp_session.specs.SessionLaws.{Both};
 ghost use Rattle.lsp_session.specs.SessionRun.{Runs};
 
-use crate::error::ProtocolError;
 use crate::lifecycle::{Arrival, Event, Inbox, Outbox, SendFault};
-use crate::loops::handler::SessionEnd;
 use crate::loops::line::serve_line;
+use crate::loops::served::Served;
 use crate::loops::service::Service;
 use lsp_message::Message;
 use std::alloc::Global;
@@ -53,26 +54,27 @@ impl<'a, I: Inbox, O: Outbox> Outbox for BothEnds<'a, I, O> {
 /// "Server lifecycle").
 ///
 /// Before `initialize` each request is answered with `ServerNotInitialized`, and each notification but `exit` is dropped.
-/// `initialize` is answered with the service's result. Where the service gives an error, that is the reply, and the session
+/// `initialize` is answered with the service's result. If the service gives an error, that is the reply, and the session
 /// goes on as before `initialize`: a client may send it again (LSP 3.17, "Initialize Request", `retry`). When `initialized`
 /// came, what the service gives for it is sent. From then on each message goes to the service, a reply too, and each wake of the inbox,
 /// up to `shutdown`. What it gives is sent in order, and before the next message is awaited. Of two values no contract can say that, and
 /// this one doesn't; `serve_line`, which this calls with both as one, has it in its own. Nor does this one say that the session waits
 /// for wakes (`Inbox::listens`), so one that passes over each of them would meet it too. That is in the contract of `serve_line` as well.
-/// `shutdown` is answered with null, and nothing follows it; `exit` then gives `ShutDown`. `Closed` comes where, from `initialized` on,
+/// `shutdown` is answered with null, and nothing follows it; `exit` then gives `ShutDown`. `Closed` comes if, from `initialized` on,
 /// `exit` comes without a `shutdown` or no more messages come. What comes at the wrong time is in the table of `lifecycle`.
 ///
 /// An outbox that is closed to a message ends the session with `disconnected channel`, and a failed allocation with
-/// `out of memory`; what was to follow for that message is not sent. That the null could not be sent is ignored. After
+/// `out of memory`; what was to follow for that message is not sent. That this reply could not be sent is ignored. After
 /// 2^64 - 1 events it ends as if no more messages came.
 pub fn serve_service<I: Inbox, O: Outbox, S: Service>(
     alloc: Global,
     inbox: &mut I,
     outbox: &mut O,
     service: &mut S,
-) -> Result<SessionEnd, ProtocolError>
-    ensures { Runs I.receives O.sends (SessionOut S.behavior service.old service.new)
-        (inbox.old, outbox.old) result (inbox.new, outbox.new) }
+) -> Served
+    ensures { Runs I.receives O.sends
+        (Both (SessionOut S.behavior service.old service.new) (StopsFor result.stop))
+        (inbox.old, outbox.old) result.answer (inbox.new, outbox.new) }
 {
     let mut line = BothEnds { inbox, outbox };
     serve_line(alloc, &mut line, service)

@@ -25,7 +25,7 @@ pub enum SessionEnd {
 
 /// What a server does with the requests and the notifications of a session.
 ///
-/// The ghost members say what a handler promises. Where an `impl` leaves one out, it promises nothing there: the method may do anything.
+/// The ghost members say what a handler promises. If an `impl` leaves one out, it promises nothing there: the method may do anything.
 pub trait Handler {
     ghost use Rattle.serde_json.specs.Data.{Data};
     ghost use Rattle.std.specs.Prelude.{ℕ, Result, ⊤};
@@ -42,19 +42,23 @@ pub trait Handler {
     /// request's id. An outer `Err` says that an allocation failed, and ends the session.
     fn answer(&mut self, request: &Request) -> Result<Result<Value, ResponseError>, AllocError>
         ensures { IfOk result (λ outcome.
-            answers self.old request.now.id (string_bytes request.now.method) (view request.now.params) (outcome_view outcome) self.new) };
+            answers self.old request.now.id (string_bytes request.now.method)
+            (view request.now.params) (outcome_view outcome) self.new) };
 
     /// Takes notice of a notification (JSON-RPC 2.0, section 4.1). An `Err` says that an allocation failed, and ends the
     /// session.
     fn note(&mut self, notification: &Notification) -> Result<(), AllocError>
-        ensures { IfOk result (λ _. notes self.old (string_bytes notification.now.method) (view notification.now.params) self.new) };
+        ensures { IfOk result (λ _.
+            notes self.old (string_bytes notification.now.method) (view notification.now.params)
+            self.new) };
 
     /// The reply to a request that is given to keep: under its id, with an outcome that `answer` may give. The session calls
     /// this method, which calls `answer`. A handler that gives the params back writes it as well, and moves them.
     fn respond(&mut self, request: Request) -> Result<Response, AllocError>
         ensures id { IfOk result (λ response. response.id ≡ request.id) }
         ensures outcome { IfOk result (λ response.
-            answers self.old request.id (string_bytes request.method) (view request.params) (outcome_view response.response_result) self.new) }
+            answers self.old request.id (string_bytes request.method) (view request.params)
+            (outcome_view response.response_result) self.new) }
     {
         let response_result = self.answer(&request)?;
         Ok(Response {
@@ -68,11 +72,11 @@ pub trait Handler {
 ///
 /// `initialize` is answered with `{"capabilities":<capabilities>}`. From `initialized` on each request is answered, in
 /// order, with what the handler gives, and each notification is told to it; a response is dropped. `shutdown` is answered
-/// with null, and `exit` then gives `ShutDown`. `Closed` comes where, from `initialized` on, `exit` comes without a
+/// with null, and `exit` then gives `ShutDown`. `Closed` comes if, from `initialized` on, `exit` comes without a
 /// `shutdown` or no more messages come. What comes at the wrong time is in the table of `lifecycle`.
 ///
 /// An outbox that is closed to a reply ends the session with `disconnected channel`, and an allocation that fails with
-/// `out of memory`; that the null could not be sent is ignored. After 2^64 - 1 events it ends as if no more messages came.
+/// `out of memory`; that this reply could not be sent is ignored. After 2^64 - 1 events it ends as if no more messages came.
 pub fn serve<I: Inbox, O: Outbox, H: Handler>(
     alloc: Global,
     inbox: &mut I,
@@ -80,12 +84,13 @@ pub fn serve<I: Inbox, O: Outbox, H: Handler>(
     capabilities: Value,
     handler: &mut H,
 ) -> Result<SessionEnd, ProtocolError>
-    ensures { Runs I.receives O.sends (SessionOut (of_handler H.answers H.notes (view capabilities)) handler.old handler.new)
+    ensures { Runs I.receives O.sends
+        (SessionOut (of_handler H.answers H.notes (view capabilities)) handler.old handler.new)
         (inbox.old, outbox.old) result (inbox.new, outbox.new) }
 {
     let mut capabilities = capabilities;
     let mut service = HandlerService::new(alloc, &mut capabilities, handler);
-    serve_service(alloc, inbox, outbox, &mut service)
+    serve_service(alloc, inbox, outbox, &mut service).answer
 }
 
 /// The result of `initialize`: `{"capabilities":<capabilities>}`. An `Err` is a failed allocation.

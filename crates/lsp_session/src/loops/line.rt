@@ -9,14 +9,16 @@ ghost use Rattle.lsp_session.specs.OutputView.{output_view};
 ghost use Rattle.lsp_session.specs.Outputs.{SendsAll};
 ghost use Rattle.lsp_session.specs.Prompt.{Talks, WaitsIn};
 ghost use Rattle.lsp_session.specs.Replies.{ok_reply as ok_reply_spec};
+ghost use Rattle.lsp_session.specs.Served.{served_by, StopsFor};
 ghost use Rattle.lsp_session.specs.Session.{starting, serving, SessionFrom, SessionOut};
+ghost use Rattle.lsp_session.specs.SessionLaws.{Both};
 
 use crate::error::ProtocolError;
 use crate::lifecycle::{
     Arrival, EXIT_SECONDS, Event, Inbox, Outbox, finish_on, is_exit, offer, ok_reply, shutdown_on,
     start_on,
 };
-use crate::loops::handler::SessionEnd;
+use crate::loops::served::{Served, StopReason};
 use crate::loops::service::{Output, Service};
 use lsp_message::{Message, RequestId, Response, ResponseError};
 use serde_json::Value;
@@ -26,31 +28,49 @@ use std::alloc::{AllocError, Global};
 /// "Server lifecycle").
 ///
 /// Before `initialize` each request is answered with `ServerNotInitialized`, and each notification but `exit` is dropped.
-/// `initialize` is answered with the service's result. Where the service gives an error, that is the reply, and the session
+/// `initialize` is answered with the service's result. If the service gives an error, that is the reply, and the session
 /// goes on as before `initialize`: a client may send it again (LSP 3.17, "Initialize Request", `retry`). When `initialized`
 /// came, what the service gives for it is sent. From then on each message goes to the service, a reply too, and each wake of the inbox,
 /// up to `shutdown`. What it gives is sent in order.
-/// `shutdown` is answered with null, and nothing follows it; `exit` then gives `ShutDown`. `Closed` comes where, from `initialized` on,
+/// `shutdown` is answered with null, and nothing follows it; `exit` then gives `ShutDown`. `Closed` comes if, from `initialized` on,
 /// `exit` comes without a `shutdown` or no more messages come. What comes at the wrong time is in the table of `lifecycle`.
 ///
 /// A line that is closed to a message ends the session with `disconnected channel`, and a failed allocation with
-/// `out of memory`; what was to follow for that message is not sent. That the null could not be sent is ignored. After
+/// `out of memory`; what was to follow for that message is not sent. That this reply could not be sent is ignored. After
 /// 2^64 - 1 events it ends as if no more messages came.
 ///
 /// From `initialized` up to `shutdown` each wait is one of `Inbox::receive_or_woken`, so what the line says of such a wait (`listens`)
 /// holds of each. Where it says there that no wake is passed over, the service is told of every wake.
 ///
-/// All that is said for a message or a wake is sent before anything else is awaited: the result of `initialize` before `initialized`, and
-/// the null before `exit`. So a client may wait for it before it sends on. That this is the reply to a request is so of all that comes up
+/// All that is to be sent for a message or a wake is sent before anything else is awaited: the result of `initialize` before `initialized`, and
+/// the reply to `shutdown` before `exit`. So a client may wait for it before it sends on. That this is the reply to a request is so of all that comes up
 /// to `initialized`, and of `shutdown`; in between a service may reply to it later, unless it answers at once, as a handler does
 /// (`laws::sessions::session_answers_requests`). After a message that the line refuses nothing is awaited, but that an event is
-/// received after the null in any case.
+/// received after the reply to `shutdown` in any case.
 pub fn serve_line<L: Inbox + Outbox, S: Service>(
     alloc: Global,
     line: &mut L,
     service: &mut S,
-) -> Result<SessionEnd, ProtocolError>
-    ensures { Talks L.receives L.listens L.sends starting (SessionOut S.behavior service.old service.new) line.old result line.new }
+) -> Served
+    ensures { Talks L.receives L.listens L.sends starting
+        (Both (SessionOut S.behavior service.old service.new) (StopsFor result.stop))
+        line.old result.answer line.new }
+{
+    match run_line(alloc, line, service) {
+        Ok(served) => served,
+        Err(error) => Served::failed(error),
+    }
+}
+
+/// The same, if an error tells the reason itself.
+fn run_line<L: Inbox + Outbox, S: Service>(
+    alloc: Global,
+    line: &mut L,
+    service: &mut S,
+) -> Result<Served, ProtocolError>
+    ensures { Talks L.receives L.listens L.sends starting
+        (Both (SessionOut S.behavior service.old service.new) (StopsFor (served_by result).stop))
+        line.old (served_by result).answer line.new }
 {
     for _attempt in 0..u64::MAX {
         let event = line.receive();
@@ -63,7 +83,7 @@ pub fn serve_line<L: Inbox + Outbox, S: Service>(
                 finish_line(alloc, line, id, result)?;
                 let first = service.initialized()?;
                 send_output(line, first)?;
-                return serve_turns(alloc, line, service);
+                return serve_messages(alloc, line, service);
             }
             Err(error) => line.send(error_reply(id, error))?,
         }
@@ -72,14 +92,17 @@ pub fn serve_line<L: Inbox + Outbox, S: Service>(
 }
 
 /// The session from `initialized` on: each message goes to the service, up to the first `shutdown` or `exit`, and so does each wake.
-fn serve_turns<L: Inbox + Outbox, S: Service>(
+fn serve_messages<L: Inbox + Outbox, S: Service>(
     alloc: Global,
     line: &mut L,
     service: &mut S,
-) -> Result<SessionEnd, ProtocolError>
-    ensures { Talks L.receives L.listens L.sends serving (SessionFrom S.behavior serving service.old service.new) line.old result line.new }
+) -> Result<Served, ProtocolError>
+    ensures { Talks L.receives L.listens L.sends serving
+        (Both (SessionFrom S.behavior serving service.old service.new)
+        (StopsFor (served_by result).stop))
+        line.old (served_by result).answer line.new }
 {
-    for _turn in 0..u64::MAX {
+    for _exchange in 0..u64::MAX {
         let message = match wait_serving(line) {
             Arrival::Message(message) => message,
             Arrival::Woken => {
@@ -87,18 +110,18 @@ fn serve_turns<L: Inbox + Outbox, S: Service>(
                 send_output(line, output)?;
                 continue;
             }
-            Arrival::Closed => return Ok(SessionEnd::Closed),
+            Arrival::Closed => return Ok(Served::closed(StopReason::NoMore)),
         };
         if is_exit(&message) {
-            return Ok(SessionEnd::Closed);
+            return Ok(Served::closed(StopReason::Decided));
         }
         if shut_line(alloc, line, &message)? {
-            return Ok(SessionEnd::ShutDown);
+            return Ok(Served::shut_down());
         }
-        let output = turn(service, message)?;
+        let output = output_of(service, message)?;
         send_output(line, output)?;
     }
-    Ok(SessionEnd::Closed)
+    Ok(Served::closed(StopReason::NoMore))
 }
 
 /// Waits as a session does that serves its client: for a message or a wake.
@@ -115,7 +138,8 @@ fn finish_line<L: Inbox + Outbox>(
     id: RequestId,
     initialize_result: Value,
 ) -> Result<(), ProtocolError>
-    ensures { FinishesOn L.receives L.sends (ok_reply_spec id (view initialize_result)) line.old result line.new }
+    ensures { FinishesOn L.receives L.sends (ok_reply_spec id (view initialize_result)) line.old
+        result line.new }
 {
     if let Err(fault) = line.send(ok_reply(id, initialize_result)) {
         return Err(ProtocolError::from(fault));
@@ -149,8 +173,9 @@ fn shut_line<L: Inbox + Outbox>(
 }
 
 /// What the service gives for a message.
-fn turn<S: Service>(service: &mut S, message: Message) -> Result<Output, AllocError>
-    ensures { IfOk result (λ output. S.behavior.gives service.old (message_view message) (output_view output) service.new) }
+fn output_of<S: Service>(service: &mut S, message: Message) -> Result<Output, AllocError>
+    ensures { IfOk result (λ output.
+        S.behavior.outputs service.old (message_view message) (output_view output) service.new) }
 {
     match message {
         Message::Request(request) => service.request(request),

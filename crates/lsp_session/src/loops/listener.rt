@@ -18,7 +18,8 @@ pub trait Listener {
     /// Whether to pass over a content part with this fault and read on. False ends the session with `SessionFault::Read`, and leaves the
     /// listener as it is. It is asked at once, before the service is woken.
     fn passes_over(&mut self, fault: ReadFault) -> bool
-        ensures { MatchBool result (hears self.old fault self.new) (ends self.old fault × (self.new ≡ self.old)) };
+        ensures { MatchBool result (hears self.old fault self.new) (ends self.old fault
+            × (self.new ≡ self.old)) };
 }
 
 /// A listener that ends the session at the first content part which is no message. So nothing is ever passed over.

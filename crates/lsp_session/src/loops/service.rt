@@ -30,25 +30,31 @@ pub trait Service {
     /// What comes of `initialize` (LSP 3.17, "Initialize Request"): the result, with the capabilities, the server's name and
     /// version; or an error, which is sent as the reply, and the session goes on waiting for another `initialize`.
     fn initialize(&mut self, params: Value) -> Result<Result<Value, ResponseError>, AllocError>
-        ensures outcome { IfOk result (λ outcome. behavior.initializes self.old (view params) (outcome_view outcome) self.new) }
-        ensures err { OnErr result (behavior.starves self.old self.new) };
+        ensures outcome { IfOk result (λ outcome.
+            behavior.initializes self.old (view params) (outcome_view outcome) self.new) }
+        ensures err { OnErr result (behavior.after_memory_fault self.old self.new) };
 
-    /// What it says when `initialized` came, before the next message: all messages, in order.
+    /// What it sends when `initialized` came, before the next message: all messages, in order.
     fn initialized(&mut self) -> Result<Output, AllocError>
-        ensures output { IfOk result (λ output. behavior.opens self.old (output_view output) self.new) }
-        ensures err { OnErr result (behavior.starves self.old self.new) };
+        ensures output { IfOk result (λ output.
+            behavior.at_initialized self.old (output_view output) self.new) }
+        ensures err { OnErr result (behavior.after_memory_fault self.old self.new) };
 
     /// What comes of a request: all messages that the session is to send for it, in order.
     fn request(&mut self, request: Request) -> Result<Output, AllocError>
-        ensures { IfOk result (λ output. behavior.gives self.old (request_view request) (output_view output) self.new) };
+        ensures { IfOk result (λ output.
+            behavior.outputs self.old (request_view request) (output_view output) self.new) };
 
     /// The same of a notification.
     fn notification(&mut self, notification: Notification) -> Result<Output, AllocError>
-        ensures { IfOk result (λ output. behavior.gives self.old (notification_view notification) (output_view output) self.new) };
+        ensures { IfOk result (λ output.
+            behavior.outputs self.old (notification_view notification) (output_view output)
+            self.new) };
 
     /// The same of a response.
     fn response(&mut self, response: Response) -> Result<Output, AllocError>
-        ensures { IfOk result (λ output. behavior.gives self.old (response_view response) (output_view output) self.new) };
+        ensures { IfOk result (λ output.
+            behavior.outputs self.old (response_view response) (output_view output) self.new) };
 
     /// What comes of a wake: something that it waits for is ready, and the inbox told so. It comes from `initialized` up to
     /// `shutdown`, and nowhere else. A service that waits for nothing gives `Output::Nothing`.

@@ -4,11 +4,10 @@ ghost use Rattle.lsp_session.specs.Event.{arrival_view, event_view};
 ghost use Rattle.lsp_session.specs.SessionFault.{session_answer as session_answer_spec};
 ghost use Rattle.lsp_session.specs.StreamLines.{account_of, IsUnused, StreamLineGives, StreamLineListens, StreamLineSends};
 
-use crate::error::ProtocolError;
 use crate::lifecycle::{Arrival, Event, Inbox, Outbox, SendFault};
 use crate::loops::account::Account;
 use crate::loops::{
-    FrameOutbox, Listener, ReadEnd, SessionEnd, SessionFault, TolerantInbox, session_answer,
+    FrameOutbox, Listener, ReadEnd, Served, SessionEnd, SessionFault, TolerantInbox, session_answer,
 };
 use lsp_message::{Message, WriteFault};
 use std::alloc::Global;
@@ -20,7 +19,7 @@ use std::snapshot::Snapshot;
 enum Noted {
     /// The line gave this event.
     Gave(Snapshot<Event>),
-    /// It gave this, where it could be a wake.
+    /// It gave this, if it could be a wake.
     Came(Snapshot<Arrival>),
     /// It took this message.
     Took(Snapshot<Message>),
@@ -33,7 +32,7 @@ enum Noted {
 /// runs.
 ///
 /// `serve_line` runs a session over it, and `answer` gives what `session_of_service` answers. What such a session reads, writes and tells
-/// the listener, and in which order, `laws::streams::line_gives_in_turn` says.
+/// the listener, and in which order, `laws::streams::line_gives_in_order` says.
 ///
 /// A line has to be dropped (`drop(line)`) before its reader, its writer and its listener are used again.
 #[derive(Drop)]
@@ -84,20 +83,19 @@ impl<'a, R: BufRead, W: Write, L: Listener> StreamLine<'a, R, W, L> {
         self.outbox.fault()
     }
 
-    /// The answer of a session over this line, where `serve_line` gave this: of several faults that fit it is the first of `Write`,
+    /// The answer of a session over this line, if `serve_line` gave this: of several faults that fit it is the first of `Write`,
     /// `Memory`, `Read` and `Protocol`.
-    pub fn answer(
-        &self,
-        served: Result<SessionEnd, ProtocolError>,
-    ) -> Result<SessionEnd, SessionFault>
-        ensures { result ≡ session_answer_spec served self.now.inbox.end self.now.outbox.fault }
+    pub fn answer(&self, served: Served) -> Result<SessionEnd, SessionFault>
+        ensures { result ≡ session_answer_spec served.stop served.answer self.now.inbox.end
+            self.now.outbox.fault }
     {
         session_answer(served, self.end(), self.fault())
     }
 
     /// What one wait gives that also gives wakes.
     fn next_arrival(&mut self) -> Arrival
-        ensures gives { StreamLineGives R.remaining L.hears self.old (arrival_view result) self.new }
+        ensures gives { StreamLineGives R.remaining L.hears self.old (arrival_view result)
+            self.new }
         ensures reads_on { StreamLineListens L.ends self.old (arrival_view result) self.new }
     {
         let arrival = self.inbox.next_arrival();
@@ -111,7 +109,7 @@ impl<'a, R: BufRead, W: Write, L: Listener> Inbox for StreamLine<'a, R, W, L> {
 
     ghost receives = { StreamLineGives R.remaining L.hears };
 
-    // Where a wake can tell of a content part that is no message, it ends the messages only if the listener says so.
+    // If a wake can tell of a content part that is no message, it ends the messages only if the listener says so.
     ghost listens = { StreamLineListens L.ends };
 
     /// It has no timeouts: a receive waits as the reader does.

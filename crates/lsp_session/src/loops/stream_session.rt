@@ -6,13 +6,13 @@ ghost use Rattle.lsp_session.specs.HandlerSession.{of_handler};
 ghost use Rattle.lsp_session.specs.Session.{SessionOut};
 ghost use Rattle.lsp_session.specs.PassingBytes.{GivesAndTells};
 ghost use Rattle.lsp_session.specs.SessionBytes.{Gives};
-ghost use Rattle.lsp_session.specs.SessionFault.{ran_out as ran_out_spec, came_to_no_more as came_to_no_more_spec, protocol_fault as protocol_fault_spec, read_fault as read_fault_spec, plain_answer as plain_answer_spec, read_answer as read_answer_spec, session_answer as session_answer_spec};
+ghost use Rattle.lsp_session.specs.SessionFault.{session_answer as session_answer_spec};
 
 use crate::error::ProtocolError;
 use crate::loops::handler_service::HandlerService;
 use crate::loops::{
-    EndSession, FrameOutbox, Handler, Listener, ReadEnd, Service, SessionEnd, TolerantInbox,
-    serve_service,
+    EndSession, FrameOutbox, Handler, Listener, ReadEnd, Served, Service, SessionEnd, StopReason,
+    TolerantInbox, serve_service,
 };
 use lsp_message::{ReadFault, WriteFault};
 use serde_json::Value;
@@ -39,7 +39,7 @@ pub enum SessionFault {
 }
 
 impl fmt::Display for SessionFault {
-    ghost use Rattle.lsp_session.specs.SessionBytes.{session_fault_text};
+    ghost use Rattle.lsp_session.specs.SessionFault.{session_fault_text};
 
     ghost output = { session_fault_text };
 
@@ -60,8 +60,8 @@ impl Error for SessionFault {}
 ///
 /// What follows the last message that the session used is left in the reader: what comes after the `exit` of a session
 /// that was shut down, for one. After a failed write that holds too, and all of the output but its last message was written,
-/// and a beginning of that one. Where memory ran out, the output's first messages were written, each whole. There, and where
-/// the null of `shutdown` was not written, the next message may have been taken too. Each reply is written, and the writer
+/// and a beginning of that one. If memory ran out, the output's first messages were written, each whole. There, and where
+/// the reply to `shutdown` was not written, the next message may have been taken too. Each reply is written, and the writer
 /// flushed, before the next message is read: that is tested, and no part of the contract.
 pub fn session<R: BufRead, W: Write, H: Handler>(
     alloc: Global,
@@ -71,7 +71,8 @@ pub fn session<R: BufRead, W: Write, H: Handler>(
     handler: &mut H,
 ) -> Result<SessionEnd, SessionFault>
     ensures { IfSome (R.remaining reader.old) (λ text.
-        Gives no_limit (SessionOut (of_handler H.answers H.notes (view capabilities)) handler.old handler.new)
+        Gives no_limit
+        (SessionOut (of_handler H.answers H.notes (view capabilities)) handler.old handler.new)
         text (R.remaining reader.new) (W.contents writer.old) (W.contents writer.new) result) }
 {
     session_within(alloc, reader, writer, capabilities, handler, u64::MAX)
@@ -88,7 +89,8 @@ pub fn session_within<R: BufRead, W: Write, H: Handler>(
     limit: u64,
 ) -> Result<SessionEnd, SessionFault>
     ensures { IfSome (R.remaining reader.old) (λ text.
-        Gives limit (SessionOut (of_handler H.answers H.notes (view capabilities)) handler.old handler.new)
+        Gives limit (SessionOut (of_handler H.answers H.notes (view capabilities)) handler.old
+        handler.new)
         text (R.remaining reader.new) (W.contents writer.old) (W.contents writer.new) result) }
 {
     let mut capabilities = capabilities;
@@ -99,8 +101,8 @@ pub fn session_within<R: BufRead, W: Write, H: Handler>(
 /// `serve_service` from bytes to bytes (LSP 3.17, "Base Protocol" and "Server lifecycle"), as `session` is `serve`, over messages whose
 /// content part has at most `limit` bytes. A longer one is `SessionFault::Read` of `ReadFault::TooLong`, and is unread.
 ///
-/// At a content part that is no message (see `is_of_body`) the listener `bad_bodies` is asked. Where it reads on, nothing is answered,
-/// the service is woken, and the next frame follows. That is so from `initialized` up to `shutdown`, where a service can be woken. Where
+/// At a content part that is no message (see `is_of_body`) the listener `bad_bodies` is asked. If it reads on, nothing is answered,
+/// the service is woken, and the next frame follows. That is so from `initialized` up to `shutdown`, if a service can be woken. Where
 /// the listener ends the session, and before and after in any case, such a part is `SessionFault::Read`, and so is each other fault at any
 /// time. With `EndSession` nothing is ever passed over (`laws::listeners::nothing_is_passed_over`). `TolerantInbox::receive_or_woken` asks
 /// the listener at each such part. That a session calls it from `initialized` up to `shutdown` is no part of this contract, since a reader
@@ -116,104 +118,41 @@ pub fn session_of_service<R: BufRead, W: Write, S: Service, L: Listener>(
     limit: u64,
 ) -> Result<SessionEnd, SessionFault>
     ensures { IfSome (R.remaining reader.old) (λ text.
-        GivesAndTells L.hears limit (SessionOut S.behavior service.old service.new) text (R.remaining reader.new)
+        GivesAndTells L.hears limit (SessionOut S.behavior service.old service.new) text
+        (R.remaining reader.new)
         bad_bodies.old bad_bodies.new (W.contents writer.old) (W.contents writer.new) result) }
 {
     let mut inbox = TolerantInbox::within(alloc, reader, bad_bodies, limit);
     let mut outbox = FrameOutbox::new(alloc, writer);
-    let answer = serve_service(alloc, &mut inbox, &mut outbox, service);
-    session_answer(answer, inbox.end(), outbox.fault())
+    let served = serve_service(alloc, &mut inbox, &mut outbox, service);
+    session_answer(served, inbox.end(), outbox.fault())
 }
 
-/// The answer of a session whose messages ended so, and whose outbox kept this fault of writing: of several faults that fit it is
-/// the first of `Write`, `Memory`, `Read` and `Protocol`. A session in threads asks it too.
+/// The answer of a session that was served so, whose messages ended so, and whose output failed so: of several
+/// faults that fit it is the first of `Write`, `Memory`, `Read` and `Protocol`. A session in threads asks it too.
 pub fn session_answer(
-    answer: Result<SessionEnd, ProtocolError>,
+    served: Served,
     end: Option<ReadEnd>,
     unwritten: Option<WriteFault>,
 ) -> Result<SessionEnd, SessionFault>
-    ensures { result ≡ session_answer_spec answer end unwritten }
+    ensures { result ≡ session_answer_spec served.stop served.answer end unwritten }
 {
-    match unwritten {
-        Some(WriteFault::Output(kind)) => Err(SessionFault::Write(WriteFault::Output(kind))),
-        Some(WriteFault::Memory) => Err(SessionFault::Memory),
-        None => read_answer(answer, end),
-    }
-}
-
-/// The answer where writing did not fail. Where nothing ended the messages, a session that says that no more came had
-/// taken as many as it can count.
-fn read_answer(
-    answer: Result<SessionEnd, ProtocolError>,
-    end: Option<ReadEnd>,
-) -> Result<SessionEnd, SessionFault>
-    ensures { result ≡ read_answer_spec answer end }
-{
-    match end {
-        Some(ReadEnd::Fault(fault)) => {
-            if ran_out(&answer) {
-                return Err(SessionFault::Memory);
-            }
-            Err(read_fault(fault))
-        }
-        Some(ReadEnd::Exit | ReadEnd::End | ReadEnd::Closed | ReadEnd::Memory) => plain_answer(
-            answer,
+    match (unwritten, served.stop, end) {
+        (Some(WriteFault::Output(kind)), _, _) => Err(SessionFault::Write(WriteFault::Output(
+            kind,
+        ))),
+        (Some(WriteFault::Memory), _, _)
+        | (None, StopReason::Exhausted, _)
+        | (None, StopReason::NoMore, Some(ReadEnd::Fault(ReadFault::Memory))) => Err(
+            SessionFault::Memory,
         ),
-        None => {
-            if came_to_no_more(&answer) {
-                return Err(SessionFault::Read(ReadFault::Input(ErrorKind::Other)));
-            }
-            plain_answer(answer)
+        (None, StopReason::NoMore, Some(ReadEnd::Fault(fault))) => Err(SessionFault::Read(fault)),
+        (None, StopReason::NoMore, None) => {
+            Err(SessionFault::Read(ReadFault::Input(ErrorKind::Other)))
         }
+        _ => match served.answer {
+            Ok(end) => Ok(end),
+            Err(error) => Err(SessionFault::Protocol(error)),
+        },
     }
-}
-
-/// Whether an allocation failed.
-fn ran_out(answer: &Result<SessionEnd, ProtocolError>) -> bool
-    ensures { result ≡ ran_out_spec answer.now }
-{
-    match answer {
-        Ok(_) => false,
-        Err(error) => error.is_out_of_memory(),
-    }
-}
-
-/// Whether the session ended as if no more messages came.
-fn came_to_no_more(answer: &Result<SessionEnd, ProtocolError>) -> bool
-    ensures { result ≡ came_to_no_more_spec answer.now }
-{
-    match answer {
-        Ok(SessionEnd::ShutDown) => false,
-        Ok(SessionEnd::Closed) => true,
-        Err(error) => error.channel_is_disconnected(),
-    }
-}
-
-/// The fault where a message was not read.
-fn read_fault(fault: ReadFault) -> SessionFault
-    ensures { result ≡ read_fault_spec fault }
-{
-    match fault {
-        ReadFault::Memory => SessionFault::Memory,
-        fault => SessionFault::Read(fault),
-    }
-}
-
-/// The answer where neither reading nor writing failed.
-fn plain_answer(answer: Result<SessionEnd, ProtocolError>) -> Result<SessionEnd, SessionFault>
-    ensures { result ≡ plain_answer_spec answer }
-{
-    match answer {
-        Ok(end) => Ok(end),
-        Err(error) => Err(protocol_fault(error)),
-    }
-}
-
-fn protocol_fault(error: ProtocolError) -> SessionFault
-    ensures { result ≡ protocol_fault_spec error }
-{
-    if error.is_out_of_memory() {
-        return SessionFault::Memory;
-    }
-    SessionFault::Protocol(error)
 }

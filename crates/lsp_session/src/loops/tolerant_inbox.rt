@@ -22,7 +22,7 @@ pub fn is_of_body(fault: ReadFault) -> bool
 }
 
 /// Gives a reader's messages (LSP 3.17, "Base Protocol"), as `StreamInbox` does, but asks a listener at a content part that is no message
-/// (`is_of_body`) where a wake can tell of it: `receive_or_woken` passes over it and gives `Arrival::Woken`, or ends the messages. In the
+/// (`is_of_body`) if a wake can tell of it: `receive_or_woken` passes over it and gives `Arrival::Woken`, or ends the messages. In the
 /// other calls there is no wake, and such a part ends the messages, as each other fault does everywhere.
 #[derive(Debug, Drop)]
 pub struct TolerantInbox<'a, R, L> {
@@ -60,7 +60,7 @@ impl<'a, R: BufRead, L: Listener> TolerantInbox<'a, R, L> {
         self.end
     }
 
-    /// Reads on: a message, or none where no more come. A fault has not ended the messages yet.
+    /// Reads on: a message, or none if no more come. A fault has not ended the messages yet.
     fn read_next(&mut self) -> Result<Option<Message>, ReadFault>
         ensures read { ReadsNext R.remaining self.old result self.new }
         ensures reads_on { NeverEndsAtBody self.old self.new }
@@ -84,7 +84,8 @@ impl<'a, R: BufRead, L: Listener> TolerantInbox<'a, R, L> {
 
     /// What one wait gives that also gives wakes. At a content part that is no message the listener is asked whether to read on.
     pub(crate) fn next_arrival(&mut self) -> Arrival
-        ensures gives { TolerantInboxGives R.remaining L.hears self.old (arrival_view result) self.new }
+        ensures gives { TolerantInboxGives R.remaining L.hears self.old (arrival_view result)
+            self.new }
         ensures reads_on { EndsAtBody L.ends self.old self.new }
     {
         match self.read_next() {
@@ -119,7 +120,7 @@ impl<'a, R: BufRead, L: Listener> Inbox for TolerantInbox<'a, R, L> {
 
     ghost receives = { TolerantInboxGives R.remaining L.hears };
 
-    // Where a wake can tell of such a part, it ends the messages only if the listener says so.
+    // If a wake can tell of such a part, it ends the messages only if the listener says so.
     ghost listens = { λ old _ new. EndsAtBody L.ends old new };
 
     fn receive_for(&mut self, _seconds: u64) -> Event {

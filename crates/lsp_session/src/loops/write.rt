@@ -20,16 +20,16 @@ pub enum WriteEnd {
 
 /// Writes an inbox's messages as frames (LSP 3.17, "Base Protocol"), in order, until the inbox is closed or a write fails.
 ///
-/// Each message is offered to `spent` when its write has ended, in whatever way, and what `spent` answers is ignored. After
+/// Each message is offered to `done` when its write has ended, in whatever way, and what `done` answers is ignored. After
 /// a fault nothing more is received or written. Timeouts of the inbox are passed over.
 pub fn write_loop<I: Inbox, W: Write, O: Outbox>(
     alloc: Global,
     inbox: &mut I,
     writer: &mut W,
-    spent: &mut O,
+    done: &mut O,
 ) -> WriteEnd
-    ensures { WritesOut I.receives O.sends (inbox.old, W.contents writer.old, spent.old) result
-        (inbox.new, W.contents writer.new, spent.new) }
+    ensures { WritesOut I.receives O.sends (inbox.old, W.contents writer.old, done.old) result
+        (inbox.new, W.contents writer.new, done.new) }
 {
     for _count in 0..u64::MAX {
         let message = match inbox.receive() {
@@ -37,7 +37,7 @@ pub fn write_loop<I: Inbox, W: Write, O: Outbox>(
             Event::Timeout => unreachable!(),
             Event::Closed => return WriteEnd::Closed,
         };
-        match write_and_offer(alloc, message, writer, spent) {
+        match write_and_offer(alloc, message, writer, done) {
             Ok(()) => {}
             Err(fault) => return WriteEnd::Fault(fault),
         }
@@ -50,12 +50,13 @@ fn write_and_offer<W: Write, O: Outbox>(
     alloc: Global,
     message: Message,
     writer: &mut W,
-    spent: &mut O,
+    done: &mut O,
 ) -> Result<(), WriteFault>
-    ensures written { Writes (message_view message) (W.contents writer.old) result (W.contents writer.new) }
-    ensures offered { Offers O.sends (message_view message) spent.old spent.new }
+    ensures written { Writes (message_view message) (W.contents writer.old) result
+        (W.contents writer.new) }
+    ensures offered { Offers O.sends (message_view message) done.old done.new }
 {
     let written = message.write(alloc, writer);
-    offer(spent, message);
+    offer(done, message);
     written
 }

@@ -7,7 +7,8 @@ use Rattle.lsp_dispatch.specs.DispatchAnswers.{answer_view, call_view}
 use Rattle.lsp_dispatch.specs.Dispatch.{AnswersEach}
 use Rattle.lsp_dispatch.specs.declared.calls.Call.{Call}
 use Rattle.lsp_dispatch.proofs.LawLemmas.{replies_once, answers_each}
-use Rattle.lsp_dispatch.proofs.Runs.{replayed_new, replayed_push, all_taken, tickets_most}
+use Rattle.lsp_dispatch.proofs.Runs.{replayed_new, replayed_push, tickets_most}
+use Rattle.lsp_message.proofs.Joined.{all_taken}
 use Rattle.lsp_dispatch.proofs.calls.replay.Goals as goal
 
 pub loop-call-init : goal.loop-call-init

@@ -1,4 +1,4 @@
-use Rattle.lsp_documents.proofs.SessionLemmas.{all_agree, all_kept, opened_current, refused_makes}
+use Rattle.lsp_documents.proofs.NoticeLemmas.{all_agree, all_kept, opened_current, refused_makes}
 use Rattle.lsp_documents.proofs.laws.documents_are_the_clients.Goals as goal
 
 pub returns-clause-each : goal.returns-clause-each

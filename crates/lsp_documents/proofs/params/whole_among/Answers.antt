@@ -2,8 +2,8 @@ use Rattle.std.proofs.Common.{◌||◌, ◌∙◌, ◌∷◌, ◌+◌, ap, sym, 
 use Rattle.serde_json.specs.View.{view, items_view}
 use Rattle.std.proofs.lemmas.List.{drop_more}
 use Rattle.lsp_documents.specs.Params.{change_in, changes_in}
-use Rattle.lsp_documents.specs.Session.{has_whole}
-use Rattle.lsp_documents.proofs.SessionLemmas.{whole_more}
+use Rattle.lsp_documents.specs.Notices.{has_whole}
+use Rattle.lsp_documents.proofs.NoticeLemmas.{whole_more}
 use Rattle.lsp_documents.proofs.params.whole_among.Goals as goal
 
 pub loop-value-preserved : goal.loop-value-preserved

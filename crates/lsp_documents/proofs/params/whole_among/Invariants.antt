@@ -1,7 +1,7 @@
 use Rattle.std.proofs.Common.{◌≡◌, ◌||◌, drop, option_map}
 use Rattle.serde_json.specs.View.{items_view}
 use Rattle.lsp_documents.specs.Params.{changes_in}
-use Rattle.lsp_documents.specs.Session.{has_whole}
+use Rattle.lsp_documents.specs.Notices.{has_whole}
 use Rattle.lsp_documents.proofs.params.whole_among.Given as goal
 
 abbrev pub invariant-loop-value : goal.invariant-loop-value

@@ -9,10 +9,10 @@ use Rattle.lsp_jobs.proofs.laws.session_with_jobs_that_asks_keeps_laws.Goals as 
 pub returns : goal.returns
 returns g c = record {
   bytes = λ limit first last text heard heard_last before after answer tells.
-      over_as (JobSession g.row.T.Denot g.S.Server g.S.JobServer.starts g.S.JobServer.finishes g.J.Job.answers first last)
-      (LawfulJobSession g.row.T.Denot g.S.Server g.S.JobServer.starts g.S.JobServer.finishes g.J.Job.answers first last)
-      (lawful_jobs g.row.T.Denot g.S.Server g.S.JobServer.starts g.S.JobServer.finishes g.J.Job.answers first last) _ (text, heard) _ _ tells;
+      over_as (JobSession g.row.T.Denot g.S.Server g.S.JobServer g.J.Job first last)
+      (LawfulJobSession g.row.T.Denot g.S.Server g.S.JobServer g.J.Job first last)
+      (lawful_jobs g.row.T.Denot g.S.Server g.S.JobServer g.J.Job first last) _ (text, heard) _ _ tells;
   nothing_passed = λ limit first last text heard heard_last before after answer never tells.
       none_passed true g.L.Listener.hears limit heard heard_last never
-      (JobSession g.row.T.Denot g.S.Server g.S.JobServer.starts g.S.JobServer.finishes g.J.Job.answers first last) text before after answer tells;
+      (JobSession g.row.T.Denot g.S.Server g.S.JobServer g.J.Job first last) text before after answer tells;
 }

@@ -2,7 +2,7 @@ use denote.Exit.{yes}
 use denote.Param.Send.{param_send, arg_send}
 use Rattle.std.proofs.Common.{ap, ◌∙◌, true}
 use Rattle.lsp_session.specs.Session.{SessionOut}
-use Rattle.lsp_service.specs.QueuedServer.{at_woken_desk}
+use Rattle.lsp_service.specs.QueuedServer.{woken_with_queues}
 use Rattle.lsp_threads.proofs.ContentsSend.{contents_send}
 use Rattle.lsp_threads.proofs.Sessions.{started_told_as}
 use Rattle.lsp_threads.specs.declared.run.Threaded.{Threaded}
@@ -16,12 +16,12 @@ start_pool-requires-send-M g c κs within = param_send _ _ (arg_send _ yes _ con
 
 pub returns : goal.returns
 returns g c =
-    let may = seen_with_jobs g.row.T.Denot g.S.Server g.S.JobServer.starts g.S.JobServer.finishes g.J.Job.answers in
+    let may = seen_with_jobs g.row.T.Denot g.S.Server g.S.JobServer g.J.Job in
     let old = c.new-queued.result in
     let new = c.run_threads_of_service_over-done.new.service in
     started_told_as true g.L.Listener.hears c.args.options.limit c.args.bad_bodies.now _
-    (SessionOut (at_woken_desk may) old new) (JobSession g.row.T.Denot g.S.Server g.S.JobServer.starts g.S.JobServer.finishes g.J.Job.answers c.args.server _)
-    (job_session g.row.T.Denot g.S.Server g.S.JobServer.starts g.S.JobServer.finishes g.J.Job.answers old new c.new-pooled.result c.args.server _ c.new-queued.ensures
+    (SessionOut (woken_with_queues may) old new) (JobSession g.row.T.Denot g.S.Server g.S.JobServer g.J.Job c.args.server _)
+    (job_session g.row.T.Denot g.S.Server g.S.JobServer g.J.Job old new c.new-pooled.result c.args.server _ c.new-queued.ensures
     (c.new-pooled.ensures ∙ ap (λ t. (c.args.server, t)) c.in-Ok-start_pool.ensures)
-    (c.into_parts-server.ensures ∙ ap (λ (p : PooledServer _ _ _). p.server) c.into_server.ensures))
+    (c.into_parts-server.ensures ∙ ap (λ (p : PooledServer _ _ _ _). p.server) c.into_server.ensures))
     (λ (done : Threaded _). g.W.Write.contents done.writer) (λ (done : Threaded _). done.answer) _ _ _ (rw c.in-Ok-waker.ensures.made at c.run_threads_of_service_over-done.ensures)

@@ -1,7 +1,7 @@
 use Rattle.std.proofs.Common.{false}
 use Rattle.lsp_session.specs.Session.{SessionOut}
 use Rattle.lsp_service.proofs.Taking.{session_of}
-use Rattle.lsp_service.specs.QueuedServer.{at_desk, ServerSession}
+use Rattle.lsp_service.specs.QueuedServer.{with_queues, ServerSession}
 use Rattle.lsp_service.specs.Stated.{unwoken}
 use Rattle.lsp_threads.specs.declared.run.Threaded.{Threaded}
 use Rattle.lsp_threads.proofs.Sessions.{started_told_as}
@@ -12,6 +12,6 @@ returns g c =
     let old = c.new-queued.result in
     let new = c.run_threads_of_service-done.new.service in
     started_told_as false g.L.Listener.hears c.args.options.limit c.args.bad_bodies.now _
-    (SessionOut (at_desk (unwoken g.S.Server)) old new) (ServerSession (unwoken g.S.Server) c.args.server _)
+    (SessionOut (with_queues (unwoken g.S.Server)) old new) (ServerSession (unwoken g.S.Server) c.args.server _)
     (session_of (unwoken g.S.Server) old new c.args.server _ c.new-queued.ensures c.into_server.ensures)
     (λ (done : Threaded _). g.W.Write.contents done.writer) (λ (done : Threaded _). done.answer) _ _ _ c.run_threads_of_service-done.ensures

@@ -1,6 +1,6 @@
 use Rattle.lsp_session.specs.Session.{SessionOut}
 use Rattle.lsp_session.proofs.Passing.{told_as}
-use Rattle.lsp_service.specs.QueuedServer.{at_desk, ServerSession}
+use Rattle.lsp_service.specs.QueuedServer.{with_queues, ServerSession}
 use Rattle.lsp_service.specs.Stated.{unwoken}
 use Rattle.lsp_service.proofs.Taking.{session_of}
 use Rattle.lsp_service.proofs.sessions.session_with.Goals as goal
@@ -9,6 +9,6 @@ pub returns : goal.returns
 returns g c =
     let old = c.new-queued.result in
     let new = c.session_of_service-answer.new.service in
-    told_as (SessionOut (at_desk (unwoken g.S.Server)) old new) (ServerSession (unwoken g.S.Server) c.args.server _)
+    told_as (SessionOut (with_queues (unwoken g.S.Server)) old new) (ServerSession (unwoken g.S.Server) c.args.server _)
     (session_of (unwoken g.S.Server) old new c.args.server _ c.new-queued.ensures c.into_server.ensures) g.L.Listener.hears c.args.limit
     _ _ _ _ _ _ _ c.session_of_service-answer.ensures

@@ -1,6 +1,6 @@
 use Rattle.std.proofs.Common.{◌≡◌, Ok, IfSome, false, true, sym, ap, subst, ◌∙◌}
 use Rattle.lsp_message.specs.Frame.{reading_within}
-use Rattle.lsp_message.specs.Letters.{is_exit}
+use Rattle.lsp_message.specs.Messages.{is_exit}
 use Rattle.lsp_message.specs.Reading.{Answers}
 use Rattle.lsp_message.specs.View.{message_view}
 use Rattle.lsp_session.specs.ReadLoop.{Hands}

@@ -1,4 +1,4 @@
-use Rattle.std.proofs.Common.{◌≡◌, ◌∙◌, ◌++◌, ◌∷◌, [], ap, arith}
+use Rattle.std.proofs.Common.{◌≡◌, ◌∙◌, [], ap, arith}
 use Rattle.lsp_relay.specs.Relay.{has_end}
 use Rattle.lsp_relay.proofs.Parcels.{has_end_push, has_end_closed}
 use Rattle.lsp_threads.specs.Contents.{bytes_of}

@@ -1,5 +1,5 @@
 use Rattle.std.proofs.Common.{◌≡◌, false, true, sym, ap, ◌∙◌}
-use Rattle.lsp_message.specs.Letters.{is_exit}
+use Rattle.lsp_message.specs.Messages.{is_exit}
 use Rattle.lsp_message.specs.View.{message_view}
 use Rattle.lsp_session.specs.declared.lifecycle.SendFault.TheVariants.{Memory}
 use Rattle.lsp_session.proofs.Handing.{Handed-more, hands_exit, hands_refused, hands_end, hands_fault, hands_on}

@@ -1,4 +1,4 @@
-use Rattle.std.proofs.Common.{◌++◌, sym, string_bytes}
+use Rattle.std.proofs.Common.{sym, string_bytes}
 use Rattle.lsp_threads.proofs.Frames.{all_gathered, first_gathered}
 use Rattle.lsp_threads.proofs.relay_texts.gather.Goals as goal
 

@@ -1,9 +1,11 @@
 use Rattle.std.proofs.Common.{arith, ◌∙◌, ap, refl, sym}
 use Rattle.lsp_session.proofs.Ran.{session_facts}
+use Rattle.lsp_session.specs.Served.{StopsFor}
 use Rattle.lsp_session.specs.Session.{starting, SessionOut}
+use Rattle.lsp_session.specs.SessionLaws.{Both}
 use Rattle.lsp_session.specs.SessionFault.{session_answer}
 use Rattle.lsp_relay.specs.Relay.{has_end}
-use Rattle.lsp_threads.specs.Contents.{Receiving, Taking}
+use Rattle.lsp_threads.specs.Contents.{Taking}
 use Rattle.lsp_threads.specs.Replies.{Replying, reply_fault}
 use Rattle.lsp_threads.specs.Threads.{session_end}
 use Rattle.lsp_threads.proofs.ContentStream.{gives_relay}
@@ -13,7 +15,7 @@ use Rattle.lsp_threads.proofs.serving.serve_between.Goals as goal
 
 pub settle_all-requires : goal.settle_all-requires
 settle_all-requires g c =
-    let runs = c.serve_service-answer.ensures in
+    let runs = c.serve_service-served.ensures in
     let seen = seen_all g.L.Listener.hears runs.events _ _ runs.received in
     let kept = c.parts-2-1.given.1 (sym c.new-inbox.ensures.same_parts ∙ sym seen.1.0) in
     c.drain-rx.ensures.relay ∙ ap (λ (t : Taking). t.relay) kept ∙ gives_relay g.L.Listener.hears runs.events _ _ seen.0 ∙ ap (λ (t : Taking). t.relay) (c.new-inbox.ensures.untaken ∙ c.new-parts.ensures)
@@ -21,8 +23,8 @@ settle_all-requires g c =
 
 pub settle_all-requires-2 : goal.settle_all-requires-2
 settle_all-requires-2 g c =
-    let runs = c.serve_service-answer.ensures in
-    let replied = all_replied _ _ runs.output runs.null runs.stop runs.got in
+    let runs = c.serve_service-served.ensures in
+    let replied = all_replied _ _ runs.output runs.shutdown_reply runs.stop runs.got in
     c.join-replies_rx.ensures.0 ∙ c.requires.writing.1
     ∙ sym (c.finish-replies.ensures.relay ∙ replied.same_relay ∙ ap (λ (r : Replying). r.relay) c.new-outbox.ensures)
 
@@ -30,8 +32,9 @@ pub returns : goal.returns
 returns g c =
     let hears = g.L.Listener.hears in
     let old = c.args.service.now in
-    let new = c.serve_service-answer.new.service in
-    let runs = c.serve_service-answer.ensures in
+    let new = c.serve_service-served.new.service in
+    let served = c.serve_service-served.result in
+    let runs = c.serve_service-served.ensures in
     let seen = seen_all hears runs.events _ _ runs.received in
     let kept = c.parts-2-1.given.1 (sym c.new-inbox.ensures.same_parts ∙ sym seen.1.0) in
     let told = c.listener-1.given.1 (sym c.new-inbox.ensures.same_listener ∙ sym seen.1.1) in
@@ -39,10 +42,11 @@ returns g c =
     let drained = c.is_drained-drained.ensures ∙ ap (λ (t : Taking). has_end t.taken) kept in
     let ended = c.session_end.ensures ∙ (λ i. session_end (c.end-ended.ensures i) (drained i) c.join-tx.result.1) in
     let fault = c.reply_fault-fault.ensures ∙ (λ i. reply_fault c.join-replies_rx.result.2 (c.finish-replies.ensures.failed i)) in
-    let answer = c.session_answer-answer.ensures ∙ (λ i. session_answer c.serve_service-answer.result (ended i) (fault i)) in
-    rw (answer, told, sym c.new-inbox.ensures.untold) (threads_tell hears c.args.workers.reading.promise.limit (SessionOut g.S.Service.behavior old new)
-    (session_facts g.S.Service.behavior starting old new refl)
-    _ _ c.new-inbox.result c.serve_service-answer.new.inbox c.new-outbox.result c.serve_service-answer.new.outbox c.serve_service-answer.result runs
+    let answer = c.session_answer-answer.ensures ∙ (λ i. session_answer served.stop served.answer (ended i) (fault i)) in
+    rw (answer, told, sym c.new-inbox.ensures.untold) (threads_tell hears c.args.workers.reading.promise.limit (Both (SessionOut g.S.Service.behavior old new) (StopsFor served.stop))
+    (SessionOut g.S.Service.behavior old new) served.stop
+    (λ xs stop shutdown_reply answer both. (both.0, both.1, session_facts g.S.Service.behavior starting old new refl xs stop shutdown_reply answer both.0))
+    _ _ c.new-inbox.result c.serve_service-served.new.inbox c.new-outbox.result c.serve_service-served.new.outbox served.answer runs
     (ap (λ (t : Taking). t.taken) first ∙ c.requires.reading.0) (ap (λ (t : Taking). t.waiting) first) c.new-inbox.ensures.unended
     (ap (λ (r : Replying). r.bytes) c.new-outbox.ensures)
     c.drain-rx.result.taken c.join-tx.result.0 (rw kept at c.drain-rx.ensures.taken) c.settle_all.ensures.settled

@@ -3,8 +3,8 @@ use Rattle.lsp_documents.specs.Held.{documents_of}
 use Rattle.lsp_documents.specs.Params.{uri_in, document_in, version_in, changes_given}
 use Rattle.serde_json.specs.View.{view}
 use Rattle.std.specs.Prelude.{option_and_then, IfSome, ◌≡◌, true}
-use Rattle.lsp_documents.specs.Session.{has_changes}
-use Rattle.lsp_documents.proofs.SessionLemmas.{change_refused, change_starved}
+use Rattle.lsp_documents.specs.Notices.{has_changes}
+use Rattle.lsp_documents.proofs.NoticeLemmas.{change_refused, change_starved}
 use Rattle.lsp_documents.proofs.documents.TextDocuments.did_change.Goals as goal
 
 pub returns-in-Some-refusal-clause-err : goal.returns-in-Some-refusal-clause-err

@@ -4,7 +4,7 @@ use Rattle.std.specs.Cmp.Lexicographic.{slice_cmp}
 use Rattle.std.specs.Ordering.{nat_cmp}
 use Rattle.std.specs.String.{string_bytes}
 use Rattle.std.proofs.lemmas.Map.Made.{map_same_pairs, lookup-map_values}
-use Rattle.lsp_documents.specs.Session.{lost}
+use Rattle.lsp_documents.specs.Notices.{lost}
 use Rattle.lsp_documents.proofs.documents.TextDocuments.lose_all.Goals as goal
 
 pub returns-clause-held : goal.returns-clause-held

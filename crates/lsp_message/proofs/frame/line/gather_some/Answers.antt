@@ -2,7 +2,7 @@ use Rattle.std.proofs.Common.{◌≤◌, length, IfSome, sym, subst, arith, leng
 use Rattle.std.specs.Io.KnownBytes.{Keeps}
 use Rattle.std.proofs.BufReadLemmas.{Consumes_shown}
 use Rattle.lsp_message.proofs.Shown.{IsLinePart, part_to_feed, part_with_no_feed, kept_shown, shown_left, dropped, line_ends, line_goes_on}
-use Rattle.lsp_message.proofs.Takings.{TakesFront-kept, KeepsLine-kept, StaysInLine-kept, OnErr-any}
+use Rattle.lsp_message.proofs.Takings.{TakesFront-kept, StaysInLine-kept, OnErr-any}
 use Rattle.lsp_message.proofs.frame.line.gather_some.Given.{Over}
 use Rattle.lsp_message.proofs.frame.line.gather_some.Goals.{in-Some, in-None}
 use Rattle.lsp_message.proofs.frame.line.gather_some.Goals as goal
@@ -39,20 +39,8 @@ returns-in_err-extend_from_slice-clause-memory g c = λ is.
     let full = c.in_err-extend_from_slice.ensures.full in
     shown_left _ _ _ kept.0 c.in-Ok.ensures.front (omega (arith, full, c.args.line.now.ok.1, length-take c.match-memchr.count.0 c.in-Ok.shown.now))
 
-pub returns-in_default-clause-begun : goal.returns-in_default-clause-begun
-returns-in_default-clause-begun g c = TakesFront-kept _ _ c.fill_buf.follows.holds-at-none.0
-
-pub returns-in-Interrupted-clause-begun : goal.returns-in-Interrupted-clause-begun
-returns-in-Interrupted-clause-begun g c = TakesFront-kept _ _ c.fill_buf.follows.holds-at-none.0
-
 pub returns-in_err-extend_from_slice-clause-begun : goal.returns-in_err-extend_from_slice-clause-begun
 returns-in_err-extend_from_slice-clause-begun g c = TakesFront-kept _ _ c.fill_buf.follows.holds-at-none.0
-
-pub returns-in_default-clause-stays : goal.returns-in_default-clause-stays
-returns-in_default-clause-stays g c = StaysInLine-kept _ _ c.fill_buf.follows.holds-at-none.0
-
-pub returns-in-Interrupted-clause-more : goal.returns-in-Interrupted-clause-more
-returns-in-Interrupted-clause-more g c = λ _. KeepsLine-kept _ _ _ c.fill_buf.follows.holds-at-none.0
 
 pub returns-in_err-extend_from_slice-clause-stays : goal.returns-in_err-extend_from_slice-clause-stays
 returns-in_err-extend_from_slice-clause-stays g c = OnErr-any _ (StaysInLine-kept _ _ c.fill_buf.follows.holds-at-none.0)

@@ -1,12 +1,11 @@
 use Rattle.std.proofs.Common.{Ok, Err, sym, ◌∙◌}
-use Rattle.lsp_message.proofs.Places.{placed_line, placed_begun}
+use Rattle.lsp_message.proofs.Places.{placed_line, placed_begun, not_shown}
 use Rattle.lsp_message.proofs.Shown.{kept_shown}
 use Rattle.lsp_message.proofs.Takings.{TakesFront-kept}
-use Rattle.lsp_message.proofs.Suffixes.{line_unread}
 use Rattle.lsp_message.proofs.frame.place.line_in_place.Goals as goal
 
-pub returns-in_default-clause-exact : goal.returns-in_default-clause-exact
-returns-in_default-clause-exact g c = line_unread _ _ c.fill_buf.follows.holds-at-none.0
+pub returns-in-Err-clause-exact : goal.returns-in-Err-clause-exact
+returns-in-Err-clause-exact g c = not_shown _ _ _ _ c.fill_buf.follows.holds-at-none.0 c.unless_interrupted.ensures
 
 pub returns-in-Ok-line-clause-exact : goal.returns-in-Ok-line-clause-exact
 returns-in-Ok-line-clause-exact g c =
@@ -27,12 +26,6 @@ pub returns-in-Err-line-clause-begun : goal.returns-in-Err-line-clause-begun
 returns-in-Err-line-clause-begun g c =
     let kept = kept_shown _ _ _ _ _ c.in-Ok.is c.fill_buf.follows.holds-at-none in
     placed_begun _ _ _ _ _ _ c.in-Some.ensures c.in-Ok.ensures.front c.in-Ok.ensures.end kept c.consume.ensures.bytes
-
-pub returns-in_default-clause-begun : goal.returns-in_default-clause-begun
-returns-in_default-clause-begun g c = TakesFront-kept _ _ c.fill_buf.follows.holds-at-none.0
-
-pub returns-in-Interrupted-clause-begun : goal.returns-in-Interrupted-clause-begun
-returns-in-Interrupted-clause-begun g c = TakesFront-kept _ _ c.fill_buf.follows.holds-at-none.0
 
 pub returns-in-None-clause-begun : goal.returns-in-None-clause-begun
 returns-in-None-clause-begun g c = TakesFront-kept _ _ c.fill_buf.follows.holds-at-none.0

@@ -1,5 +1,5 @@
 use Rattle.std.proofs.Common.{◌≡◌, ◌+◌, ◌-◌, ◌≤◌, Ok, Err, Some, ℕ, List, length, take, drop, refl, sym, ap, ◌∙◌, arith, take_all, length-drop}
-use Rattle.lsp_message.specs.declared.frame.extent.Front.TheVariants.{Fault}
+use Rattle.lsp_message.specs.declared.frame.Front.TheVariants.{Fault}
 use Rattle.lsp_message.specs.declared.frame.header.HeaderLine.TheVariants.{Length, Other, Blank}
 use Rattle.lsp_message.specs.Front.{at_header_end}
 use Rattle.lsp_message.specs.HeaderPart.{at_last_line}

@@ -1,11 +1,9 @@
-use Rattle.std.proofs.Common.{◌≡◌, ℕ, List, Vec, Global, Ok, Err, IfSome, ap, subst, ◌∙◌}
+use Rattle.std.proofs.Common.{ℕ, List, Vec, Global, Ok, Err, subst}
 use Rattle.std.proofs.lemmas.Result.{err_from_is_err_and}
-use Rattle.lsp_message.specs.Frame.{body_means, content_within, RunsOutBefore}
-use Rattle.lsp_message.specs.Reading.{Answers}
+use Rattle.lsp_message.specs.Frame.{body_means}
 use Rattle.lsp_message.specs.ReadingSteps.{Decodes}
 use Rattle.lsp_message.specs.View.{message_view}
-use Rattle.lsp_message.specs.declared.frame.ReadFault.TheVariants.{Memory}
-use Rattle.lsp_message.proofs.ContentParts.{decoded, not_there, not_read, ran_out_before, ran_out_after}
+use Rattle.lsp_message.proofs.ContentParts.{decoded, not_read, ran_out_after}
 use Rattle.lsp_message.proofs.msg.Message.read_within.Goals as goal
 
 abbrev items : Vec ℕ Global → List ℕ

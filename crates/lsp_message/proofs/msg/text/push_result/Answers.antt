@@ -2,7 +2,6 @@ use Rattle.std.proofs.Common.{◌≡◌, ◌++◌, string_bytes, codes, refl}
 use Rattle.serde_json.specs.Written.{compact_text}
 use Rattle.lsp_message.specs.Text.{named}
 use Rattle.lsp_message.specs.Tree.{id_tree}
-use Rattle.lsp_message.proofs.Joined.{joined_four}
 use Rattle.lsp_message.proofs.Joined.{joined_three}
 use Rattle.lsp_message.proofs.msg.text.push_result.Goals as goal
 

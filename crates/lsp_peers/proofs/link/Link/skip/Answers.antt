@@ -2,7 +2,7 @@ use Rattle.std.proofs.Common.{ℕ, List, ◌+◌, ◌-◌, ◌^◌, ◌<◌, ◌
 use Rattle.std.proofs.lemmas.List.{length-take}
 use Rattle.std.specs.Prelude.{Option, is_some}
 use Rattle.lsp_message.specs.Front.{front_of}
-use Rattle.lsp_peers.specs.Post.{Letter, Line, Carries, next, after_take}
+use Rattle.lsp_peers.specs.Post.{SentFrame, Line, Carries, next, after_take}
 use Rattle.lsp_peers.proofs.LineLemmas.{line_taken}
 use Rattle.lsp_peers.proofs.LinkLemmas.{carries_at, none_next, more_keeps, never_fault, whole_shows}
 use Rattle.lsp_peers.proofs.link.Link.skip.Goals as goal
@@ -20,7 +20,7 @@ returns-in-Whole c = λ post carries.
     let taken = line_taken l.bytes.items l.start l.end c.in-Whole.count fits in
     let here = c.remove.ensures.arrived ∙ ap (λ (x : Line). drop c.in-Whole.count x.arrived) (sym c.self.view_is) ∙ sym (ap (λ (x : Line). x.arrived) taken) in
     let away = c.remove.ensures.on_way ∙ ap (λ (x : Line). x.on_way) (sym c.self.view_is) ∙ sym (ap (λ (x : Line). x.on_way) taken) in
-    (sym (ap (λ (o : Option Letter). is_some o) shown.1), carries_at c.remove.new.self _ (after_take post) here away kept)
+    (sym (ap (λ (o : Option SentFrame). is_some o) shown.1), carries_at c.remove.new.self _ (after_take post) here away kept)
 
 pub returns-in-More : goal.returns-in-More
 returns-in-More c = λ post carries.

@@ -83,7 +83,7 @@ returns-in-Err-clause-memory c = λ post carries readable.
     let found = read_is l.bytes.items l.start l.end c.self.invariant.0 within post before room c.in-Whole.count whole readable in
     ap Err (c.fault_of_read.ensures ∙ no_other_fault c.in-Err.fault _ _ found.0.message c.in-Err.ensures.exact (text ∙ found.2))
 
--- the clause on a link where no frame has arrived whole
+-- the clause on a link if no frame has arrived whole
 pub returns-in-Fault-clause-idle : goal.returns-in-Fault-clause-idle
 returns-in-Fault-clause-idle c = λ post carries none.
     let l = c.self.inside in

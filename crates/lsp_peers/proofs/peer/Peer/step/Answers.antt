@@ -4,7 +4,7 @@ use Rattle.std.specs.Prelude.{IfOk, string_bytes}
 use Rattle.lsp_message.specs.View.{response_view}
 use Rattle.lsp_message.specs.declared.msg.Response.{Response}
 use Rattle.lsp_peers.specs.Agreement.{Agrees}
-use Rattle.lsp_peers.specs.Letter.{refused}
+use Rattle.lsp_peers.specs.SentFrame.{refused}
 use Rattle.lsp_peers.specs.Steps.{Accounts, Replies}
 use Rattle.lsp_peers.specs.declared.step.Outcome.TheVariants.{Answered}
 use Rattle.lsp_peers.proofs.peer.Peer.step.Goals as goal

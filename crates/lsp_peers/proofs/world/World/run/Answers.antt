@@ -8,7 +8,7 @@ use Rattle.lsp_peers.specs.declared.fault.WorldFault.TheVariants.{NotReadBack}
 use Rattle.lsp_peers.specs.declared.step.Outcome.{Outcome}
 use Rattle.lsp_peers.specs.declared.step.Step.{Step}
 use Rattle.lsp_peers.proofs.WholeLemmas.{whole_nothing, whole_more, whole_fault}
-use Rattle.lsp_peers.proofs.RunLemmas.{all_taken}
+use Rattle.lsp_message.proofs.Joined.{all_taken}
 use Rattle.lsp_peers.proofs.world.World.run.Goals as goal
 
 pub loop-step-init : goal.loop-step-init

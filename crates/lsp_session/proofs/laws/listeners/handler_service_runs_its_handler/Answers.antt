@@ -10,17 +10,17 @@ use Rattle.lsp_session.specs.SessionLaws.{Both, KeepsOrder}
 use Rattle.lsp_session.proofs.laws.listeners.handler_service_runs_its_handler.Goals as goal
 
 pub returns-clause-exchanges : goal.returns-clause-exchanges
-returns-clause-exchanges g c = λ old new xs stop null answer out.
+returns-clause-exchanges g c = λ old new xs stop shutdown_reply answer out.
     session_as g.H.Handler.answers g.H.Handler.notes (view old.capabilities.now) old new new.handler.now (λ names. refl)
-    old.handler.now refl refl xs stop null answer out
+    old.handler.now refl refl xs stop shutdown_reply answer out
 
 pub returns-clause-bytes : goal.returns-clause-bytes
 returns-clause-bytes g c = λ limit old new text left first last before after answer gives.
     let capabilities = view old.capabilities.now in
     let P = SessionOut (lent_handler g.H.Handler.answers g.H.Handler.notes) old new in
     let Q = SessionOut (of_handler g.H.Handler.answers g.H.Handler.notes capabilities) old.handler.now new.handler.now in
-    over_as P (Both Q (Both AnswersRequests KeepsOrder)) (λ xs stop null answer out.
+    over_as P (Both Q (Both AnswersRequests KeepsOrder)) (λ xs stop shutdown_reply answer out.
     let as_handler = session_as g.H.Handler.answers g.H.Handler.notes capabilities old new new.handler.now (λ names. refl)
-    old.handler.now refl refl xs stop null answer out in
-    (as_handler, answers_in_order g.H.Handler.answers g.H.Handler.notes capabilities old.handler.now new.handler.now xs stop null answer as_handler))
+    old.handler.now refl refl xs stop shutdown_reply answer out in
+    (as_handler, answers_in_order g.H.Handler.answers g.H.Handler.notes capabilities old.handler.now new.handler.now xs stop shutdown_reply answer as_handler))
     _ (text, first) _ _ gives

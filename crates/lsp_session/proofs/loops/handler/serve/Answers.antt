@@ -2,7 +2,9 @@ use Rattle.std.proofs.Common.{sym, ap, ◌∙◌}
 use Rattle.serde_json.specs.View.{view}
 use Rattle.lsp_session.specs.HandlerService.{lent_handler}
 use Rattle.lsp_session.specs.HandlerSession.{of_handler}
+use Rattle.lsp_session.specs.Served.{StopsFor}
 use Rattle.lsp_session.specs.Session.{SessionOut}
+use Rattle.lsp_session.specs.SessionLaws.{Both}
 use Rattle.lsp_session.proofs.Lending.{runs_as, session_as}
 use Rattle.lsp_session.proofs.loops.handler.serve.Goals as goal
 
@@ -12,6 +14,6 @@ returns g c =
     let notes = g.H.Handler.notes in
     let old = c.new-service.result in
     let new = c.serve_service.new.service in
-    runs_as (SessionOut (lent_handler answers notes) old new) (SessionOut (of_handler answers notes (view c.args.capabilities)) c.args.handler.now _)
-    (session_as answers notes (view c.args.capabilities) old new _ (λ names. c.handler-1.given.1 (sym c.new-service.ensures.same_handler ∙ sym names))
-    c.args.handler.now c.new-service.ensures.unchanged (ap view c.new-service.ensures.capabilities)) g.I.Inbox.receives g.O.Outbox.sends _ _ _ c.serve_service.ensures
+    runs_as (Both (SessionOut (lent_handler answers notes) old new) (StopsFor c.serve_service.result.stop)) (SessionOut (of_handler answers notes (view c.args.capabilities)) c.args.handler.now _)
+    (λ xs stop shutdown_reply answer both. session_as answers notes (view c.args.capabilities) old new _ (λ names. c.handler-1.given.1 (sym c.new-service.ensures.same_handler ∙ sym names))
+    c.args.handler.now c.new-service.ensures.unchanged (ap view c.new-service.ensures.capabilities) xs stop shutdown_reply answer both.0) g.I.Inbox.receives g.O.Outbox.sends _ _ _ c.serve_service.ensures

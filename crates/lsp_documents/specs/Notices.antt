@@ -1,0 +1,301 @@
+-- The documents that a client has opened, after any list of its notifications (LSP 3.17, "Text Document Synchronization"): the
+-- client's own, and those that a server keeps, which may have missed some of what the client did.
+use Rattle.std.specs.Prelude.{◌≡◌, ◌⊎◌, ℕ, ℤ, int_le, Bool, true, false, not, ◌&&◌, if◌then◌else◌, is_none, is_some, option_map, option_and_then, List, [], ◌∷◌, ◌++◌, Option, Some, None, IsSomeAnd}
+use Rattle.std.specs.List.{list_any}
+use Rattle.std.specs.Str.{bytes_eq}
+use Rattle.lsp_text.specs.Documents.{Document, Change}
+use Rattle.lsp_text.specs.Edits.{edited_by}
+use Rattle.lsp_text.specs.declared.position.PositionEncoding.{PositionEncoding}
+use Rattle.lsp_documents.specs.declared.fault.DocumentFault.{DocumentFault}
+use Rattle.lsp_documents.specs.declared.fault.DocumentFault.TheVariants.{Params, NotOpen, OutOfStep, Memory}
+use Rattle.lsp_documents.specs.declared.fault.Remark.{Remark}
+use Rattle.lsp_documents.specs.declared.fault.Remark.TheVariants.{OpenAlready, VersionNotHigher}
+use Rattle.lsp_documents.specs.declared.kept.Open.{Open}
+use Rattle.lsp_documents.specs.declared.kept.Open.TheVariants.{Known, Lost}
+
+-- what a notification says of a document. The version is none if the client gives none. One that it was saved may have the text
+pub data NoticeKind : Type 0 where
+  opened : Document → NoticeKind
+  changed : Option ℤ → List Change → NoticeKind
+  saved : Option (List ℕ) → NoticeKind
+  closed : NoticeKind
+
+-- a notification: the document's URI, and what it says
+pub record Notice : Type 0 where
+  pub uri : List ℕ
+  pub kind : NoticeKind
+
+abbrev pub document : List ℕ → Option ℤ → List ℕ → Document
+document language_id version text =
+    record { language_id = language_id; version = version; text = text }
+
+abbrev pub opens : List ℕ → List ℕ → Option ℤ → List ℕ → Notice
+opens uri language_id version text =
+    record { uri = uri; kind = opened (document language_id version text) }
+
+abbrev pub edits : List ℕ → Option ℤ → List Change → Notice
+edits uri version list = record { uri = uri; kind = changed version list }
+
+abbrev pub saves : List ℕ → Option (List ℕ) → Notice
+saves uri text = record { uri = uri; kind = saved text }
+
+abbrev pub closes : List ℕ → Notice
+closes uri = record { uri = uri; kind = closed }
+
+-- ---- the client's own document
+
+-- whether one of the changes is of the whole text
+abbrev pub has_whole : List Change → Bool
+has_whole list = list_any (λ c. is_none c.range) list
+
+abbrev pub changed_to : PositionEncoding → Document → Option ℤ → List Change → Document
+changed_to e d version list = document d.language_id version (edited_by e d.text list)
+
+-- the client's document of a URI after what it tells of it. One that tells a whole text has it, whether it opened it or not
+abbrev pub told : PositionEncoding → Option Document → NoticeKind → Option Document
+told e before (opened d) = Some d
+told e None (changed version list) =
+    if has_whole list then Some (document [] version (edited_by e [] list)) else None
+told e (Some d) (changed version list) = Some (changed_to e d version list)
+told e before (saved text) = before
+told e before closed = None
+
+abbrev pub told_all : PositionEncoding → Option Document → List NoticeKind → Option Document
+told_all e before [] = before
+told_all e before (kind ∷ kinds) = told_all e (told e before kind) kinds
+
+-- the text that comes with a save is the client's own
+abbrev pub SavesOwn : Option Document → NoticeKind → Type 0
+SavesOwn client (opened d) = Unit {0}
+SavesOwn client (changed version list) = Unit {0}
+SavesOwn client (saved None) = Unit {0}
+SavesOwn client (saved (Some text)) = IsSomeAnd client (λ d. d.text ≡ text)
+SavesOwn client closed = Unit {0}
+
+abbrev pub SavesItsText : PositionEncoding → Option Document → List NoticeKind → Type 0
+SavesItsText e client [] = Unit {0}
+SavesItsText e client (kind ∷ kinds) = SavesOwn client kind
+    × SavesItsText e (told e client kind) kinds
+
+-- ---- what a server keeps of it
+
+-- the document that a server may look at: none if its text is lost
+abbrev pub shown : Open → Option Document
+shown (Known d) = Some d
+shown (Lost language_id) = None
+
+abbrev pub language_of : Open → List ℕ
+language_of (Known d) = d.language_id
+language_of (Lost language_id) = language_id
+
+-- its text is lost: the language is left
+abbrev pub lost : Open → Open
+lost o = Lost (language_of o)
+
+-- what changes make of it. If its text is lost, they need a whole text among them
+abbrev pub changed_in : PositionEncoding → Open → Option ℤ → List Change → Open
+changed_in e (Known d) version list = Known (changed_to e d version list)
+changed_in e (Lost language_id) version list =
+    if has_whole list then Known (document language_id version (edited_by e [] list))
+    else Lost language_id
+
+-- what a text that comes with a save makes of it: it is taken only if the text is lost. Which version it is nobody says
+abbrev pub saved_in : Open → List ℕ → Open
+saved_in (Known d) text = Known d
+saved_in (Lost language_id) text = Known (document language_id None text)
+
+-- why changes cannot be made
+abbrev pub change_fault : Option Open → Bool → Option DocumentFault
+change_fault None whole = Some NotOpen
+change_fault (Some (Known d)) whole = None
+change_fault (Some (Lost language_id)) whole = if whole then None else Some OutOfStep
+
+-- why a notice of this kind cannot be made if that is kept of the URI
+abbrev pub fault_of : Option Open → NoticeKind → Option DocumentFault
+fault_of before (opened d) = None
+fault_of before (changed version list) = change_fault before (has_whole list)
+fault_of None (saved text) = Some NotOpen
+fault_of (Some o) (saved text) = None
+fault_of None closed = Some NotOpen
+fault_of (Some o) closed = None
+
+-- whether a version is the one before, or below it
+abbrev pub is_not_higher : Option ℤ → Option ℤ → Bool
+is_not_higher None before = false
+is_not_higher (Some version) None = false
+is_not_higher (Some version) (Some before) = int_le version before
+
+-- what LSP 3.17 forbids the client, though it can be made
+abbrev pub remark_of : Option Open → NoticeKind → Option Remark
+remark_of None kind = None
+remark_of (Some o) (opened d) = Some OpenAlready
+remark_of (Some (Known d)) (changed version list) =
+    if is_not_higher version d.version then Some VersionNotHigher else None
+remark_of (Some (Lost language_id)) (changed version list) = None
+remark_of (Some o) (saved text) = None
+remark_of (Some o) closed = None
+
+-- what is kept of the URI after a notice of this kind that was made: as it was where something is wrong
+abbrev pub after : PositionEncoding → Option Open → NoticeKind → Option Open
+after e before (opened d) = Some (Known d)
+after e before (changed version list) = option_map (λ o. changed_in e o version list) before
+after e before (saved None) = before
+after e before (saved (Some text)) = option_map (λ o. saved_in o text) before
+after e before closed = None
+
+-- what is kept if what the client told was missed: never a text that the client may have left behind
+abbrev pub missed : Option Open → Option Open
+missed before = option_map lost before
+
+abbrev pub has_changes : List Change → Bool
+has_changes [] = false
+has_changes (c ∷ cs) = true
+
+-- whether memory is needed to make a notice in which nothing is wrong
+abbrev pub needs_memory : Option Open → NoticeKind → Bool
+needs_memory before (opened d) = true
+needs_memory before (changed version list) = is_some before && has_changes list
+needs_memory before (saved None) = false
+needs_memory None (saved (Some text)) = false
+needs_memory (Some (Known d)) (saved (Some text)) = false
+needs_memory (Some (Lost language_id)) (saved (Some text)) = true
+needs_memory before closed = false
+
+-- ---- notifications, as a server met them
+
+-- one was made; or its document is known and no more of it; or nothing of it is known, and the client may have told anything
+pub data Sent : Type 0 where
+  made : Notice → Sent
+  unmade : Notice → Sent
+  unread : List Notice → Sent
+
+abbrev pub kept_after : PositionEncoding → List ℕ → Option Open → Sent → Option Open
+kept_after e uri before (made n) = if bytes_eq uri n.uri then after e before n.kind else before
+kept_after e uri before (unmade n) = if bytes_eq uri n.uri then missed before else before
+kept_after e uri before (unread notices) = missed before
+
+abbrev pub kept_after_all : PositionEncoding → List ℕ → Option Open → List Sent → Option Open
+kept_after_all e uri before [] = before
+kept_after_all e uri before (s ∷ ss) = kept_after_all e uri (kept_after e uri before s) ss
+
+-- what notifications say of one URI
+abbrev pub kinds_in : List ℕ → List Notice → List NoticeKind
+kinds_in uri [] = []
+kinds_in uri (n ∷ ns) = if bytes_eq uri n.uri then n.kind ∷ kinds_in uri ns else kinds_in uri ns
+
+abbrev pub notices_of : Sent → List Notice
+notices_of (made n) = n ∷ []
+notices_of (unmade n) = n ∷ []
+notices_of (unread notices) = notices
+
+abbrev pub kinds_of : List ℕ → List Sent → List NoticeKind
+kinds_of uri [] = []
+kinds_of uri (s ∷ ss) = kinds_in uri (notices_of s) ++ kinds_of uri ss
+
+abbrev pub closes_it : NoticeKind → Bool
+closes_it (opened d) = false
+closes_it (changed version list) = false
+closes_it (saved text) = false
+closes_it closed = true
+
+-- whether all that was told of a URI was made, and none of it closed the document
+abbrev pub is_current : List ℕ → List Sent → Bool
+is_current uri [] = true
+is_current uri (made n ∷ ss) = not (bytes_eq uri n.uri && closes_it n.kind) && is_current uri ss
+is_current uri (unmade n ∷ ss) = not (bytes_eq uri n.uri) && is_current uri ss
+is_current uri (unread notices ∷ ss) = false
+
+-- ---- what a server holds
+
+-- the encoding that was agreed on, and what is kept of each URI that is open
+pub record Documents : Type 0 where
+  pub encoding : PositionEncoding
+  pub held : List ℕ → Option Open
+
+-- nothing is changed
+pub record Keeps (before now : Documents) : Type 0 where
+  pub encoding : now.encoding ≡ before.encoding
+  pub held : (uri : List ℕ) → now.held uri ≡ before.held uri
+
+-- this is kept of one URI, and each other one keeps its document
+pub record Puts (before : Documents) (uri : List ℕ) (kept : Option Open)
+    (now : Documents) : Type 0 where
+  pub encoding : now.encoding ≡ before.encoding
+  pub own : now.held uri ≡ kept
+  pub others : (q : List ℕ) → bytes_eq q uri ≡ false → now.held q ≡ before.held q
+
+-- a notification was made
+abbrev pub Makes : Documents → Notice → Documents → Type 0
+Makes before n now = Puts before n.uri (after before.encoding (before.held n.uri) n.kind) now
+
+-- what was told of one URI was missed
+abbrev pub Misses : Documents → List ℕ → Documents → Type 0
+Misses before uri now = Puts before uri (missed (before.held uri)) now
+
+-- what was told was missed, of whatever URI
+pub record MissesAll (before now : Documents) : Type 0 where
+  pub encoding : now.encoding ≡ before.encoding
+  pub held : (uri : List ℕ) → now.held uri ≡ missed (before.held uri)
+
+abbrev pub Takes : Documents → Sent → Documents → Type 0
+Takes before (made n) now = Makes before n now
+Takes before (unmade n) now = Misses before n.uri now
+Takes before (unread notices) now = MissesAll before now
+
+-- notifications were taken one after another
+abbrev pub TakesAll : Documents → List Sent → Documents → Type 0
+TakesAll before [] now = Keeps before now
+TakesAll before (s ∷ ss) now = (next : Documents) × Takes before s next × TakesAll next ss now
+
+-- a version that is kept is the client's
+abbrev pub IsVersion : Option ℤ → Option ℤ → Type 0
+IsVersion client None = Unit {0}
+IsVersion client (Some version) = client ≡ Some version
+
+-- a document that may be looked at has the client's text, and its version or none
+abbrev pub IsClients : Option Document → Option Document → Type 0
+IsClients client None = Unit {0}
+IsClients client (Some d) =
+    IsSomeAnd client (λ c. (d.text ≡ c.text) × IsVersion c.version d.version)
+
+abbrev pub Agrees : Option Document → Option Open → Type 0
+Agrees client kept = IsClients client (option_and_then shown kept)
+
+-- ---- what a call says
+
+-- nothing was wrong with it, and it was made, with this remark
+pub record Took (before : Documents) (n : Notice) (remark : Option Remark)
+    (now : Documents) : Type 0 where
+  pub right : fault_of (before.held n.uri) n.kind ≡ None
+  pub remarks : remark ≡ remark_of (before.held n.uri) n.kind
+  pub makes : Makes before n now
+
+-- memory ran out, if nothing was wrong and memory was needed
+pub record Starved (before : Documents) (n : Notice) (fault : DocumentFault)
+    (now : Documents) : Type 0 where
+  pub why : fault ≡ Memory
+  pub right : fault_of (before.held n.uri) n.kind ≡ None
+  pub needed : needs_memory (before.held n.uri) n.kind ≡ true
+  pub misses : Misses before n.uri now
+
+-- a call refused a notification, by name and with nothing changed, or missed it for want of memory
+abbrev pub Refused : Documents → Notice → DocumentFault → Documents → Type 0
+Refused before n fault now =
+    ((fault_of (before.held n.uri) n.kind ≡ Some fault) × Keeps before now)
+    ⊎ Starved before n fault now
+
+-- the same if the params may be of another shape: then what they tell of the URI that they name is missed; if they name none
+-- they may tell of any
+abbrev pub Failed : Documents → Option Notice → Option (List ℕ) → DocumentFault → Documents → Type 0
+Failed before (Some n) uri fault now = Refused before n fault now
+Failed before None (Some uri) fault now = (fault ≡ Params) × Misses before uri now
+Failed before None None fault now = (fault ≡ Params) × MissesAll before now
+
+-- the same of a save, which changes no text of the client's
+abbrev pub FailedSave : Documents → Option Notice → DocumentFault → Documents → Type 0
+FailedSave before (Some n) fault now = Refused before n fault now
+FailedSave before None fault now = (fault ≡ Params) × Keeps before now
+
+-- whether the text of a URI is known
+abbrev pub is_known : Documents → List ℕ → Bool
+is_known documents uri = is_some (option_and_then shown (documents.held uri))

@@ -1,0 +1,17 @@
+use Rattle.serde_json.specs.View.{view}
+use Rattle.std.proofs.Common.{subst, map, string_bytes}
+use Rattle.std.proofs.lemmas.Result.{IfOk-weaker}
+use Rattle.lsp_service.specs.View.{act_view}
+use Rattle.lsp_jobs.specs.Pooled.{Does}
+use Rattle.lsp_jobs.specs.Seen.{seen}
+use Rattle.lsp_jobs.specs.PendingJobs.{PendingJobs}
+use Rattle.lsp_jobs.proofs.pooled_server.PooledServerKeyServer.notification.Goals as goal
+
+pub returns : goal.returns
+returns g c =
+    let method = string_bytes c.args.notification.method in
+    let params = view c.args.notification.params in
+    IfOk-weaker c.start_jobs.result _ _ (λ all others.
+    subst (λ (x : g.row.S.Denot × PendingJobs (g.row.J.Denot × g.row.S-Key.Denot)).
+    Does g.S.JobServer (g.S.Server.notified x.0 method params) x.1 (map (act_view {P = g.row.S-Payload.Denot}) all.items) (seen c.start_jobs.new.self))
+    c.in_ok-forget_cancelled.ensures (map (act_view {P = g.row.S-Payload.Denot}) c.in_ok-acts.acts.items, c.notification.new.self, c.in_ok-acts.ensures, others)) c.start_jobs.ensures

@@ -1,0 +1,39 @@
+-- How a job ended, and what its request is answered then.
+use Rattle.serde_json.specs.Data.{Data}
+use Rattle.std.specs.Prelude.{None, Result, Err, codes}
+use Rattle.lsp_message.specs.ErrorCode.{number_of}
+use Rattle.lsp_message.specs.Message.{ErrorObject}
+use Rattle.lsp_message.specs.declared.msg.code.ErrorCode.TheVariants.{InternalError, RequestFailed}
+
+-- what a request is answered with
+abbrev pub Outcome : Type 0
+Outcome = Result Data ErrorObject
+
+-- the answer of a request whose job found no room
+abbrev pub too_many : ErrorObject
+too_many = record {
+  code = number_of RequestFailed;
+  message = codes "too many requests are waiting";
+  details = None;
+}
+
+-- the outcome of a job whose allocation failed
+abbrev pub no_memory : ErrorObject
+no_memory = record {
+  code = number_of InternalError;
+  message = codes "out of memory";
+  details =
+      None;
+}
+
+-- how a job ended
+pub data End : Type 0 where
+  -- it came to this outcome
+  came_to : Outcome → End
+  -- it found no room, and never ran
+  no_room : End
+
+-- what its request is answered then
+abbrev pub reply_of : End → Outcome
+reply_of (came_to outcome) = outcome
+reply_of no_room = Err too_many

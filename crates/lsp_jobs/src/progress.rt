@@ -1,0 +1,210 @@
+// What a job tells its client while it runs: how far it is, and parts of its result.
+ghost use Rattle.serde_json.specs.Data.{Data};
+ghost use Rattle.serde_json.specs.View.{view};
+ghost use Rattle.std.specs.Prelude.{◌≡◌, IfOk, IfSome, option_map};
+ghost use Rattle.lsp_message.specs.Message.{notification};
+ghost use Rattle.lsp_message.specs.View.{notification_view};
+ghost use Rattle.lsp_jobs.specs.Progress.{progress_method, progress_params};
+
+use crate::job::Progress;
+use lsp_message::Notification;
+use serde_json::{Value, json, put};
+use std::alloc::{AllocError, Global};
+use std::marker::Model;
+
+/// Tells the client how far a job is, if its request gave a `workDoneToken` (LSP 3.17, "Work Done Progress"). Send one `begin`, any
+/// reports, and one `end`, which takes the value.
+///
+/// A client whose request is cancelled, answered otherwise or replaced gets no `end`: nobody waits for the job then. It has the reply to
+/// the request, which ends the progress too. Contracts see the token, if there is one.
+#[derive(Drop)]
+pub struct WorkDone {
+    alloc: Global,
+    token: Option<Value>,
+}
+
+impl Model for WorkDone {
+    ghost use Rattle.serde_json.specs.contracts.value.Value as tree;
+    ghost use Rattle.serde_json.specs.declared.value.Value.{Value as Tree};
+    ghost use Rattle.std.specs.Coded.{coded_option};
+    ghost use Rattle.std.specs.Prelude.{Option};
+
+    ghost Value = { Option Tree };
+
+    ghost coded = { coded_option tree.the_row.coded };
+
+    ghost view = { λ work. work.token };
+}
+
+impl WorkDone {
+    /// Reads the token from the params of a request: a text, or an integer of 32 bits. Without such a token nothing is ever sent.
+    /// The error means that an allocation failed.
+    pub fn of(alloc: Global, params: &Value) -> Result<WorkDone, AllocError> {
+        Ok(WorkDone {
+            alloc,
+            token: token_in(params, "workDoneToken")?,
+        })
+    }
+
+    /// Begins, with a title. `percentage` is from 0 to 100; without it here, leave it out in reports too. It waits while there is no room
+    /// to send, and is dropped only if nobody waits for the job any more. The error means that an allocation failed.
+    pub fn begin<P: Progress>(
+        &self,
+        progress: &mut P,
+        title: &str,
+        message: Option<&str>,
+        percentage: Option<u32>,
+    ) -> Result<(), AllocError>
+        requires { IfSome (option_map view self.now) (λ token. (value : Data)
+            → P.may progress_method (progress_params token value)) }
+    {
+        let mut value = json!(in self.alloc; { "kind": "begin", "title": title })?;
+        put_both(self.alloc, &mut value, message, percentage)?;
+        send(self.alloc, &self.token, progress, value)
+    }
+
+    /// Says how far the job is. It is dropped if there is no room to send: see `Progress::report`. The error means that an allocation
+    /// failed.
+    pub fn report<P: Progress>(
+        &self,
+        progress: &mut P,
+        message: Option<&str>,
+        percentage: Option<u32>,
+    ) -> Result<(), AllocError>
+        requires { IfSome (option_map view self.now) (λ token. (value : Data)
+            → P.may progress_method (progress_params token value)) }
+    {
+        let mut value = json!(in self.alloc; { "kind": "report" })?;
+        put_both(self.alloc, &mut value, message, percentage)?;
+        if let Some(report) = notification_of(self.alloc, &self.token, value)? {
+            progress.report(report);
+        }
+        Ok(())
+    }
+
+    /// Ends. It waits while there is no room to send, and is dropped only if nobody waits for the job any more. The error means that
+    /// an allocation failed.
+    pub fn end<P: Progress>(self, progress: &mut P, message: Option<&str>) -> Result<(), AllocError>
+        requires { IfSome (option_map view «self») (λ token. (value : Data)
+            → P.may progress_method (progress_params token value)) }
+    {
+        let mut value = json!(in self.alloc; { "kind": "end" })?;
+        put_both(self.alloc, &mut value, message, None)?;
+        send(self.alloc, &self.token, progress, value)
+    }
+}
+
+/// Sends parts of a result, if the request gave a `partialResultToken` (LSP 3.17, "Partial Result Progress"). The final result is then
+/// empty: the parts are all of it. Contracts see the token, if there is one.
+#[derive(Drop)]
+pub struct PartialResults {
+    alloc: Global,
+    token: Option<Value>,
+}
+
+impl Model for PartialResults {
+    ghost use Rattle.serde_json.specs.contracts.value.Value as tree;
+    ghost use Rattle.serde_json.specs.declared.value.Value.{Value as Tree};
+    ghost use Rattle.std.specs.Coded.{coded_option};
+    ghost use Rattle.std.specs.Prelude.{Option};
+
+    ghost Value = { Option Tree };
+
+    ghost coded = { coded_option tree.the_row.coded };
+
+    ghost view = { λ parts. parts.token };
+}
+
+impl PartialResults {
+    /// Reads the token from the params of a request: a text, or an integer of 32 bits. Without such a token nothing is ever sent.
+    /// The error means that an allocation failed.
+    pub fn of(alloc: Global, params: &Value) -> Result<PartialResults, AllocError> {
+        Ok(PartialResults {
+            alloc,
+            token: token_in(params, "partialResultToken")?,
+        })
+    }
+
+    /// Whether the request gave a token: if not, all goes into the final result.
+    pub fn are_wanted(&self) -> bool {
+        self.token.is_some()
+    }
+
+    /// Sends a part. It waits while there is no room to send, and is dropped only if nobody waits for the job any more. The error
+    /// means that an allocation failed.
+    pub fn send<P: Progress>(&self, progress: &mut P, value: Value) -> Result<(), AllocError>
+        requires { IfSome (option_map view self.now) (λ token. (value : Data)
+            → P.may progress_method (progress_params token value)) }
+    {
+        send(self.alloc, &self.token, progress, value)
+    }
+}
+
+/// Puts the members in that a begin, a report and an end may have.
+fn put_both(
+    alloc: Global,
+    value: &mut Value,
+    message: Option<&str>,
+    percentage: Option<u32>,
+) -> Result<(), AllocError> {
+    let Some(members) = value.as_object_mut() else {
+        return Ok(());
+    };
+    if let Some(message) = message {
+        let text = String::from_str(alloc, message)?;
+        put(members, alloc, "message", Value::String(text))?;
+    }
+    if let Some(percentage) = percentage {
+        put(members, alloc, "percentage", Value::from(percentage))?;
+    }
+    Ok(())
+}
+
+/// The token that is a member of params: a text or an integer of 32 bits.
+fn token_in(params: &Value, name: &str) -> Result<Option<Value>, AllocError> {
+    match params.get(name) {
+        Some(token) if is_token(token) => Ok(Some(token.clone()?)),
+        _ => Ok(None),
+    }
+}
+
+/// Whether a value may be a token (LSP 3.17, `ProgressToken`).
+fn is_token(value: &Value) -> bool {
+    value.is_string() || value.as_i64().is_some_and(|n| i32::try_from(n).is_ok())
+}
+
+/// Sends a value for whoever gave the token, if there is one.
+fn send<P: Progress>(
+    alloc: Global,
+    token: &Option<Value>,
+    progress: &mut P,
+    value: Value,
+) -> Result<(), AllocError>
+    requires { IfSome (option_map view token.now) (λ token. (value : Data)
+        → P.may progress_method (progress_params token value)) }
+{
+    if let Some(told) = notification_of(alloc, token, value)? {
+        progress.send(told);
+    }
+    Ok(())
+}
+
+/// The notification of a value for whoever gave the token, if there is one.
+fn notification_of(
+    alloc: Global,
+    token: &Option<Value>,
+    value: Value,
+) -> Result<Option<Notification>, AllocError>
+    ensures { IfOk result (λ told. option_map notification_view told
+        ≡ option_map (λ given.
+        notification progress_method (progress_params (view given) (view value))) token.now) }
+{
+    let Some(token) = token else {
+        return Ok(None);
+    };
+    let token = token.clone()?;
+    Ok(Some(Notification {
+        method: String::from_str(alloc, "$/progress")?,
+        params: json!(in alloc; { "token": token, "value": value })?,
+    }))
+}

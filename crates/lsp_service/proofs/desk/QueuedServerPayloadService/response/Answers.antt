@@ -1,7 +1,0 @@
-use Rattle.std.proofs.Common.{ap}
-use Rattle.lsp_service.specs.Desk.{Desk}
-use Rattle.lsp_service.specs.View.{seen}
-use Rattle.lsp_service.proofs.desk.QueuedServerPayloadService.response.Goals as goal
-
-pub returns : goal.returns
-returns g c = (seen c.on_response.new.self, c.in_ok-on_response.ensures, c.take_said.ensures.said, ap (λ (d : Desk _). (c.on_response.new.self.server, d)) c.take_said.ensures.rest)
