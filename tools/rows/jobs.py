@@ -14,6 +14,8 @@ TOKENS = {"workDoneToken": "w", "partialResultToken": 7}
 ORDERS = 50
 # So many messages of a job may wait. The last place is not for reports.
 PLACES = 16
+# So many messages of all jobs may wait.
+ITEMS = 256
 TOO_MANY = {"code": -32803, "message": "too many requests are waiting"}
 FAILED = {"code": -32803, "message": "it failed"}
 NO_MEMORY = {"code": -32603, "message": "out of memory"}
@@ -42,11 +44,11 @@ class Job:
 
 
 class Pool:
-    """Threads that run jobs. `wake` is called with the id of a job that has a message."""
+    """Threads that run jobs. `wake` is called when one said something."""
 
     def __init__(self, workers, waiting, wake):
         self.workers, self.waiting, self.wake = [None] * max(workers, 1), waiting, wake
-        self.queue, self.table, self.is_ended = [], {}, False
+        self.queue, self.table, self.said, self.is_ended = [], {}, [], False
         self.counts = {"begun": 0, "stopped": 0, "ended": 0, "reported": 0, "messages": 0}
 
     def forget(self, name):
@@ -72,7 +74,8 @@ class Pool:
     def say(self, job, message):
         if not job.is_dropped:
             job.waiting.append(message)
-        self.wake(job.name)
+            self.said.append(job)
+            self.wake()
 
     def steps(self):
         """What the workers can do next."""
@@ -92,7 +95,7 @@ class Pool:
         """What is not to be dropped waits for room: an outcome, and all but reports."""
         name, _, number = job.words[0].partition(" ") if job.words else ("outcome", "", "")
         if name in ("outcome", "sends") or name in ("begins", "ends", "parts") and job.token(TOLD[name][0]) is not None:
-            return job.is_dropped or len(job.waiting) < PLACES
+            return job.is_dropped or len(job.waiting) < PLACES and len(self.said) < ITEMS
         if name == "after":
             return self.counts["messages"] >= int(number)
         return name != "cancelled" or job.is_cancelled
@@ -130,19 +133,23 @@ class Pool:
             job.made += 1
             params = {"token": "job", "value": job.made}
         room = PLACES - 1 if name in ("reports", "steps") else PLACES
-        if not job.is_dropped and len(job.waiting) < room:
+        if not job.is_dropped and len(job.waiting) < room and len(self.said) < ITEMS:
             job.taken += name in ("reports", "sends")
             self.say(job, ("report", {"method": "$/progress", "params": params}))
 
-    def message(self, name):
-        """What the job under this id said next, which is None where it said nothing, and the job's key."""
-        job = self.table.get(name)
-        if not job or not job.waiting:
-            return None
-        kind, said = job.waiting.pop(0)
-        if kind == "outcome":
-            del self.table[name]
-        return kind, said, job.key
+    def has_message(self):
+        return any(not job.is_dropped for job in self.said)
+
+    def message(self):
+        """The id of the job that said something next, what it said, and its key. What dropped jobs said goes first. None if nothing is left."""
+        while self.said:
+            job = self.said.pop(0)
+            if not job.is_dropped:
+                kind, said = job.waiting.pop(0)
+                if kind == "outcome":
+                    del self.table[job.name]
+                return job.name, kind, said, job.key
+        return None
 
 
 class Working(Talker):
@@ -187,11 +194,10 @@ class JobSession:
         self.pool = Pool(*pool, self.wake)
         self.server, self.state, self.end = Working(), "new", None
         # What comes to the server: messages, faults and wakes. What goes to the writer, and what it wrote.
-        self.queue, self.woken, self.outbox, self.written = [], [], [], b""
+        self.queue, self.outbox, self.written = [], [], b""
         self.is_failed, self.is_read, self.pending, self.finished = False, False, set(), ""
 
-    def wake(self, name):
-        self.woken.append(name)
+    def wake(self):
         self.queue.append("wake")
 
     def steps(self):
@@ -259,9 +265,8 @@ class JobSession:
     def serve_next(self):
         came = self.queue.pop(0)
         if came == "wake":
-            name = self.woken.pop(0) if self.state == "open" else None
-            said = self.pool.message(name)
-            return self.hear(name, *said) if said else None
+            said = self.pool.message() if self.state == "open" else None
+            return self.hear(*said) if said else None
         if self.state == "open" and self.may_pass(came):
             self.passed[came] += 1
             return None
@@ -323,8 +328,12 @@ class HandPool:
     """The steps of a pool by hand, of which each waits for what it needs."""
 
     def __init__(self, pool, steps):
-        self.heard, self.told, self.todo = [], "", steps
-        self.pool = Pool(*pool, self.heard.append)
+        self.heard, self.told, self.todo = False, "", steps
+        self.pool = Pool(*pool, self.hear)
+
+    def hear(self):
+        """One signal stands for all messages since it was taken."""
+        self.heard = True
 
     def steps(self):
         yield from self.pool.steps()
@@ -334,7 +343,7 @@ class HandPool:
     def is_ready(self, verb, words):
         if verb in ("begun", "ended", "reported"):
             return self.pool.counts[verb] >= int(words)
-        return verb not in ("hear", "listen") or bool(self.heard)
+        return self.heard if verb == "hear" else verb != "listen" or self.pool.has_message()
 
     def go(self):
         verb, _, words = self.todo.pop(0).partition(" ")
@@ -343,13 +352,14 @@ class HandPool:
             job = Job(script, int(key), [int(key)], TOKENS)
             self.told += "taken, " if self.pool.submit(int(name), job) else f"full {key}, "
         elif verb == "hear":
-            self.told += f"heard {self.heard.pop(0)}, "
+            self.heard = False
+            self.told += "heard, "
         elif verb == "listen":
-            self.told += self.message(self.heard.pop(0))
+            self.told += self.message()
             if int(words) > 1:
                 self.todo.insert(0, f"listen {int(words) - 1}")
         elif verb == "message":
-            self.told += self.message(int(words))
+            self.told += self.message()
         elif verb == "waits":
             self.told += "waits, " if int(words) in self.pool.table else "free, "
         elif verb == "forget":
@@ -357,15 +367,15 @@ class HandPool:
         if not self.todo:
             self.pool.end()
 
-    def message(self, name):
-        found = self.pool.message(name)
+    def message(self):
+        found = self.pool.message()
         if found is None:
             return "nothing, "
-        kind, said, key = found
+        name, kind, said, key = found
         if kind == "report":
-            return f"report {ordered(said['params'])}, "
+            return f"{name} report {ordered(said['params'])}, "
         came = f"error {said['error']['code']}" if "error" in said else f"outcome {ordered(said['result'])}"
-        return f"{came} of {key}, "
+        return f"{name} {came} of {key}, "
 
     def answer(self):
         counts = self.pool.counts

@@ -26,12 +26,13 @@ use Rattle.crossbeam_channel.specs.contracts.flavors.array.Rows as rows
 use Rattle.crossbeam_channel.specs.contracts.flavors.array.ruled.Both as pair
 use Rattle.crossbeam_channel.specs.contracts.flavors.array.ruled.Sending as sending
 use Rattle.lsp_jobs.specs.contracts.channel.JobSender as assignment
-use Rattle.lsp_jobs.specs.contracts.channel.OneJob as rule
-use Rattle.lsp_jobs.specs.contracts.channel.OneJobProtocolItemOption.TheImpl as one_job
+use Rattle.lsp_jobs.specs.contracts.channel.Known as known
+use Rattle.lsp_jobs.specs.contracts.channel.Tickets as rule
+use Rattle.lsp_jobs.specs.contracts.channel.TicketsProtocolItemKnown.TheImpl as tickets
 use Rattle.lsp_jobs.specs.contracts.channel.WorkerMessage as saying
 use Rattle.lsp_jobs.specs.contracts.channel.Item as slip
 use Rattle.atomic_table.specs.contracts.badge.Badge as badge_row
-use Rattle.lsp_jobs.proofs.MessageSend.{notice_parts}
+use Rattle.lsp_jobs.proofs.MessageSend.{id_send, notice_parts}
 use Rattle.lsp_jobs.specs.declared.channel.AnyJob.{Ghosts}
 
 heap_frees : Frees ghosts ghosts.dealloc_token
@@ -79,30 +80,30 @@ module _ (R : RattleType) where
   message_parts : IsSend R → IsSend (saying.the_field R).row
   message_parts t = search (t, notice_parts, sendable) depth 40
 
-module _ (J R : RattleType) where
-  item_send : IsSend J → IsSend R → IsSend (slip.the_row J R)
-  item_send s t =
-      let said = message_parts R t in
-      let parts : IsSend (slip.the_field J R).row = search (said, crosses, sendable) depth 40 in
-      recorded_send (slip.the_field J R).row _ _ (slip.the_type J R).to_one parts
+  item_send : IsSend R → IsSend (slip.the_row R)
+  item_send t =
+      let said = message_parts t in
+      let parts : IsSend (slip.the_field R).row = search (id_send, said, crosses, sendable) depth 40 in
+      recorded_send (slip.the_field R).row _ _ (slip.the_type R).to_one parts
 
-  option_send : IsSend J → IsSend R → IsSend (option.the_row (slip.the_row J R))
-  option_send s t =
-      let one = item_send s t in
-      let parts : IsSend (option.the_field (slip.the_row J R)).row = search (one, crosses, sendable) depth 40 in
-      recorded_send (option.the_field (slip.the_row J R)).row _ _ (option.the_type (slip.the_row J R)).to_one parts
+  option_send : IsSend R → IsSend (option.the_row (slip.the_row R))
+  option_send t =
+      let one = item_send t in
+      let parts : IsSend (option.the_field (slip.the_row R)).row = search (one, crosses, sendable) depth 40 in
+      recorded_send (option.the_field (slip.the_row R)).row _ _ (option.the_type (slip.the_row R)).to_one parts
 
-  module _ (G : Ghosts J.Denot R.Denot) where
+  module _ (J : RattleType) (G : Ghosts J.Denot R.Denot) where
     pub job_sender_send : IsSend J → IsSend R → IsSend (assignment.the_field J R G).row
     job_sender_send s t =
-        let it = slip.the_row J R in
+        let it = slip.the_row R in
+        let knows = known.the_row J in
         let send_key = badge.the_send (key.the_row it) in
-        let send_slot = option_send s t in
-        let turns = rounds.ghosts it (option.the_row J) rule.the_row (one_job.ghosts J R G one_job.no_dict one_job.no_dict) rounds.no_dict in
+        let send_slot = option_send t in
+        let turns = rounds.ghosts it knows rule.the_row (tickets.ghosts J R G tickets.no_dict tickets.no_dict) rounds.no_dict in
         let slots = lockers.ghosts it it whole.the_row (sight.ghosts it) lockers.no_dict in
         let sender =
         sending_send _
-        (rows_send (badge_row.the_row (key.the_row it)) (doing.the_row it (option.the_row J)) (rounds_row.the_row rule.the_row) (option.the_row it) (key.the_row it) (lockers_row.the_row whole.the_row) turns slots send_key send_slot)
-        (rows_sync (badge_row.the_row (key.the_row it)) (doing.the_row it (option.the_row J)) (rounds_row.the_row rule.the_row) (option.the_row it) (key.the_row it) (lockers_row.the_row whole.the_row) turns slots send_key send_slot) in
+        (rows_send (badge_row.the_row (key.the_row it)) (doing.the_row it knows) (rounds_row.the_row rule.the_row) (option.the_row it) (key.the_row it) (lockers_row.the_row whole.the_row) turns slots send_key send_slot)
+        (rows_sync (badge_row.the_row (key.the_row it)) (doing.the_row it knows) (rounds_row.the_row rule.the_row) (option.the_row it) (key.the_row it) (lockers_row.the_row whole.the_row) turns slots send_key send_slot) in
         struct_send (shape (assignment.the_type J R G))
-        (s, (sender, (seat.the_send _ _ send_key, (sender, (seat.the_send _ _ send_key, (search (crosses, sendable) depth 80, tt))))))
+        (s, (search sendable, (id_send, (sender, (seat.the_send _ _ send_key, (sender, (seat.the_send _ _ send_key, (search (crosses, sendable) depth 80, tt))))))))

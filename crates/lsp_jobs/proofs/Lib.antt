@@ -1,7 +1,8 @@
 mod Answering
 pub mod JobSenderSend
 mod JobSessions
-mod OneJob
+mod Tables
+mod Tickets
 mod Owed
 pub mod QueuedJobSend
 pub mod Refused

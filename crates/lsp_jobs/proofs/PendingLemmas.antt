@@ -1,7 +1,7 @@
 -- Pending jobs, as maps from ids.
 use Rattle.serde_json.specs.Data.{Data}
 use Rattle.serde_json.specs.declared.value.Value.{Value}
-use Rattle.std.proofs.Common.{◌≡◌, ◌∙◌, ap, sym, subst, refl, inl, inr, ℕ, Bool, true, false, cond, List, [], ◌∷◌, ◌++◌, append-nil, arith, length, Option, Some, None, option_map, Result, Ok, Err, OnErr}
+use Rattle.std.proofs.Common.{◌≡◌, ◌∙◌, ap, sym, subst, refl, inl, inr, ℕ, Bool, true, false, cond, List, [], ◌∷◌, ◌++◌, append-nil, arith, length, Option, Some, None, option_map, Result, Ok, Err, OnErr, OnOk}
 use Rattle.std.specs.FinMap.{FinMap, get-empty, get-insert, get-remove}
 use Rattle.std.specs.FinMap as map
 use Rattle.std.specs.Ordering.{eq_by_cmp}
@@ -19,6 +19,10 @@ use Rattle.lsp_jobs.specs.declared.job.Job.{Ghosts as OfJob}
 pub on_err : {T E P : Type 0} (r : Result T E) → P → OnErr r P
 on_err (Ok x) p = tt
 on_err (Err e) p = p
+
+pub on_ok : {T E P : Type 0} (r : Result T E) → P → OnOk r P
+on_ok (Ok x) p = p
+on_ok (Err e) p = tt
 
 pub if_none : {A P : Type 0} (o : Option A) → P → IfNone o P
 if_none None p = p
@@ -80,6 +84,9 @@ module _ {J : Type 0} where
   pub with_again : (pending : PendingJobs J) (id : Id) (job : J) → with_job id job (without id pending) ≡ with_job id job pending
   with_again pending id job = λ k i. twice (eq_by_cmp id_cmp i id) (Some job) None (pending i) k
 
-  -- the job that was under the id comes back
-  pub with_same : (pending : PendingJobs J) (id : Id) (job : J) → pending id ≡ Some job → with_job id job (without id pending) ≡ pending
-  with_same pending id job at = with_again pending id job ∙ λ k i. same_at pending i id (Some job) at (eq_by_cmp id_cmp i id) refl k
+  -- no job is under the id, whatever was before
+  pub without_with : (pending : PendingJobs J) (id : Id) (job : J) → without id (with_job id job pending) ≡ without id pending
+  without_with pending id job = λ k i. twice (eq_by_cmp id_cmp i id) None (Some job) (pending i) k
+
+  pub without_again : (pending : PendingJobs J) (id : Id) → without id (without id pending) ≡ without id pending
+  without_again pending id = λ k i. twice (eq_by_cmp id_cmp i id) None None (pending i) k

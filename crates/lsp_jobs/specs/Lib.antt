@@ -8,3 +8,4 @@ pub mod Progress
 pub mod Seen
 pub mod ServerView
 pub mod PendingJobs
+pub mod Waiting

@@ -1,31 +1,58 @@
--- The channel of what a job says.
+-- The channel of what jobs say.
 use Rattle.serde_json.specs.Data.{Data}
 use Rattle.serde_json.specs.View.{view}
-use Rattle.std.specs.Prelude.{◌≡◌, ◌⊎◌, ℕ, List, [], ◌∷◌, Option, Some, None, string_bytes}
+use Rattle.std.specs.Prelude.{◌≡◌, ℕ, List, [], ◌∷◌, ◌++◌, length, Option, Some, None, string_bytes}
 use mathlib.Core.Option.{some}
 use lib.ListN.{get_elem?}
 use Rattle.lsp_jobs.specs.declared.channel.WorkerMessage.{WorkerMessage}
-use Rattle.lsp_jobs.specs.declared.channel.WorkerMessage.TheVariants.{Name, Outcome, Report}
+use Rattle.lsp_jobs.specs.declared.channel.WorkerMessage.TheVariants.{Outcome, Report}
 use Rattle.lsp_jobs.specs.declared.channel.Item.{Item}
+use Rattle.lsp_jobs.specs.declared.channel.Known.{Known}
+use Rattle.lsp_jobs.specs.declared.channel.Known.TheVariants.{All, One, Nothing}
+
+module _ {J : Type 0} where
+  -- the jobs of a pass that knows all
+  abbrev pub all_jobs : Known J → List J
+  all_jobs (All jobs) = jobs
+  all_jobs known = []
+
+  abbrev pub KnowsAll : Known J → Type 0
+  KnowsAll known = known ≡ All (all_jobs known)
+
+  -- the pass that knows all knows one more job, and another pass knows this job by its ticket
+  abbrev pub with_next : Option J → Known J → Known J
+  with_next None known = known
+  with_next (Some job) known = All (all_jobs known ++ job ∷ [])
+
+  abbrev pub next_one : Option J → Known J → Known J
+  next_one None known = Nothing
+  next_one (Some job) known = One (length (all_jobs known)) job
+
+  -- What the pass with this number knows is so, if these jobs got tickets, in order. Only one pass knows all of them.
+  abbrev pub IsSo : ℕ → List J → ℕ → Known J → Type 0
+  IsSo pool jobs pass (All these) = (pass ≡ pool) × (these ≡ jobs)
+  IsSo pool jobs pass (One ticket job) = get_elem? jobs ticket ≡ some job
+  IsSo pool jobs pass Nothing = Unit {0}
 
 module _ {J R : Type 0} (comes_to : J → R → Type 0) (reports : J → List ℕ → Data → Type 0) where
   -- an outcome is one that the job may come to, and a report one that it may make
   abbrev pub MaySend : J → WorkerMessage R → Type 0
   MaySend job (Outcome r) = comes_to job r
   MaySend job (Report n) = reports job (string_bytes n.method) (view n.params)
-  MaySend job Name = Unit {0}
 
-  -- the item names this job, and what is on it the job may say
-  abbrev pub IsOf : J → Item J R → Type 0
-  IsOf job item = (item.job.value.value ≡ job) × MaySend job item.message
+  -- what is on the item the job with its ticket may say
+  abbrev pub IsSaidBy : List J → Item R → Type 0
+  IsSaidBy jobs item =
+      (job : J) × (get_elem? jobs item.ticket ≡ some job) × MaySend job item.message
 
-  abbrev pub AreOf : J → List (Item J R) → Type 0
-  AreOf job [] = Unit {0}
-  AreOf job (item ∷ sent) = IsOf job item × AreOf job sent
+  abbrev pub AreSaidBy : List J → List (Item R) → Type 0
+  AreSaidBy jobs [] = Unit {0}
+  AreSaidBy jobs (item ∷ sent) = IsSaidBy jobs item × AreSaidBy jobs sent
 
-  -- Nothing was sent yet, and the one pass knows no job. Or there is a job that all items are of and each pass knows.
-  abbrev pub AreOfOneJob : List (Item J R) → List (Option J) → Type 0
-  AreOfOneJob sent known =
-      ((sent ≡ []) × (known ≡ None ∷ []))
-      ⊎ ((job : J) × AreOf job sent
-      × ((pass : ℕ) (knows : Option J) → get_elem? known pass ≡ some knows → knows ≡ Some job))
+  -- There are jobs with tickets, by whom all items are said, and what each pass knows of them is so.
+  pub record SaidByTickets (sent : List (Item R)) (known : List (Known J)) : Type 0 where
+    pub pool : ℕ
+    pub jobs : List J
+    pub said : AreSaidBy jobs sent
+    pub agree : (pass : ℕ) (knows : Known J) → get_elem? known pass ≡ some knows
+        → IsSo pool jobs pass knows

@@ -1,6 +1,5 @@
 -- What is seen of a pool.
-use Rattle.std.specs.FinMap as map
-use Rattle.std.specs.Prelude.{◌≡◌, Result, Ok, Err, option_map, string_bytes}
+use Rattle.std.specs.Prelude.{◌≡◌, Result, Ok, Err, string_bytes}
 use Rattle.std.specs.declared.alloc.AllocError.{AllocError}
 use Rattle.serde_json.specs.declared.value.Value.{Value}
 use Rattle.serde_json.specs.View.{view}
@@ -10,21 +9,16 @@ use Rattle.lsp_jobs.specs.Ends.{End, Outcome as Reply, came_to, no_memory, no_ro
 use Rattle.lsp_jobs.specs.PendingJobs.{PendingJobs, FromJob, reports, ends}
 use Rattle.lsp_jobs.specs.declared.job_server.JobEnd as rust_end
 use Rattle.lsp_jobs.specs.declared.job_server.JobEnd.TheVariants.{Outcome as Ended, Refused}
-use Rattle.lsp_jobs.specs.declared.pool.Entry.{Entry}
 use Rattle.lsp_jobs.specs.declared.pool.JobMessage as rust
 use Rattle.lsp_jobs.specs.declared.pool.JobMessage.TheVariants.{Report, Outcome}
 use Rattle.lsp_jobs.specs.declared.pool.JobPool.{JobPool}
 use Rattle.lsp_jobs.specs.declared.pool.SubmitFault as fault
 use Rattle.lsp_jobs.specs.declared.pool.SubmitFault.TheVariants.{Full, Memory}
+use Rattle.lsp_jobs.specs.Waiting.{pending_of}
 
-module _ {J K : Type 0} where
-  -- the job of a request, and what is kept with it
-  abbrev pub job_of : Entry J K → J × K
-  job_of entry = (entry.job_receiver, entry.kept)
-
-  -- under each id the job that answers its request, and what is kept with it
-  abbrev pub pending_jobs : {T : Type 0} → JobPool T J K → PendingJobs (J × K)
-  pending_jobs pool = λ id. option_map job_of (map.get pool.jobs id)
+-- under each id the job that answers its request, and what is kept with it
+abbrev pub pending_jobs : {T J K : Type 0} → JobPool T J K → PendingJobs (J × K)
+pending_jobs pool = pending_of pool.table.jobs
 
 module _ {K : Type 0} where
   abbrev pub job_message_view : rust.JobMessage K → FromJob K

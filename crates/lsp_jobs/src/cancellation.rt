@@ -1,4 +1,5 @@
 // How a job is told that nobody waits for its outcome any more.
+use crate::unread::Unread;
 use std::alloc::{AllocError, Global};
 use std::sync::Arc;
 use std::sync::atomic::{AtomicBool, Ordering};
@@ -6,7 +7,7 @@ use std::sync::atomic::{AtomicBool, Ordering};
 /// Tells a job that nobody waits for its outcome any more (LSP 3.17, "Cancellation Support").
 #[derive(Drop)]
 pub struct CancellationToken {
-    request: Arc<AtomicBool, Global>,
+    request: Unread,
     pool: Arc<AtomicBool, Global>,
 }
 
@@ -14,7 +15,7 @@ impl CancellationToken {
     /// A token that is not cancelled. The error means that an allocation failed.
     pub fn new(alloc: Global) -> Result<CancellationToken, AllocError> {
         Ok(CancellationToken {
-            request: flag(alloc)?,
+            request: Unread::new(alloc)?,
             pool: flag(alloc)?,
         })
     }
@@ -22,7 +23,7 @@ impl CancellationToken {
     /// The token of another request of the same pool.
     pub(crate) fn of_pool(&self, alloc: Global) -> Result<CancellationToken, AllocError> {
         Ok(CancellationToken {
-            request: flag(alloc)?,
+            request: Unread::new(alloc)?,
             pool: Arc::try_clone(&self.pool)?,
         })
     }
@@ -30,7 +31,7 @@ impl CancellationToken {
     /// The same token, for another thread.
     pub(crate) fn share(&self) -> Result<CancellationToken, AllocError> {
         Ok(CancellationToken {
-            request: Arc::try_clone(&self.request)?,
+            request: self.request.share()?,
             pool: Arc::try_clone(&self.pool)?,
         })
     }
@@ -38,12 +39,22 @@ impl CancellationToken {
     /// Whether the request was forgotten, another job was taken on under its id, or the pool ended. What the job comes to is dropped
     /// then, so it may stop.
     pub fn is_cancelled(&self) -> bool {
-        self.request.load(Ordering::SeqCst) || self.pool.load(Ordering::SeqCst)
+        self.request.is_cancelled() || self.pool.load(Ordering::SeqCst)
     }
 
     /// Cancels the request of this token.
     pub fn cancel(&self) {
-        self.request.store(true, Ordering::SeqCst);
+        self.request.cancel();
+    }
+
+    /// The count of the messages of this request's job, for another thread.
+    pub(crate) fn unread(&self) -> Result<Unread, AllocError> {
+        self.request.share()
+    }
+
+    /// A message of this request's job was taken.
+    pub(crate) fn took(&self) {
+        self.request.remove();
     }
 
     /// Cancels all tokens of the pool.

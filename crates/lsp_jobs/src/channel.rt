@@ -1,10 +1,12 @@
-// The way from the thread that works to the pool of what a job says: an outcome that comes out is one of the very job that went in.
+// The way from the threads that work to the pool of what jobs say: one channel, whose rule gives each job a ticket. An item that comes
+// out is one that the job with its ticket may send.
 ghost use Rattle.serde_json.specs.Data.{Data};
 ghost use Rattle.serde_json.specs.View.{view};
-ghost use Rattle.std.specs.Prelude.{◌≡◌, ℕ, List, IfOk, IfSome, Some, string_bytes};
+ghost use Rattle.std.specs.Prelude.{◌≡◌, ◌∷◌, ◌++◌, [], ℕ, List, length, IfOk, OnErr, OnOk, Some, string_bytes};
 ghost use Rattle.crossbeam_channel.specs.Claims.{IsSeatAt, view as knows};
-ghost use Rattle.crossbeam_channel.specs.Ends.{sends_on};
-ghost use Rattle.lsp_jobs.specs.Outcomes.{MaySend};
+ghost use Rattle.crossbeam_channel.specs.Ends.{receives_on, sends_on};
+ghost use Rattle.lsp_jobs.specs.Outcomes.{KnowsAll, all_jobs};
+ghost use Rattle.lsp_jobs.specs.declared.channel.Known.TheVariants.{All, One};
 
 use crate::cancellation::CancellationToken;
 use crate::job::Progress;
@@ -14,6 +16,7 @@ use crossbeam_channel::protocol::{Lesson, Outcome, Protocol, Split};
 use crossbeam_channel::{Pass, RuledReceiver, RuledSender, bounded_with};
 use lsp_message::{Notification, RequestId};
 use std::alloc::{AllocError, Global};
+use std::collections::LinkedList;
 use std::marker::{Brand, Model, PhantomData};
 use std::snapshot::Snapshot;
 use std::sync::Wait;
@@ -38,162 +41,188 @@ pub(crate) trait AnyJob<R>: Drop {
 /// What a job says.
 #[derive(Drop)]
 pub(crate) enum WorkerMessage<R> {
-    /// Its name.
-    Name,
     /// How far it is.
     Report(Notification),
     /// What it came to.
     Outcome(R),
 }
 
-/// What goes through the channel: the name of the job, and what it says. The first item only names it. A name can be taken again and
-/// again of a snapshot, when the job itself is gone.
+/// What goes through the channel: the ticket of a job, the id of its request, and what the job says.
 #[derive(Drop)]
-pub(crate) struct Item<J, R> {
-    pub(crate) job: Snapshot<Snapshot<J>>,
+pub(crate) struct Item<R> {
+    pub(crate) ticket: u64,
+    pub(crate) id: RequestId,
     pub(crate) message: WorkerMessage<R>,
 }
 
-/// How many items of a job may wait for the pool.
-const ITEMS: usize = 16;
+/// How many items may wait for the pool. A job whose message finds no room waits.
+const ITEMS: usize = 256;
 
-/// How many of them may be reports that can be dropped: one place is kept for what can't.
-const REPORTS: usize = 15;
+/// What a pass knows. No value of it is made.
+pub(crate) enum Known<J> {
+    /// All jobs that got a ticket, in order. The first has ticket 0.
+    All(LinkedList<J>),
+    /// The job that has this ticket.
+    One(u64, J),
+    /// Nothing.
+    Nothing,
+}
 
-/// The rule of the channel: all its items are of one job, which each pass knows.
-pub(crate) struct OneJob;
+/// The rule of the channel: each item is one that the job with its ticket may send.
+pub(crate) struct Tickets;
 
-impl<J: AnyJob<R>, R> Protocol<Item<J, R>, Option<J>> for OneJob {
+impl<J: AnyJob<R>, R> Protocol<Item<R>, Known<J>> for Tickets {
+    ghost use Rattle.std.specs.Prelude.{[]};
+    ghost use Rattle.lsp_jobs.specs.Outcomes.{SaidByTickets};
+    ghost use Rattle.lsp_jobs.specs.declared.channel.Known.TheVariants.{All};
+
+    ghost holds = { SaidByTickets J.comes_to J.reports };
+
+    ghost first = { All [] };
+}
+
+/// A job that gets the next ticket, picked for each.
+pub(crate) trait Picked<J> {
+    ghost use Rattle.std.specs.Prelude.{Option};
+
+    ghost job: { Option J };
+}
+
+impl<J> Picked<J> for Brand {
     ghost use Rattle.std.specs.Prelude.{None};
-    ghost use Rattle.lsp_jobs.specs.Outcomes.{AreOfOneJob};
 
-    ghost holds = { AreOfOneJob J.comes_to J.reports };
-
-    ghost first = { None };
+    ghost job = { None };
 }
 
-/// The first item names the job.
-pub(crate) struct Naming;
-
-impl<J, R> Outcome<Item<J, R>, Option<J>> for Naming {
-    ghost use Rattle.std.specs.Prelude.{◌≡◌, Some};
-
-    ghost then = { λ before item after. after ≡ Some item.job.value.value };
+/// The job gets the next ticket: a new pass knows that.
+pub(crate) struct NextTicket<W> {
+    what: PhantomData<W>,
 }
 
-impl<J, R> Lesson<Item<J, R>, Option<J>> for Naming {
-    ghost fact = { λ known sent. Unit {0} };
+impl<J, W: Picked<J>> Split<Known<J>> for NextTicket<W> {
+    ghost use Rattle.lsp_jobs.specs.Outcomes.{with_next, next_one};
+
+    ghost left = { with_next W.job };
+
+    ghost right = { next_one W.job };
 }
 
-/// Another item of the same job.
+/// An item of the job that the pass knows.
 pub(crate) struct Further;
 
-impl<J, R> Outcome<Item<J, R>, Option<J>> for Further {
+impl<J, R> Outcome<Item<R>, Known<J>> for Further {
     ghost use Rattle.std.specs.Prelude.{◌≡◌};
 
     ghost then = { λ before item after. after ≡ before };
 }
 
-impl<J, R> Lesson<Item<J, R>, Option<J>> for Further {
+impl<J, R> Lesson<Item<R>, Known<J>> for Further {
     ghost fact = { λ known sent. Unit {0} };
 }
 
-/// An item that is taken is of the job that the pass knows.
+/// An item that is taken is one that the job with its ticket may send.
 pub(crate) struct Taking;
 
-impl<J: AnyJob<R>, R> Outcome<Item<J, R>, Option<J>> for Taking {
-    ghost use Rattle.std.specs.Prelude.{◌≡◌, IfSome};
-    ghost use Rattle.lsp_jobs.specs.Outcomes.{IsOf};
+impl<J: AnyJob<R>, R> Outcome<Item<R>, Known<J>> for Taking {
+    ghost use Rattle.std.specs.Prelude.{◌≡◌};
+    ghost use Rattle.lsp_jobs.specs.Outcomes.{IsSaidBy, all_jobs};
 
     ghost then = { λ before item after. (after ≡ before)
-        × IfSome before (λ job. IsOf J.comes_to J.reports job item) };
+        × IsSaidBy J.comes_to J.reports (all_jobs before) item };
 }
 
-impl<J, R> Lesson<Item<J, R>, Option<J>> for Taking {
+impl<J, R> Lesson<Item<R>, Known<J>> for Taking {
     ghost fact = { λ known sent. Unit {0} };
 }
 
 /// Two passes know what one knew.
 pub(crate) struct Both;
 
-impl<J> Split<Option<J>> for Both {
+impl<J> Split<Known<J>> for Both {
     ghost left = { λ known. known };
 
     ghost right = { λ known. known };
 }
 
-/// A job, and two ends of the channel that takes what it says: one for its outcome, and one for its reports.
+/// The end of the channel at which items are sent, and the one at which they are taken.
+pub(crate) type ItemSender<J, R> = RuledSender<Item<R>, Known<J>, Tickets>;
+
+pub(crate) type ItemReceiver<J, R> = RuledReceiver<Item<R>, Known<J>, Tickets>;
+
+pub(crate) type ItemPass<J, R> = Pass<Item<R>, Known<J>>;
+
+/// Makes the channel. The pass knows all jobs, and there is none. The error means that an allocation failed.
+pub(crate) fn channel_of_items<J: AnyJob<R>, R: Drop>(
+    alloc: Global,
+) -> Result<(ItemSender<J, R>, ItemReceiver<J, R>, ItemPass<J, R>), AllocError>
+    ensures ends { IfOk result (λ made. IsSeatAt (sends_on made.0) made.2
+        × IsSeatAt (receives_on made.1) made.2) }
+    ensures none { IfOk result (λ made. knows made.2 ≡ All []) }
+{
+    bounded_with(alloc, ITEMS)
+}
+
+/// Gives the next ticket to this job: a pass that knows that.
+fn ticket_for<W: Picked<J>, J: AnyJob<R>, R: Drop>(
+    sender: &ItemSender<J, R>,
+    pass: &mut ItemPass<J, R>,
+    job: &J,
+) -> ItemPass<J, R>
+    requires seat { IsSeatAt (sends_on sender.now) pass.old }
+    requires all { KnowsAll (knows pass.old) }
+    requires job { W.job ≡ Some job.now }
+    ensures seat { IsSeatAt (sends_on sender.now) pass.new × (pass.new.id ≡ pass.old.id)
+        × IsSeatAt (sends_on sender.now) result }
+    ensures all { knows pass.new ≡ All (all_jobs (knows pass.old) ++ job.now ∷ []) }
+    ensures one { knows result ≡ One (length (all_jobs (knows pass.old))) job.now }
+{
+    sender.another::<NextTicket<W>>(pass)
+}
+
+/// A job with its ticket, the request that it answers, and two ends of the channel: one for its outcome, and one for its reports.
 #[derive(Drop)]
 pub(crate) struct JobSender<J: AnyJob<R>, R: Drop> {
     job: J,
-    sender: RuledSender<Item<J, R>, Option<J>, OneJob>,
-    pass: Pass<Item<J, R>, Option<J>>,
-    report_sender: RuledSender<Item<J, R>, Option<J>, OneJob>,
-    report_pass: Pass<Item<J, R>, Option<J>>,
+    ticket: u64,
+    id: RequestId,
+    sender: ItemSender<J, R>,
+    pass: ItemPass<J, R>,
+    report_sender: ItemSender<J, R>,
+    report_pass: ItemPass<J, R>,
     unread: Unread,
-    ghost known: { IsSeatAt (sends_on sender) pass × (knows pass ≡ Some job)
-        × IsSeatAt (sends_on report_sender) report_pass × (knows report_pass ≡ Some job) },
+    ghost known: { IsSeatAt (sends_on sender) pass × (knows pass ≡ One ticket job)
+        × IsSeatAt (sends_on report_sender) report_pass × (knows report_pass ≡ One ticket job) },
 }
 
-/// The end of the channel that gives what a job says. Contracts see the job.
-#[derive(Drop)]
-pub(crate) struct JobReceiver<J: AnyJob<R>, R: Drop> {
-    job: Snapshot<J>,
-    receiver: RuledReceiver<Item<J, R>, Option<J>, OneJob>,
-    pass: Pass<Item<J, R>, Option<J>>,
-    unread: Unread,
-}
-
-impl<J: AnyJob<R>, R: Drop> Model for JobReceiver<J, R> {
-    ghost use Rattle.std.specs.Prelude.{◌≡◌, Some};
-    ghost use Rattle.crossbeam_channel.specs.Claims.{IsSeatAt, view as knows};
-    ghost use Rattle.crossbeam_channel.specs.Ends.{receives_on};
-
-    ghost Value = { J };
-
-    ghost view = { λ a. a.job.value };
-
-    ghost invariant = { λ a. IsSeatAt (receives_on a.receiver) a.pass × (knows a.pass ≡ Some a.job.value) };
-}
-
-/// Makes the way of what a job says. The error means that an allocation failed.
-pub(crate) fn channel_of<T: Wait, J: AnyJob<R>, R: Drop>(
-    rt: &T,
-    alloc: Global,
+/// Gives the next ticket, which has this number, to a job. The error means that an allocation failed, and nothing changed.
+pub(crate) fn sender_for<J: AnyJob<R>, R: Drop>(
+    sender: &ItemSender<J, R>,
+    pass: &mut ItemPass<J, R>,
+    ticket: u64,
+    id: RequestId,
     job: J,
-) -> Result<(JobSender<J, R>, JobReceiver<J, R>), AllocError>
-    ensures { IfOk result (λ ends. ends.1 ≡ «job») }
+    unread: Unread,
+) -> Result<JobSender<J, R>, AllocError>
+    requires seat { IsSeatAt (sends_on sender.now) pass.old }
+    requires all { KnowsAll (knows pass.old) × (length (all_jobs (knows pass.old)) ≡ ticket) }
+    ensures seat { IsSeatAt (sends_on sender.now) pass.new × (pass.new.id ≡ pass.old.id) }
+    ensures ok { OnOk result (knows pass.new ≡ All (all_jobs (knows pass.old) ++ «job» ∷ [])) }
+    ensures err { OnErr result (knows pass.new ≡ knows pass.old) }
 {
-    let unread = Unread::new(alloc)?;
-    let theirs = unread.share()?;
-    let (sender, receiver, mut pass) = bounded_with(alloc, ITEMS)?;
-    let name = Item {
-        job: Snapshot::of(&Snapshot::of(&job)),
-        message: WorkerMessage::Name,
-    };
-    match sender.try_send_as::<Naming, T>(rt, &mut pass, name) {
-        Ok(()) => {}
-        Err(_) => return Err(AllocError),
-    }
+    let for_outcome = sender.try_clone()?;
     let report_sender = sender.try_clone()?;
-    let report_pass = sender.another::<Both>(&mut pass);
-    let mut takes = sender.another::<Both>(&mut pass);
-    let _ = receiver.try_recv_as::<Taking, T>(rt, &mut takes);
-    let job_receiver = JobReceiver {
-        job: Snapshot::of(&job),
-        receiver,
-        pass: takes,
-        unread,
-    };
-    let job_sender = JobSender {
+    let mut job_pass = ticket_for::<Brand, J, R>(sender, pass, &job);
+    let report_pass = sender.another::<Both>(&mut job_pass);
+    Ok(JobSender {
         job,
-        sender,
-        pass,
+        ticket,
+        id,
+        sender: for_outcome,
+        pass: job_pass,
         report_sender,
         report_pass,
-        unread: theirs,
-    };
-    Ok((job_sender, job_receiver))
+        unread,
+    })
 }
 
 impl<J: AnyJob<R>, R: Drop> JobSender<J, R> {
@@ -202,29 +231,33 @@ impl<J: AnyJob<R>, R: Drop> JobSender<J, R> {
     pub fn perform<T: Wait + Copy + Drop, M: Drop>(
         self,
         rt: T,
-        id: RequestId,
         token: &CancellationToken,
         notifier: Notifier<M>,
     ) -> Notifier<M> {
         let JobSender {
             job,
+            ticket,
+            id,
             sender,
             mut pass,
             report_sender,
             report_pass,
             unread,
         } = self;
-        let name = Snapshot::of(&job);
         let ends = (report_sender, report_pass);
-        let (outcome, id, mut notifier) = perform_telling::<Brand, T, J, R, M>(
-            job, token, ends, unread, rt, id, notifier,
+        let (outcome, id, unread, mut notifier) = perform_telling::<Brand, T, J, R, M>(
+            job, token, ends, unread, rt, ticket, id, notifier,
         );
-        let item = Item {
-            job: Snapshot::of(&name),
-            message: WorkerMessage::Outcome(outcome),
-        };
-        let _ = sender.send_as::<Further, T>(&rt, &mut pass, item);
-        notifier.notify(&rt, id);
+        if unread.add(&rt) {
+            let item = Item {
+                ticket,
+                id,
+                message: WorkerMessage::Outcome(outcome),
+            };
+            if sender.send_as::<Further, T>(&rt, &mut pass, item).is_ok() {
+                notifier.notify(&rt);
+            }
+        }
         notifier
     }
 }
@@ -245,17 +278,15 @@ impl Reportable for Brand {
 fn perform_telling<W: Reportable, T: Wait + Drop, J: AnyJob<R>, R: Drop, M: Drop>(
     job: J,
     token: &CancellationToken,
-    ends: (
-        RuledSender<Item<J, R>, Option<J>, OneJob>,
-        Pass<Item<J, R>, Option<J>>,
-    ),
+    ends: (ItemSender<J, R>, ItemPass<J, R>),
     unread: Unread,
     rt: T,
+    ticket: u64,
     id: RequestId,
     notifier: Notifier<M>,
-) -> (R, RequestId, Notifier<M>)
+) -> (R, RequestId, Unread, Notifier<M>)
     requires seat { IsSeatAt (sends_on ends.0) ends.1 }
-    requires job { knows ends.1 ≡ Some «job» }
+    requires job { knows ends.1 ≡ One ticket «job» }
     requires asks { (method : List ℕ) (params : Data) → J.reports «job» method params
         → W.what method params }
     requires allows { (method : List ℕ) (params : Data) → W.what method params
@@ -266,19 +297,25 @@ fn perform_telling<W: Reportable, T: Wait + Drop, J: AnyJob<R>, R: Drop, M: Drop
     let reports: Reports<W, J, R> = Reports {
         what: PhantomData,
         job: Snapshot::of(&job),
+        ticket,
         sender,
         pass,
-        unread,
     };
     let mut reporter = Reporter {
         rt,
         id,
+        unread,
         notifier,
         reports,
     };
     let outcome = job.perform(token, &mut reporter);
-    let Reporter { id, notifier, .. } = reporter;
-    (outcome, id, notifier)
+    let Reporter {
+        id,
+        unread,
+        notifier,
+        ..
+    } = reporter;
+    (outcome, id, unread, notifier)
 }
 
 /// The end of the channel that takes a job's reports. Contracts see the job.
@@ -286,58 +323,52 @@ fn perform_telling<W: Reportable, T: Wait + Drop, J: AnyJob<R>, R: Drop, M: Drop
 struct Reports<W: Reportable, J: AnyJob<R>, R: Drop> {
     what: PhantomData<W>,
     job: Snapshot<J>,
-    sender: RuledSender<Item<J, R>, Option<J>, OneJob>,
-    pass: Pass<Item<J, R>, Option<J>>,
-    unread: Unread,
+    ticket: u64,
+    sender: ItemSender<J, R>,
+    pass: ItemPass<J, R>,
 }
 
 impl<W: Reportable, J: AnyJob<R>, R: Drop> Model for Reports<W, J, R> {
     ghost use Rattle.serde_json.specs.Data.{Data};
-    ghost use Rattle.std.specs.Prelude.{◌≡◌, ℕ, List, Some};
+    ghost use Rattle.std.specs.Prelude.{◌≡◌, ℕ, List};
     ghost use Rattle.crossbeam_channel.specs.Claims.{IsSeatAt, view as knows};
     ghost use Rattle.crossbeam_channel.specs.Ends.{sends_on};
+    ghost use Rattle.lsp_jobs.specs.declared.channel.Known.TheVariants.{One};
 
     ghost Value = { J };
 
     ghost view = { λ r. r.job.value };
 
-    ghost invariant = { λ r. IsSeatAt (sends_on r.sender) r.pass × (knows r.pass ≡ Some r.job.value)
+    ghost invariant = { λ r. IsSeatAt (sends_on r.sender) r.pass
+        × (knows r.pass ≡ One r.ticket r.job.value)
         × ((method : List ℕ) (params : Data) → W.what method params
         → ⟦<J as AnyJob<R>>⟧.reports r.job.value method params) };
 }
 
 impl<W: Reportable, J: AnyJob<R>, R: Drop> Reports<W, J, R> {
-    /// Sends a report, if more than one place is free.
-    fn try_send<T: Wait>(&mut self, rt: &T, notification: Notification) -> bool
+    /// Sends a report, if there is room.
+    fn try_send<T: Wait>(&mut self, rt: &T, id: RequestId, notification: Notification) -> bool
         requires { W.what (string_bytes notification.method) (view notification.params) }
     {
-        if self.unread.count() >= REPORTS {
-            return false;
-        }
         let item = Item {
-            job: Snapshot::of(&self.job),
+            ticket: self.ticket,
+            id,
             message: WorkerMessage::Report(notification),
         };
-        self.unread.add();
-        let is_sent = self
-            .sender
+        self.sender
             .try_send_as::<Further, T>(rt, &mut self.pass, item)
-            .is_ok();
-        if !is_sent {
-            self.unread.remove();
-        }
-        is_sent
+            .is_ok()
     }
 
     /// Sends a notification, and waits for room. False if nobody takes it any more.
-    fn send<T: Wait>(&mut self, rt: &T, notification: Notification) -> bool
+    fn send<T: Wait>(&mut self, rt: &T, id: RequestId, notification: Notification) -> bool
         requires { W.what (string_bytes notification.method) (view notification.params) }
     {
         let item = Item {
-            job: Snapshot::of(&self.job),
+            ticket: self.ticket,
+            id,
             message: WorkerMessage::Report(notification),
         };
-        self.unread.add();
         self.sender
             .send_as::<Further, T>(rt, &mut self.pass, item)
             .is_ok()
@@ -349,8 +380,21 @@ impl<W: Reportable, J: AnyJob<R>, R: Drop> Reports<W, J, R> {
 struct Reporter<W: Reportable, T: Wait + Drop, J: AnyJob<R>, R: Drop, M: Drop> {
     rt: T,
     id: RequestId,
+    unread: Unread,
     notifier: Notifier<M>,
     reports: Reports<W, J, R>,
+}
+
+impl<W: Reportable, T: Wait + Drop, J: AnyJob<R>, R: Drop, M: Drop> Reporter<W, T, J, R, M> {
+    /// Counts a notification that is sent now, or was not sent.
+    fn counted(&mut self, is_sent: bool) -> bool {
+        if is_sent {
+            self.notifier.notify(&self.rt);
+        } else {
+            self.unread.remove();
+        }
+        is_sent
+    }
 }
 
 impl<W: Reportable, T: Wait + Drop, J: AnyJob<R>, R: Drop, M: Drop> Progress
@@ -361,28 +405,21 @@ impl<W: Reportable, T: Wait + Drop, J: AnyJob<R>, R: Drop, M: Drop> Progress
         let Ok(id) = self.id.clone() else {
             return false;
         };
-        self.reports.try_send(&self.rt, notification) && self.notifier.notify(&self.rt, id)
+        if !self.unread.try_add() {
+            return false;
+        }
+        let is_sent = self.reports.try_send(&self.rt, id, notification);
+        self.counted(is_sent)
     }
 
     fn send(&mut self, notification: Notification) -> bool {
-        self.reports.send(&self.rt, notification) && self.notifier.notify_again(&self.rt, &self.id)
-    }
-}
-
-impl<J: AnyJob<R>, R: Drop> JobReceiver<J, R> {
-    /// What the job said next, if that was sent and not taken yet.
-    pub fn take<T: Wait>(&mut self, rt: &T) -> Option<WorkerMessage<R>>
-        ensures job { self.new ≡ self.old }
-        ensures message { IfSome result (λ message. MaySend J.comes_to J.reports self.old message) }
-    {
-        match self.receiver.try_recv_as::<Taking, T>(rt, &mut self.pass) {
-            Ok(item) => {
-                if let WorkerMessage::Report(_) = &item.message {
-                    self.unread.remove();
-                }
-                Some(item.message)
-            }
-            Err(_) => None,
+        let Some(id) = self.unread.copy_of(&self.rt, &self.id) else {
+            return false;
+        };
+        if !self.unread.add(&self.rt) {
+            return false;
         }
+        let is_sent = self.reports.send(&self.rt, id, notification);
+        self.counted(is_sent)
     }
 }

@@ -49,8 +49,8 @@ pub trait Progress {
     ghost may: { List ℕ → Data → Type 0 } = { λ _ _. ⊤ };
 
     /// Sends a notification while the job runs, such as `$/progress` (LSP 3.17, "Work Done Progress"), if there is room for it. False
-    /// means that it was not sent: nobody waits for the job any more, 15 of its notifications wait to be taken, or an allocation
-    /// failed. The job goes on.
+    /// means that it was not sent: nobody waits for the job any more, 15 of its notifications or 256 of all jobs wait to be taken, or
+    /// an allocation failed. The job goes on.
     fn report(&mut self, notification: Notification) -> bool
         requires { may (string_bytes notification.method) (view notification.params) };
 

@@ -11,6 +11,7 @@ mod pool;
 mod pooled_server;
 mod progress;
 mod run;
+mod table;
 mod unread;
 mod waiting_jobs;
 mod workers;

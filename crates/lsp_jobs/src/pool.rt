@@ -1,20 +1,19 @@
-//! The requests that wait for their jobs, each with the way of what its job says.
-ghost use Rattle.std.specs.Prelude.{◌≡◌, IfErr, IfOk, IfNone, IfSome, OnErr, OnOk};
+//! The pool: threads that run jobs, and the requests that wait for them.
+ghost use Rattle.std.specs.Prelude.{◌≡◌, Some, IfErr, IfOk, IfNone, IfSome, OnErr, OnOk};
 ghost use Rattle.std.specs.Option.{is_some};
 ghost use Rattle.lsp_message.specs.View.{outcome_view};
 ghost use Rattle.lsp_jobs.specs.PendingJobs.{no_jobs, without, with_job, Tells};
-ghost use Rattle.lsp_jobs.specs.PoolView.{CameTo, GivesBack, job_of, job_message_view, pending_jobs};
+ghost use Rattle.lsp_jobs.specs.PoolView.{CameTo, GivesBack, job_message_view, pending_jobs};
 
 use crate::cancellation::CancellationToken;
-use crate::channel::{JobReceiver, WorkerMessage, channel_of};
+use crate::channel::{AnyJob, WorkerMessage};
 use crate::job::{Job, Ran};
-use crate::notifier::{Notifier, channel_of_ids};
-use crate::waiting_jobs::{QueueFault, WaitingJobs, queue_of_jobs};
+use crate::notifier::Notifier;
+use crate::table::JobTable;
+use crate::waiting_jobs::{WaitingJobs, queue_of_jobs};
 use crate::workers::{QueuedJob, join_all, start_job_workers};
-use crossbeam_channel::Receiver;
+use crossbeam_channel::{Receiver, bounded};
 use lsp_message::{ErrorCode, Notification, RequestId, ResponseError};
-use lsp_queue::{Incoming, RegisterFault, ReqQueue};
-use lsp_relay::RelayWaker;
 use lsp_threads::StartFault;
 use serde_json::Value;
 use std::alloc::{AllocError, Global};
@@ -61,17 +60,6 @@ pub enum JobMessage<K> {
     Outcome(Result<Value, ResponseError>, K),
 }
 
-/// A request that waits for its job.
-#[derive(Drop)]
-pub(crate) struct Entry<J: Job, K: Drop> {
-    pub(crate) token: CancellationToken,
-    pub(crate) job_receiver: JobReceiver<J, Ran>,
-    /// Where its job waits for a thread, if none took it yet.
-    pub(crate) place: u64,
-    /// What the caller keeps for it.
-    pub(crate) kept: K,
-}
-
 /// Threads that run jobs, and the requests that wait for them. Contracts see the jobs that are pending: under the id of each such request, its job, and
 /// what the caller keeps with it, a `K`: `()` if that is nothing.
 ///
@@ -81,7 +69,7 @@ pub struct JobPool<T: Wait + Drop, J: Job, K: Drop> {
     rt: T,
     alloc: Global,
     tokens: CancellationToken,
-    jobs: Incoming<Entry<J, K>>,
+    table: JobTable<J, K>,
     waiting: WaitingJobs<QueuedJob<J, Ran>>,
     workers: Vec<JoinHandle<()>>,
 }
@@ -92,73 +80,77 @@ where
     J: Job + Send + 'static,
     K: Drop,
 {
-    /// Starts threads that run jobs. It gives the pool, with no job, and the end of a channel on which comes the id of a job that has
-    /// a message: then ask `take_message`, once for each id. The channel has room for all ids, so no job waits for your loop. Only if memory for
-    /// one more id is missing, the job that has a message waits until you take an earlier one, or memory is there again.
+    /// Starts threads that run jobs. It gives the pool, with no job, and the end of a channel on which a signal comes when jobs said
+    /// something: then ask `take_message` until it gives `None`. One signal may stand for several messages. Up to 256 messages wait for
+    /// your loop, and a job that has one more to say waits. A report is dropped then.
     ///
     /// After a fault no thread is left.
     pub fn start(
         rt: &T,
         alloc: Global,
         size: PoolSize,
-    ) -> Result<(JobPool<T, J, K>, Receiver<RequestId>), StartFault>
+    ) -> Result<(JobPool<T, J, K>, Receiver<()>), StartFault>
         ensures { IfOk result (λ started. pending_jobs started.0 ≡ no_jobs) }
     {
-        start_pool::<T, J, K, ()>(rt, alloc, size, None)
+        let Ok((signals, signalled)) = bounded(alloc, 1) else {
+            return Err(StartFault::Memory);
+        };
+        let notifier: Notifier<()> = Notifier::Signals(signals);
+        match start_pool::<T, J, K, ()>(rt, alloc, size, notifier) {
+            Ok(pool) => Ok((pool, signalled)),
+            Err(fault) => Err(fault),
+        }
     }
 
     /// Cancels all tokens, and waits until each thread has ended: a job that runs then goes on until it sees its token or ends, and one
-    /// that has not begun never does. A pool that is only dropped leaves its threads to run all jobs that were submitted.
+    /// that has not begun never does. A pool that is only dropped cancels its jobs too, and waits for no thread.
     pub fn end(self) {
         let JobPool {
             rt,
             tokens,
-            jobs,
+            table,
             waiting,
             workers,
             ..
         } = self;
         tokens.cancel_all();
-        drop(jobs);
+        // A worker that waits for room goes on when the table is gone.
+        drop(table);
         drop(waiting);
         join_all(&rt, workers);
     }
 }
 
-/// `JobPool::start`, for a loop that waits at a relay: with each id it wakes the relay.
+/// `JobPool::start`, with a notifier.
 pub(crate) fn start_pool<T, J, K, M>(
     rt: &T,
     alloc: Global,
     size: PoolSize,
-    waker: Option<RelayWaker<M>>,
-) -> Result<(JobPool<T, J, K>, Receiver<RequestId>), StartFault>
+    notifier: Notifier<M>,
+) -> Result<JobPool<T, J, K>, StartFault>
 where
     T: Threads + Wait + Copy + Drop + Send + 'static,
     J: Job + Send + 'static,
     K: Drop,
     M: Drop + Send + 'static,
-    ensures { IfOk result (λ started. pending_jobs started.0 ≡ no_jobs) }
+    ensures { IfOk result (λ pool. pending_jobs pool ≡ no_jobs) }
 {
-    let Ok((ids, ready)) = channel_of_ids(rt, alloc) else {
-        return Err(StartFault::Memory);
-    };
+    let mut notifier = notifier;
     let Ok(tokens) = CancellationToken::new(alloc) else {
         return Err(StartFault::Memory);
     };
-    let Ok(ended) = tokens.share() else {
+    let Ok(table) = JobTable::new(alloc) else {
         return Err(StartFault::Memory);
     };
-    let mut notifier = Notifier::new(ids, ended, waker);
     let room = size.waiting.map(|waiting| waiting.max(1));
     let Ok((waiting, taken)) = queue_of_jobs(alloc, room) else {
         return Err(StartFault::Memory);
     };
-    let queue: ReqQueue<Entry<J, K>, ()> = ReqQueue::default(alloc);
     let mut pool = JobPool {
         rt: *rt,
         alloc,
         tokens,
-        jobs: queue.incoming,
+        table,
         waiting,
         workers: Vec::new(alloc),
     };
@@ -169,7 +161,7 @@ where
         &mut notifier,
         &mut pool.workers,
     ) {
-        Ok(()) => Ok((pool, ready)),
+        Ok(()) => Ok(pool),
         Err(fault) => {
             pool.end();
             Err(fault)
@@ -179,8 +171,7 @@ where
 
 impl<T: Wait + Drop, J: Job, K: Drop> JobPool<T, J, K> {
     /// Gives the job of a request to the threads, and keeps `kept` with it; it never waits for one. An earlier job under the id is
-    /// forgotten, and what was kept with it is dropped. After a fault no job is under the id. After `SubmitFault::Memory` this one may run
-    /// all the same, and nobody waits for it.
+    /// forgotten, and what was kept with it is dropped. After a fault no job is under the id, and this one never runs.
     pub fn submit(&mut self, id: RequestId, job: J, kept: K) -> Result<(), SubmitFault<K>>
         ensures ok { OnOk result
             (pending_jobs self.new ≡ with_job id («job», «kept») (pending_jobs self.old)) }
@@ -188,54 +179,40 @@ impl<T: Wait + Drop, J: Job, K: Drop> JobPool<T, J, K> {
         ensures back { IfErr result (GivesBack «kept») }
     {
         self.forget(&id);
-        let entry = self.hand_over(&id, job, kept)?;
-        match self.keep(id, entry) {
+        if !self.waiting.has_room(&self.rt) {
+            return Err(SubmitFault::Full(kept));
+        }
+        match self.hand_over(&id, job, kept) {
             Ok(()) => Ok(()),
-            Err(_) => Err(SubmitFault::Memory),
+            Err(_) => {
+                self.forget(&id);
+                Err(SubmitFault::Memory)
+            }
         }
     }
 
-    /// Gives a job to the workers, and makes what stays here.
-    fn hand_over(&self, id: &RequestId, job: J, kept: K) -> Result<Entry<J, K>, SubmitFault<K>>
-        ensures ok { IfOk result (λ entry. job_of entry ≡ («job», «kept»)) }
-        ensures back { IfErr result (GivesBack «kept») }
-    {
-        match self.enqueue(id, job) {
-            Ok((token, job_receiver, place)) => Ok(Entry {
-                token,
-                job_receiver,
-                place,
-                kept,
-            }),
-            Err(QueueFault::Full) => Err(SubmitFault::Full(kept)),
-            Err(QueueFault::Memory) => Err(SubmitFault::Memory),
-        }
-    }
-
-    /// Gives a job to the workers.
-    fn enqueue(
-        &self,
-        id: &RequestId,
-        job: J,
-    ) -> Result<(CancellationToken, JobReceiver<J, Ran>, u64), QueueFault>
-        ensures { IfOk result (λ queued. queued.1 ≡ «job») }
+    /// Keeps a job for its request, and gives it to the workers. After a fault it may be kept.
+    fn hand_over(&mut self, id: &RequestId, job: J, kept: K) -> Result<(), AllocError>
+        ensures ok { OnOk result
+            (pending_jobs self.new ≡ with_job id.now («job», «kept») (pending_jobs self.old)) }
+        ensures err { without id.now (pending_jobs self.new)
+            ≡ without id.now (pending_jobs self.old) }
     {
         let token = self.tokens.of_pool(self.alloc)?;
-        let (job_sender, job_receiver) = channel_of(&self.rt, self.alloc, job)?;
+        let theirs = token.share()?;
+        let (ticket, job_sender) = self.table.enter(id.clone()?, job, kept, token)?;
         let queued = QueuedJob {
-            id: id.clone()?,
             job_sender,
-            token: token.share()?,
+            token: theirs,
         };
-        let place = self.waiting.add(&self.rt, queued)?;
-        Ok((token, job_receiver, place))
+        self.waiting.add(&self.rt, ticket, queued)
     }
 
     /// Whether the request with this id waits for its job.
     pub fn is_waiting(&self, id: &RequestId) -> bool
         ensures { result ≡ is_some (pending_jobs self.now id.now) }
     {
-        self.jobs.data(id).is_some()
+        self.table.is_waiting(id)
     }
 
     /// The request with this id needs no outcome any more, since it was cancelled or answered otherwise: cancels the job's token, and
@@ -244,76 +221,55 @@ impl<T: Wait + Drop, J: Job, K: Drop> JobPool<T, J, K> {
     pub fn forget(&mut self, id: &RequestId)
         ensures { pending_jobs self.new ≡ without id.now (pending_jobs self.old) }
     {
-        if let Some(entry) = self.jobs.complete(id) {
-            self.let_go(entry);
+        if let Some(entry) = self.table.complete(id) {
+            self.waiting.take_back(&self.rt, entry.ticket);
         }
     }
 
-    /// Nobody waits for this job any more.
-    fn let_go(&self, entry: Entry<J, K>) {
-        entry.token.cancel();
-        self.waiting.take_back(&self.rt, entry.place);
-    }
-
-    /// What the job of this request said next: a report, and the request goes on waiting; or the outcome, with what was kept for it, and it
-    /// waits no more. If an allocation failed in the job, its outcome is the error -32603, `out of memory`. `None` means that the request
-    /// waits for no job, or that its job said nothing new.
+    /// What a job said next that a request waits for, with the id of this request: a report, and the request goes on waiting; or the
+    /// outcome, with what was kept for it, and it waits no more. If an allocation failed in the job, its outcome is the error
+    /// -32603, `out of memory`. `None` means that no such job said anything new. It doesn't wait.
     ///
-    /// The error is a failed allocation: the request has no job any more then, so it is still yours to answer.
-    pub fn take_message(&mut self, id: &RequestId) -> Result<Option<JobMessage<K>>, AllocError>
-        ensures some { IfOk result (λ found. IfSome found (λ message.
-            Tells J.Job id.now (pending_jobs self.old) (job_message_view message) (pending_jobs self.new))) }
+    /// The error is a failed allocation: the request with this id has no job any more then, so it is still yours to answer.
+    pub fn take_message(&mut self) -> Result<Option<(RequestId, JobMessage<K>)>, RequestId>
+        ensures some { IfOk result (λ found. IfSome found (λ said.
+            Tells J.Job said.0 (pending_jobs self.old) (job_message_view said.1)
+            (pending_jobs self.new))) }
         ensures none { IfOk result (λ found. IfNone found (pending_jobs self.new ≡ pending_jobs self.old)) }
-        ensures err { OnErr result (pending_jobs self.new ≡ without id.now (pending_jobs self.old)) }
+        ensures err { IfErr result (λ id. pending_jobs self.new ≡ without id (pending_jobs self.old)) }
     {
-        let Some(mut entry) = self.jobs.complete(id) else {
+        let Some(said) = self.table.take(&self.rt) else {
             return Ok(None);
         };
-        match entry.job_receiver.take(&self.rt) {
-            Some(WorkerMessage::Outcome(ran)) => {
-                let outcome = outcome_of(self.alloc, ran)?;
-                Ok(Some(JobMessage::Outcome(outcome, entry.kept)))
+        let (id, message) = said;
+        match message {
+            WorkerMessage::Report(notification) => {
+                Ok(Some((id, JobMessage::Report(notification))))
             }
-            Some(WorkerMessage::Report(notification)) => {
-                self.keep_on(id, entry)?;
-                Ok(Some(JobMessage::Report(notification)))
-            }
-            _ => {
-                self.keep_on(id, entry)?;
-                Ok(None)
-            }
+            WorkerMessage::Outcome(ran) => self.finish(id, ran),
         }
     }
 
-    /// The request goes on waiting for its job.
-    fn keep_on(&mut self, id: &RequestId, entry: Entry<J, K>) -> Result<(), AllocError>
-        ensures ok { OnOk result
-            (pending_jobs self.new ≡ with_job id.now (job_of entry) (pending_jobs self.old)) }
-        ensures err { OnErr result (pending_jobs self.new ≡ pending_jobs self.old) }
+    /// The job of this request came to this.
+    fn finish(
+        &mut self,
+        id: RequestId,
+        ran: Ran,
+    ) -> Result<Option<(RequestId, JobMessage<K>)>, RequestId>
+        requires { (job : J) × (kept : K) × (pending_jobs self.old id ≡ Some (job, kept))
+            × ⟦<J as AnyJob<Ran>>⟧.comes_to job «ran» }
+        ensures some { IfOk result (λ found. IfSome found (λ said.
+            Tells J.Job said.0 (pending_jobs self.old) (job_message_view said.1)
+            (pending_jobs self.new))) }
+        ensures none { IfOk result (λ found. IfNone found (pending_jobs self.new ≡ pending_jobs self.old)) }
+        ensures err { IfErr result (λ id. pending_jobs self.new ≡ without id (pending_jobs self.old)) }
     {
-        let Ok(same) = id.clone() else {
-            self.let_go(entry);
-            return Err(AllocError);
+        let Some(entry) = self.table.complete(&id) else {
+            return Ok(None);
         };
-        self.keep(same, entry)
-    }
-
-    /// A request waits for its job.
-    fn keep(&mut self, id: RequestId, entry: Entry<J, K>) -> Result<(), AllocError>
-        ensures ok { OnOk result
-            (pending_jobs self.new ≡ with_job id (job_of entry) (pending_jobs self.old)) }
-        ensures err { OnErr result (pending_jobs self.new ≡ pending_jobs self.old) }
-    {
-        match self.jobs.register(id, entry) {
-            Ok(()) => Ok(()),
-            Err(
-                RegisterFault::Memory(entry)
-                | RegisterFault::Unwritable(entry)
-                | RegisterFault::Spent(entry),
-            ) => {
-                self.let_go(entry);
-                Err(AllocError)
-            }
+        match outcome_of(self.alloc, ran) {
+            Ok(outcome) => Ok(Some((id, JobMessage::Outcome(outcome, entry.kept)))),
+            Err(_) => Err(id),
         }
     }
 }

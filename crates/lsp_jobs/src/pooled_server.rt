@@ -15,7 +15,6 @@ ghost use Rattle.lsp_jobs.specs.ServerView.{new_job_view};
 use crate::job::Job;
 use crate::job_server::{AnsweredBy, JobEnd, JobServer, NewJob};
 use crate::pool::{JobMessage, JobPool, SubmitFault};
-use crossbeam_channel::Receiver;
 use lsp_message::{ErrorCode, Notification, Request, RequestId, ResponseError};
 use lsp_service::{Act, Server, WokenServer, cancelled_id};
 use serde_json::Value;
@@ -26,30 +25,20 @@ use std::sync::Wait;
 /// and what is kept with it.
 #[derive(Drop)]
 pub struct PooledServer<T: Wait + Drop, S: Drop, J: Job, K: Drop> {
-    rt: T,
     alloc: Global,
     server: S,
     pool: JobPool<T, J, K>,
-    ready: Receiver<RequestId>,
 }
 
 impl<T: Wait + Drop, S: Drop, J: Job, K: Drop> PooledServer<T, S, J, K> {
-    /// A server with a pool that was started, and the ids of jobs that have a message.
-    pub(crate) fn new(
-        rt: T,
-        alloc: Global,
-        server: S,
-        pool: JobPool<T, J, K>,
-        ready: Receiver<RequestId>,
-    ) -> Self
+    /// A server with a pool that was started.
+    pub(crate) fn new(alloc: Global, server: S, pool: JobPool<T, J, K>) -> Self
         ensures { seen result ≡ (server, pending_jobs pool) }
     {
         PooledServer {
-            rt,
             alloc,
             server,
             pool,
-            ready,
         }
     }
 
@@ -291,16 +280,19 @@ where
     ghost wakes = { (seen_with_jobs T S.Server S.JobServer.own J.Job).wakes };
 
     fn woken(&mut self, alloc: Global) -> Result<Vec<Act<S::Payload>>, AllocError> {
-        let Ok(id) = self.ready.try_recv(&self.rt) else {
+        let Ok(found) = self.pool.take_message() else {
+            return Err(AllocError);
+        };
+        let Some(said) = found else {
             return Ok(Vec::new(alloc));
         };
-        match self.pool.take_message(&id)? {
-            Some(JobMessage::Report(notification)) => one_act(alloc, Act::Tell(notification)),
-            Some(JobMessage::Outcome(outcome, key)) => {
+        let (id, message) = said;
+        match message {
+            JobMessage::Report(notification) => one_act(alloc, Act::Tell(notification)),
+            JobMessage::Outcome(outcome, key) => {
                 let acts = self.end_job(id, key, JobEnd::Outcome(outcome))?;
                 self.start_jobs(acts)
             }
-            None => Ok(Vec::new(alloc)),
         }
     }
 }

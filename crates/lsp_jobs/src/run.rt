@@ -5,6 +5,7 @@ ghost use Rattle.lsp_jobs.specs.JobSession.{JobSession};
 
 use crate::job::Job;
 use crate::job_server::JobServer;
+use crate::notifier::Notifier;
 use crate::pool::{PoolSize, start_pool};
 use crate::pooled_server::PooledServer;
 use lsp_relay::relay;
@@ -17,7 +18,7 @@ use std::sync::Wait;
 use std::thread::Threads;
 
 /// How many parcels of messages that were read, and wakes, may wait for the session. It changes speed and memory only, and no answer.
-const ROOM: usize = 32;
+const ROOM: usize = 256;
 
 /// Runs a session of a server whose long requests are jobs, and gives the server back: threads of a pool run jobs, one thread reads, one
 /// writes, and the server is on the caller's thread, which goes on while jobs run.
@@ -63,11 +64,11 @@ where
     let Ok(waker) = tx.waker() else {
         return (server, Err(StartFault::Memory));
     };
-    let (pool, ready) = match start_pool(rt, alloc, size, Some(waker)) {
-        Ok(started) => started,
+    let pool = match start_pool(rt, alloc, size, Notifier::Wakes(waker)) {
+        Ok(pool) => pool,
         Err(fault) => return (server, Err(fault)),
     };
-    let pooled = PooledServer::new(*rt, alloc, server, pool, ready);
+    let pooled = PooledServer::new(alloc, server, pool);
     let mut queued = WokenQueuedServer::new(alloc, pooled);
     let ends = (tx, rx);
     let done = run_threads_of_service_over(

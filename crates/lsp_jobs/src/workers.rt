@@ -5,7 +5,6 @@ use crate::channel::{AnyJob, JobSender};
 use crate::job::{Job, Ran};
 use crate::notifier::Notifier;
 use crate::waiting_jobs::JobSource;
-use lsp_message::RequestId;
 use lsp_threads::StartFault;
 use std::sync::Wait;
 use std::thread::{JoinHandle, Threads, spawn};
@@ -22,7 +21,6 @@ pub(crate) trait Work: Drop {
 /// A job for a worker.
 #[derive(Drop)]
 pub(crate) struct QueuedJob<J: AnyJob<R>, R: Drop> {
-    pub(crate) id: RequestId,
     pub(crate) job_sender: JobSender<J, R>,
     pub(crate) token: CancellationToken,
 }
@@ -33,12 +31,8 @@ impl<J: AnyJob<R>, R: Drop> Work for QueuedJob<J, R> {
     }
 
     fn run<T: Wait + Copy + Drop, M: Drop>(self, rt: T, notifier: Notifier<M>) -> Notifier<M> {
-        let QueuedJob {
-            id,
-            job_sender,
-            token,
-        } = self;
-        job_sender.perform(rt, id, &token, notifier)
+        let QueuedJob { job_sender, token } = self;
+        job_sender.perform(rt, &token, notifier)
     }
 }
 

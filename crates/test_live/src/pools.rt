@@ -3,9 +3,9 @@
 //
 // - `submit ID KEY SCRIPT`: gives the pool a job (`jobs.rt`), which comes to the list of the key: `taken`, `full KEY` or `no memory`.
 // - `begun N`, `ended N`, `reported N`: waits until N jobs began, ended or were done with their reports; nothing is told.
-// - `hear`: waits until a job has a message: `heard ID`, or `closed`.
-// - `message ID`: takes its message: `report PARAMS`, `outcome VALUE of KEY`, `error CODE of KEY`, `nothing` or `no memory`.
-// - `listen N`: N times `hear`, and the message of the id that was heard.
+// - `hear`: waits for a signal: `heard`, or `closed`.
+// - `message`: takes the next message: `ID report PARAMS`, `ID outcome VALUE of KEY`, `ID error CODE of KEY`, `nothing`, or `ID no memory`.
+// - `listen N`: takes N messages, and waits for a signal where there is none.
 // - `waits ID`: `waits` or `free`. `forget ID`: nothing is told.
 //
 // The client of such a job gave the tokens `w` and 7. At the end the pool is ended, nothing more may be heard then, and it is told how many jobs began and how many saw their cancellation.
@@ -29,7 +29,7 @@ struct Bench<R: Wait + Drop> {
     alloc: Global,
     signals: Arc<Signals>,
     pool: JobPool<R, Scripted, i32>,
-    woken: Receiver<RequestId>,
+    woken: Receiver<()>,
     told: String,
 }
 
@@ -63,8 +63,8 @@ where
     } = bench;
     pool.end();
     // This would wait for ever if the pool still held its end.
-    for id in woken.iter(rt) {
-        drop(id);
+    for signal in woken.iter(rt) {
+        drop(signal);
     }
     let (begun, stopped) = (signals.count(Signal::Begun), signals.count(Signal::Stopped));
     write!(told, "{begun} begun, {stopped} stopped")?;
@@ -96,7 +96,9 @@ impl<R: Wait + Drop> Bench<R> {
             "reported" => self.signals.wait(Signal::Reported, count_of(rest))?,
             "hear" => self.hear()?,
             "listen" => self.listen(count_of(rest))?,
-            "message" => self.take_message(&id_of(rest))?,
+            "message" => {
+                let _ = self.take_message(true)?;
+            }
             "waits" => self.tell_waiting(&id_of(rest))?,
             "forget" => self.pool.forget(&id_of(rest)),
             _ => return Err(Stop::Table),
@@ -118,38 +120,57 @@ impl<R: Wait + Drop> Bench<R> {
 
     fn hear(&mut self) -> Result<(), AllocError> {
         match self.woken.recv(&self.rt) {
-            Ok(id) => write!(self.told, "heard {id}, ")?,
-            Err(_) => self.told.push_str("closed, ")?,
+            Ok(()) => self.told.push_str("heard, "),
+            Err(_) => self.told.push_str("closed, "),
         }
-        Ok(())
     }
 
     fn listen(&mut self, times: u64) -> Result<(), AllocError> {
         for _ in 0..times {
-            match self.woken.recv(&self.rt) {
-                Ok(id) => self.take_message(&id)?,
-                Err(_) => self.told.push_str("closed, ")?,
+            self.await_message()?;
+        }
+        Ok(())
+    }
+
+    /// Takes the next message, and waits for a signal as long as there is none.
+    fn await_message(&mut self) -> Result<(), AllocError> {
+        for _ in 0..u64::MAX {
+            if self.take_message(false)? {
+                return Ok(());
+            }
+            if self.woken.recv(&self.rt).is_err() {
+                return self.told.push_str("closed, ");
             }
         }
         Ok(())
     }
 
-    fn take_message(&mut self, id: &RequestId) -> Result<(), AllocError> {
-        let Ok(found) = self.pool.take_message(id) else {
-            return self.told.push_str("no memory, ");
+    /// Takes the next message. False if there is none, which is told if that is asked for.
+    fn take_message(&mut self, tells: bool) -> Result<bool, AllocError> {
+        let found = match self.pool.take_message() {
+            Ok(found) => found,
+            Err(id) => {
+                write!(self.told, "{id} no memory, ")?;
+                return Ok(true);
+            }
         };
-        match found {
-            Some(message) => self.tell_message(message),
-            None => self.told.push_str("nothing, "),
-        }
+        let Some(said) = found else {
+            if tells {
+                self.told.push_str("nothing, ")?;
+            }
+            return Ok(false);
+        };
+        let (id, message) = said;
+        self.tell_message(&id, message)?;
+        Ok(true)
     }
 
-    fn tell_message(&mut self, message: JobMessage<i32>) -> Result<(), AllocError> {
+    fn tell_message(&mut self, id: &RequestId, message: JobMessage<i32>) -> Result<(), AllocError> {
         match message {
-            JobMessage::Report(report) => write!(self.told, "report {}, ", report.params),
+            JobMessage::Report(report) => write!(self.told, "{id} report {}, ", report.params),
             JobMessage::Outcome(outcome, key) => match outcome {
-                Ok(value) => write!(self.told, "outcome {value} of {key}, "),
-                Err(error) => write!(self.told, "error {} of {key}, ", error.code),
+                Ok(value) => write!(self.told, "{id} outcome {value} of {key}, "),
+                Err(error) => write!(self.told, "{id} error {} of {key}, ", error.code),
             },
         }
     }

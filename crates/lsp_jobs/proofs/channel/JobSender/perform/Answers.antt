@@ -1,10 +1,9 @@
-use Rattle.std.proofs.Common.{◌∙◌}
-use Rattle.lsp_jobs.proofs.OneJob.{furthers, named}
+use Rattle.std.proofs.Common.{refl}
+use Rattle.lsp_jobs.proofs.Tickets.{furthers}
 use Rattle.lsp_jobs.proofs.channel.JobSender.perform.Goals as goal
 
 pub send_as-requires-clause-rule : goal.send_as-requires-clause-rule
 send_as-requires-clause-rule g c = (
-  furthers g.J.AnyJob.comes_to g.J.AnyJob.reports _ _ _ c.args.self.job _ c.args.self.known.1
-      (named _ _ c.of.ensures ∙ c.of-name.ensures, c.perform_telling-outcome.ensures),
+  furthers g.J.AnyJob.comes_to g.J.AnyJob.reports _ _ _ _ c.args.self.job _ c.args.self.known.1 refl c.perform_telling-outcome.ensures,
   λ sent known h seen. tt,
 )

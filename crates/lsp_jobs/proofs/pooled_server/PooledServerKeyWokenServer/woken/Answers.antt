@@ -7,17 +7,17 @@ use Rattle.lsp_jobs.specs.Pooled.{Ends}
 use Rattle.lsp_jobs.specs.Seen.{seen}
 use Rattle.lsp_jobs.proofs.pooled_server.PooledServerKeyWokenServer.woken.Goals as goal
 
-pub returns-in_ok-acts-in-Some-Outcome : goal.returns-in_ok-acts-in-Some-Outcome
-returns-in_ok-acts-in-Some-Outcome g c =
-    let tells = (rw (c.in-Some-Outcome.is, c.in-Some-Outcome.field-0-is) at c.in_ok-notification.ensures.some) in
-    let acts = map (act_view {P = g.row.S-Payload.Denot}) c.in_ok-acts-in-Some-Outcome.acts.items in
-    let outcome = outcome_view c.in-Some-Outcome.outcome in
-    let ended = subst (λ t. Ends g.S.JobServer c.in-Ok.id c.in-Some-Outcome.key (came_to outcome) (c.args.self.now.server, t) acts (seen c.end_job.new.self))
-    tells.3 c.in_ok-acts-in-Some-Outcome.ensures in
+pub returns-in_ok-acts-in-Outcome : goal.returns-in_ok-acts-in-Outcome
+returns-in_ok-acts-in-Outcome g c =
+    let tells = (rw (c.in-Some.is, c.in-Outcome.is) at c.in-Ok.ensures.some) in
+    let id = c.in-Some.said.0 in
+    let acts = map (act_view {P = g.row.S-Payload.Denot}) c.in_ok-acts-in-Outcome.acts.items in
+    let outcome = outcome_view c.in-Outcome.outcome in
+    let ended = subst (λ t. Ends g.S.JobServer id c.in-Outcome.key (came_to outcome) (c.args.self.now.server, t) acts (seen c.end_job.new.self)) tells.3 c.in_ok-acts-in-Outcome.ensures in
     IfOk-weaker c.start_jobs.result _ _ (λ all others. inr (inr (record {
-      id = c.in-Ok.id;
+      id = id;
       job = tells.0;
-      key = c.in-Some-Outcome.key;
+      key = c.in-Outcome.key;
       outcome = outcome;
       waits = tells.1;
       comes = tells.2;
