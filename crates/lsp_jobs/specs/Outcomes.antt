@@ -5,14 +5,15 @@ use Rattle.std.specs.Prelude.{◌≡◌, ◌⊎◌, ℕ, List, [], ◌∷◌, Op
 use mathlib.Core.Option.{some}
 use lib.ListN.{get_elem?}
 use Rattle.lsp_jobs.specs.declared.channel.WorkerMessage.{WorkerMessage}
-use Rattle.lsp_jobs.specs.declared.channel.WorkerMessage.TheVariants.{Name, Outcome, Report}
+use Rattle.lsp_jobs.specs.declared.channel.WorkerMessage.TheVariants.{Ask, Name, Outcome, Report}
 use Rattle.lsp_jobs.specs.declared.channel.Item.{Item}
 
-module _ {J R : Type 0} (comes_to : J → R → Type 0) (reports : J → List ℕ → Data → Type 0) where
-  -- an outcome is one that the job may come to, and a report one that it may make
+module _ {J R : Type 0} (comes_to : J → R → Type 0) (reports asks : J → List ℕ → Data → Type 0) where
+  -- an outcome is one that the job may come to, a report one that it may make, and a request one that it may send the client
   abbrev pub MaySend : J → WorkerMessage R → Type 0
   MaySend job (Outcome r) = comes_to job r
   MaySend job (Report n) = reports job (string_bytes n.method) (view n.params)
+  MaySend job (Ask method params number) = asks job (string_bytes method) (view params)
   MaySend job Name = Unit {0}
 
   -- the item names this job, and what is on it the job may say

@@ -6,6 +6,7 @@ ghost use Rattle.crossbeam_channel.specs.Claims.{IsSeatAt, view as knows};
 ghost use Rattle.crossbeam_channel.specs.Ends.{sends_on};
 ghost use Rattle.lsp_jobs.specs.Outcomes.{MaySend};
 
+use crate::asking::{Asker, Reply};
 use crate::cancellation::CancellationToken;
 use crate::job::Progress;
 use crate::notifier::Notifier;
@@ -13,6 +14,7 @@ use crate::unread::Unread;
 use crossbeam_channel::protocol::{Lesson, Outcome, Protocol, Split};
 use crossbeam_channel::{Pass, RuledReceiver, RuledSender, bounded_with};
 use lsp_message::{Notification, RequestId};
+use serde_json::Value;
 use std::alloc::{AllocError, Global};
 use std::marker::{Brand, Model, PhantomData};
 use std::snapshot::Snapshot;
@@ -29,9 +31,14 @@ pub(crate) trait AnyJob<R>: Drop {
     /// It may report this.
     ghost reports: { Self → List ℕ → Data → Type 0 };
 
+    /// It may ask the client this.
+    ghost asks: { Self → List ℕ → Data → Type 0 };
+
     fn perform<P: Progress>(self, token: &CancellationToken, progress: &mut P) -> R
-        requires { (method : List ℕ) (params : Data) → reports «self» method params
+        requires reporting { (method : List ℕ) (params : Data) → reports «self» method params
             → P.may method params }
+        requires asking { (method : List ℕ) (params : Data) → asks «self» method params
+            → P.may_ask method params }
         ensures { comes_to «self» result };
 }
 
@@ -42,6 +49,8 @@ pub(crate) enum WorkerMessage<R> {
     Name,
     /// How far it is.
     Report(Notification),
+    /// A request to the client with this method and these params. The job waits for the reply under this number.
+    Ask(String, Value, u64),
     /// What it came to.
     Outcome(R),
 }
@@ -67,7 +76,7 @@ impl<J: AnyJob<R>, R> Protocol<Item<J, R>, Option<J>> for OneJob {
     ghost use Rattle.std.specs.Prelude.{None};
     ghost use Rattle.lsp_jobs.specs.Outcomes.{AreOfOneJob};
 
-    ghost holds = { AreOfOneJob J.comes_to J.reports };
+    ghost holds = { AreOfOneJob J.comes_to J.reports J.asks };
 
     ghost first = { None };
 }
@@ -106,7 +115,7 @@ impl<J: AnyJob<R>, R> Outcome<Item<J, R>, Option<J>> for Taking {
     ghost use Rattle.lsp_jobs.specs.Outcomes.{IsOf};
 
     ghost then = { λ before item after. (after ≡ before)
-        × IfSome before (λ job. IsOf J.comes_to J.reports job item) };
+        × IfSome before (λ job. IsOf J.comes_to J.reports J.asks job item) };
 }
 
 impl<J, R> Lesson<Item<J, R>, Option<J>> for Taking {
@@ -204,6 +213,7 @@ impl<J: AnyJob<R>, R: Drop> JobSender<J, R> {
         rt: T,
         id: RequestId,
         token: &CancellationToken,
+        asker: Asker,
         notifier: Notifier<M>,
     ) -> Notifier<M> {
         let JobSender {
@@ -217,7 +227,7 @@ impl<J: AnyJob<R>, R: Drop> JobSender<J, R> {
         let name = Snapshot::of(&job);
         let ends = (report_sender, report_pass);
         let (outcome, id, mut notifier) = perform_telling::<Brand, T, J, R, M>(
-            job, token, ends, unread, rt, id, notifier,
+            job, token, ends, unread, rt, id, asker, notifier,
         );
         let item = Item {
             job: Snapshot::of(&name),
@@ -229,16 +239,20 @@ impl<J: AnyJob<R>, R: Drop> JobSender<J, R> {
     }
 }
 
-/// What a job may report, picked for each.
+/// What a job may report, and ask the client, picked for each.
 trait Reportable {
     ghost use Rattle.serde_json.specs.Data.{Data};
     ghost use Rattle.std.specs.Prelude.{ℕ, List};
 
     ghost what: { List ℕ → Data → Type 0 };
+
+    ghost asked: { List ℕ → Data → Type 0 };
 }
 
 impl Reportable for Brand {
     ghost what = { λ _ _. ⊥ };
+
+    ghost asked = { λ _ _. ⊥ };
 }
 
 /// Performs a job, and sends what it reports meanwhile.
@@ -252,14 +266,19 @@ fn perform_telling<W: Reportable, T: Wait + Drop, J: AnyJob<R>, R: Drop, M: Drop
     unread: Unread,
     rt: T,
     id: RequestId,
+    asker: Asker,
     notifier: Notifier<M>,
 ) -> (R, RequestId, Notifier<M>)
     requires seat { IsSeatAt (sends_on ends.0) ends.1 }
     requires job { knows ends.1 ≡ Some «job» }
-    requires asks { (method : List ℕ) (params : Data) → J.reports «job» method params
+    requires reports { (method : List ℕ) (params : Data) → J.reports «job» method params
         → W.what method params }
-    requires allows { (method : List ℕ) (params : Data) → W.what method params
+    requires reported { (method : List ℕ) (params : Data) → W.what method params
         → J.reports «job» method params }
+    requires asks { (method : List ℕ) (params : Data) → J.asks «job» method params
+        → W.asked method params }
+    requires asked { (method : List ℕ) (params : Data) → W.asked method params
+        → J.asks «job» method params }
     ensures { J.comes_to «job» result.0 }
 {
     let (sender, pass) = ends;
@@ -273,6 +292,7 @@ fn perform_telling<W: Reportable, T: Wait + Drop, J: AnyJob<R>, R: Drop, M: Drop
     let mut reporter = Reporter {
         rt,
         id,
+        asker,
         notifier,
         reports,
     };
@@ -303,7 +323,9 @@ impl<W: Reportable, J: AnyJob<R>, R: Drop> Model for Reports<W, J, R> {
 
     ghost invariant = { λ r. IsSeatAt (sends_on r.sender) r.pass × (knows r.pass ≡ Some r.job.value)
         × ((method : List ℕ) (params : Data) → W.what method params
-        → ⟦<J as AnyJob<R>>⟧.reports r.job.value method params) };
+        → ⟦<J as AnyJob<R>>⟧.reports r.job.value method params)
+        × ((method : List ℕ) (params : Data) → W.asked method params
+        → ⟦<J as AnyJob<R>>⟧.asks r.job.value method params) };
 }
 
 impl<W: Reportable, J: AnyJob<R>, R: Drop> Reports<W, J, R> {
@@ -344,11 +366,27 @@ impl<W: Reportable, J: AnyJob<R>, R: Drop> Reports<W, J, R> {
     }
 }
 
-/// Tells how far a job is while it is performed.
+impl<W: Reportable, J: AnyJob<R>, R: Drop> Reports<W, J, R> {
+    /// Sends a request to the client, and waits for room. False if nobody takes it any more.
+    fn ask<T: Wait>(&mut self, rt: &T, method: String, params: Value, number: u64) -> bool
+        requires { W.asked (string_bytes method) (view params) }
+    {
+        let item = Item {
+            job: Snapshot::of(&self.job),
+            message: WorkerMessage::Ask(method, params, number),
+        };
+        self.sender
+            .send_as::<Further, T>(rt, &mut self.pass, item)
+            .is_ok()
+    }
+}
+
+/// Tells how far a job is while it is performed, and asks the client.
 #[derive(Drop)]
 struct Reporter<W: Reportable, T: Wait + Drop, J: AnyJob<R>, R: Drop, M: Drop> {
     rt: T,
     id: RequestId,
+    asker: Asker,
     notifier: Notifier<M>,
     reports: Reports<W, J, R>,
 }
@@ -356,6 +394,8 @@ struct Reporter<W: Reportable, T: Wait + Drop, J: AnyJob<R>, R: Drop, M: Drop> {
 impl<W: Reportable, T: Wait + Drop, J: AnyJob<R>, R: Drop, M: Drop> Progress
     for Reporter<W, T, J, R, M> {
     ghost may = { W.what };
+
+    ghost may_ask = { W.asked };
 
     fn report(&mut self, notification: Notification) -> bool {
         let Ok(id) = self.id.clone() else {
@@ -367,13 +407,26 @@ impl<W: Reportable, T: Wait + Drop, J: AnyJob<R>, R: Drop, M: Drop> Progress
     fn send(&mut self, notification: Notification) -> bool {
         self.reports.send(&self.rt, notification) && self.notifier.notify_again(&self.rt, &self.id)
     }
+
+    fn ask(&mut self, method: String, params: Value) -> Result<Option<Reply>, AllocError> {
+        let Some((number, replies)) = self.asker.begin(&self.rt)? else {
+            return Ok(None);
+        };
+        let is_sent = self.reports.ask(&self.rt, method, params, number)
+            && self.notifier.notify_again(&self.rt, &self.id);
+        if !is_sent {
+            self.asker.end(&self.rt, number);
+            return Ok(None);
+        }
+        Ok(replies.recv(&self.rt).ok())
+    }
 }
 
 impl<J: AnyJob<R>, R: Drop> JobReceiver<J, R> {
     /// What the job said next, if that was sent and not taken yet.
     pub fn take<T: Wait>(&mut self, rt: &T) -> Option<WorkerMessage<R>>
         ensures job { self.new ≡ self.old }
-        ensures message { IfSome result (λ message. MaySend J.comes_to J.reports self.old message) }
+        ensures message { IfSome result (λ message. MaySend J.comes_to J.reports J.asks self.old message) }
     {
         match self.receiver.try_recv_as::<Taking, T>(rt, &mut self.pass) {
             Ok(item) => {

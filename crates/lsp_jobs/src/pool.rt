@@ -5,6 +5,7 @@ ghost use Rattle.lsp_message.specs.View.{outcome_view};
 ghost use Rattle.lsp_jobs.specs.PendingJobs.{no_jobs, without, with_job, Tells};
 ghost use Rattle.lsp_jobs.specs.PoolView.{CameTo, GivesBack, job_of, job_message_view, pending_jobs};
 
+use crate::asking::Replies;
 use crate::cancellation::CancellationToken;
 use crate::channel::{JobReceiver, WorkerMessage, channel_of};
 use crate::job::{Job, Ran};
@@ -57,6 +58,9 @@ pub enum SubmitFault<K> {
 pub enum JobMessage<K> {
     /// A notification to send while it runs.
     Report(Notification),
+    /// A request to send to the client, with this method and these params. The job waits until `JobPool::reply` gets the reply with this
+    /// number.
+    Ask(String, Value, u64),
     /// The outcome of its request, with what was kept for it.
     Outcome(Result<Value, ResponseError>, K),
 }
@@ -83,6 +87,7 @@ pub struct JobPool<T: Wait + Drop, J: Job, K: Drop> {
     tokens: CancellationToken,
     jobs: Incoming<Entry<J, K>>,
     waiting: WaitingJobs<QueuedJob<J, Ran>>,
+    replies: Replies,
     workers: Vec<JoinHandle<()>>,
 }
 
@@ -108,17 +113,20 @@ where
     }
 
     /// Cancels all tokens, and waits until each thread has ended: a job that runs then goes on until it sees its token or ends, and one
-    /// that has not begun never does. A pool that is only dropped leaves its threads to run all jobs that were submitted.
+    /// that has not begun never does. One that waits for a reply of the client goes on without. A pool that is only dropped leaves its
+    /// threads to run all jobs that were submitted, and one that waits for a reply waits for ever.
     pub fn end(self) {
         let JobPool {
             rt,
             tokens,
             jobs,
             waiting,
+            replies,
             workers,
             ..
         } = self;
         tokens.cancel_all();
+        replies.let_cancelled_go(&rt);
         drop(jobs);
         drop(waiting);
         join_all(&rt, workers);
@@ -153,6 +161,9 @@ where
     let Ok((waiting, taken)) = queue_of_jobs(alloc, room) else {
         return Err(StartFault::Memory);
     };
+    let Ok(replies) = Replies::new(alloc) else {
+        return Err(StartFault::Memory);
+    };
     let queue: ReqQueue<Entry<J, K>, ()> = ReqQueue::default(alloc);
     let mut pool = JobPool {
         rt: *rt,
@@ -160,6 +171,7 @@ where
         tokens,
         jobs: queue.incoming,
         waiting,
+        replies,
         workers: Vec::new(alloc),
     };
     match start_job_workers(
@@ -226,6 +238,7 @@ impl<T: Wait + Drop, J: Job, K: Drop> JobPool<T, J, K> {
             id: id.clone()?,
             job_sender,
             token: token.share()?,
+            asker: self.replies.asker(&token)?,
         };
         let place = self.waiting.add(&self.rt, queued)?;
         Ok((token, job_receiver, place))
@@ -253,10 +266,22 @@ impl<T: Wait + Drop, J: Job, K: Drop> JobPool<T, J, K> {
     fn let_go(&self, entry: Entry<J, K>) {
         entry.token.cancel();
         self.waiting.take_back(&self.rt, entry.place);
+        self.replies.let_cancelled_go(&self.rt);
     }
 
-    /// What the job of this request said next: a report, and the request goes on waiting; or the outcome, with what was kept for it, and it
-    /// waits no more. If an allocation failed in the job, its outcome is the error -32603, `out of memory`. `None` means that the request
+    /// The client replied to a request of a job: hands the reply to the job that waits under this number. If it waits no more, the reply is
+    /// dropped.
+    pub fn reply(&self, number: u64, outcome: Result<Value, ResponseError>) {
+        self.replies.hand(&self.rt, number, outcome);
+    }
+
+    /// No reply comes to a request of a job: the job that waits under this number goes on without one.
+    pub fn give_up(&self, number: u64) {
+        self.replies.give_up(&self.rt, number);
+    }
+
+    /// What the job of this request said next: a report or a request to the client, and the request goes on waiting; or the outcome, with
+    /// what was kept for it, and it waits no more. If an allocation failed in the job, its outcome is the error -32603, `out of memory`. `None` means that the request
     /// waits for no job, or that its job said nothing new.
     ///
     /// The error is a failed allocation: the request has no job any more then, so it is still yours to answer.
@@ -277,6 +302,10 @@ impl<T: Wait + Drop, J: Job, K: Drop> JobPool<T, J, K> {
             Some(WorkerMessage::Report(notification)) => {
                 self.keep_on(id, entry)?;
                 Ok(Some(JobMessage::Report(notification)))
+            }
+            Some(WorkerMessage::Ask(method, params, number)) => {
+                self.keep_on(id, entry)?;
+                Ok(Some(JobMessage::Ask(method, params, number)))
             }
             _ => {
                 self.keep_on(id, entry)?;

@@ -1,5 +1,6 @@
 // The threads that run jobs. Each is started for any such job, since the check finds that it may own its ends only if it need not
 // look into the types.
+use crate::asking::Asker;
 use crate::cancellation::CancellationToken;
 use crate::channel::{AnyJob, JobSender};
 use crate::job::{Job, Ran};
@@ -25,6 +26,7 @@ pub(crate) struct QueuedJob<J: AnyJob<R>, R: Drop> {
     pub(crate) id: RequestId,
     pub(crate) job_sender: JobSender<J, R>,
     pub(crate) token: CancellationToken,
+    pub(crate) asker: Asker,
 }
 
 impl<J: AnyJob<R>, R: Drop> Work for QueuedJob<J, R> {
@@ -37,8 +39,9 @@ impl<J: AnyJob<R>, R: Drop> Work for QueuedJob<J, R> {
             id,
             job_sender,
             token,
+            asker,
         } = self;
-        job_sender.perform(rt, id, &token, notifier)
+        job_sender.perform(rt, id, &token, asker, notifier)
     }
 }
 

@@ -23,6 +23,10 @@ pub returns-in_err-keep_on-in-Some-Report-clause-err : goal.returns-in_err-keep_
 returns-in_err-keep_on-in-Some-Report-clause-err g c =
     on_err _ (c.in_err-keep_on-in-Some-Report.ensures.err ∙ pending_remove job_of _ _ c.args.id.now c.complete.ensures.removed)
 
+pub returns-in_err-keep_on-in-Some-Ask-clause-err : goal.returns-in_err-keep_on-in-Some-Ask-clause-err
+returns-in_err-keep_on-in-Some-Ask-clause-err g c =
+    on_err _ (c.in_err-keep_on-in-Some-Ask.ensures.err ∙ pending_remove job_of _ _ c.args.id.now c.complete.ensures.removed)
+
 pub returns-in_err-keep_on-in_default-take-clause-err : goal.returns-in_err-keep_on-in_default-take-clause-err
 returns-in_err-keep_on-in_default-take-clause-err g c =
     on_err _ (c.in_err-keep_on-in_default-take.ensures.err ∙ pending_remove job_of _ _ c.args.id.now c.complete.ensures.removed)
@@ -37,6 +41,20 @@ returns-in_ok-keep_on-in-Some-Report-clause-some g c =
       waits,
       (rw c.in-Some-Report.field-0-is at c.in-Some-Report.ensures.message),
       c.in_ok-keep_on-in-Some-Report.ensures.ok ∙ ap (λ job. with_job c.args.id.now (job, c.in-Some.entry.kept) rest) c.take.ensures.job
+          ∙ ap (with_job c.args.id.now (c.in-Some.entry.job_receiver, c.in-Some.entry.kept)) (pending_remove job_of _ _ c.args.id.now c.complete.ensures.removed)
+          ∙ with_same before c.args.id.now (c.in-Some.entry.job_receiver, c.in-Some.entry.kept) waits,
+    )
+
+pub returns-in_ok-keep_on-in-Some-Ask-clause-some : goal.returns-in_ok-keep_on-in-Some-Ask-clause-some
+returns-in_ok-keep_on-in-Some-Ask-clause-some g c =
+    let before = pending_jobs c.args.self.now in
+    let rest = jobs_in job_of c.complete.new.self in
+    let waits : before c.args.id.now ≡ _ = ap (option_map job_of) (sym c.in-Some.ensures.value) in (
+      c.in-Some.entry.job_receiver,
+      c.in-Some.entry.kept,
+      waits,
+      (rw c.in-Some-Ask.field-0-is at c.in-Some-Ask.ensures.message),
+      c.in_ok-keep_on-in-Some-Ask.ensures.ok ∙ ap (λ job. with_job c.args.id.now (job, c.in-Some.entry.kept) rest) c.take.ensures.job
           ∙ ap (with_job c.args.id.now (c.in-Some.entry.job_receiver, c.in-Some.entry.kept)) (pending_remove job_of _ _ c.args.id.now c.complete.ensures.removed)
           ∙ with_same before c.args.id.now (c.in-Some.entry.job_receiver, c.in-Some.entry.kept) waits,
     )

@@ -14,15 +14,19 @@ returns-in_ok-acts-in-Some-Outcome g c =
     let outcome = outcome_view c.in-Some-Outcome.outcome in
     let ended = subst (λ t. Ends g.S.JobServer c.in-Ok.id c.in-Some-Outcome.key (came_to outcome) (c.args.self.now.server, t) acts (seen c.end_job.new.self))
     tells.3 c.in_ok-acts-in-Some-Outcome.ensures in
-    IfOk-weaker c.start_jobs.result _ _ (λ all others. inr (inr (record {
-      id = c.in-Ok.id;
-      job = tells.0;
-      key = c.in-Some-Outcome.key;
-      outcome = outcome;
-      waits = tells.1;
-      comes = tells.2;
-      acts = acts;
-      did = seen c.end_job.new.self;
-      ended = ended;
-      others = others;
-    }))) c.start_jobs.ensures
+    IfOk-weaker c.acts_with_jobs.result _ _ (λ all others. inr (inr (inr (
+      others.0,
+      others.1,
+      record {
+        id = c.in-Ok.id;
+        job = tells.0;
+        key = c.in-Some-Outcome.key;
+        outcome = outcome;
+        waits = tells.1;
+        comes = tells.2;
+        acts = acts;
+        did = seen c.end_job.new.self;
+        ended = ended;
+        others = others.2;
+      },
+    )))) c.acts_with_jobs.ensures
