@@ -36,6 +36,8 @@ class Job:
         self.words, self.key, self.value, self.params = script.split(", "), key, value, params
         self.is_cancelled = self.is_dropped = False
         self.waiting, self.made, self.taken, self.told, self.ending = [], 0, 0, 0, None
+        # Whether a reply came, or no more comes; the reply of its client, and the token that it asks its client to agree to.
+        self.is_answered, self.reply, self.created = False, None, None
 
     def token(self, member):
         """A text or a whole number of 32 bits. Else there is none."""
@@ -88,13 +90,15 @@ class Pool:
     def begin(self, number):
         job = self.queue.pop(0)
         if not job.is_cancelled:
-            self.counts["begun"] += 1
+            self.counts["begun"] += job.words != ["fixed"]
             self.workers[number] = job
 
     def can_go_on(self, job):
         """What is not to be dropped waits for room: an outcome, and all but reports."""
         name, _, number = job.words[0].partition(" ") if job.words else ("outcome", "", "")
-        if name in ("outcome", "sends") or name in ("begins", "ends", "parts") and job.token(TOLD[name][0]) is not None:
+        if name == "replied":
+            return job.is_dropped or job.is_answered
+        if name in ("outcome", "sends", "asks", "creates") or name in ("begins", "ends", "parts") and job.token(TOLD[name][0]) is not None:
             return job.is_dropped or len(job.waiting) < PLACES and len(self.said) < ITEMS
         if name == "after":
             return self.counts["messages"] >= int(number)
@@ -108,6 +112,10 @@ class Pool:
         name, _, words = job.words.pop(0).partition(" ")
         if name == "cancelled":
             self.counts["stopped"] += 1
+        elif name in ("asks", "creates"):
+            self.ask(job, words)
+        elif name == "replied":
+            self.hear_reply(job)
         elif name in ("reports", "sends", "begins", "steps", "ends", "parts"):
             self.tell(job, name)
             if int(words or 1) > 1:
@@ -117,9 +125,26 @@ class Pool:
         elif name in ("counted", "fails", "starves"):
             job.ending = name
         if not job.words:
-            self.counts["ended"] += 1
-            endings = {"counted": {"result": job.taken}, "fails": {"error": FAILED}, "starves": {"error": NO_MEMORY}}
+            self.counts["ended"] += name != "fixed"
+            endings = {"replied": job.reply, "counted": {"result": job.taken}, "fails": {"error": FAILED}, "starves": {"error": NO_MEMORY}}
             job.ending = endings.get(job.ending, {"result": job.value})
+
+    def ask(self, job, token):
+        """A request to the client, for whose reply the job waits (LSP 3.17, "Creating Work Done Progress" for a token)."""
+        job.created, job.is_answered, job.reply, job.ending = token or None, False, None, None
+        method, params = ("window/workDoneProgress/create", {"token": token}) if token else ("demo/asked", job.value)
+        job.words.insert(0, "replied")
+        self.say(job, ("ask", {"method": method, "params": params}))
+
+    def hear_reply(self, job):
+        """The reply, or none, since nobody waits for the job. Without agreement nothing is told under the token."""
+        if job.created:
+            job.params = {"workDoneToken": job.created} if "result" in (job.reply or {}) else {}
+            job.reply = None
+        elif job.reply is None:
+            self.counts["stopped"] += 1
+        else:
+            job.ending = "replied"
 
     def tell(self, job, name):
         """A notification of progress. It is dropped if nobody waits for the job; and a report is, if there is no room for it."""
@@ -167,10 +192,24 @@ class Working(Talker):
         """The job that a request gives, if it gives one."""
         if "id" in came and came.get("method", "").startswith("job "):
             return self.make(came["method"][4:], came.get("params"))
+        if "id" in came and came.get("method") == "fixed":
+            return self.make("fixed", came.get("params"))
         return None
 
+    def replied(self, came):
+        """A reply to a job's request is the job's, if it still waits."""
+        why = self.asked[came["id"]] if came["id"] in range(len(self.asked)) else None
+        if not isinstance(why, Job):
+            return super().replied(came)
+        self.asked[came["id"]] = None
+        if not why.is_dropped:
+            why.is_answered, why.reply = True, {it: came[it] for it in came if it in ("result", "error")}
+        return []
+
     def heard(self, came):
-        method, params = came.get("method", ""), came.get("params")
+        method, params = came.get("method"), came.get("params")
+        if "method" not in came:
+            return self.replied(came)
         if "id" in came and method.startswith("later "):
             self.later.append((came["id"], self.make(method[6:], params)))
         elif is_note(came, "start"):
@@ -309,6 +348,8 @@ class JobSession:
     def hear(self, name, kind, said, key):
         if kind == "report":
             return self.send(said)
+        if kind == "ask":
+            return self.send(self.server.ask(said["method"], said["params"], self.pool.table[name]))
         self.finished += f" {json.dumps(name)}:{key}"
         published = [{"method": "published", "params": said["result"]}] if name == "own" and "result" in said else []
         return self.act([*published, {"id": name, **said}])
@@ -328,7 +369,7 @@ class HandPool:
     """The steps of a pool by hand, of which each waits for what it needs."""
 
     def __init__(self, pool, steps):
-        self.heard, self.told, self.todo = False, "", steps
+        self.heard, self.told, self.todo, self.asked = False, "", steps, []
         self.pool = Pool(*pool, self.hear)
 
     def hear(self):
@@ -364,6 +405,10 @@ class HandPool:
             self.told += "waits, " if int(words) in self.pool.table else "free, "
         elif verb == "forget":
             self.pool.forget(int(words))
+        elif verb in ("reply", "give_up"):
+            for job in self.asked[int(words) : int(words) + 1]:
+                if not (job.is_dropped or job.is_answered):
+                    job.is_answered, job.reply = True, {"result": True} if verb == "reply" else None
         if not self.todo:
             self.pool.end()
 
@@ -374,6 +419,9 @@ class HandPool:
         name, kind, said, key = found
         if kind == "report":
             return f"{name} report {ordered(said['params'])}, "
+        if kind == "ask":
+            self.asked.append(self.pool.table[name])
+            return f"{name} ask {len(self.asked) - 1} {said['method']} {ordered(said['params'])}, "
         came = f"error {said['error']['code']}" if "error" in said else f"outcome {ordered(said['result'])}"
         return f"{name} {came} of {key}, "
 

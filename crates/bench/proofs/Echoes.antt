@@ -4,10 +4,10 @@ use Rattle.std.proofs.lemmas.List.{append-nil}
 use mathlib.Core.Logic.{inl, inr}
 use Rattle.serde_json.specs.Data.{Data}
 use Rattle.lsp_message.specs.Id.{Id}
-use Rattle.lsp_message.specs.Message.{Message, ErrorObject, notification, response}
+use Rattle.lsp_message.specs.Message.{Message, ErrorObject, notification, request, response}
 use Rattle.lsp_service.specs.declared.server.Server.{Ghosts as Plain}
 use Rattle.lsp_session.specs.Session.{Exchange}
-use Rattle.lsp_jobs.proofs.Refused.{none_refused, none_started}
+use Rattle.lsp_jobs.proofs.Refused.{asks_once, none_refused, none_started}
 use Rattle.lsp_jobs.specs.JobLaw.{AnswersByJobs, AnswersRequest, LastRequest, SendsOutcome, SilentServer, WakeSends}
 use Rattle.lsp_jobs.specs.declared.job.Job.{Ghosts as OfJob}
 use Rattle.lsp_jobs.specs.declared.job_server.JobServer.{Ghosts as WithJobs}
@@ -26,6 +26,9 @@ module _ {S J K P : Type 0} (plain : Plain S P) (may : WithJobs S J K P) (of_job
 
   is_no_reply : (method : List ℕ) (params : Data) (id : Id) (outcome : Result Data ErrorObject) → notification method params ≡ response id outcome → ⊥
   is_no_reply method params id outcome e = absurd (cc)
+
+  asks_no_reply : (i : Id) (method : List ℕ) (params : Data) (id : Id) (outcome : Result Data ErrorObject) → request i method params ≡ response id outcome → ⊥
+  asks_no_reply i method params id outcome e = absurd (cc)
 
   -- the reply is the params of the last request
   answers_last : (earlier : List Exchange) (id i : Id) (result : Data) (outcome : Result Data ErrorObject)
@@ -57,7 +60,14 @@ module _ {S J K P : Type 0} (plain : Plain S P) (may : WithJobs S J K P) (of_job
   echoed earlier sent before after id result (inr (inl report)) cut =
       absurd (is_no_reply report.method report.params id (Ok result)
       (one_in (response id (Ok result)) (notification report.method report.params) before after report.sent.1 (rw cut at report.sent.2)))
-  echoed earlier sent before after id result (inr (inr o)) cut =
+  echoed earlier sent before after id result (inr (inr (inl asked))) cut =
+      elim (asks_once plain may of_job earlier sent asked) [
+        | inl nothing ↦ absurd (none_in (response id (Ok result)) before after [] (sym nothing ∙ cut ∙ sym (append-nil _)))
+        | inr one ↦
+            absurd (asks_no_reply one.0 asked.method asked.params id (Ok result)
+            (one_in (response id (Ok result)) (request one.0 asked.method asked.params) before after [] (sym one.1 ∙ cut ∙ sym (append-nil _))))
+      ]
+  echoed earlier sent before after id result (inr (inr (inr o))) cut =
       reply_echoes earlier id result o (sends_reply earlier sent before after id result o cut)
 
   pub echo_at_wakes : (exchanges : List Exchange) → AnswersByJobs plain may of_job exchanges → EchoesAtWakes exchanges

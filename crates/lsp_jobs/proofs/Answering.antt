@@ -4,7 +4,7 @@ use Rattle.std.proofs.Common.{◌≡◌, ◌⊎◌, refl, sym, ◌∙◌, ap, su
 use Rattle.std.specs.FinMap as map
 use Rattle.std.specs.List.{FoldsTo}
 use Rattle.std.specs.Ordering.{eq_by_cmp}
-use Rattle.std.specs.Prelude.{Result, Ok, Err, pos, if◌then◌else◌}
+use Rattle.std.specs.Prelude.{Result, Ok, Err, pos, map as map_list, if◌then◌else◌}
 use Rattle.lsp_message.specs.Id.{Id, id_cmp, number}
 use Rattle.lsp_message.specs.IdLaws.{id_decides}
 use Rattle.lsp_message.specs.Message.{Message, ErrorObject, request, notification, response}
@@ -23,6 +23,7 @@ use Rattle.lsp_service.specs.View as queues
 use Rattle.lsp_service.specs.declared.queued_server.QueuedServer.{QueuedServer}
 use Rattle.lsp_service.specs.declared.server.Server.{Ghosts as Plain}
 use Rattle.lsp_jobs.proofs.Owed.{fewer, quiet_more, waits_now, waits_on, replies_at_wake, waits_called, waits_opened, HeldWaits}
+use Rattle.lsp_jobs.specs.Asking.{by_server, ByServers}
 use Rattle.lsp_jobs.specs.Ends.{too_many}
 use Rattle.lsp_jobs.specs.JobLaw.{concerns, is_that, AnswersByJobs, IsAskedAt, IsStarted, Refusal, refuse, RepliesToLast, Waits, WakeSends}
 use Rattle.lsp_jobs.specs.JobSession.{JobSession, seen_with_jobs}
@@ -30,6 +31,8 @@ use Rattle.lsp_jobs.specs.Pooled.{unanswered, without_cancelled, Does, Finishes,
 use Rattle.lsp_jobs.specs.PoolView.{pending_jobs}
 use Rattle.lsp_jobs.specs.Seen.{seen}
 use Rattle.lsp_jobs.specs.PendingJobs.{PendingJobs, no_jobs, without, with_job}
+use Rattle.lsp_jobs.specs.declared.asking.Asked.{Asked}
+use Rattle.lsp_jobs.specs.declared.asking.Asked.TheVariants.{ByJob, ByServer}
 use Rattle.lsp_jobs.specs.declared.job.Job.{Ghosts as OfJob}
 use Rattle.lsp_jobs.specs.declared.job_server.JobServer.{Ghosts as WithJobs}
 use Rattle.lsp_jobs.specs.declared.pooled_server.PooledServer.{PooledServer}
@@ -105,6 +108,15 @@ module _ {P : Type 0} where
       other : (cancelled : Option Id) → is_that id cancelled ≡ false → Spares id (cancelled_answer cancelled)
       other None is = tt
       other (Some i) is = (is, tt)
+
+module _ {P : Type 0} where
+  -- the server's acts reply under the same ids
+  spares_by_server : (id : Id) (acts : List (Act P)) → Spares id acts → Spares id (map_list by_server acts)
+  spares_by_server id [] spares = tt
+  spares_by_server id (replies i outcome ∷ acts) spares = (spares.0, spares_by_server id acts spares.1)
+  spares_by_server id (tells method params ∷ acts) spares = spares_by_server id acts spares
+  spares_by_server id (asks method params payload ∷ acts) spares = spares_by_server id acts spares
+  spares_by_server id (cancels z ∷ acts) spares = spares_by_server id acts spares
 
 -- ---- pending
 
@@ -296,52 +308,88 @@ module _ {S J K P : Type 0} (plain : Plain S P) (may : WithJobs S J K P) (of_job
           (λ i e has. before i e (without_has id (without id old.1) i e (unanswered_has refusal.0 (without id (without id old.1)) i e has).0).0)
 
 module _ (T : Type 0) {S J K P : Type 0} (plain : Plain S P) (may : WithJobs S J K P) (of_job : OfJob J) where
-  abbrev W : Stated (PooledServer T S J K) P
+  abbrev W : Stated (PooledServer T S J K) (Asked P)
   W = seen_with_jobs T plain may of_job
 
+  -- Where the pending jobs come from, by acts of the server's own that reply under no other ids than these.
+  abbrev Handles : Option Message → PendingJobs (J × K) → List (Act (Asked P)) → PendingJobs (J × K) → Type 0
+  Handles arrived old acts new =
+      (own : List (Act P)) × ((id : Id) → Spares id own → Spares id acts) × AllCome plain may arrived (FromCall of_job old arrived) own new
+
+  by_servers : (arrived : Option Message) (old new : PendingJobs (J × K)) (did : List (Act P) → Type 0) (all : List (Act (Asked P)))
+      → ((acts : List (Act P)) → did acts → AllCome plain may arrived (FromCall of_job old arrived) acts new) → ByServers did all → Handles arrived old all new
+  by_servers arrived old new did all come b = (b.0, (λ id spares. subst (Spares id) (sym b.1) (spares_by_server id b.0 spares)), come b.0 b.2)
+
   -- nothing is started
-  idles : (old did : PooledServer T S J K) (arrived : Option Message) (acts none : List (Act P)) → ((id : Id) → concerns id arrived ≡ false) → ((id : Id) → Spares id none)
-      → acts ≡ none → pending_jobs did.pool ≡ pending_jobs old.pool → AllCome plain may arrived (FromCall of_job (pending_jobs old.pool) arrived) acts (pending_jobs did.pool)
-  idles old did arrived acts none calm spares is same =
-      subst (λ (x : List (Act P) × PendingJobs (J × K)). AllCome plain may arrived (FromCall of_job (pending_jobs old.pool) arrived) x.0 x.1) (λ k. (sym is k, sym same k))
-      (stay plain may of_job (pending_jobs old.pool) arrived calm none spares)
+  idles : (old did : PooledServer T S J K) (arrived : Option Message) (acts none : List (Act (Asked P))) → ((id : Id) → concerns id arrived ≡ false)
+      → ((id : Id) → Spares id none) → acts ≡ none → pending_jobs did.pool ≡ pending_jobs old.pool
+      → Handles arrived (pending_jobs old.pool) acts (pending_jobs did.pool)
+  idles old did arrived acts none calm spares is same = (
+    [],
+    (λ id own. subst (Spares id) (sym is) (spares id)),
+    subst (λ (t : PendingJobs (J × K)). AllCome plain may arrived (FromCall of_job (pending_jobs old.pool) arrived) [] t) (sym same)
+        (stay plain may of_job (pending_jobs old.pool) arrived calm [] (λ id. tt)),
+  )
 
   -- at a wake the server is asked after it saw how a job ended
   at_end : {all : List (Act P)} {new : S × PendingJobs (J × K)} (old : PooledServer T S J K) (f : Finishes may of_job (seen old) all new) → IsAskedAt plain may None f.did.0
   at_end old f = (old.server, f.id, f.key, f.outcome, f.ended.0, f.ended.1)
 
-  woken : (old did : PooledServer T S J K) (acts : List (Act P)) → W.wakes old acts did → AllCome plain may None (FromCall of_job (pending_jobs old.pool) None) acts (pending_jobs did.pool)
-  woken old did acts (inl nothing) = idles old did None acts [] (λ id. refl) (λ id. tt) nothing.0 (ap (λ (x : S × PendingJobs (J × K)). x.1) nothing.1)
-  woken old did acts (inr (inl r)) =
-      idles old did None acts (tells r.method r.params ∷ []) (λ id. refl) (λ id. tt) r.acts (ap (λ (x : S × PendingJobs (J × K)). x.1) r.same)
-  woken old did acts (inr (inr f)) =
-      (starts_jobs plain may None (FromCall of_job (pending_jobs old.pool) None) [] f.did (seen did) f.acts acts (at_end old f) f.others
+  abbrev pended : PooledServer T S J K → PendingJobs (J × K)
+  pended p = pending_jobs p.pool
+
+  -- so it is what is seen of both
+  as_seen : (old did : PooledServer T S J K) → seen did ≡ seen old → pending_jobs did.pool ≡ pending_jobs old.pool
+  as_seen old did same = ap (λ (x : S × PendingJobs (J × K)). x.1) same
+
+  woken : (old did : PooledServer T S J K) (acts : List (Act (Asked P))) → W.wakes old acts did → Handles None (pending_jobs old.pool) acts (pending_jobs did.pool)
+  woken old did acts (inl nothing) = idles old did None acts [] (λ id. refl) (λ id. tt) nothing.0 (as_seen old did nothing.1)
+  woken old did acts (inr (inl r)) = idles old did None acts (tells r.method r.params ∷ []) (λ id. refl) (λ id. tt) r.acts (as_seen old did r.same)
+  woken old did acts (inr (inr (inl a))) =
+      idles old did None acts (asks a.method a.params (ByJob a.number) ∷ []) (λ id. refl) (λ id. tt) a.acts (as_seen old did a.same)
+  woken old did acts (inr (inr (inr b))) =
+      by_servers None (pending_jobs old.pool) (pending_jobs did.pool) (λ own. Finishes may of_job (seen old) own (seen did)) acts
+      (λ own f. (starts_jobs plain may None (FromCall of_job (pending_jobs old.pool) None) [] f.did (seen did) f.acts own (at_end old f) f.others
       (subst (λ (t : PendingJobs (J × K)). AllCome plain may None (FromCall of_job (pending_jobs old.pool) None) [] t) (sym f.ended.3)
       (λ i e has. stay plain may of_job (pending_jobs old.pool) None (λ id. refl) [] (λ id. tt) i e
-      (without_has f.id (pending_jobs old.pool) i e (unanswered_has f.acts (without f.id (pending_jobs old.pool)) i e has).0).0))).0
+      (without_has f.id (pending_jobs old.pool) i e (unanswered_has f.acts (without f.id (pending_jobs old.pool)) i e has).0).0))).0) b
 
-  handed_jobs : (old did : PooledServer T S J K) (arrived : Option Message) (payload : Option P) (acts : List (Act P)) → Handed W old arrived payload acts did
-      → AllCome plain may arrived (FromCall of_job (pending_jobs old.pool) arrived) acts (pending_jobs did.pool)
-  handed_jobs old did (Some (request id method params)) payload acts h = elim h.0 [
-    | inl g ↦ gives_job plain may of_job (seen old) (seen did) id method params acts g
-    | inr d ↦ does_jobs plain may of_job (Some (request id method params)) (FromCall of_job (pending_jobs old.pool) (Some (request id method params))) (plain.requested old.server id method params) (without id (pending_jobs old.pool)) acts (seen did)
-        (λ did mid does. (old.server, inl (did, does)))
-        (stay_without plain may of_job (pending_jobs old.pool) (Some (request id method params)) id (λ i. refl)) d
-  ]
+  handed_jobs : (old did : PooledServer T S J K) (arrived : Option Message) (payload : Option (Asked P)) (acts : List (Act (Asked P))) → Handed W old arrived payload acts did
+      → Handles arrived (pending_jobs old.pool) acts (pending_jobs did.pool)
+  handed_jobs old did (Some (request id method params)) payload acts h =
+      by_servers (Some (request id method params)) (pending_jobs old.pool) (pending_jobs did.pool)
+      (λ own. GivesJob may of_job (old.server, without id (pending_jobs old.pool)) id method params own (seen did)
+      ⊎ Does may (plain.requested old.server id method params) (without id (pending_jobs old.pool)) own (seen did)) acts
+      (λ own done. elim done [
+        | inl g ↦ gives_job plain may of_job (seen old) (seen did) id method params own g
+        | inr d ↦ does_jobs plain may of_job (Some (request id method params)) (FromCall of_job (pending_jobs old.pool) (Some (request id method params))) (plain.requested old.server id method params) (without id (pending_jobs old.pool)) own (seen did)
+            (λ did mid does. (old.server, inl (did, does)))
+            (stay_without plain may of_job (pending_jobs old.pool) (Some (request id method params)) id (λ i. refl)) d
+      ]) h.0
   handed_jobs old did (Some (notification method params)) payload acts h =
-      does_jobs plain may of_job (Some (notification method params)) (FromCall of_job (pending_jobs old.pool) (Some (notification method params))) (plain.notified old.server method params)
-      (without_cancelled (cancelled_by method params) (pending_jobs old.pool)) acts (seen did) (λ did mid does. (old.server, did, inl does)) (stay_cancelled plain may of_job (pending_jobs old.pool) method params) h.0
-  handed_jobs old did (Some (response id outcome)) (Some payload) acts h =
-      does_jobs plain may of_job (Some (response id outcome)) (FromCall of_job (pending_jobs old.pool) (Some (response id outcome))) (plain.replied old.server payload outcome) (pending_jobs old.pool) acts (seen did)
+      by_servers (Some (notification method params)) (pending_jobs old.pool) (pending_jobs did.pool)
+      (λ own. Does may (plain.notified old.server method params) (without_cancelled (cancelled_by method params) (pending_jobs old.pool)) own (seen did)) acts
+      (λ own d. does_jobs plain may of_job (Some (notification method params)) (FromCall of_job (pending_jobs old.pool) (Some (notification method params))) (plain.notified old.server method params)
+      (without_cancelled (cancelled_by method params) (pending_jobs old.pool)) own (seen did) (λ did mid does. (old.server, did, inl does)) (stay_cancelled plain may of_job (pending_jobs old.pool) method params) d) h.0
+  handed_jobs old did (Some (response id outcome)) (Some (ByServer payload)) acts h =
+      by_servers (Some (response id outcome)) (pending_jobs old.pool) (pending_jobs did.pool)
+      (λ own. Does may (plain.replied old.server payload outcome) (pending_jobs old.pool) own (seen did)) acts
+      (λ own d. does_jobs plain may of_job (Some (response id outcome)) (FromCall of_job (pending_jobs old.pool) (Some (response id outcome))) (plain.replied old.server payload outcome) (pending_jobs old.pool) own (seen did)
       (λ did mid does. (old.server, payload, did, does))
-      (stay plain may of_job (pending_jobs old.pool) (Some (response id outcome)) (λ i. refl) [] (λ i. tt)) h
+      (stay plain may of_job (pending_jobs old.pool) (Some (response id outcome)) (λ i. refl) [] (λ i. tt)) d) h
+  handed_jobs old did (Some (response id outcome)) (Some (ByJob n)) acts h =
+      idles old did (Some (response id outcome)) acts [] (λ i. refl) (λ i. tt) h.0 (as_seen old did h.1)
   handed_jobs old did (Some (response id outcome)) None acts h =
-      idles old did (Some (response id outcome)) acts [] (λ i. refl) (λ i. tt) h.1 (ap (λ (p : PooledServer T S J K). pending_jobs p.pool) h.0)
+      idles old did (Some (response id outcome)) acts [] (λ i. refl) (λ i. tt) h.1 (ap pended h.0)
   handed_jobs old did None payload acts h = woken old did acts h.0
 
-  back_pending : (payloads : List P) (old new : PooledServer T S J K) → TakesBack W.takes_back old payloads new → pending_jobs new.pool ≡ pending_jobs old.pool
-  back_pending [] old new same = ap (λ (p : PooledServer T S J K). pending_jobs p.pool) same
-  back_pending (payload ∷ payloads) old new back = back_pending payloads back.0 new back.2 ∙ back.1.1
+  back_one : (payload : Asked P) (old new : PooledServer T S J K) → W.takes_back old payload new → pending_jobs new.pool ≡ pending_jobs old.pool
+  back_one (ByServer payload) old new back = back.1
+  back_one (ByJob n) old new same = as_seen old new same
+
+  back_pending : (payloads : List (Asked P)) (old new : PooledServer T S J K) → TakesBack W.takes_back old payloads new → pending_jobs new.pool ≡ pending_jobs old.pool
+  back_pending [] old new same = ap pended same
+  back_pending (payload ∷ payloads) old new back = back_pending payloads back.0 new back.2 ∙ back_one payload old back.0 back.1
 
   -- ---- exchanges
 
@@ -379,7 +427,7 @@ module _ (T : Type 0) {S J K P : Type 0} (plain : Plain S P) (may : WithJobs S J
       by (inr started) = inr (record { before = earlier; start = x; since = []; cut = refl; quiet = tt; key = e.1; started = started })
 
   -- what is sent at a wake
-  wake_sends : (earlier : List Exchange) (old did : PooledServer T S J K) (acts : List (Act P)) (output not_sent : List Message) (d : Queues P) → all_sends d acts ≡ output ++ not_sent
+  wake_sends : (earlier : List Exchange) (old did : PooledServer T S J K) (acts : List (Act (Asked P))) (output not_sent : List Message) (d : Queues (Asked P)) → all_sends d acts ≡ output ++ not_sent
       → W.wakes old acts did → AllWait earlier (pending_jobs old.pool) → WakeSends plain may of_job earlier output
   wake_sends earlier old did acts output not_sent d is (inl nothing) waits = inl (part_none output not_sent (all_sends d acts) (sym is) (ap (all_sends d) nothing.0))
   wake_sends earlier old did acts output not_sent d is (inr (inl r)) waits = inr (inl (record {
@@ -391,12 +439,24 @@ module _ (T : Type 0) {S J K P : Type 0} (plain : Plain S P) (may : WithJobs S J
     reports = r.reports;
     sent = (d, not_sent, sym (ap (all_sends d) r.acts) ∙ is);
   }))
-  wake_sends earlier old did acts output not_sent d is (inr (inr f)) waits =
-      let s = starts_jobs plain may None (λ id e. Unit {0}) [] f.did (seen did) f.acts acts (at_end old f) f.others (λ id e has. inl (tt, tt)) in
+  wake_sends earlier old did acts output not_sent d is (inr (inr (inl a))) waits = inr (inr (inl (record {
+    id = a.id;
+    job = a.job;
+    method = a.method;
+    params = a.params;
+    number = a.number;
+    waits = waits a.id (a.job, a.key) a.waits;
+    may_ask = a.may_ask;
+    sent = (d, not_sent, sym (ap (all_sends d) a.acts) ∙ is);
+  })))
+  wake_sends earlier old did acts output not_sent d is (inr (inr (inr b))) waits =
+      let own = b.0 in
+      let f = b.2 in
+      let s = starts_jobs plain may None (λ id e. Unit {0}) [] f.did (seen did) f.acts own (at_end old f) f.others (λ id e has. inl (tt, tt)) in
       let first = f.ended.0 in
-      let all : acts ≡ first ++ replies f.id f.outcome ∷ refuse plain may s.1.0 =
+      let all : own ≡ first ++ replies f.id f.outcome ∷ refuse plain may s.1.0 =
       s.1.1 ∙ ap (λ (l : List (Act P)). l ++ refuse plain may s.1.0) f.ended.2 ∙ append_assoc first (replies f.id f.outcome ∷ []) (refuse plain may s.1.0) in
-      inr (inr (record {
+      inr (inr (inr (record {
         id = f.id;
         outcome = f.outcome;
         by = elim (waits f.id (f.job, f.key) f.waits) [
@@ -419,13 +479,13 @@ module _ (T : Type 0) {S J K P : Type 0} (plain : Plain S P) (may : WithJobs S J
         new = f.did.0;
         saw = f.ended.1;
         refused = s.1.0;
-        sent = (d, not_sent, sym (ap (all_sends d) all) ∙ is);
-      }))
+        sent = (d, not_sent, sym (ap (all_sends d) (b.1 ∙ ap (map_list by_server) all)) ∙ is);
+      })))
 
   -- ---- a session
 
   abbrev Working : Type 0
-  Working = QueuedServer (PooledServer T S J K) P
+  Working = QueuedServer (PooledServer T S J K) (Asked P)
 
   abbrev pending : Working → PendingJobs (J × K)
   pending w = pending_jobs w.server.pool
@@ -457,7 +517,7 @@ module _ (T : Type 0) {S J K P : Type 0} (plain : Plain S P) (may : WithJobs S J
       wakes x.came a.payload a.handed sent none,
       λ id. replies_at_wake W id earlier w w' x full more part ready.0 (ready.2 id) (subst (λ (l : Option Message). WorksSending W (queues.seen w) l full (queues.seen w')) none gives),
     ),
-    (ap (λ (y : PooledServer T S J K × Queues P). y.1.sent) gives.3, waits, λ id. waits_called W id earlier w w' x full more part ready.0 (ready.2 id) gives),
+    (ap (λ (y : PooledServer T S J K × Queues (Asked P)). y.1.sent) gives.3, waits, λ id. waits_called W id earlier w w' x full more part ready.0 (ready.2 id) gives),
   )
     where
       a : ActsAt W (queues.seen w) x.came full (queues.seen w')
@@ -466,7 +526,7 @@ module _ (T : Type 0) {S J K P : Type 0} (plain : Plain S P) (may : WithJobs S J
       sent : full ≡ all_sends (queues_at (queues.queues_of w.queues) x.came a.payload) (acts_done_at x.came a.acts)
       sent = a.sent ∙ ap (λ (l : List Message). l ++ all_sends (queues_at (queues.queues_of w.queues) x.came a.payload) (acts_done_at x.came a.acts)) ready.0
 
-      wakes : (arrived : Option Message) (payload : Option P) → Handed W w.server arrived payload a.acts a.did
+      wakes : (arrived : Option Message) (payload : Option (Asked P)) → Handed W w.server arrived payload a.acts a.did
           → full ≡ all_sends (queues_at (queues.queues_of w.queues) arrived payload) (acts_done_at arrived a.acts) → arrived ≡ None → WakeSends plain may of_job earlier x.sent
       wakes None payload handed sent none = wake_sends earlier w.server a.did a.acts x.sent more (queues.queues_of w.queues) (sym sent ∙ sym part) handed.0 ready.1
       wakes (Some m) payload handed sent none = absurd (cc (none))
@@ -476,24 +536,27 @@ module _ (T : Type 0) {S J K P : Type 0} (plain : Plain S P) (may : WithJobs S J
           fewer (is_reply_under id) x.sent more full part
           (ap (how_many (is_reply_under id)) sent ∙ mute id (acts_done_at x.came a.acts) (queues_at (queues.queues_of w.queues) x.came a.payload) (settled_spares x.came a.acts id spares calm))
 
+      come : Handles x.came (pending w) a.acts (pending_jobs a.did.pool)
+      come = handed_jobs w.server a.did x.came a.payload a.acts a.handed
+
       waits : AllWait (earlier ++ x ∷ []) (pending w')
       waits =
           subst (AllWait (earlier ++ x ∷ [])) (sym (back_pending (unsent (count_of (queues.queues_of w.queues).asked) a.acts) a.did w'.server a.back))
-          (wait_on earlier x (pending w) (pending_jobs a.did.pool) a.acts ready.1 (handed_jobs w.server a.did x.came a.payload a.acts a.handed) silent)
+          (wait_on earlier x (pending w) (pending_jobs a.did.pool) come.0 ready.1 come.2 (λ id own. silent id (come.1 id own)))
 
   -- `initialized` came
   opened : (earlier : List Exchange) (w w' : Working) (x : Exchange) (m : Message) (full more : List Message) → x.came ≡ Some m → is_initialized m ≡ true → x.sent ++ more ≡ full
       → Fresh W w × (pending w ≡ no_jobs) → OpensSending W (queues.seen w) full (queues.seen w') → Steps_on earlier x serving w'
   opened earlier w w' x m full more there begins part ready o = (
     (λ none. absurd (cc (there, none))),
-    (ap (λ (y : PooledServer T S J K × Queues P). y.1.sent) o.3, waits, λ id. waits_opened W id (earlier ++ x ∷ []) w w' full ready.0 o),
+    (ap (λ (y : PooledServer T S J K × Queues (Asked P)). y.1.sent) o.3, waits, λ id. waits_opened W id (earlier ++ x ∷ []) w w' full ready.0 o),
   )
     where
       rests : Rests w
-      rests = ap (λ (d : Queues P). d.sent) ready.0
+      rests = ap (λ (d : Queues (Asked P)). d.sent) ready.0
 
       sent : full ≡ all_sends (queues.queues_of w.queues) o.1.0
-      sent = o.2 ∙ ap (λ (d : Queues P). d.sent) o.1.4 ∙ sent_all (queues.queues_of w.queues) o.1.0 ∙ ap (λ (l : List Message). l ++ all_sends (queues.queues_of w.queues) o.1.0) rests
+      sent = o.2 ∙ ap (λ (d : Queues (Asked P)). d.sent) o.1.4 ∙ sent_all (queues.queues_of w.queues) o.1.0 ∙ ap (λ (l : List Message). l ++ all_sends (queues.queues_of w.queues) o.1.0) rests
 
       silent : (id : Id) → Spares id o.1.0 → Calm id x.came → how_many (is_reply_under id) x.sent ≡ 0
       silent id spares calm = fewer (is_reply_under id) x.sent more full part (ap (how_many (is_reply_under id)) sent ∙ mute id o.1.0 (queues.queues_of w.queues) spares)
@@ -506,15 +569,17 @@ module _ (T : Type 0) {S J K P : Type 0} (plain : Plain S P) (may : WithJobs S J
       at_initialized_asked (request id method params) begins acts mid does = absurd (cc (begins))
       at_initialized_asked (response id outcome) begins acts mid does = absurd (cc (begins))
 
-      come : AllCome plain may x.came (FromCall of_job (pending w) x.came) o.1.0 (pending_jobs o.1.1.pool)
-      come = does_jobs plain may of_job x.came (FromCall of_job (pending w) x.came) (plain.at_initialized w.server.server) (pending w) o.1.0 (seen o.1.1)
-          (λ acts mid does. subst (λ (l : Option Message). IsAskedAt plain may l mid) (sym there) (at_initialized_asked m begins acts mid does)) (λ id e has. absurd (none id e has)) o.1.2
+      come : Handles x.came (pending w) o.1.0 (pending_jobs o.1.1.pool)
+      come =
+          by_servers x.came (pending w) (pending_jobs o.1.1.pool) (λ own. Does may (plain.at_initialized w.server.server) (pending w) own (seen o.1.1)) o.1.0
+          (λ own d. does_jobs plain may of_job x.came (FromCall of_job (pending w) x.came) (plain.at_initialized w.server.server) (pending w) own (seen o.1.1)
+          (λ acts mid does. subst (λ (l : Option Message). IsAskedAt plain may l mid) (sym there) (at_initialized_asked m begins acts mid does)) (λ id e has. absurd (none id e has)) d) o.1.2
 
       waits : AllWait (earlier ++ x ∷ []) (pending w')
       waits =
           subst (AllWait (earlier ++ x ∷ [])) (sym (back_pending (unsent (count_of (queues.queues_of w.queues).asked) o.1.0) o.1.1 w'.server
-          (subst (λ (p : PooledServer T S J K). TakesBack W.takes_back o.1.1 (unsent (count_of (queues.queues_of w.queues).asked) o.1.0) p) (sym (ap (λ (y : PooledServer T S J K × Queues P). y.0) o.3)) o.1.3)))
-          (wait_on earlier x (pending w) (pending_jobs o.1.1.pool) o.1.0 (λ id e has. absurd (none id e has)) come silent)
+          (subst (λ (p : PooledServer T S J K). TakesBack W.takes_back o.1.1 (unsent (count_of (queues.queues_of w.queues).asked) o.1.0) p) (sym (ap (λ (y : PooledServer T S J K × Queues (Asked P)). y.0) o.3)) o.1.3)))
+          (wait_on earlier x (pending w) (pending_jobs o.1.1.pool) come.0 (λ id e has. absurd (none id e has)) come.2 (λ id own. silent id (come.1 id own)))
 
   -- a message for which the server is not called
   idly : (earlier : List Exchange) (p q : Phase) (w : Working) (x : Exchange) (m : Message) (full : List Message) → Ready earlier p w → Idle p m full q → Ready (earlier ++ x ∷ []) q w
@@ -575,6 +640,6 @@ module _ (T : Type 0) {S J K P : Type 0} (plain : Plain S P) (may : WithJobs S J
   answers_by_jobs first last xs stop shutdown_reply answer session =
       let s = session.session in
       let none : pending s.old ≡ no_jobs =
-      ap (λ (y : PooledServer T S J K × Queues P). pending_jobs y.0.pool) s.from_first ∙ ap (λ (y : S × PendingJobs (J × K)). y.1) session.from_first in
+      ap (λ (y : PooledServer T S J K × Queues (Asked P)). pending_jobs y.0.pool) s.from_first ∙ ap (λ (y : S × PendingJobs (J × K)). y.1) session.from_first in
       at_each [] xs (run_wakes stop [] xs starting s.out.last s.old s.out.after (reaches_ran (with_queues W) stop starting s.out.last s.old s.out.after xs s.out.reached)
-      (ap (λ (y : PooledServer T S J K × Queues P). y.1) s.from_first, none))
+      (ap (λ (y : PooledServer T S J K × Queues (Asked P)). y.1) s.from_first, none))

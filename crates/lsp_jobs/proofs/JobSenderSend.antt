@@ -1,9 +1,10 @@
 -- A task with its end of the channel may go to another thread.
-use denote.Param.Send.{IsSend, IsSync, Frees, sendable, struct_send, struct_sync, recorded_send, recorded_sync}
+use denote.Enum.Declared.{shape as cases}
+use denote.Param.Send.{IsSend, IsSync, Frees, sendable, enum_send, struct_send, struct_sync, recorded_send, recorded_sync}
 use denote.Builtin.{unit}
 use denote.RattleType.{RattleType}
 use denote.Struct.Declared.{shape}
-use Rattle.std.proofs.Crossing.{crosses, frees, send, sync, Arc-send}
+use Rattle.std.proofs.Crossing.{crosses, frees, send, sync, Arc-send, Vec-send}
 use Rattle.std.specs.contracts.option.Option as option
 use Rattle.std.specs.contracts.alloc.Global as Heap
 use Rattle.std.specs.contracts.impls.GlobalAllocator.TheImpl.{ghosts}
@@ -32,7 +33,7 @@ use Rattle.lsp_jobs.specs.contracts.channel.TicketsProtocolItemKnown.TheImpl as 
 use Rattle.lsp_jobs.specs.contracts.channel.WorkerMessage as saying
 use Rattle.lsp_jobs.specs.contracts.channel.Item as slip
 use Rattle.atomic_table.specs.contracts.badge.Badge as badge_row
-use Rattle.lsp_jobs.proofs.MessageSend.{id_send, notice_parts}
+use Rattle.lsp_jobs.proofs.MessageSend.{both, id_send, notice_parts, tree_parts}
 use Rattle.lsp_jobs.specs.declared.channel.AnyJob.{Ghosts}
 
 heap_frees : Frees ghosts ghosts.dealloc_token
@@ -78,7 +79,9 @@ module _ (S D Q M K L : RattleType) (q : Rule Q.Denot S.Denot D.Denot S.Denot) (
 
 module _ (R : RattleType) where
   message_parts : IsSend R → IsSend (saying.the_field R).row
-  message_parts t = search (t, notice_parts, sendable) depth 40
+  message_parts t =
+      enum_send (cases (saying.the_type R))
+      ((notice_parts, tt), ((search (Vec-send, both, sendable) depth 40, (tree_parts, (search sendable, tt))), ((t, tt), tt)))
 
   item_send : IsSend R → IsSend (slip.the_row R)
   item_send t =

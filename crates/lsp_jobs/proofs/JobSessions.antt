@@ -13,12 +13,13 @@ use Rattle.lsp_jobs.specs.JobLaw.{LawfulJobSession}
 use Rattle.lsp_jobs.specs.JobSession.{JobSession, seen_with_jobs}
 use Rattle.lsp_jobs.specs.Seen.{seen}
 use Rattle.lsp_jobs.specs.PendingJobs.{no_jobs}
+use Rattle.lsp_jobs.specs.declared.asking.Asked.{Asked}
 use Rattle.lsp_jobs.specs.declared.job.Job.{Ghosts as OfJob}
 use Rattle.lsp_jobs.specs.declared.job_server.JobServer.{Ghosts as WithJobs}
 use Rattle.lsp_jobs.specs.declared.pooled_server.PooledServer.{PooledServer}
 
 module _ (T : Type 0) {S J K P : Type 0} (plain : Plain S P) (may : WithJobs S J K P) (of_job : OfJob J) where
-  pub job_session : (old new : WokenQueuedServer (PooledServer T S J K) P) (pooled : PooledServer T S J K) (first last : S)
+  pub job_session : (old new : WokenQueuedServer (PooledServer T S J K) (Asked P)) (pooled : PooledServer T S J K) (first last : S)
       → queues.seen old.queued ≡ (pooled, empty_queues) → seen pooled ≡ (first, no_jobs) → last ≡ new.queued.server.server
       → (xs : List Exchange) (stop : Stop) (shutdown_reply : Option Message) (answer : SessionAnswer)
       → SessionOut (woken_with_queues (seen_with_jobs T plain may of_job)) old new xs stop shutdown_reply answer

@@ -11,19 +11,19 @@ use Rattle.lsp_message.specs.contracts.msg.Notification as notice
 use Rattle.lsp_message.specs.contracts.msg.ResponseError as error
 use Rattle.lsp_message.specs.contracts.msg.id.RequestId as id
 
-both : {A B : Type 0} → A → B → A × B
+pub both : {A B : Type 0} → A → B → A × B
 both a b = (a, b)
 
-tree_send : IsSend tree.the_row
+pub tree_send : IsSend tree.the_row
 tree_send = search (send-Value, String-send, Vec-send, BTreeMap-send, both, sendable) depth 40
 
-tree_parts : IsSend (tree.the_field).row
+pub tree_parts : IsSend (tree.the_field).row
 tree_parts = search (send-Value, String-send, Vec-send, BTreeMap-send, both, sendable) depth 40
 
 pub id_send : IsSend (id.the_field).row
 id_send = search (Vec-send, both, sendable) depth 40
 
-error_send : IsSend error.the_row
+pub error_send : IsSend error.the_row
 error_send = search (tree_send, Vec-send, both, sendable) depth 40
 
 pub notice_parts : IsSend (notice.the_field).row

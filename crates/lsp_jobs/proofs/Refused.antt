@@ -4,18 +4,21 @@ use Rattle.serde_json.specs.Data.{Data}
 use Rattle.std.proofs.Common.{◌≡◌, ◌⊎◌, refl, sym, ◌∙◌, ap, subst, inl, inr, ℕ, ◌+◌, ◌≤◌, Bool, true, false, List, [], ◌∷◌, ◌++◌, append-nil, arith, Option, Some}
 use Rattle.std.specs.FinMap as map
 use Rattle.std.specs.Ordering.{eq_by_cmp}
-use Rattle.std.specs.Prelude.{Err, if◌then◌else◌}
-use Rattle.lsp_message.specs.Id.{Id, id_cmp}
+use Rattle.std.specs.Prelude.{Err, pos, map as map_list, if◌then◌else◌}
+use Rattle.lsp_message.specs.Id.{Id, id_cmp, number}
 use Rattle.lsp_message.specs.IdLaws.{id_decides}
 use Rattle.lsp_message.specs.Message.{Message, request, notification, response}
 use Rattle.lsp_session.proofs.Ran.{messages_both}
 use Rattle.lsp_session.specs.Session.{Exchange, SessionAnswer, Stop, messages_of, sends_of}
 use Rattle.lsp_service.proofs.Counting.{how_many-append}
-use Rattle.lsp_service.specs.Acts.{Act, replies, cancelled_by}
+use Rattle.lsp_queue.specs.Queue.{count_of}
+use Rattle.lsp_service.specs.Acts.{Act, replies, cancelled_by, is_spent}
 use Rattle.lsp_service.specs.Law.{how_many, is_reply_under, is_request_under, one_if}
 use Rattle.lsp_service.specs.declared.server.Server.{Ghosts as Plain}
+use Rattle.lsp_jobs.specs.Asking.{by_server}
 use Rattle.lsp_jobs.specs.Ends.{Outcome, came_to, no_memory, too_many}
-use Rattle.lsp_jobs.specs.JobLaw.{concerns, is_that, AnswersLater, AnswersRequest, IsQuiet, IsStarted, LastRequest, LawfulJobSession, Refusal, refuse, SendsSo, SilentServer, WakeSends}
+use Rattle.lsp_jobs.specs.JobLaw.{concerns, is_that, AnswersLater, AnswersRequest, IsQuiet, IsStarted, LastRequest, LawfulJobSession, Refusal, refuse, SendsRequest, SendsSo, SilentServer, WakeSends}
+use Rattle.lsp_jobs.specs.declared.asking.Asked.{Asked}
 use Rattle.lsp_jobs.specs.declared.job.Job.{Ghosts as OfJob}
 use Rattle.lsp_jobs.specs.declared.job_server.JobServer.{Ghosts as WithJobs}
 
@@ -25,6 +28,18 @@ same id = (id_decides id id).1 refl
 not_empty : {A B : Type 0} (xs rest : List A) (x : A) → [] ≡ xs ++ x ∷ rest → B
 not_empty [] rest x e = absurd (cc (e))
 not_empty (first ∷ xs) rest x e = absurd (cc (e))
+
+rest_none : {A : Type 0} (xs rest : List A) → [] ≡ xs ++ rest → xs ≡ []
+rest_none [] rest e = refl
+rest_none (x ∷ xs) rest e = absurd (cc (e))
+
+one_or_none : (b : Bool) (m : Message) (output rest : List Message) → (if b then [] else m ∷ []) ++ [] ≡ output ++ rest → (output ≡ []) ⊎ (output ≡ m ∷ [])
+one_or_none b m [] rest e = inl refl
+one_or_none true m (x ∷ output) rest e = absurd (cc (e))
+one_or_none false m (x ∷ output) rest e =
+    let same : m ≡ x = cc (e) in
+    let none : [] ≡ output ++ rest = cc (e) in
+    inr (λ k. sym same k ∷ rest_none output rest none k)
 
 -- the last of a list is the one that is named, or follows it
 last_of : (xs : List Exchange) (x : Exchange) (before : List Exchange) (r : Exchange) (since : List Exchange) → xs ++ x ∷ [] ≡ before ++ r ∷ since
@@ -60,14 +75,28 @@ module _ {S J K P : Type 0} (plain : Plain S P) (may : WithJobs S J K P) (of_job
   none_refused silent [] = refl
   none_refused silent (r ∷ refused) = none_started silent r.id r.job r.key r.started
 
+  -- a job that asks the client sends one request, or none is sent
+  pub asks_once : (earlier : List Exchange) (output : List Message) (asked : SendsRequest plain may of_job earlier output)
+      → (output ≡ []) ⊎ ((i : Id) × (output ≡ request i asked.method asked.params ∷ []))
+  asks_once earlier output asked =
+      elim (one_or_none (is_spent (count_of asked.sent.0.asked)) (request (number (pos (count_of asked.sent.0.asked))) asked.method asked.params) output asked.sent.1 asked.sent.2) [
+        | inl none ↦ inl none
+        | inr one ↦ inr (number (pos (count_of asked.sent.0.asked)), one)
+      ]
+
   -- so it is what a job came to for the last request under its id
   pub its_own : SilentServer may → (earlier : List Exchange) (id : Id) (outcome : Outcome) → Gives earlier id outcome → AnswersRequest of_job earlier id outcome
   its_own silent earlier id outcome (inl none) = absurd (cc (none))
   its_own silent earlier id outcome (inr (inl report)) = let e = report.sent.2 in absurd (cc (e))
-  its_own silent earlier id outcome (inr (inr o)) = by o.by
+  its_own silent earlier id outcome (inr (inr (inl asked))) =
+      elim (asks_once earlier (response id outcome ∷ []) asked) [
+        | inl none ↦ absurd (cc (none))
+        | inr one ↦ (let e = one.1 in absurd (cc (e)))
+      ]
+  its_own silent earlier id outcome (inr (inr (inr o))) = by o.by
     where
-      sent : SendsSo {P = P} (replies o.id o.outcome ∷ []) (response id outcome ∷ [])
-      sent = subst (λ (acts : List (Act P)). SendsSo acts (response id outcome ∷ []))
+      sent : SendsSo {P = Asked P} (replies o.id o.outcome ∷ []) (response id outcome ∷ [])
+      sent = subst (λ (acts : List (Act P)). SendsSo (map_list by_server acts) (response id outcome ∷ []))
           (λ k. silent.1 o.old o.id o.key (came_to o.outcome) o.first o.new o.saw k ++ replies o.id o.outcome ∷ refuse plain may (none_refused silent o.refused k)) o.sent
 
       those : (b : Bool) → (if b then response o.id o.outcome ∷ [] else []) ++ [] ≡ response id outcome ∷ sent.1 → (o.id ≡ id) × (o.outcome ≡ outcome)

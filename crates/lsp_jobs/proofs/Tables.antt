@@ -73,13 +73,13 @@ module _ {J K : Type 0} where
       removed jobs entries entry i (eq_by_cmp id_cmp i id) have (sym (get-remove id_total entries id i) ∙ ap (λ (m : FinMap id_cmp (Entry J K)). map.get m i) (sym is) ∙ found)
 
   -- an item is said by the pending job that has its ticket
-  pub said_by : {R : Type 0} (comes_to : J → R → Type 0) (reports : J → List ℕ → Data → Type 0) (jobs : List J) (entries : FinMap id_cmp (Entry J K)) (item : Item R) (entry : Entry J K)
-      → (before : FinMap id_cmp (Entry J K)) → entries ≡ before → HaveTickets jobs entries → IsSaidBy comes_to reports jobs item → map.get entries item.id ≡ Some entry → entry.ticket ≡ item.ticket
-      → MaySay comes_to reports (pending_of before) item.id item.message
-  said_by comes_to reports jobs entries item entry before is have said found ticket =
+  pub said_by : {R : Type 0} (comes_to : J → R → Type 0) (reports asks : J → List ℕ → Data → Type 0) (jobs : List J) (entries : FinMap id_cmp (Entry J K)) (item : Item R) (entry : Entry J K)
+      → (before : FinMap id_cmp (Entry J K)) → entries ≡ before → HaveTickets jobs entries → IsSaidBy comes_to reports asks jobs item → map.get entries item.id ≡ Some entry → entry.ticket ≡ item.ticket
+      → MaySay comes_to reports asks (pending_of before) item.id item.message
+  said_by comes_to reports asks jobs entries item entry before is have said found ticket =
       let same : said.0 ≡ entry.job.value = some-injective _ _ (sym said.1 ∙ ap (get_elem? jobs) (sym ticket) ∙ have item.id entry found) in (
         entry.job.value,
         entry.kept,
         ap (λ (m : FinMap id_cmp (Entry J K)). option_map job_of (map.get m item.id)) (sym is) ∙ ap (option_map job_of) found,
-        subst (λ (job : J). MaySend comes_to reports job item.message) same said.2,
+        subst (λ (job : J). MaySend comes_to reports asks job item.message) same said.2,
       )

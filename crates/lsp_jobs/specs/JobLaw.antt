@@ -1,19 +1,22 @@
 -- What a client sees of jobs, in the exchanges of a session: whose outcome is sent at a wake.
 use Rattle.serde_json.specs.Data.{Data}
 use Rattle.std.specs.Ordering.{eq_by_cmp}
-use Rattle.std.specs.Prelude.{◌≡◌, ◌⊎◌, ℕ, Bool, true, false, List, [], ◌∷◌, ◌++◌, Option, Some, None, Err}
+use Rattle.std.specs.Prelude.{◌≡◌, ◌⊎◌, ℕ, Bool, true, false, List, [], ◌∷◌, ◌++◌, map, Option, Some, None, Err}
 use Rattle.lsp_message.specs.Id.{Id, id_cmp}
 use Rattle.lsp_message.specs.Message.{Message, request, notification, response}
 use Rattle.lsp_message.specs.Methods.{is_initialized}
 use Rattle.lsp_session.specs.Session.{Exchange, SessionAnswer, Stop}
-use Rattle.lsp_service.specs.Acts.{Act, Queues, tells, replies, cancelled_by}
+use Rattle.lsp_service.specs.Acts.{Act, Queues, tells, asks, replies, cancelled_by}
 use Rattle.lsp_service.specs.Law.{KeepsLaws, how_many, is_reply_under}
 use Rattle.lsp_service.specs.QueuedServer.{held_by}
 use Rattle.lsp_service.specs.SentByActs.{all_sends}
 use Rattle.lsp_service.specs.declared.server.Server.{Ghosts as Plain}
+use Rattle.lsp_jobs.specs.Asking.{by_server}
 use Rattle.lsp_jobs.specs.Ends.{Outcome, End, came_to, no_room, no_memory, too_many}
 use Rattle.lsp_jobs.specs.JobSession.{JobSession, seen_with_jobs}
 use Rattle.lsp_jobs.specs.PendingJobs.{ComesTo}
+use Rattle.lsp_jobs.specs.declared.asking.Asked.{Asked}
+use Rattle.lsp_jobs.specs.declared.asking.Asked.TheVariants.{ByJob}
 use Rattle.lsp_jobs.specs.declared.job.Job.{Ghosts as OfJob}
 use Rattle.lsp_jobs.specs.declared.job_server.JobServer.{Ghosts as WithJobs}
 
@@ -143,7 +146,18 @@ module _ {S J K P : Type 0} (plain : Plain S P) (may : WithJobs S J K P) (of_job
     pub params : Data
     pub waits : Waits earlier id job
     pub reports : of_job.reports job method params
-    pub sent : SendsSo {P = P} (tells method params ∷ []) output
+    pub sent : SendsSo {P = Asked P} (tells method params ∷ []) output
+
+  -- a job that waits under some id asks the client
+  pub record SendsRequest (earlier : List Exchange) (output : List Message) : Type 0 where
+    pub id : Id
+    pub job : J
+    pub method : List ℕ
+    pub params : Data
+    pub number : ℕ
+    pub waits : Waits earlier id job
+    pub may_ask : of_job.asks job method params
+    pub sent : SendsSo {P = Asked P} (asks method params (ByJob number) ∷ []) output
 
   -- A job came to this outcome. The server sees that and does something first, then the request with this id gets it. Then requests are
   -- refused whose jobs found no room.
@@ -157,12 +171,14 @@ module _ {S J K P : Type 0} (plain : Plain S P) (may : WithJobs S J K P) (of_job
     pub new : S
     pub saw : may.finishes old id key (came_to outcome) first new
     pub refused : List (Refusal plain may None)
-    pub sent : SendsSo (first ++ replies id outcome ∷ refuse plain may refused) output
+    pub sent : SendsSo (map by_server (first ++ replies id outcome ∷ refuse plain may refused))
+        output
 
   -- what is sent at a wake, after these exchanges
   abbrev pub WakeSends : List Exchange → List Message → Type 0
   WakeSends earlier output = (output ≡ [])
-      ⊎ (SendsReport earlier output ⊎ SendsOutcome earlier output)
+      ⊎ (SendsReport earlier output
+      ⊎ (SendsRequest earlier output ⊎ SendsOutcome earlier output))
 
   -- at each wake this is sent, and replies go to no other requests
   abbrev pub AnswersByJobs : List Exchange → Type 0

@@ -8,6 +8,7 @@ use Rattle.lsp_service.specs.declared.server.Server.{Ghosts as Plain}
 use Rattle.lsp_jobs.specs.Pooled.{with_jobs}
 use Rattle.lsp_jobs.specs.Seen.{seen}
 use Rattle.lsp_jobs.specs.PendingJobs.{no_jobs}
+use Rattle.lsp_jobs.specs.declared.asking.Asked.{Asked}
 use Rattle.lsp_jobs.specs.declared.job.Job.{Ghosts as OfJob}
 use Rattle.lsp_jobs.specs.declared.job_server.JobServer.{Ghosts as WithJobs}
 use Rattle.lsp_jobs.specs.declared.pooled_server.PooledServer.{PooledServer}
@@ -15,7 +16,7 @@ use Rattle.lsp_jobs.specs.declared.pooled_server.PooledServer.{PooledServer}
 module _ (T : Type 0) {S J K P : Type 0} (plain : Plain S P) (may : WithJobs S J K P)
     (of_job : OfJob J) where
   -- `with_jobs`, of what is seen of a server with its pool
-  abbrev pub seen_with_jobs : Stated (PooledServer T S J K) P
+  abbrev pub seen_with_jobs : Stated (PooledServer T S J K) (Asked P)
   seen_with_jobs =
       let w = with_jobs may of_job plain in record {
         initializes = λ old params outcome new. w.initializes (seen old) params outcome (seen new);
@@ -24,10 +25,10 @@ module _ (T : Type 0) {S J K P : Type 0} (plain : Plain S P) (may : WithJobs S J
             w.requested (seen old) id method params acts (seen new);
         notified = λ old method params acts new.
             w.notified (seen old) method params acts (seen new);
-        replied = λ old payload outcome acts new.
-            w.replied (seen old) payload outcome acts (seen new);
+        replied = λ old asked outcome acts new.
+            w.replied (seen old) asked outcome acts (seen new);
         wakes = λ old acts new. w.wakes (seen old) acts (seen new);
-        takes_back = λ old payload new. w.takes_back (seen old) payload (seen new);
+        takes_back = λ old asked new. w.takes_back (seen old) asked (seen new);
       }
 
   -- It is a session of the server with its jobs. No request waits for a job at first.

@@ -5,7 +5,7 @@ use Rattle.std.specs.Prelude.{◌≡◌, ℕ, List, [], ◌∷◌, ◌++◌, len
 use mathlib.Core.Option.{some}
 use lib.ListN.{get_elem?}
 use Rattle.lsp_jobs.specs.declared.channel.WorkerMessage.{WorkerMessage}
-use Rattle.lsp_jobs.specs.declared.channel.WorkerMessage.TheVariants.{Outcome, Report}
+use Rattle.lsp_jobs.specs.declared.channel.WorkerMessage.TheVariants.{Ask, Outcome, Report}
 use Rattle.lsp_jobs.specs.declared.channel.Item.{Item}
 use Rattle.lsp_jobs.specs.declared.channel.Known.{Known}
 use Rattle.lsp_jobs.specs.declared.channel.Known.TheVariants.{All, One, Nothing}
@@ -34,11 +34,12 @@ module _ {J : Type 0} where
   IsSo pool jobs pass (One ticket job) = get_elem? jobs ticket ≡ some job
   IsSo pool jobs pass Nothing = Unit {0}
 
-module _ {J R : Type 0} (comes_to : J → R → Type 0) (reports : J → List ℕ → Data → Type 0) where
-  -- an outcome is one that the job may come to, and a report one that it may make
+module _ {J R : Type 0} (comes_to : J → R → Type 0) (reports asks : J → List ℕ → Data → Type 0) where
+  -- an outcome is one that the job may come to, a report one that it may make, and a request one that it may send the client
   abbrev pub MaySend : J → WorkerMessage R → Type 0
   MaySend job (Outcome r) = comes_to job r
   MaySend job (Report n) = reports job (string_bytes n.method) (view n.params)
+  MaySend job (Ask method params number) = asks job (string_bytes method) (view params)
 
   -- what is on the item the job with its ticket may say
   abbrev pub IsSaidBy : List J → Item R → Type 0

@@ -6,11 +6,11 @@ use Rattle.serde_json.specs.View.{view}
 use Rattle.lsp_message.specs.View.{outcome_view}
 use Rattle.lsp_message.specs.declared.msg.ResponseError.{ResponseError}
 use Rattle.lsp_jobs.specs.Ends.{End, Outcome as Reply, came_to, no_memory, no_room}
-use Rattle.lsp_jobs.specs.PendingJobs.{PendingJobs, FromJob, reports, ends}
+use Rattle.lsp_jobs.specs.PendingJobs.{PendingJobs, FromJob, reports, asks, ends}
 use Rattle.lsp_jobs.specs.declared.job_server.JobEnd as rust_end
 use Rattle.lsp_jobs.specs.declared.job_server.JobEnd.TheVariants.{Outcome as Ended, Refused}
 use Rattle.lsp_jobs.specs.declared.pool.JobMessage as rust
-use Rattle.lsp_jobs.specs.declared.pool.JobMessage.TheVariants.{Report, Outcome}
+use Rattle.lsp_jobs.specs.declared.pool.JobMessage.TheVariants.{Report, Ask, Outcome}
 use Rattle.lsp_jobs.specs.declared.pool.JobPool.{JobPool}
 use Rattle.lsp_jobs.specs.declared.pool.SubmitFault as fault
 use Rattle.lsp_jobs.specs.declared.pool.SubmitFault.TheVariants.{Full, Memory}
@@ -23,6 +23,7 @@ pending_jobs pool = pending_of pool.table.jobs
 module _ {K : Type 0} where
   abbrev pub job_message_view : rust.JobMessage K → FromJob K
   job_message_view (Report n) = reports (string_bytes n.method) (view n.params)
+  job_message_view (Ask method params number) = asks (string_bytes method) (view params)
   job_message_view (Outcome outcome kept) = ends (outcome_view outcome) kept
 
   -- if there was no room, the fault gives back what was to be kept

@@ -3,11 +3,14 @@ use Rattle.serde_json.specs.Data.{Data}
 use Rattle.std.specs.List.{FoldsTo}
 use Rattle.std.specs.Prelude.{◌≡◌, ◌⊎◌, ℕ, List, [], ◌∷◌, ◌++◌, Option, Some, None}
 use Rattle.lsp_message.specs.Id.{Id}
-use Rattle.lsp_service.specs.Acts.{Act, tells, replies, cancelled_by}
+use Rattle.lsp_service.specs.Acts.{Act, tells, asks, replies, cancelled_by}
 use Rattle.lsp_service.specs.Stated.{Stated}
 use Rattle.lsp_service.specs.declared.server.Server.{Ghosts as Plain}
+use Rattle.lsp_jobs.specs.Asking.{ByServers, WhoseAsked}
 use Rattle.lsp_jobs.specs.Ends.{Outcome, End, came_to, no_room, reply_of}
 use Rattle.lsp_jobs.specs.PendingJobs.{PendingJobs, ComesTo, without, with_job}
+use Rattle.lsp_jobs.specs.declared.asking.Asked.{Asked}
+use Rattle.lsp_jobs.specs.declared.asking.Asked.TheVariants.{ByJob}
 use Rattle.lsp_jobs.specs.declared.job.Job.{Ghosts as OfJob}
 use Rattle.lsp_jobs.specs.declared.job_server.JobServer.{Ghosts as WithJobs}
 
@@ -88,7 +91,7 @@ module _ {S J K P : Type 0} (may : WithJobs S J K P) where
       pub others : StartsJobs did acts all new
 
     -- A job that a request waits for reports.
-    pub record Reports (old : S × PendingJobs (J × K)) (all : List (Act P)) (new : S
+    pub record Reports (old : S × PendingJobs (J × K)) (all : List (Act (Asked P))) (new : S
         × PendingJobs (J × K)) : Type 0 where
       pub id : Id
       pub job : J
@@ -100,24 +103,46 @@ module _ {S J K P : Type 0} (may : WithJobs S J K P) where
       pub acts : all ≡ tells method params ∷ []
       pub same : new ≡ old
 
-    -- at a wake nothing is done, or a job reports, or one came to an outcome
-    abbrev pub Wakes : S × PendingJobs (J × K) → List (Act P) → S × PendingJobs (J × K) → Type 0
-    Wakes old all new = ((all ≡ []) × (new ≡ old)) ⊎ (Reports old all new ⊎ Finishes old all new)
+    -- A job that a request waits for asks the client, and waits for the reply under this number.
+    pub record Asks (old : S × PendingJobs (J × K)) (all : List (Act (Asked P))) (new : S
+        × PendingJobs (J × K)) : Type 0 where
+      pub id : Id
+      pub job : J
+      pub key : K
+      pub method : List ℕ
+      pub params : Data
+      pub number : ℕ
+      pub waits : old.1 id ≡ Some (job, key)
+      pub may_ask : of_job.asks job method params
+      pub acts : all ≡ asks method params (ByJob number) ∷ []
+      pub same : new ≡ old
 
-    -- what a server with its jobs may do
-    abbrev pub with_jobs : Plain S P → Stated (S × PendingJobs (J × K)) P
+    -- at a wake nothing is done, or a job reports, or asks the client, or came to an outcome
+    abbrev pub Wakes : S × PendingJobs (J × K) → List (Act (Asked P)) → S × PendingJobs (J × K)
+        → Type 0
+    Wakes old all new = ((all ≡ []) × (new ≡ old))
+        ⊎ (Reports old all new
+        ⊎ (Asks old all new ⊎ ByServers (λ acts. Finishes old acts new) all))
+
+    -- What a server with its jobs may do. A reply to a request of a job is not told to the server.
+    abbrev pub with_jobs : Plain S P → Stated (S × PendingJobs (J × K)) (Asked P)
     with_jobs plain = record {
       initializes = λ old params outcome new. plain.initializes old.0 params outcome new.0
           × (new.1 ≡ old.1);
-      at_initialized = λ old all new. Does (plain.at_initialized old.0) old.1 all new;
+      at_initialized = λ old all new.
+          ByServers (λ acts. Does (plain.at_initialized old.0) old.1 acts new) all;
       requested = λ old id method params all new.
-          GivesJob (old.0, without id old.1) id method params all new
-          ⊎ Does (plain.requested old.0 id method params) (without id old.1) all new;
+          ByServers (λ acts. GivesJob (old.0, without id old.1) id method params acts new
+          ⊎ Does (plain.requested old.0 id method params) (without id old.1) acts new) all;
       notified = λ old method params all new.
-          Does (plain.notified old.0 method params)
-          (without_cancelled (cancelled_by method params) old.1) all new;
-      replied = λ old payload outcome all new.
-          Does (plain.replied old.0 payload outcome) old.1 all new;
+          ByServers (λ acts. Does (plain.notified old.0 method params)
+          (without_cancelled (cancelled_by method params) old.1) acts new) all;
+      replied = λ old asked outcome all new. WhoseAsked asked
+          (λ payload. ByServers (λ acts. Does (plain.replied old.0 payload outcome) old.1 acts new)
+          all)
+          ((all ≡ []) × (new ≡ old));
       wakes = Wakes;
-      takes_back = λ old payload new. plain.takes_back old.0 payload new.0 × (new.1 ≡ old.1);
+      takes_back = λ old asked new. WhoseAsked asked
+          (λ payload. plain.takes_back old.0 payload new.0 × (new.1 ≡ old.1))
+          (new ≡ old);
     }

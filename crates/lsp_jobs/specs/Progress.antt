@@ -9,3 +9,10 @@ progress_method = codes "$/progress"
 abbrev pub progress_params : Data → Data → Data
 progress_params token value =
     object (member (codes "token") token (member (codes "value") value no_members))
+
+-- the request that creates progress which no request of the client began ("Creating Work Done Progress")
+abbrev pub create_method : List ℕ
+create_method = codes "window/workDoneProgress/create"
+
+abbrev pub create_params : Data → Data
+create_params token = object (member (codes "token") token no_members)

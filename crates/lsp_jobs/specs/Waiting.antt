@@ -25,8 +25,8 @@ module _ {J K : Type 0} where
       (id : Id) (entry : Entry J K) → map.get entries id ≡ Some entry
       → get_elem? jobs entry.ticket ≡ some entry.job.value
 
-module _ {J K R : Type 0} (comes_to : J → R → Type 0) (reports : J → List ℕ → Data → Type 0) where
+module _ {J K R : Type 0} (comes_to : J → R → Type 0) (reports asks : J → List ℕ → Data → Type 0) where
   -- the job that is pending under this id may say this
   abbrev pub MaySay : PendingJobs (J × K) → Id → WorkerMessage R → Type 0
   MaySay pending id message =
-      (job : J) × (kept : K) × (pending id ≡ Some (job, kept)) × MaySend comes_to reports job message
+      (job : J) × (kept : K) × (pending id ≡ Some (job, kept)) × MaySend comes_to reports asks job message

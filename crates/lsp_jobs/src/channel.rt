@@ -8,6 +8,7 @@ ghost use Rattle.crossbeam_channel.specs.Ends.{receives_on, sends_on};
 ghost use Rattle.lsp_jobs.specs.Outcomes.{KnowsAll, all_jobs};
 ghost use Rattle.lsp_jobs.specs.declared.channel.Known.TheVariants.{All, One};
 
+use crate::asking::{Asker, Reply};
 use crate::cancellation::CancellationToken;
 use crate::job::Progress;
 use crate::notifier::Notifier;
@@ -15,6 +16,7 @@ use crate::unread::Unread;
 use crossbeam_channel::protocol::{Lesson, Outcome, Protocol, Split};
 use crossbeam_channel::{Pass, RuledReceiver, RuledSender, bounded_with};
 use lsp_message::{Notification, RequestId};
+use serde_json::Value;
 use std::alloc::{AllocError, Global};
 use std::collections::LinkedList;
 use std::marker::{Brand, Model, PhantomData};
@@ -32,9 +34,14 @@ pub(crate) trait AnyJob<R>: Drop {
     /// It may report this.
     ghost reports: { Self → List ℕ → Data → Type 0 };
 
+    /// It may ask the client this.
+    ghost asks: { Self → List ℕ → Data → Type 0 };
+
     fn perform<P: Progress>(self, token: &CancellationToken, progress: &mut P) -> R
-        requires { (method : List ℕ) (params : Data) → reports «self» method params
+        requires reporting { (method : List ℕ) (params : Data) → reports «self» method params
             → P.may method params }
+        requires asking { (method : List ℕ) (params : Data) → asks «self» method params
+            → P.may_ask method params }
         ensures { comes_to «self» result };
 }
 
@@ -43,6 +50,8 @@ pub(crate) trait AnyJob<R>: Drop {
 pub(crate) enum WorkerMessage<R> {
     /// How far it is.
     Report(Notification),
+    /// A request to the client with this method and these params. The job waits for the reply under this number.
+    Ask(String, Value, u64),
     /// What it came to.
     Outcome(R),
 }
@@ -76,7 +85,7 @@ impl<J: AnyJob<R>, R> Protocol<Item<R>, Known<J>> for Tickets {
     ghost use Rattle.lsp_jobs.specs.Outcomes.{SaidByTickets};
     ghost use Rattle.lsp_jobs.specs.declared.channel.Known.TheVariants.{All};
 
-    ghost holds = { SaidByTickets J.comes_to J.reports };
+    ghost holds = { SaidByTickets J.comes_to J.reports J.asks };
 
     ghost first = { All [] };
 }
@@ -128,7 +137,7 @@ impl<J: AnyJob<R>, R> Outcome<Item<R>, Known<J>> for Taking {
     ghost use Rattle.lsp_jobs.specs.Outcomes.{IsSaidBy, all_jobs};
 
     ghost then = { λ before item after. (after ≡ before)
-        × IsSaidBy J.comes_to J.reports (all_jobs before) item };
+        × IsSaidBy J.comes_to J.reports J.asks (all_jobs before) item };
 }
 
 impl<J, R> Lesson<Item<R>, Known<J>> for Taking {
@@ -232,6 +241,7 @@ impl<J: AnyJob<R>, R: Drop> JobSender<J, R> {
         self,
         rt: T,
         token: &CancellationToken,
+        asker: Asker,
         notifier: Notifier<M>,
     ) -> Notifier<M> {
         let JobSender {
@@ -246,7 +256,7 @@ impl<J: AnyJob<R>, R: Drop> JobSender<J, R> {
         } = self;
         let ends = (report_sender, report_pass);
         let (outcome, id, unread, mut notifier) = perform_telling::<Brand, T, J, R, M>(
-            job, token, ends, unread, rt, ticket, id, notifier,
+            job, token, ends, unread, rt, ticket, id, asker, notifier,
         );
         if unread.add(&rt) {
             let item = Item {
@@ -262,16 +272,20 @@ impl<J: AnyJob<R>, R: Drop> JobSender<J, R> {
     }
 }
 
-/// What a job may report, picked for each.
+/// What a job may report, and ask the client, picked for each.
 trait Reportable {
     ghost use Rattle.serde_json.specs.Data.{Data};
     ghost use Rattle.std.specs.Prelude.{ℕ, List};
 
     ghost what: { List ℕ → Data → Type 0 };
+
+    ghost asked: { List ℕ → Data → Type 0 };
 }
 
 impl Reportable for Brand {
     ghost what = { λ _ _. ⊥ };
+
+    ghost asked = { λ _ _. ⊥ };
 }
 
 /// Performs a job, and sends what it reports meanwhile.
@@ -283,14 +297,19 @@ fn perform_telling<W: Reportable, T: Wait + Drop, J: AnyJob<R>, R: Drop, M: Drop
     rt: T,
     ticket: u64,
     id: RequestId,
+    asker: Asker,
     notifier: Notifier<M>,
 ) -> (R, RequestId, Unread, Notifier<M>)
     requires seat { IsSeatAt (sends_on ends.0) ends.1 }
     requires job { knows ends.1 ≡ One ticket «job» }
-    requires asks { (method : List ℕ) (params : Data) → J.reports «job» method params
+    requires reports { (method : List ℕ) (params : Data) → J.reports «job» method params
         → W.what method params }
-    requires allows { (method : List ℕ) (params : Data) → W.what method params
+    requires reported { (method : List ℕ) (params : Data) → W.what method params
         → J.reports «job» method params }
+    requires asks { (method : List ℕ) (params : Data) → J.asks «job» method params
+        → W.asked method params }
+    requires asked { (method : List ℕ) (params : Data) → W.asked method params
+        → J.asks «job» method params }
     ensures { J.comes_to «job» result.0 }
 {
     let (sender, pass) = ends;
@@ -305,6 +324,7 @@ fn perform_telling<W: Reportable, T: Wait + Drop, J: AnyJob<R>, R: Drop, M: Drop
         rt,
         id,
         unread,
+        asker,
         notifier,
         reports,
     };
@@ -342,7 +362,9 @@ impl<W: Reportable, J: AnyJob<R>, R: Drop> Model for Reports<W, J, R> {
     ghost invariant = { λ r. IsSeatAt (sends_on r.sender) r.pass
         × (knows r.pass ≡ One r.ticket r.job.value)
         × ((method : List ℕ) (params : Data) → W.what method params
-        → ⟦<J as AnyJob<R>>⟧.reports r.job.value method params) };
+        → ⟦<J as AnyJob<R>>⟧.reports r.job.value method params)
+        × ((method : List ℕ) (params : Data) → W.asked method params
+        → ⟦<J as AnyJob<R>>⟧.asks r.job.value method params) };
 }
 
 impl<W: Reportable, J: AnyJob<R>, R: Drop> Reports<W, J, R> {
@@ -375,18 +397,42 @@ impl<W: Reportable, J: AnyJob<R>, R: Drop> Reports<W, J, R> {
     }
 }
 
-/// Tells how far a job is while it is performed.
+impl<W: Reportable, J: AnyJob<R>, R: Drop> Reports<W, J, R> {
+    /// Sends a request to the client, and waits for room. False if nobody takes it any more.
+    fn ask<T: Wait>(
+        &mut self,
+        rt: &T,
+        id: RequestId,
+        method: String,
+        params: Value,
+        number: u64,
+    ) -> bool
+        requires { W.asked (string_bytes method) (view params) }
+    {
+        let item = Item {
+            ticket: self.ticket,
+            id,
+            message: WorkerMessage::Ask(method, params, number),
+        };
+        self.sender
+            .send_as::<Further, T>(rt, &mut self.pass, item)
+            .is_ok()
+    }
+}
+
+/// Tells how far a job is while it is performed, and asks the client.
 #[derive(Drop)]
 struct Reporter<W: Reportable, T: Wait + Drop, J: AnyJob<R>, R: Drop, M: Drop> {
     rt: T,
     id: RequestId,
     unread: Unread,
+    asker: Asker,
     notifier: Notifier<M>,
     reports: Reports<W, J, R>,
 }
 
 impl<W: Reportable, T: Wait + Drop, J: AnyJob<R>, R: Drop, M: Drop> Reporter<W, T, J, R, M> {
-    /// Counts a notification that is sent now, or was not sent.
+    /// Counts a message that is sent now, or was not sent.
     fn counted(&mut self, is_sent: bool) -> bool {
         if is_sent {
             self.notifier.notify(&self.rt);
@@ -400,6 +446,8 @@ impl<W: Reportable, T: Wait + Drop, J: AnyJob<R>, R: Drop, M: Drop> Reporter<W, 
 impl<W: Reportable, T: Wait + Drop, J: AnyJob<R>, R: Drop, M: Drop> Progress
     for Reporter<W, T, J, R, M> {
     ghost may = { W.what };
+
+    ghost may_ask = { W.asked };
 
     fn report(&mut self, notification: Notification) -> bool {
         let Ok(id) = self.id.clone() else {
@@ -421,5 +469,22 @@ impl<W: Reportable, T: Wait + Drop, J: AnyJob<R>, R: Drop, M: Drop> Progress
         }
         let is_sent = self.reports.send(&self.rt, id, notification);
         self.counted(is_sent)
+    }
+
+    fn ask(&mut self, method: String, params: Value) -> Result<Option<Reply>, AllocError> {
+        let id = self.id.clone()?;
+        let Some((number, replies)) = self.asker.begin(&self.rt)? else {
+            return Ok(None);
+        };
+        if !self.unread.add(&self.rt) {
+            self.asker.end(&self.rt, number);
+            return Ok(None);
+        }
+        let is_sent = self.reports.ask(&self.rt, id, method, params, number);
+        if !self.counted(is_sent) {
+            self.asker.end(&self.rt, number);
+            return Ok(None);
+        }
+        Ok(replies.recv(&self.rt).ok())
     }
 }

@@ -1,8 +1,10 @@
 //! Long requests as jobs, which run in threads of their own: while a job runs, the loop of the server goes on.
 #![tactic(auto)]
 
+mod asking;
 mod cancellation;
 mod channel;
+mod either_job;
 mod job;
 mod job_server;
 pub mod laws;
@@ -16,6 +18,7 @@ mod unread;
 mod waiting_jobs;
 mod workers;
 
+pub use asking::Asked;
 pub use cancellation::CancellationToken;
 pub use job::{Job, Progress};
 pub use job_server::{AnsweredBy, JobEnd, JobServer, NewJob};

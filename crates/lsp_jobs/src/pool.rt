@@ -5,6 +5,7 @@ ghost use Rattle.lsp_message.specs.View.{outcome_view};
 ghost use Rattle.lsp_jobs.specs.PendingJobs.{no_jobs, without, with_job, Tells};
 ghost use Rattle.lsp_jobs.specs.PoolView.{CameTo, GivesBack, job_message_view, pending_jobs};
 
+use crate::asking::Replies;
 use crate::cancellation::CancellationToken;
 use crate::channel::{AnyJob, WorkerMessage};
 use crate::job::{Job, Ran};
@@ -56,6 +57,9 @@ pub enum SubmitFault<K> {
 pub enum JobMessage<K> {
     /// A notification to send while it runs.
     Report(Notification),
+    /// A request to send to the client, with this method and these params. The job waits until `JobPool::reply` gets the reply with this
+    /// number.
+    Ask(String, Value, u64),
     /// The outcome of its request, with what was kept for it.
     Outcome(Result<Value, ResponseError>, K),
 }
@@ -71,6 +75,7 @@ pub struct JobPool<T: Wait + Drop, J: Job, K: Drop> {
     tokens: CancellationToken,
     table: JobTable<J, K>,
     waiting: WaitingJobs<QueuedJob<J, Ran>>,
+    replies: Replies,
     workers: Vec<JoinHandle<()>>,
 }
 
@@ -103,17 +108,20 @@ where
     }
 
     /// Cancels all tokens, and waits until each thread has ended: a job that runs then goes on until it sees its token or ends, and one
-    /// that has not begun never does. A pool that is only dropped cancels its jobs too, and waits for no thread.
+    /// that has not begun never does. One that waits for a reply of the client goes on without. A pool that is only dropped cancels its jobs
+    /// too, and waits for no thread; a job that waits for a reply then waits for ever.
     pub fn end(self) {
         let JobPool {
             rt,
             tokens,
             table,
             waiting,
+            replies,
             workers,
             ..
         } = self;
         tokens.cancel_all();
+        replies.let_cancelled_go(&rt);
         // A worker that waits for room goes on when the table is gone.
         drop(table);
         drop(waiting);
@@ -146,12 +154,16 @@ where
     let Ok((waiting, taken)) = queue_of_jobs(alloc, room) else {
         return Err(StartFault::Memory);
     };
+    let Ok(replies) = Replies::new(alloc) else {
+        return Err(StartFault::Memory);
+    };
     let mut pool = JobPool {
         rt: *rt,
         alloc,
         tokens,
         table,
         waiting,
+        replies,
         workers: Vec::new(alloc),
     };
     match start_job_workers(
@@ -200,10 +212,12 @@ impl<T: Wait + Drop, J: Job, K: Drop> JobPool<T, J, K> {
     {
         let token = self.tokens.of_pool(self.alloc)?;
         let theirs = token.share()?;
+        let asker = self.replies.asker(&token)?;
         let (ticket, job_sender) = self.table.enter(id.clone()?, job, kept, token)?;
         let queued = QueuedJob {
             job_sender,
             token: theirs,
+            asker,
         };
         self.waiting.add(&self.rt, ticket, queued)
     }
@@ -223,12 +237,25 @@ impl<T: Wait + Drop, J: Job, K: Drop> JobPool<T, J, K> {
     {
         if let Some(entry) = self.table.complete(id) {
             self.waiting.take_back(&self.rt, entry.ticket);
+            drop(entry);
+            self.replies.let_cancelled_go(&self.rt);
         }
     }
 
-    /// What a job said next that a request waits for, with the id of this request: a report, and the request goes on waiting; or the
-    /// outcome, with what was kept for it, and it waits no more. If an allocation failed in the job, its outcome is the error
-    /// -32603, `out of memory`. `None` means that no such job said anything new. It doesn't wait.
+    /// The client replied to a request of a job: hands the reply to the job that waits under this number. If it waits no more, the reply is
+    /// dropped.
+    pub fn reply(&self, number: u64, outcome: Result<Value, ResponseError>) {
+        self.replies.hand(&self.rt, number, outcome);
+    }
+
+    /// No reply comes to a request of a job: the job that waits under this number goes on without one.
+    pub fn give_up(&self, number: u64) {
+        self.replies.give_up(&self.rt, number);
+    }
+
+    /// What a job said next that a request waits for, with the id of this request: a report or a request to the client, and the request
+    /// goes on waiting; or the outcome, with what was kept for it, and it waits no more. If an allocation failed in the job, its
+    /// outcome is the error -32603, `out of memory`. `None` means that no such job said anything new. It doesn't wait.
     ///
     /// The error is a failed allocation: the request with this id has no job any more then, so it is still yours to answer.
     pub fn take_message(&mut self) -> Result<Option<(RequestId, JobMessage<K>)>, RequestId>
@@ -245,6 +272,9 @@ impl<T: Wait + Drop, J: Job, K: Drop> JobPool<T, J, K> {
         match message {
             WorkerMessage::Report(notification) => {
                 Ok(Some((id, JobMessage::Report(notification))))
+            }
+            WorkerMessage::Ask(method, params, number) => {
+                Ok(Some((id, JobMessage::Ask(method, params, number))))
             }
             WorkerMessage::Outcome(ran) => self.finish(id, ran),
         }

@@ -6,12 +6,14 @@ ghost use Rattle.std.specs.List.{FoldsTo};
 ghost use Rattle.lsp_message.specs.View.{error_view, outcome_view};
 ghost use Rattle.lsp_service.specs.Acts.{cancelled_by};
 ghost use Rattle.lsp_service.specs.View.{act_view};
+ghost use Rattle.lsp_jobs.specs.Asking.{by_server, ByServers};
 ghost use Rattle.lsp_jobs.specs.Ends.{reply_of, too_many};
 ghost use Rattle.lsp_jobs.specs.PoolView.{end_view, pending_jobs};
 ghost use Rattle.lsp_jobs.specs.Pooled.{unanswered, without_cancelled, BeginsJob, Ends, StartsOne, StartsJobs};
 ghost use Rattle.lsp_jobs.specs.Seen.{seen};
 ghost use Rattle.lsp_jobs.specs.ServerView.{new_job_view};
 
+use crate::asking::Asked;
 use crate::job::Job;
 use crate::job_server::{AnsweredBy, JobEnd, JobServer, NewJob};
 use crate::pool::{JobMessage, JobPool, SubmitFault};
@@ -107,14 +109,30 @@ where
     }
 
     /// Starts the job of a request that came, and then the others that the server starts now.
-    fn begin_job(&mut self, start: NewJob<J, S::Key>) -> Result<Vec<Act<S::Payload>>, AllocError>
-        ensures { IfOk result (λ all.
-            BeginsJob S.JobServer.own (seen self.old) (new_job_view «start»)
-            (map act_view all.items) (seen self.new)) }
+    fn begin_job(
+        &mut self,
+        start: NewJob<J, S::Key>,
+    ) -> Result<Vec<Act<Asked<S::Payload>>>, AllocError>
+        ensures { IfOk result (λ all. ByServers (λ own.
+            BeginsJob S.JobServer.own (seen self.old) (new_job_view «start») own (seen self.new))
+            (map act_view all.items)) }
     {
         let mut acts = Vec::new(self.alloc);
         self.start_one(start, &mut acts)?;
-        self.start_jobs(acts)
+        self.acts_with_jobs(acts)
+    }
+
+    /// What the server did, and then starts: `start_jobs`, as acts of the server.
+    fn acts_with_jobs(
+        &mut self,
+        acts: Vec<Act<S::Payload>>,
+    ) -> Result<Vec<Act<Asked<S::Payload>>>, AllocError>
+        ensures { IfOk result (λ all. ByServers (λ own.
+            StartsJobs S.JobServer.own (seen self.old) (map act_view acts.items) own
+            (seen self.new)) (map act_view all.items)) }
+    {
+        let all = self.start_jobs(acts)?;
+        acts_by_server(self.alloc, all)
     }
 
     /// Starts the jobs that the server starts now, after it did these acts. What is done for a job that found no room follows them.
@@ -192,6 +210,44 @@ fn refusal(alloc: Global) -> Result<ResponseError, AllocError>
     )
 }
 
+/// Acts of the server, which keeps its own for the replies.
+fn acts_by_server<P: Drop>(
+    alloc: Global,
+    acts: Vec<Act<P>>,
+) -> Result<Vec<Act<Asked<P>>>, AllocError>
+    ensures { IfOk result (λ all.
+        map act_view all.items ≡ map by_server (map act_view acts.items)) }
+{
+    let mut all = Vec::with_capacity(alloc, acts.len())?;
+    for act in acts {
+        push_by_server(&mut all, act)?;
+    }
+    Ok(all)
+}
+
+/// Adds an act of the server.
+fn push_by_server<P: Drop>(all: &mut Vec<Act<Asked<P>>>, act: Act<P>) -> Result<(), AllocError>
+    ensures { IfOk result (λ _. map act_view all.new.items
+        ≡ map act_view all.old.items ++ by_server (act_view «act») ∷ []) }
+{
+    match all.push(act_by_server(act)) {
+        Ok(()) => Ok(()),
+        Err(_) => Err(AllocError),
+    }
+}
+
+/// An act of the server.
+fn act_by_server<P: Drop>(act: Act<P>) -> Act<Asked<P>>
+    ensures { act_view result ≡ by_server (act_view «act») }
+{
+    match act {
+        Act::Tell(notification) => Act::Tell(notification),
+        Act::Ask(method, params, payload) => Act::Ask(method, params, Asked::ByServer(payload)),
+        Act::Reply(id, outcome) => Act::Reply(id, outcome),
+        Act::Cancel(id) => Act::Cancel(id),
+    }
+}
+
 /// The one act.
 fn one_act<P: Drop>(alloc: Global, act: Act<P>) -> Result<Vec<Act<P>>, AllocError>
     ensures { IfOk result (λ acts. map act_view acts.items ≡ act_view act ∷ []) }
@@ -211,7 +267,7 @@ where
 {
     ghost use Rattle.lsp_jobs.specs.JobSession.{seen_with_jobs};
 
-    type Payload = S::Payload;
+    type Payload = Asked<S::Payload>;
 
     ghost initializes = { (seen_with_jobs T S.Server S.JobServer.own J.Job).initializes };
 
@@ -229,19 +285,19 @@ where
         self.server.initialize(params)
     }
 
-    fn initialized(&mut self) -> Result<Vec<Act<S::Payload>>, AllocError> {
+    fn initialized(&mut self) -> Result<Vec<Act<Asked<S::Payload>>>, AllocError> {
         let acts = self.server.initialized()?;
-        self.start_jobs(acts)
+        self.acts_with_jobs(acts)
     }
 
-    fn request(&mut self, request: Request) -> Result<Vec<Act<S::Payload>>, AllocError> {
+    fn request(&mut self, request: Request) -> Result<Vec<Act<Asked<S::Payload>>>, AllocError> {
         self.pool.forget(&request.id);
         let id = request.id.clone()?;
         match self.server.job(request)? {
             AnsweredBy::Job(job, key) => self.begin_job(NewJob { id, job, key }),
             AnsweredBy::Server(request) => {
                 let acts = self.server.request(request)?;
-                self.start_jobs(acts)
+                self.acts_with_jobs(acts)
             }
         }
     }
@@ -249,23 +305,37 @@ where
     fn notification(
         &mut self,
         notification: Notification,
-    ) -> Result<Vec<Act<S::Payload>>, AllocError> {
+    ) -> Result<Vec<Act<Asked<S::Payload>>>, AllocError> {
         self.forget_cancelled(&notification)?;
         let acts = self.server.notification(notification)?;
-        self.start_jobs(acts)
+        self.acts_with_jobs(acts)
     }
 
     fn response(
         &mut self,
-        payload: S::Payload,
+        payload: Asked<S::Payload>,
         outcome: Result<Value, ResponseError>,
-    ) -> Result<Vec<Act<S::Payload>>, AllocError> {
-        let acts = self.server.response(payload, outcome)?;
-        self.start_jobs(acts)
+    ) -> Result<Vec<Act<Asked<S::Payload>>>, AllocError> {
+        match payload {
+            Asked::ByServer(payload) => {
+                let acts = self.server.response(payload, outcome)?;
+                self.acts_with_jobs(acts)
+            }
+            Asked::ByJob(number) => {
+                self.pool.reply(number, outcome);
+                Ok(Vec::new(self.alloc))
+            }
+        }
     }
 
-    fn unsent(&mut self, payload: S::Payload) -> Result<(), AllocError> {
-        self.server.unsent(payload)
+    fn unsent(&mut self, payload: Asked<S::Payload>) -> Result<(), AllocError> {
+        match payload {
+            Asked::ByServer(payload) => self.server.unsent(payload),
+            Asked::ByJob(number) => {
+                self.pool.give_up(number);
+                Ok(())
+            }
+        }
     }
 }
 
@@ -279,7 +349,7 @@ where
 
     ghost wakes = { (seen_with_jobs T S.Server S.JobServer.own J.Job).wakes };
 
-    fn woken(&mut self, alloc: Global) -> Result<Vec<Act<S::Payload>>, AllocError> {
+    fn woken(&mut self, alloc: Global) -> Result<Vec<Act<Asked<S::Payload>>>, AllocError> {
         let Ok(found) = self.pool.take_message() else {
             return Err(AllocError);
         };
@@ -289,9 +359,12 @@ where
         let (id, message) = said;
         match message {
             JobMessage::Report(notification) => one_act(alloc, Act::Tell(notification)),
+            JobMessage::Ask(method, params, number) => {
+                one_act(alloc, Act::Ask(method, params, Asked::ByJob(number)))
+            }
             JobMessage::Outcome(outcome, key) => {
                 let acts = self.end_job(id, key, JobEnd::Outcome(outcome))?;
-                self.start_jobs(acts)
+                self.acts_with_jobs(acts)
             }
         }
     }

@@ -1,10 +1,10 @@
 // What a job tells its client while it runs: how far it is, and parts of its result.
 ghost use Rattle.serde_json.specs.Data.{Data};
 ghost use Rattle.serde_json.specs.View.{view};
-ghost use Rattle.std.specs.Prelude.{◌≡◌, IfOk, IfSome, option_map};
+ghost use Rattle.std.specs.Prelude.{◌≡◌, IfOk, IfSome, option_map, string_bytes};
 ghost use Rattle.lsp_message.specs.Message.{notification};
 ghost use Rattle.lsp_message.specs.View.{notification_view};
-ghost use Rattle.lsp_jobs.specs.Progress.{progress_method, progress_params};
+ghost use Rattle.lsp_jobs.specs.Progress.{create_method, create_params, progress_method, progress_params};
 
 use crate::job::Progress;
 use lsp_message::Notification;
@@ -12,8 +12,8 @@ use serde_json::{Value, json, put};
 use std::alloc::{AllocError, Global};
 use std::marker::Model;
 
-/// Tells the client how far a job is, if its request gave a `workDoneToken` (LSP 3.17, "Work Done Progress"). Send one `begin`, any
-/// reports, and one `end`, which takes the value.
+/// Tells the client how far a job is, if its request gave a `workDoneToken`, or the client agreed to a token of the job's own (LSP 3.17,
+/// "Work Done Progress"). Send one `begin`, any reports, and one `end`, which takes the value.
 ///
 /// A client whose request is cancelled, answered otherwise or replaced gets no `end`: nobody waits for the job then. It has the reply to
 /// the request, which ends the progress too. Contracts see the token, if there is one.
@@ -44,6 +44,25 @@ impl WorkDone {
             alloc,
             token: token_in(params, "workDoneToken")?,
         })
+    }
+
+    /// Asks the client to show progress under this token, which no request of its own gave: a text, or an integer of 32 bits, that is used
+    /// once (LSP 3.17, "Creating Work Done Progress"). It waits for the reply. If that is an error, or none comes, nothing is ever
+    /// sent. Only a client with the capability `window.workDoneProgress` may be asked. The error means that an allocation failed.
+    pub fn create<P: Progress>(
+        alloc: Global,
+        progress: &mut P,
+        token: Value,
+    ) -> Result<WorkDone, AllocError>
+        requires { P.may_ask create_method (create_params (view token)) }
+        ensures { IfOk result (λ work. IfSome work (λ given. view given ≡ view token)) }
+    {
+        let (method, params) = creation_of(alloc, &token)?;
+        let token = match progress.ask(method, params)? {
+            Some(Ok(_)) => Some(token),
+            _ => None,
+        };
+        Ok(WorkDone { alloc, token })
     }
 
     /// Begins, with a title. `percentage` is from 0 to 100; without it here, leave it out in reports too. It waits while there is no room
@@ -187,6 +206,16 @@ fn send<P: Progress>(
         progress.send(told);
     }
     Ok(())
+}
+
+/// The method and the params of the request that creates progress under this token.
+fn creation_of(alloc: Global, token: &Value) -> Result<(String, Value), AllocError>
+    ensures { IfOk result (λ asked. (string_bytes asked.0 ≡ create_method)
+        × (view asked.1 ≡ create_params (view token.now))) }
+{
+    let token = token.clone()?;
+    let method = String::from_str(alloc, "window/workDoneProgress/create")?;
+    Ok((method, json!(in alloc; { "token": token })?))
 }
 
 /// The notification of a value for whoever gave the token, if there is one.

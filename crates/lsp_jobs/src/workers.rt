@@ -1,5 +1,6 @@
 // The threads that run jobs. Each is started for any such job, since the check finds that it may own its ends only if it need not
 // look into the types.
+use crate::asking::Asker;
 use crate::cancellation::CancellationToken;
 use crate::channel::{AnyJob, JobSender};
 use crate::job::{Job, Ran};
@@ -23,6 +24,7 @@ pub(crate) trait Work: Drop {
 pub(crate) struct QueuedJob<J: AnyJob<R>, R: Drop> {
     pub(crate) job_sender: JobSender<J, R>,
     pub(crate) token: CancellationToken,
+    pub(crate) asker: Asker,
 }
 
 impl<J: AnyJob<R>, R: Drop> Work for QueuedJob<J, R> {
@@ -31,8 +33,12 @@ impl<J: AnyJob<R>, R: Drop> Work for QueuedJob<J, R> {
     }
 
     fn run<T: Wait + Copy + Drop, M: Drop>(self, rt: T, notifier: Notifier<M>) -> Notifier<M> {
-        let QueuedJob { job_sender, token } = self;
-        job_sender.perform(rt, &token, notifier)
+        let QueuedJob {
+            job_sender,
+            token,
+            asker,
+        } = self;
+        job_sender.perform(rt, &token, asker, notifier)
     }
 }
 

@@ -1,8 +1,9 @@
-// The job of all rows.
+// The jobs of all rows.
 ghost use Rattle.serde_json.specs.Data.{Data};
 ghost use Rattle.std.specs.Prelude.{ℕ, List};
 
 use crate::signals::{Signal, Signals};
+use either::Either;
 use lsp_jobs::{CancellationToken, Job, PartialResults, Progress, WorkDone};
 use lsp_message::{ErrorCode, Notification, RequestId, ResponseError};
 use serde_json::{Map, Value, json};
@@ -16,6 +17,8 @@ use std::thread;
 /// - `reports N`: makes N reports, numbered on from those before. `sends N`: the same of notifications that are not to be dropped.
 /// - `begins`, `steps N`, `ends`: tells of its work, if the client gave a token for that. `parts N`: sends N partial results, if the
 ///   client gave a token for those.
+/// - `asks`: asks its client `demo/asked` with its value, and comes to the reply. Where none comes it counts as stopped.
+/// - `creates TOKEN`: from now on it tells of its work under this token, if the client agrees.
 /// - `counted`: comes to the count of reports that were taken. `fails`: comes to an error. `starves`: finds no memory.
 #[derive(Drop)]
 pub struct Scripted {
@@ -47,6 +50,8 @@ struct Course {
     taken: u64,
     told: u32,
     ending: Ending,
+    value: Value,
+    reply: Option<Result<Value, ResponseError>>,
 }
 
 impl Course {
@@ -56,9 +61,27 @@ impl Course {
         token: &CancellationToken,
         progress: &mut P,
     ) -> Result<(), AllocError>
+        requires reporting { (method : List ℕ) (params : Data) → P.may method params }
+        requires asking { (method : List ℕ) (params : Data) → P.may_ask method params }
+    {
+        let (name, rest) = word.split_once(" ").unwrap_or((word, "0"));
+        match name {
+            "asks" => self.ask(progress),
+            "creates" => self.create(rest, progress),
+            _ => self.act_alone(name, rest, token, progress),
+        }
+    }
+
+    /// What it does without a reply of its client.
+    fn act_alone<P: Progress>(
+        &mut self,
+        name: &str,
+        number: &str,
+        token: &CancellationToken,
+        progress: &mut P,
+    ) -> Result<(), AllocError>
         requires { (method : List ℕ) (params : Data) → P.may method params }
     {
-        let (name, number) = word.split_once(" ").unwrap_or((word, "0"));
         let number = number.parse::<u64>().unwrap_or(0);
         match name {
             "after" => self.await_written(number),
@@ -87,6 +110,25 @@ impl Course {
             }
             thread::yield_now();
         }
+    }
+
+    fn ask<P: Progress>(&mut self, progress: &mut P) -> Result<(), AllocError>
+        requires { (method : List ℕ) (params : Data) → P.may_ask method params }
+    {
+        let method = String::from_str(self.alloc, "demo/asked")?;
+        self.reply = progress.ask(method, self.value.clone()?)?;
+        if self.reply.is_none() {
+            self.signals.tell(Signal::Stopped);
+        }
+        Ok(())
+    }
+
+    fn create<P: Progress>(&mut self, token: &str, progress: &mut P) -> Result<(), AllocError>
+        requires { (method : List ℕ) (params : Data) → P.may_ask method params }
+    {
+        let token = Value::String(String::from_str(self.alloc, token)?);
+        self.work = Some(WorkDone::create(self.alloc, progress, token)?);
+        Ok(())
     }
 
     fn report<P: Progress>(&mut self, number: u64, progress: &mut P) -> Result<(), AllocError>
@@ -200,14 +242,33 @@ impl Job for Scripted {
             taken: 0,
             told: 0,
             ending: Ending::Value,
+            value,
+            reply: None,
         };
         for word in script.as_str().split(", ") {
             course.act(word, token, progress)?;
         }
         course.signals.tell(Signal::Ended);
-        match course.ending {
+        course.outcome()
+    }
+}
+
+impl Course {
+    fn outcome(self) -> Result<Result<Value, ResponseError>, AllocError> {
+        let Course {
+            alloc,
+            taken,
+            ending,
+            value,
+            reply,
+            ..
+        } = self;
+        if let Some(reply) = reply {
+            return Ok(reply);
+        }
+        match ending {
             Ending::Value => Ok(Ok(value)),
-            Ending::Count => Ok(Ok(Value::from(course.taken))),
+            Ending::Count => Ok(Ok(Value::from(taken))),
             Ending::Error => Ok(Err(ResponseError::new(
                 alloc,
                 ErrorCode::RequestFailed,
@@ -217,6 +278,25 @@ impl Job for Scripted {
         }
     }
 }
+
+/// A job of another kind, which comes to a value at once.
+#[derive(Drop)]
+pub struct Fixed {
+    pub value: Value,
+}
+
+impl Job for Fixed {
+    fn run<P: Progress>(
+        self,
+        _token: &CancellationToken,
+        _progress: &mut P,
+    ) -> Result<Result<Value, ResponseError>, AllocError> {
+        Ok(Ok(self.value))
+    }
+}
+
+/// The job of all rows: one with a script, or a fixed one.
+pub type AnyJob = Either<Scripted, Fixed>;
 
 /// The id of a job that answers no request.
 pub fn own_id(alloc: Global) -> Result<RequestId, AllocError> {

@@ -4,16 +4,19 @@
 // - `submit ID KEY SCRIPT`: gives the pool a job (`jobs.rt`), which comes to the list of the key: `taken`, `full KEY` or `no memory`.
 // - `begun N`, `ended N`, `reported N`: waits until N jobs began, ended or were done with their reports; nothing is told.
 // - `hear`: waits for a signal: `heard`, or `closed`.
-// - `message`: takes the next message: `ID report PARAMS`, `ID outcome VALUE of KEY`, `ID error CODE of KEY`, `nothing`, or `ID no memory`.
+// - `message`: takes the next message: `ID report PARAMS`, `ID ask NUMBER METHOD PARAMS`, `ID outcome VALUE of KEY`,
+//   `ID error CODE of KEY`, `nothing`, or `ID no memory`.
 // - `listen N`: takes N messages, and waits for a signal where there is none.
+// - `reply N`, `give_up N`: the request number N of a job gets the reply `true`, or none; nothing is told.
 // - `waits ID`: `waits` or `free`. `forget ID`: nothing is told.
 //
 // The client of such a job gave the tokens `w` and 7. At the end the pool is ended, nothing more may be heard then, and it is told how many jobs began and how many saw their cancellation.
 use crate::attempt::{Attempt, Stop};
-use crate::jobs::Scripted;
+use crate::jobs::{AnyJob, Scripted};
 use crate::signals::{Signal, Signals};
 use crate::table::pool_of;
 use crossbeam_channel::Receiver;
+use either::Either;
 use lsp_jobs::{JobMessage, JobPool, PartialResults, SubmitFault, WorkDone};
 use lsp_message::RequestId;
 use serde_json::{Value, json};
@@ -28,7 +31,7 @@ struct Bench<R: Wait + Drop> {
     rt: R,
     alloc: Global,
     signals: Arc<Signals>,
-    pool: JobPool<R, Scripted, i32>,
+    pool: JobPool<R, AnyJob, i32>,
     woken: Receiver<()>,
     told: String,
 }
@@ -101,6 +104,8 @@ impl<R: Wait + Drop> Bench<R> {
             }
             "waits" => self.tell_waiting(&id_of(rest))?,
             "forget" => self.pool.forget(&id_of(rest)),
+            "reply" => self.pool.reply(count_of(rest), Ok(Value::Bool(true))),
+            "give_up" => self.pool.give_up(count_of(rest)),
             _ => return Err(Stop::Table),
         }
         Ok(())
@@ -168,6 +173,9 @@ impl<R: Wait + Drop> Bench<R> {
     fn tell_message(&mut self, id: &RequestId, message: JobMessage<i32>) -> Result<(), AllocError> {
         match message {
             JobMessage::Report(report) => write!(self.told, "{id} report {}, ", report.params),
+            JobMessage::Ask(method, params, number) => {
+                write!(self.told, "{id} ask {number} {method} {params}, ")
+            }
             JobMessage::Outcome(outcome, key) => match outcome {
                 Ok(value) => write!(self.told, "{id} outcome {value} of {key}, "),
                 Err(error) => write!(self.told, "{id} error {} of {key}, ", error.code),
@@ -189,14 +197,14 @@ fn job_of(
     signals: &Arc<Signals>,
     script: &str,
     key: i32,
-) -> Result<Scripted, AllocError> {
+) -> Result<AnyJob, AllocError> {
     let params = json!(in alloc; { "workDoneToken": "w", "partialResultToken": 7 })?;
-    Ok(Scripted {
+    Ok(Either::Left(Scripted {
         alloc,
         signals: Arc::try_clone(signals)?,
         script: String::from_str(alloc, script)?,
         work: WorkDone::of(alloc, &params)?,
         parts: PartialResults::of(alloc, &params)?,
         value: json!(in alloc; [key])?,
-    })
+    }))
 }

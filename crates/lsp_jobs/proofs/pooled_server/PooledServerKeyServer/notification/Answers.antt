@@ -11,7 +11,10 @@ pub returns : goal.returns
 returns g c =
     let method = string_bytes c.args.notification.method in
     let params = view c.args.notification.params in
-    IfOk-weaker c.start_jobs.result _ _ (λ all others.
-    subst (λ (x : g.row.S.Denot × PendingJobs (g.row.J.Denot × g.row.S-Key.Denot)).
-    Does g.S.JobServer (g.S.Server.notified x.0 method params) x.1 (map (act_view {P = g.row.S-Payload.Denot}) all.items) (seen c.start_jobs.new.self))
-    c.in_ok-forget_cancelled.ensures (map (act_view {P = g.row.S-Payload.Denot}) c.in_ok-acts.acts.items, c.notification.new.self, c.in_ok-acts.ensures, others)) c.start_jobs.ensures
+    IfOk-weaker c.acts_with_jobs.result _ _ (λ all others. (
+      others.0,
+      others.1,
+      subst (λ (x : g.row.S.Denot × PendingJobs (g.row.J.Denot × g.row.S-Key.Denot)).
+          Does g.S.JobServer (g.S.Server.notified x.0 method params) x.1 others.0 (seen c.acts_with_jobs.new.self))
+          c.in_ok-forget_cancelled.ensures (map (act_view {P = g.row.S-Payload.Denot}) c.in_ok-acts.acts.items, c.notification.new.self, c.in_ok-acts.ensures, others.2),
+    )) c.acts_with_jobs.ensures

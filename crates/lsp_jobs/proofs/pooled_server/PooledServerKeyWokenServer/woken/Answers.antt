@@ -14,15 +14,19 @@ returns-in_ok-acts-in-Outcome g c =
     let acts = map (act_view {P = g.row.S-Payload.Denot}) c.in_ok-acts-in-Outcome.acts.items in
     let outcome = outcome_view c.in-Outcome.outcome in
     let ended = subst (λ t. Ends g.S.JobServer id c.in-Outcome.key (came_to outcome) (c.args.self.now.server, t) acts (seen c.end_job.new.self)) tells.3 c.in_ok-acts-in-Outcome.ensures in
-    IfOk-weaker c.start_jobs.result _ _ (λ all others. inr (inr (record {
-      id = id;
-      job = tells.0;
-      key = c.in-Outcome.key;
-      outcome = outcome;
-      waits = tells.1;
-      comes = tells.2;
-      acts = acts;
-      did = seen c.end_job.new.self;
-      ended = ended;
-      others = others;
-    }))) c.start_jobs.ensures
+    IfOk-weaker c.acts_with_jobs.result _ _ (λ all others. inr (inr (inr (
+      others.0,
+      others.1,
+      record {
+        id = id;
+        job = tells.0;
+        key = c.in-Outcome.key;
+        outcome = outcome;
+        waits = tells.1;
+        comes = tells.2;
+        acts = acts;
+        did = seen c.end_job.new.self;
+        ended = ended;
+        others = others.2;
+      },
+    )))) c.acts_with_jobs.ensures

@@ -1,0 +1,22 @@
+-- Whose request to the client it was: the server's, or that of a job.
+use Rattle.std.specs.Prelude.{◌≡◌, List, map}
+use Rattle.lsp_service.specs.Acts.{Act, tells, asks, replies, cancels}
+use Rattle.lsp_jobs.specs.declared.asking.Asked.{Asked}
+use Rattle.lsp_jobs.specs.declared.asking.Asked.TheVariants.{ByServer, ByJob}
+
+module _ {P : Type 0} where
+  -- an act of the server, which keeps this for the reply
+  abbrev pub by_server : Act P → Act (Asked P)
+  by_server (tells method params) = tells method params
+  by_server (asks method params payload) = asks method params (ByServer payload)
+  by_server (replies id outcome) = replies id outcome
+  by_server (cancels z) = cancels z
+
+  -- these are acts of the server, and it may do them
+  abbrev pub ByServers : (List (Act P) → Type 0) → List (Act (Asked P)) → Type 0
+  ByServers may all = (acts : List (Act P)) × (all ≡ map by_server acts) × may acts
+
+  -- this holds if the request was the server's, and that if it was a job's
+  abbrev pub WhoseAsked : Asked P → (P → Type 0) → Type 0 → Type 0
+  WhoseAsked (ByServer payload) server job = server payload
+  WhoseAsked (ByJob number) server job = job

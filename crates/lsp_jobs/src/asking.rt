@@ -1,0 +1,139 @@
+// Requests of jobs to the client, and the jobs that wait for the replies.
+use crate::cancellation::CancellationToken;
+use crossbeam_channel::{Receiver, Sender, bounded};
+use lsp_message::ResponseError;
+use serde_json::Value;
+use std::alloc::{AllocError, Global};
+use std::collections::BTreeMap;
+use std::sync::{Arc, Mutex, Wait};
+
+/// Who sent a request to the client. It is kept for the reply.
+#[derive(Drop)]
+pub enum Asked<P> {
+    /// The server, which kept this for the reply.
+    ByServer(P),
+    /// A job, which waits for the reply under this number.
+    ByJob(u64),
+}
+
+/// What the client replied.
+pub(crate) type Reply = Result<Value, ResponseError>;
+
+/// A job that waits for a reply.
+#[derive(Drop)]
+struct Waiter {
+    token: CancellationToken,
+    reply: Sender<Reply>,
+}
+
+/// The jobs that wait for a reply, each under the number of its request.
+#[derive(Drop)]
+struct Waiters {
+    waiting: BTreeMap<u64, Waiter>,
+    next: u64,
+}
+
+/// The jobs of a pool that wait for replies of the client. Each has a channel of its own, whose end here is dropped when nobody waits for
+/// the job any more: so the job goes on.
+#[derive(Drop)]
+pub(crate) struct Replies {
+    alloc: Global,
+    waiters: Arc<Mutex<Waiters>>,
+}
+
+/// What a job needs to wait for a reply.
+#[derive(Drop)]
+pub(crate) struct Asker {
+    replies: Replies,
+    token: CancellationToken,
+}
+
+impl Waiters {
+    /// Adds a job, and gives the number of its request.
+    fn add(&mut self, waiter: Waiter) -> Result<u64, AllocError> {
+        let number = self.next;
+        match self.waiting.insert(number, waiter) {
+            Ok(_) => {
+                self.next = number.wrapping_add(1);
+                Ok(number)
+            }
+            Err(_) => Err(AllocError),
+        }
+    }
+}
+
+impl Replies {
+    /// No job waits. The error means that an allocation failed.
+    pub fn new(alloc: Global) -> Result<Replies, AllocError> {
+        let none = Waiters {
+            waiting: BTreeMap::new(alloc),
+            next: 0,
+        };
+        match Arc::new(alloc, Mutex::new(none)) {
+            Ok(waiters) => Ok(Replies { alloc, waiters }),
+            Err(_) => Err(AllocError),
+        }
+    }
+
+    /// What a job with this token needs to wait. The error means that an allocation failed.
+    pub fn asker(&self, token: &CancellationToken) -> Result<Asker, AllocError> {
+        let replies = Replies {
+            alloc: self.alloc,
+            waiters: Arc::try_clone(&self.waiters)?,
+        };
+        Ok(Asker {
+            replies,
+            token: token.share()?,
+        })
+    }
+
+    /// Hands a reply to the job that waits under this number. If none does, the reply is dropped.
+    pub fn hand<T: Wait>(&self, rt: &T, number: u64, reply: Reply) {
+        if let Some(waiter) = self.remove(rt, number) {
+            let _ = waiter.reply.send(rt, reply);
+        }
+    }
+
+    /// No reply comes under this number: the job that waits goes on without one.
+    pub fn give_up<T: Wait>(&self, rt: &T, number: u64) {
+        let waiter = self.remove(rt, number);
+        drop(waiter);
+    }
+
+    /// Jobs whose token was cancelled go on without a reply.
+    pub fn let_cancelled_go<T: Wait>(&self, rt: &T) {
+        let mut waiters = self.waiters.lock(rt);
+        waiters
+            .waiting
+            .retain(|_, waiter| !waiter.token.is_cancelled());
+    }
+
+    fn remove<T: Wait>(&self, rt: &T, number: u64) -> Option<Waiter> {
+        self.waiters.lock(rt).waiting.remove(&number)
+    }
+}
+
+impl Asker {
+    /// The job will wait for a reply: gives the number of its request, and the end of a channel on which the reply comes. If the channel is
+    /// disconnected, none comes. `None` means that nobody waits for the job any more. The error means that an allocation failed.
+    ///
+    /// The token is looked at under the lock. So whoever cancels it and then calls `let_cancelled_go` finds the job, or the job sees that.
+    pub fn begin<T: Wait>(&self, rt: &T) -> Result<Option<(u64, Receiver<Reply>)>, AllocError> {
+        let (sender, receiver) = bounded(self.replies.alloc, 1)?;
+        let waiter = Waiter {
+            token: self.token.share()?,
+            reply: sender,
+        };
+        let mut waiters = self.replies.waiters.lock(rt);
+        if self.token.is_cancelled() {
+            return Ok(None);
+        }
+        let number = waiters.add(waiter)?;
+        Ok(Some((number, receiver)))
+    }
+
+    /// The request was not sent: the job waits no more.
+    pub fn end<T: Wait>(&self, rt: &T, number: u64) {
+        self.replies.give_up(rt, number);
+    }
+}
