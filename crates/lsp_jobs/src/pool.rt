@@ -281,8 +281,8 @@ impl<T: Wait + Drop, J: Job, K: Drop> JobPool<T, J, K> {
     }
 
     /// What the job of this request said next: a report or a request to the client, and the request goes on waiting; or the outcome, with
-    /// what was kept for it, and it waits no more. If an allocation failed in the job, its outcome is the error -32603, `out of memory`. `None` means that the request
-    /// waits for no job, or that its job said nothing new.
+    /// what was kept for it, and it waits no more. If an allocation failed in the job, its outcome is the error -32603, `out of memory`.
+    /// `None` means that the request waits for no job, or that its job said nothing new.
     ///
     /// The error is a failed allocation: the request has no job any more then, so it is still yours to answer.
     pub fn take_message(&mut self, id: &RequestId) -> Result<Option<JobMessage<K>>, AllocError>
