@@ -1,5 +1,5 @@
 // Objects of JSON with two members.
-use serde::{Deserialize, Deserializer, Format, Name, Serialize, Serializer};
+use serde::{Deserialize, Deserializer, Format, Kind, Name, Serialize, Serializer};
 use std::alloc::Global;
 
 /// Writes a member.
@@ -44,8 +44,34 @@ fn fill<'de, T: Deserialize<'de>, F: Format>(
     if slot.is_some() {
         return Err(from.duplicate(name));
     }
-    *slot = Some(T::deserialize(alloc, from)?);
+    *slot = Some(value_of(alloc, name, from)?);
     Ok(())
+}
+
+/// The value of a member. If it is no object and no list, and does not fit, the error names the member.
+fn value_of<'de, T: Deserialize<'de>, F: Format>(
+    alloc: Global,
+    name: &str,
+    from: &mut Deserializer<'de, '_, F>,
+) -> Result<T, F::Error> {
+    let kind = from.peek()?;
+    match T::deserialize(alloc, from) {
+        Ok(value) => Ok(value),
+        Err(error) => {
+            if matches!(kind, Kind::Map | Kind::Seq) || from.is_fatal(&error) {
+                return Err(error);
+            }
+            Err(misfit(alloc, name, from))
+        }
+    }
+}
+
+/// The error of a member that does not fit. Its text is of at most 32 bytes.
+pub fn misfit<F: Format>(alloc: Global, name: &str, from: &Deserializer<'_, '_, F>) -> F::Error {
+    match format!(in alloc; "invalid `{name}`") {
+        Ok(reason) => from.custom(reason.as_str()),
+        Err(_) => from.no_memory(),
+    }
 }
 
 /// A member that has to be there.

@@ -1,6 +1,6 @@
 // The types as JSON: members are written and read one after another, under the standard's names. For a wide type this takes the
 // prover a fifth of what the derives take.
-use serde::{Deserialize, Deserializer, Format, Name, Serialize, Serializer};
+use serde::{Deserialize, Deserializer, Format, Kind, Name, Serialize, Serializer};
 use serde_json::Value;
 use std::alloc::Global;
 
@@ -57,12 +57,8 @@ impl<S: Serializer> Object<S> {
 
     /// Writes the members of an object beside the others. Another value fails.
     pub fn rest(&mut self, value: &Value, out: &mut S) {
-        if let Value::Object(members) = value {
-            for (name, value) in members.iter() {
-                self.member(name.as_str(), value, out);
-            }
-        } else {
-            self.done = Err(out.custom("an object was expected"));
+        if self.done.is_ok() {
+            self.done = put_rest(value, out);
         }
     }
 
@@ -75,6 +71,11 @@ impl<S: Serializer> Object<S> {
 
 fn put<T: Serialize, S: Serializer>(name: &str, value: &T, out: &mut S) -> Result<(), S::Error> {
     out.key(name)?;
+    value.serialize(out)
+}
+
+fn put_rest<S: Serializer>(value: &Value, out: &mut S) -> Result<(), S::Error> {
+    out.flatten_next()?;
     value.serialize(out)
 }
 
@@ -114,7 +115,7 @@ impl<F: Format> Members<F> {
         for _ in 0..u64::MAX {
             match from.next_key(&names)? {
                 Some(0) if found.is_some() => return Err(from.duplicate(name)),
-                Some(0) => found = Some(T::deserialize(self.alloc, from)?),
+                Some(0) => found = Some(value_of(self.alloc, name, from)?),
                 Some(_) => from.skip()?,
                 None => break,
             }
@@ -172,5 +173,31 @@ impl<F: Format> Members<F> {
         from.skip()?;
         from.release(self.start);
         Ok(value)
+    }
+}
+
+/// The value of a member. If it is no object and no list, and does not fit, the error names the member.
+fn value_of<'de, T: Deserialize<'de>, F: Format>(
+    alloc: Global,
+    name: &str,
+    from: &mut Deserializer<'de, '_, F>,
+) -> Result<T, F::Error> {
+    let kind = from.peek()?;
+    match T::deserialize(alloc, from) {
+        Ok(value) => Ok(value),
+        Err(error) => {
+            if matches!(kind, Kind::Map | Kind::Seq) || from.is_fatal(&error) {
+                return Err(error);
+            }
+            Err(misfit(alloc, name, from))
+        }
+    }
+}
+
+/// The error of a member that does not fit. Its text is of at most 32 bytes.
+fn misfit<F: Format>(alloc: Global, name: &str, from: &Deserializer<'_, '_, F>) -> F::Error {
+    match format!(in alloc; "invalid `{name}`") {
+        Ok(reason) => from.custom(reason.as_str()),
+        Err(_) => from.no_memory(),
     }
 }

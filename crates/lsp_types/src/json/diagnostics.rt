@@ -203,3 +203,12 @@ impl<'de> Deserialize<'de> for NumberOrString {
         }
     }
 }
+
+impl DeserializeOwned for NumberOrString {
+    fn deserialize_owned<F: Format>(
+        alloc: Global,
+        from: &mut Deserializer<'_, '_, F>,
+    ) -> Result<NumberOrString, F::Error> {
+        NumberOrString::deserialize(alloc, from)
+    }
+}

@@ -83,19 +83,6 @@ impl<T: Serialize> Serialize for ProgressParams<T> {
     }
 }
 
-impl<'de, T: Deserialize<'de>> Deserialize<'de> for ProgressParams<T> {
-    fn deserialize<F: Format>(
-        alloc: Global,
-        from: &mut Deserializer<'de, '_, F>,
-    ) -> Result<ProgressParams<T>, F::Error> {
-        let members = Members::of(alloc, from);
-        let token = members.required("token", from)?;
-        let value = members.required("value", from)?;
-        let read = ProgressParams { token, value };
-        members.end(read, from)
-    }
-}
-
 impl Described for WorkDoneProgressBegin {}
 
 impl Serialize for WorkDoneProgressBegin {

@@ -1,0 +1,200 @@
+// Values that are read by the types of `lsp_types` and written again.
+use crate::messages::value_in;
+use crate::stop::{Stop, cut};
+use lsp_types::{
+    ApplyWorkspaceEditParams, ApplyWorkspaceEditResult, CodeAction, CodeActionParams, Command,
+    CompletionItem, CompletionList, ConfigurationParams, DidChangeTextDocumentParams,
+    DidOpenTextDocumentParams, DidSaveTextDocumentParams, DocumentFormattingParams,
+    DocumentRangeFormattingParams, DocumentSymbol, ExecuteCommandParams, Hover, InitializeParams,
+    InlayHint, Location, PrepareRename, ProgressParams, PublishDiagnosticsParams, ReferenceParams,
+    RenameParams, SemanticTokens, ServerCapabilities, ServerInfo, ShowMessageParams, SignatureHelp,
+    TextDocumentParams, TextDocumentPositionParams, TextDocumentRangeParams, WorkDoneProgressBegin,
+    WorkDoneProgressCreateParams, WorkDoneProgressEnd, WorkDoneProgressParams,
+    WorkDoneProgressReport, WorkspaceSymbol, WorkspaceSymbolParams,
+};
+use serde::{DeserializeOwned, Serialize};
+use serde_json::{Error, Value, from_value, to_value};
+use std::alloc::{AllocError, Global};
+
+/// What comes of a type's name and a value: the value as it is written again, or `refused`.
+pub fn answer(alloc: Global, text: &str) -> Result<String, Stop> {
+    let (name, value) = cut(text, " ")?;
+    let value = value_in(alloc, value)?;
+    match of_document(alloc, name, value) {
+        Ok(row) => Ok(row),
+        Err(fault) if fault.is_memory() => Err(Stop::Memory),
+        Err(_) => Ok(String::from_str(alloc, "refused")?),
+    }
+}
+
+fn written<T: Serialize>(alloc: Global, value: &T) -> Result<String, Error> {
+    Ok(to_value(alloc, value)?.to_string(alloc)?)
+}
+
+/// A value that is read and written by a type.
+fn back<T: Serialize + DeserializeOwned + Drop>(
+    alloc: Global,
+    value: Value,
+) -> Result<String, Error> {
+    let read: T = from_value(alloc, value)?;
+    written(alloc, &read)
+}
+
+fn of_document(alloc: Global, name: &str, value: Value) -> Result<String, Error> {
+    match name {
+        "InitializeParams" => back::<InitializeParams>(alloc, value),
+        "ServerInfo" => back::<ServerInfo>(alloc, value),
+        "DidOpenTextDocumentParams" => back::<DidOpenTextDocumentParams>(alloc, value),
+        "DidChangeTextDocumentParams" => back::<DidChangeTextDocumentParams>(alloc, value),
+        "DidSaveTextDocumentParams" => back::<DidSaveTextDocumentParams>(alloc, value),
+        "TextDocumentParams" => back::<TextDocumentParams>(alloc, value),
+        "TextDocumentPositionParams" => back::<TextDocumentPositionParams>(alloc, value),
+        "TextDocumentRangeParams" => back::<TextDocumentRangeParams>(alloc, value),
+        "ReferenceParams" => back::<ReferenceParams>(alloc, value),
+        _ => of_change(alloc, name, value),
+    }
+}
+
+fn of_change(alloc: Global, name: &str, value: Value) -> Result<String, Error> {
+    match name {
+        "CodeActionParams" => back::<CodeActionParams>(alloc, value),
+        "CodeAction" => back::<CodeAction>(alloc, value),
+        "Command" => back::<Command>(alloc, value),
+        "RenameParams" => back::<RenameParams>(alloc, value),
+        "PrepareRename" => back::<PrepareRename>(alloc, value),
+        "DocumentFormattingParams" => back::<DocumentFormattingParams>(alloc, value),
+        "DocumentRangeFormattingParams" => back::<DocumentRangeFormattingParams>(alloc, value),
+        "ExecuteCommandParams" => back::<ExecuteCommandParams>(alloc, value),
+        "ApplyWorkspaceEditParams" => back::<ApplyWorkspaceEditParams>(alloc, value),
+        "ApplyWorkspaceEditResult" => back::<ApplyWorkspaceEditResult>(alloc, value),
+        _ => of_answer(alloc, name, value),
+    }
+}
+
+fn of_answer(alloc: Global, name: &str, value: Value) -> Result<String, Error> {
+    match name {
+        "Hover" => back::<Hover>(alloc, value),
+        "CompletionList" => back::<CompletionList>(alloc, value),
+        "CompletionItem" => back::<CompletionItem>(alloc, value),
+        "SignatureHelp" => back::<SignatureHelp>(alloc, value),
+        "Location" => back::<Location>(alloc, value),
+        "DocumentSymbol" => written(alloc, &symbol_with_children(alloc, &value)?),
+        "WorkspaceSymbolParams" => back::<WorkspaceSymbolParams>(alloc, value),
+        "WorkspaceSymbol" => back::<WorkspaceSymbol>(alloc, value),
+        "SemanticTokens" => back::<SemanticTokens>(alloc, value),
+        "InlayHint" => back::<InlayHint>(alloc, value),
+        _ => of_window(alloc, name, value),
+    }
+}
+
+fn of_window(alloc: Global, name: &str, value: Value) -> Result<String, Error> {
+    match name {
+        "PublishDiagnosticsParams" => back::<PublishDiagnosticsParams>(alloc, value),
+        "ShowMessageParams" => back::<ShowMessageParams>(alloc, value),
+        "ConfigurationParams" => back::<ConfigurationParams>(alloc, value),
+        "ProgressParams" => of_progress(alloc, &value),
+        "WorkDoneProgressParams" => back::<WorkDoneProgressParams>(alloc, value),
+        "WorkDoneProgressCreateParams" => back::<WorkDoneProgressCreateParams>(alloc, value),
+        "ServerCapabilities" => written(alloc, &capabilities(alloc, &value)?),
+        _ => Ok(String::from_str(alloc, "no such type")?),
+    }
+}
+
+/// Progress by the type of its kind.
+fn of_progress(alloc: Global, found: &Value) -> Result<String, Error> {
+    match found.pointer("/value/kind").and_then(Value::as_str) {
+        Some("begin") => progress::<WorkDoneProgressBegin>(alloc, found),
+        Some("report") => progress::<WorkDoneProgressReport>(alloc, found),
+        _ => progress::<WorkDoneProgressEnd>(alloc, found),
+    }
+}
+
+fn progress<T: Serialize + DeserializeOwned + Drop>(
+    alloc: Global,
+    found: &Value,
+) -> Result<String, Error> {
+    let token = member(alloc, found, "token")?;
+    let value: T = member(alloc, found, "value")?;
+    written(alloc, &ProgressParams { token, value })
+}
+
+/// A symbol with those right inside it.
+fn symbol_with_children(alloc: Global, found: &Value) -> Result<DocumentSymbol, Error> {
+    let mut children = Vec::new(alloc);
+    if let Some(list) = found.get("children").and_then(Value::as_array) {
+        for child in list {
+            let child = symbol(alloc, child, Vec::new(alloc))?;
+            if let Err(failed) = children.push(child) {
+                return Err(AllocError::from(failed).into());
+            }
+        }
+    }
+    symbol(alloc, found, children)
+}
+
+fn symbol(
+    alloc: Global,
+    found: &Value,
+    children: Vec<DocumentSymbol>,
+) -> Result<DocumentSymbol, Error> {
+    Ok(DocumentSymbol {
+        name: member(alloc, found, "name")?,
+        detail: member(alloc, found, "detail")?,
+        kind: member(alloc, found, "kind")?,
+        range: member(alloc, found, "range")?,
+        selection_range: member(alloc, found, "selectionRange")?,
+        children,
+    })
+}
+
+/// A member by its type, null if there is none.
+fn member<T: DeserializeOwned>(alloc: Global, found: &Value, key: &str) -> Result<T, Error> {
+    from_value(alloc, found.get(key).unwrap_or(&Value::Null).clone()?)
+}
+
+/// The capabilities of a server: each field that fits, and the members of `more`.
+fn capabilities(alloc: Global, found: &Value) -> Result<ServerCapabilities, Error> {
+    let mut made = ServerCapabilities::default();
+    set_providers(alloc, found, &mut made)?;
+    set_options(alloc, found, &mut made)?;
+    Ok(made)
+}
+
+fn set_providers(alloc: Global, found: &Value, made: &mut ServerCapabilities) -> Result<(), Error> {
+    made.hover_provider = fitting(alloc, found, "hoverProvider")?;
+    made.definition_provider = fitting(alloc, found, "definitionProvider")?;
+    made.references_provider = fitting(alloc, found, "referencesProvider")?;
+    made.document_symbol_provider = fitting(alloc, found, "documentSymbolProvider")?;
+    made.document_formatting_provider = fitting(alloc, found, "documentFormattingProvider")?;
+    let key = "documentRangeFormattingProvider";
+    made.document_range_formatting_provider = fitting(alloc, found, key)?;
+    made.inlay_hint_provider = fitting(alloc, found, "inlayHintProvider")?;
+    made.workspace_symbol_provider = fitting(alloc, found, "workspaceSymbolProvider")?;
+    Ok(())
+}
+
+fn set_options(alloc: Global, found: &Value, made: &mut ServerCapabilities) -> Result<(), Error> {
+    made.position_encoding = fitting(alloc, found, "positionEncoding")?;
+    made.text_document_sync = fitting(alloc, found, "textDocumentSync")?;
+    made.completion_provider = fitting(alloc, found, "completionProvider")?;
+    made.signature_help_provider = fitting(alloc, found, "signatureHelpProvider")?;
+    made.code_action_provider = fitting(alloc, found, "codeActionProvider")?;
+    made.rename_provider = fitting(alloc, found, "renameProvider")?;
+    made.execute_command_provider = fitting(alloc, found, "executeCommandProvider")?;
+    made.semantic_tokens_provider = fitting(alloc, found, "semanticTokensProvider")?;
+    made.more = fitting(alloc, found, "more")?;
+    Ok(())
+}
+
+/// A member, where it has the form that its type reads.
+fn fitting<T: DeserializeOwned + Drop>(
+    alloc: Global,
+    found: &Value,
+    key: &str,
+) -> Result<Option<T>, Error> {
+    match member(alloc, found, key) {
+        Ok(value) => Ok(value),
+        Err(fault) if fault.is_memory() => Err(fault),
+        Err(_) => Ok(None),
+    }
+}
