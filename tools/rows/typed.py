@@ -134,7 +134,6 @@ TYPES = {
     "TextDocumentEdit": {"textDocument": "OptionalVersionedTextDocumentIdentifier", "edits": some("TextEdit")},
     "WorkspaceEdit": {"changes?": each(some("TextEdit")), "documentChanges?": some("TextDocumentEdit")},
     "RenameParams": {**PLACE, "newName": TEXT},
-    "PrepareRename": {"range": "Range", "placeholder": TEXT},
     "FormattingOptions": {
         "tabSize": UNSIGNED,
         "insertSpaces": TRUTH,
@@ -143,7 +142,6 @@ TYPES = {
         "trimFinalNewlines?": TRUTH,
     },
     "DocumentFormattingParams": {**DOCUMENT, "options": "FormattingOptions"},
-    "DocumentRangeFormattingParams": {**PART, "options": "FormattingOptions"},
     "Command": {"title": TEXT, "command": TEXT, "arguments?": some(ANY)},
     "ExecuteCommandParams": {"command": TEXT, "arguments?": some(ANY)},
     "ApplyWorkspaceEditParams": {"label?": TEXT, "edit": "WorkspaceEdit"},
@@ -189,13 +187,11 @@ TYPES = {
     "DocumentSymbol": {
         "name": TEXT,
         "detail?": TEXT,
-        "kind": among(1, 26),
+        "kind": UNSIGNED,
         "range": "Range",
         "selectionRange": "Range",
         "children": some("DocumentSymbol"),
     },
-    "WorkspaceSymbolParams": {"query": TEXT},
-    "WorkspaceSymbol": {"name": TEXT, "kind": among(1, 26), "containerName?": TEXT, "location": "Location", "data?": ANY},
     "ParameterInformation": {"label": TEXT, "documentation?": "MarkupContent"},
     "SignatureInformation": {
         "label": TEXT,
@@ -223,35 +219,23 @@ TYPES = {
     "WorkDoneProgressReport": {"cancellable?": TRUTH, "message?": TEXT, "percentage?": UNSIGNED},
     "WorkDoneProgressEnd": {"message?": TEXT},
     "ProgressParams": {"token": NUMBER_OR_TEXT, "value": progress},
-    "SaveOptions": {"includeText?": TRUTH},
-    "TextDocumentSyncOptions": {
-        "openClose?": TRUTH,
-        "change?": among(0, 2),
-        "willSave?": TRUTH,
-        "willSaveWaitUntil?": TRUTH,
-        "save?": "SaveOptions",
-    },
-    "CompletionOptions": {"triggerCharacters?": some(TEXT), "resolveProvider?": TRUTH},
-    "SignatureHelpOptions": {"triggerCharacters?": some(TEXT), "retriggerCharacters?": some(TEXT)},
-    "CodeActionOptions": {"codeActionKinds?": some(TEXT), "resolveProvider?": TRUTH},
-    "RenameOptions": {"prepareProvider?": TRUTH},
-    "ExecuteCommandOptions": {"commands": some(TEXT)},
-    "SemanticTokensLegend": {"tokenTypes": some(TEXT), "tokenModifiers": some(TEXT)},
-    "SemanticTokensOptions": {"legend": "SemanticTokensLegend", "range?": TRUTH, "full?": TRUTH},
 }
-TRUE_PROVIDERS = "hover definition references documentSymbol documentFormatting documentRangeFormatting inlayHint workspaceSymbol"
-# The members of `ServerCapabilities` that have a field of their own.
-CAPABILITIES = {
-    "positionEncoding": TEXT,
-    "textDocumentSync": "TextDocumentSyncOptions",
-    "completionProvider": "CompletionOptions",
-    "signatureHelpProvider": "SignatureHelpOptions",
-    "codeActionProvider": "CodeActionOptions",
-    "renameProvider": "RenameOptions",
-    "executeCommandProvider": "ExecuteCommandOptions",
-    "semanticTokensProvider": "SemanticTokensOptions",
-    **{f"{it}Provider": TRUTH for it in TRUE_PROVIDERS.split()},
-}
+
+
+def all_capabilities(characters, names):
+    """The members of `ServerCapabilities` that have a field, as the program of rows fills them in."""
+    true = "hover references documentSymbol documentFormatting documentRangeFormatting inlayHint workspaceSymbol"
+    return {
+        "textDocumentSync": {"openClose": True, "change": 2, "willSave": False, "willSaveWaitUntil": True, "save": {"includeText": True}},
+        "completionProvider": {"triggerCharacters": characters, "resolveProvider": True},
+        "signatureHelpProvider": {"triggerCharacters": characters, "retriggerCharacters": names},
+        "codeActionProvider": {"codeActionKinds": names, "resolveProvider": True},
+        "renameProvider": {"prepareProvider": True},
+        "executeCommandProvider": {"commands": names},
+        "semanticTokensProvider": {"legend": {"tokenTypes": names, "tokenModifiers": characters}, "range": False, "full": True},
+        "definitionProvider": False,
+        **{f"{it}Provider": True for it in true.split()},
+    }
 
 
 def read_as(how, value):
@@ -275,24 +259,26 @@ def read_as(how, value):
 
 
 def capabilities_answer(value):
-    """A server's capabilities: the fields that fit, and `more`, whose members count if both have one."""
+    """A server's capabilities: each field, and `more`, whose members count if both have one."""
     more = value.get("more")
     fits(more is None or isinstance(more, dict))
-    found = dict(more or {})
-    for name, how in CAPABILITIES.items():
-        try:
-            if name not in found and value.get(name) is not None:
-                found[name] = read_as(how, value[name])
-        except Misfit:
-            pass
-    return found
+    encoding = {"positionEncoding": value["positionEncoding"]} if "positionEncoding" in value else {}
+    return {**encoding, **all_capabilities(value["characters"], value["names"]), **(more or {})}
+
+
+def result_answer(value):
+    """LSP 3.17, "Initialize Request", of a server that can do nothing."""
+    return {"capabilities": {}, "serverInfo": read_as("ServerInfo", value)}
+
+
+OTHERS = {"ServerCapabilities": capabilities_answer, "InitializeResult": result_answer}
 
 
 def typed_answer(text):
     name, _, value = text.partition(" ")
     value = json.loads(value)
     try:
-        return [ordered(capabilities_answer(value) if name == "ServerCapabilities" else read_as(name, value))]
+        return [ordered(OTHERS[name](value) if name in OTHERS else read_as(name, value))]
     except Misfit:
         return ["refused"]
 

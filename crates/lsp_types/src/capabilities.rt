@@ -88,7 +88,7 @@ impl Default for ServerCapabilities {
     }
 }
 
-/// How a client tells of changes (LSP 3.17, "TextDocumentSyncKind"). On reading, another number is refused.
+/// How a client tells of changes (LSP 3.17, "TextDocumentSyncKind").
 #[derive(Clone, Copy, Drop)]
 pub struct TextDocumentSyncKind(pub u32);
 

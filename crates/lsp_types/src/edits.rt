@@ -51,15 +51,6 @@ pub struct RenameParams {
     pub new_name: String,
 }
 
-/// The result of `textDocument/prepareRename`, or null (LSP 3.17, "Prepare Rename Request").
-#[derive(Drop)]
-pub struct PrepareRename {
-    /// The text to rename.
-    pub range: Range,
-    /// The text that the client puts into the field for the new name.
-    pub placeholder: String,
-}
-
 /// How a document is to be formatted (LSP 3.17, "FormattingOptions"). Other members are passed over.
 #[derive(Clone, Copy, Drop)]
 pub struct FormattingOptions {
@@ -80,17 +71,6 @@ pub struct FormattingOptions {
 pub struct DocumentFormattingParams {
     /// The document.
     pub text_document: TextDocumentIdentifier,
-    /// How to format it.
-    pub options: FormattingOptions,
-}
-
-/// The params of `textDocument/rangeFormatting` (LSP 3.17, "Document Range Formatting Request").
-#[derive(Drop)]
-pub struct DocumentRangeFormattingParams {
-    /// The document.
-    pub text_document: TextDocumentIdentifier,
-    /// The part to format.
-    pub range: Range,
     /// How to format it.
     pub options: FormattingOptions,
 }

@@ -52,9 +52,8 @@ pub use documents::{
     VersionedTextDocumentIdentifier,
 };
 pub use edits::{
-    DocumentFormattingParams, DocumentRangeFormattingParams, FormattingOptions,
-    OptionalVersionedTextDocumentIdentifier, PrepareRename, RenameParams, TextDocumentEdit,
-    TextEdit, WorkspaceEdit,
+    DocumentFormattingParams, FormattingOptions, OptionalVersionedTextDocumentIdentifier,
+    RenameParams, TextDocumentEdit, TextEdit, WorkspaceEdit,
 };
 pub use file_uri::{FileUriFault, path_of_uri, paths_come_back, uri_of_path};
 pub use hints::{InlayHint, InlayHintKind};
@@ -67,7 +66,7 @@ pub use progress::{
     WorkDoneProgressReport,
 };
 pub use signatures::{ParameterInformation, SignatureHelp, SignatureInformation};
-pub use symbols::{DocumentSymbol, SymbolKind, WorkspaceSymbol, WorkspaceSymbolParams};
+pub use symbols::{DocumentSymbol, SymbolKind};
 pub use tokens::{SemanticToken, SemanticTokens};
 pub use window::{LogMessageParams, MessageType, ShowMessageParams};
 pub use workspace::{

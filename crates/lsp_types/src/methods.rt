@@ -16,20 +16,14 @@ pub const COMPLETION_RESOLVE: &str = "completionItem/resolve";
 pub const SIGNATURE_HELP: &str = "textDocument/signatureHelp";
 /// `textDocument/documentSymbol`: a request, with `DocumentSymbolParams`; the result is a list of `DocumentSymbol` or null.
 pub const DOCUMENT_SYMBOL: &str = "textDocument/documentSymbol";
-/// `workspace/symbol`: a request, with `WorkspaceSymbolParams`; the result is a list of `WorkspaceSymbol` or null.
-pub const WORKSPACE_SYMBOL: &str = "workspace/symbol";
 /// `textDocument/codeAction`: a request, with `CodeActionParams`; the result is a list of `CodeAction` or null.
 pub const CODE_ACTION: &str = "textDocument/codeAction";
 /// `codeAction/resolve`: a request, with a `CodeAction`; the result is the same, with more.
 pub const CODE_ACTION_RESOLVE: &str = "codeAction/resolve";
 /// `textDocument/formatting`: a request, with `DocumentFormattingParams`; the result is a list of `TextEdit` or null.
 pub const FORMATTING: &str = "textDocument/formatting";
-/// `textDocument/rangeFormatting`: a request, with `DocumentRangeFormattingParams`; the result is a list of `TextEdit` or null.
-pub const RANGE_FORMATTING: &str = "textDocument/rangeFormatting";
 /// `textDocument/rename`: a request, with `RenameParams`; the result is a `WorkspaceEdit` or null.
 pub const RENAME: &str = "textDocument/rename";
-/// `textDocument/prepareRename`: a request, with `TextDocumentPositionParams`; the result is a `PrepareRename` or null.
-pub const PREPARE_RENAME: &str = "textDocument/prepareRename";
 /// `textDocument/semanticTokens/full`: a request, with `SemanticTokensParams`; the result is `SemanticTokens` or null.
 pub const SEMANTIC_TOKENS_FULL: &str = "textDocument/semanticTokens/full";
 /// `textDocument/semanticTokens/range`: a request, with `SemanticTokensRangeParams`; the result is `SemanticTokens` or null.

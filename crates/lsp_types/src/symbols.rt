@@ -3,7 +3,7 @@ use crate::documents::Location;
 use lsp_text::Range;
 use serde_json::Value;
 
-/// What a symbol is (LSP 3.17, "SymbolKind"). On reading, another number is refused.
+/// What a symbol is (LSP 3.17, "SymbolKind").
 #[derive(Clone, Copy, Drop)]
 pub struct SymbolKind(pub u32);
 
@@ -77,26 +77,4 @@ pub struct DocumentSymbol {
     pub selection_range: Range,
     /// Those inside it.
     pub children: Vec<DocumentSymbol>,
-}
-
-/// The params of `workspace/symbol` (LSP 3.17, "Workspace Symbols Request"). The result is a list of `WorkspaceSymbol` or null.
-#[derive(Drop)]
-pub struct WorkspaceSymbolParams {
-    /// What is looked for. An empty text asks for all.
-    pub query: String,
-}
-
-/// A symbol of a workspace (LSP 3.17, "WorkspaceSymbol").
-#[derive(Drop)]
-pub struct WorkspaceSymbol {
-    /// Its name.
-    pub name: String,
-    /// What it is.
-    pub kind: SymbolKind,
-    /// What it stands in, for people.
-    pub container_name: Option<String>,
-    /// Where it is.
-    pub location: Location,
-    /// What the client gives back in `workspaceSymbol/resolve`.
-    pub data: Option<Value>,
 }

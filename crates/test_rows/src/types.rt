@@ -2,15 +2,17 @@
 use crate::messages::value_in;
 use crate::stop::{Stop, cut};
 use lsp_types::{
-    ApplyWorkspaceEditParams, ApplyWorkspaceEditResult, CodeAction, CodeActionParams, Command,
-    CompletionItem, CompletionList, ConfigurationParams, DidChangeTextDocumentParams,
-    DidOpenTextDocumentParams, DidSaveTextDocumentParams, DocumentFormattingParams,
-    DocumentRangeFormattingParams, DocumentSymbol, ExecuteCommandParams, Hover, InitializeParams,
-    InlayHint, Location, PrepareRename, ProgressParams, PublishDiagnosticsParams, ReferenceParams,
-    RenameParams, SemanticTokens, ServerCapabilities, ServerInfo, ShowMessageParams, SignatureHelp,
-    TextDocumentParams, TextDocumentPositionParams, TextDocumentRangeParams, WorkDoneProgressBegin,
-    WorkDoneProgressCreateParams, WorkDoneProgressEnd, WorkDoneProgressParams,
-    WorkDoneProgressReport, WorkspaceSymbol, WorkspaceSymbolParams,
+    ApplyWorkspaceEditParams, ApplyWorkspaceEditResult, CodeAction, CodeActionOptions,
+    CodeActionParams, Command, CompletionItem, CompletionList, CompletionOptions,
+    ConfigurationParams, DidChangeTextDocumentParams, DidOpenTextDocumentParams,
+    DidSaveTextDocumentParams, DocumentFormattingParams, DocumentSymbol, ExecuteCommandOptions,
+    ExecuteCommandParams, Hover, InitializeParams, InitializeResult, InlayHint, Location,
+    ProgressParams, PublishDiagnosticsParams, ReferenceParams, RenameOptions, RenameParams,
+    SaveOptions, SemanticTokens, SemanticTokensLegend, SemanticTokensOptions, ServerCapabilities,
+    ServerInfo, ShowMessageParams, SignatureHelp, SignatureHelpOptions, SymbolKind,
+    TextDocumentParams, TextDocumentPositionParams, TextDocumentRangeParams, TextDocumentSyncKind,
+    TextDocumentSyncOptions, WorkDoneProgressBegin, WorkDoneProgressCreateParams,
+    WorkDoneProgressEnd, WorkDoneProgressParams, WorkDoneProgressReport,
 };
 use serde::{DeserializeOwned, Serialize};
 use serde_json::{Error, Value, from_value, to_value};
@@ -43,7 +45,7 @@ fn back<T: Serialize + DeserializeOwned + Drop>(
 fn of_document(alloc: Global, name: &str, value: Value) -> Result<String, Error> {
     match name {
         "InitializeParams" => back::<InitializeParams>(alloc, value),
-        "ServerInfo" => back::<ServerInfo>(alloc, value),
+        "InitializeResult" => written(alloc, &initialized(alloc, &value)?),
         "DidOpenTextDocumentParams" => back::<DidOpenTextDocumentParams>(alloc, value),
         "DidChangeTextDocumentParams" => back::<DidChangeTextDocumentParams>(alloc, value),
         "DidSaveTextDocumentParams" => back::<DidSaveTextDocumentParams>(alloc, value),
@@ -61,9 +63,7 @@ fn of_change(alloc: Global, name: &str, value: Value) -> Result<String, Error> {
         "CodeAction" => back::<CodeAction>(alloc, value),
         "Command" => back::<Command>(alloc, value),
         "RenameParams" => back::<RenameParams>(alloc, value),
-        "PrepareRename" => back::<PrepareRename>(alloc, value),
         "DocumentFormattingParams" => back::<DocumentFormattingParams>(alloc, value),
-        "DocumentRangeFormattingParams" => back::<DocumentRangeFormattingParams>(alloc, value),
         "ExecuteCommandParams" => back::<ExecuteCommandParams>(alloc, value),
         "ApplyWorkspaceEditParams" => back::<ApplyWorkspaceEditParams>(alloc, value),
         "ApplyWorkspaceEditResult" => back::<ApplyWorkspaceEditResult>(alloc, value),
@@ -79,8 +79,6 @@ fn of_answer(alloc: Global, name: &str, value: Value) -> Result<String, Error> {
         "SignatureHelp" => back::<SignatureHelp>(alloc, value),
         "Location" => back::<Location>(alloc, value),
         "DocumentSymbol" => written(alloc, &symbol_with_children(alloc, &value)?),
-        "WorkspaceSymbolParams" => back::<WorkspaceSymbolParams>(alloc, value),
-        "WorkspaceSymbol" => back::<WorkspaceSymbol>(alloc, value),
         "SemanticTokens" => back::<SemanticTokens>(alloc, value),
         "InlayHint" => back::<InlayHint>(alloc, value),
         _ => of_window(alloc, name, value),
@@ -140,7 +138,7 @@ fn symbol(
     Ok(DocumentSymbol {
         name: member(alloc, found, "name")?,
         detail: member(alloc, found, "detail")?,
-        kind: member(alloc, found, "kind")?,
+        kind: SymbolKind(member(alloc, found, "kind")?),
         range: member(alloc, found, "range")?,
         selection_range: member(alloc, found, "selectionRange")?,
         children,
@@ -152,49 +150,73 @@ fn member<T: DeserializeOwned>(alloc: Global, found: &Value, key: &str) -> Resul
     from_value(alloc, found.get(key).unwrap_or(&Value::Null).clone()?)
 }
 
-/// The capabilities of a server: each field that fits, and the members of `more`.
+fn initialized(alloc: Global, found: &Value) -> Result<InitializeResult, Error> {
+    Ok(InitializeResult {
+        capabilities: ServerCapabilities::default(),
+        server_info: ServerInfo {
+            name: member(alloc, found, "name")?,
+            version: member(alloc, found, "version")?,
+        },
+    })
+}
+
+/// A server that can do all that has a field, and what is given as `more`.
 fn capabilities(alloc: Global, found: &Value) -> Result<ServerCapabilities, Error> {
-    let mut made = ServerCapabilities::default();
-    set_providers(alloc, found, &mut made)?;
-    set_options(alloc, found, &mut made)?;
-    Ok(made)
+    Ok(ServerCapabilities {
+        position_encoding: member(alloc, found, "positionEncoding")?,
+        text_document_sync: Some(synchronization()),
+        completion_provider: Some(CompletionOptions {
+            trigger_characters: member(alloc, found, "characters")?,
+            resolve_provider: Some(true),
+        }),
+        hover_provider: Some(true),
+        signature_help_provider: Some(SignatureHelpOptions {
+            trigger_characters: member(alloc, found, "characters")?,
+            retrigger_characters: member(alloc, found, "names")?,
+        }),
+        definition_provider: Some(false),
+        references_provider: Some(true),
+        document_symbol_provider: Some(true),
+        more: member(alloc, found, "more")?,
+        ..options(alloc, found)?
+    })
 }
 
-fn set_providers(alloc: Global, found: &Value, made: &mut ServerCapabilities) -> Result<(), Error> {
-    made.hover_provider = fitting(alloc, found, "hoverProvider")?;
-    made.definition_provider = fitting(alloc, found, "definitionProvider")?;
-    made.references_provider = fitting(alloc, found, "referencesProvider")?;
-    made.document_symbol_provider = fitting(alloc, found, "documentSymbolProvider")?;
-    made.document_formatting_provider = fitting(alloc, found, "documentFormattingProvider")?;
-    let key = "documentRangeFormattingProvider";
-    made.document_range_formatting_provider = fitting(alloc, found, key)?;
-    made.inlay_hint_provider = fitting(alloc, found, "inlayHintProvider")?;
-    made.workspace_symbol_provider = fitting(alloc, found, "workspaceSymbolProvider")?;
-    Ok(())
-}
-
-fn set_options(alloc: Global, found: &Value, made: &mut ServerCapabilities) -> Result<(), Error> {
-    made.position_encoding = fitting(alloc, found, "positionEncoding")?;
-    made.text_document_sync = fitting(alloc, found, "textDocumentSync")?;
-    made.completion_provider = fitting(alloc, found, "completionProvider")?;
-    made.signature_help_provider = fitting(alloc, found, "signatureHelpProvider")?;
-    made.code_action_provider = fitting(alloc, found, "codeActionProvider")?;
-    made.rename_provider = fitting(alloc, found, "renameProvider")?;
-    made.execute_command_provider = fitting(alloc, found, "executeCommandProvider")?;
-    made.semantic_tokens_provider = fitting(alloc, found, "semanticTokensProvider")?;
-    made.more = fitting(alloc, found, "more")?;
-    Ok(())
-}
-
-/// A member, where it has the form that its type reads.
-fn fitting<T: DeserializeOwned + Drop>(
-    alloc: Global,
-    found: &Value,
-    key: &str,
-) -> Result<Option<T>, Error> {
-    match member(alloc, found, key) {
-        Ok(value) => Ok(value),
-        Err(fault) if fault.is_memory() => Err(fault),
-        Err(_) => Ok(None),
+fn synchronization() -> TextDocumentSyncOptions {
+    TextDocumentSyncOptions {
+        will_save: Some(false),
+        will_save_wait_until: Some(true),
+        save: Some(SaveOptions {
+            include_text: Some(true),
+        }),
+        ..TextDocumentSyncOptions::new(TextDocumentSyncKind::INCREMENTAL)
     }
+}
+
+fn options(alloc: Global, found: &Value) -> Result<ServerCapabilities, Error> {
+    Ok(ServerCapabilities {
+        code_action_provider: Some(CodeActionOptions {
+            code_action_kinds: member(alloc, found, "names")?,
+            resolve_provider: Some(true),
+        }),
+        document_formatting_provider: Some(true),
+        document_range_formatting_provider: Some(true),
+        rename_provider: Some(RenameOptions {
+            prepare_provider: Some(true),
+        }),
+        execute_command_provider: Some(ExecuteCommandOptions {
+            commands: member(alloc, found, "names")?,
+        }),
+        semantic_tokens_provider: Some(SemanticTokensOptions {
+            legend: SemanticTokensLegend {
+                token_types: member(alloc, found, "names")?,
+                token_modifiers: member(alloc, found, "characters")?,
+            },
+            range: Some(false),
+            full: Some(true),
+        }),
+        inlay_hint_provider: Some(true),
+        workspace_symbol_provider: Some(true),
+        ..ServerCapabilities::default()
+    })
 }

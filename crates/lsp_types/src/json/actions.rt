@@ -19,10 +19,10 @@ impl Serialize for CodeActionParams {
     }
 }
 
-impl<'de> Deserialize<'de> for CodeActionParams {
-    fn deserialize<F: Format>(
+impl DeserializeOwned for CodeActionParams {
+    fn deserialize_owned<F: Format>(
         alloc: Global,
-        from: &mut Deserializer<'de, '_, F>,
+        from: &mut Deserializer<'_, '_, F>,
     ) -> Result<CodeActionParams, F::Error> {
         let members = Members::of(alloc, from);
         let text_document = members.required("textDocument", from)?;
@@ -34,15 +34,6 @@ impl<'de> Deserialize<'de> for CodeActionParams {
             context,
         };
         members.end(read, from)
-    }
-}
-
-impl DeserializeOwned for CodeActionParams {
-    fn deserialize_owned<F: Format>(
-        alloc: Global,
-        from: &mut Deserializer<'_, '_, F>,
-    ) -> Result<CodeActionParams, F::Error> {
-        CodeActionParams::deserialize(alloc, from)
     }
 }
 
@@ -74,15 +65,6 @@ impl<'de> Deserialize<'de> for CodeActionContext {
     }
 }
 
-impl DeserializeOwned for CodeActionContext {
-    fn deserialize_owned<F: Format>(
-        alloc: Global,
-        from: &mut Deserializer<'_, '_, F>,
-    ) -> Result<CodeActionContext, F::Error> {
-        CodeActionContext::deserialize(alloc, from)
-    }
-}
-
 impl Described for CodeActionTriggerKind {}
 
 impl Serialize for CodeActionTriggerKind {
@@ -97,15 +79,6 @@ impl<'de> Deserialize<'de> for CodeActionTriggerKind {
         from: &mut Deserializer<'de, '_, F>,
     ) -> Result<CodeActionTriggerKind, F::Error> {
         Ok(CodeActionTriggerKind(number_within(alloc, from, 1, 2)?))
-    }
-}
-
-impl DeserializeOwned for CodeActionTriggerKind {
-    fn deserialize_owned<F: Format>(
-        alloc: Global,
-        from: &mut Deserializer<'_, '_, F>,
-    ) -> Result<CodeActionTriggerKind, F::Error> {
-        CodeActionTriggerKind::deserialize(alloc, from)
     }
 }
 
@@ -125,10 +98,10 @@ impl Serialize for CodeAction {
     }
 }
 
-impl<'de> Deserialize<'de> for CodeAction {
-    fn deserialize<F: Format>(
+impl DeserializeOwned for CodeAction {
+    fn deserialize_owned<F: Format>(
         alloc: Global,
-        from: &mut Deserializer<'de, '_, F>,
+        from: &mut Deserializer<'_, '_, F>,
     ) -> Result<CodeAction, F::Error> {
         let mut members = Members::of(alloc, from);
         let title = members.required("title", from)?;
@@ -142,14 +115,5 @@ impl<'de> Deserialize<'de> for CodeAction {
             data: members.optional("data", from),
         };
         members.end(read, from)
-    }
-}
-
-impl DeserializeOwned for CodeAction {
-    fn deserialize_owned<F: Format>(
-        alloc: Global,
-        from: &mut Deserializer<'_, '_, F>,
-    ) -> Result<CodeAction, F::Error> {
-        CodeAction::deserialize(alloc, from)
     }
 }

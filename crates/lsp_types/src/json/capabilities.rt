@@ -4,12 +4,8 @@ use crate::capabilities::{
     SemanticTokensLegend, SemanticTokensOptions, ServerCapabilities, SignatureHelpOptions,
     TextDocumentSyncKind, TextDocumentSyncOptions,
 };
-use crate::json::{Members, Object};
-use crate::numbers::number_within;
-use serde::{
-    Described, Deserialize, DeserializeOwned, Deserializer, Format, Serialize, Serializer,
-};
-use std::alloc::Global;
+use crate::json::Object;
+use serde::{Described, Serialize, Serializer};
 
 impl Described for ServerCapabilities {}
 
@@ -71,24 +67,6 @@ impl Serialize for TextDocumentSyncKind {
     }
 }
 
-impl<'de> Deserialize<'de> for TextDocumentSyncKind {
-    fn deserialize<F: Format>(
-        alloc: Global,
-        from: &mut Deserializer<'de, '_, F>,
-    ) -> Result<TextDocumentSyncKind, F::Error> {
-        Ok(TextDocumentSyncKind(number_within(alloc, from, 0, 2)?))
-    }
-}
-
-impl DeserializeOwned for TextDocumentSyncKind {
-    fn deserialize_owned<F: Format>(
-        alloc: Global,
-        from: &mut Deserializer<'_, '_, F>,
-    ) -> Result<TextDocumentSyncKind, F::Error> {
-        TextDocumentSyncKind::deserialize(alloc, from)
-    }
-}
-
 impl Described for TextDocumentSyncOptions {}
 
 impl Serialize for TextDocumentSyncOptions {
@@ -103,32 +81,6 @@ impl Serialize for TextDocumentSyncOptions {
     }
 }
 
-impl<'de> Deserialize<'de> for TextDocumentSyncOptions {
-    fn deserialize<F: Format>(
-        alloc: Global,
-        from: &mut Deserializer<'de, '_, F>,
-    ) -> Result<TextDocumentSyncOptions, F::Error> {
-        let mut members = Members::of(alloc, from);
-        let read = TextDocumentSyncOptions {
-            open_close: members.optional("openClose", from),
-            change: members.optional("change", from),
-            will_save: members.optional("willSave", from),
-            will_save_wait_until: members.optional("willSaveWaitUntil", from),
-            save: members.optional("save", from),
-        };
-        members.end(read, from)
-    }
-}
-
-impl DeserializeOwned for TextDocumentSyncOptions {
-    fn deserialize_owned<F: Format>(
-        alloc: Global,
-        from: &mut Deserializer<'_, '_, F>,
-    ) -> Result<TextDocumentSyncOptions, F::Error> {
-        TextDocumentSyncOptions::deserialize(alloc, from)
-    }
-}
-
 impl Described for SaveOptions {}
 
 impl Serialize for SaveOptions {
@@ -136,28 +88,6 @@ impl Serialize for SaveOptions {
         let mut object = Object::begin(out);
         object.some("includeText", &self.include_text, out);
         object.end(out)
-    }
-}
-
-impl<'de> Deserialize<'de> for SaveOptions {
-    fn deserialize<F: Format>(
-        alloc: Global,
-        from: &mut Deserializer<'de, '_, F>,
-    ) -> Result<SaveOptions, F::Error> {
-        let mut members = Members::of(alloc, from);
-        let read = SaveOptions {
-            include_text: members.optional("includeText", from),
-        };
-        members.end(read, from)
-    }
-}
-
-impl DeserializeOwned for SaveOptions {
-    fn deserialize_owned<F: Format>(
-        alloc: Global,
-        from: &mut Deserializer<'_, '_, F>,
-    ) -> Result<SaveOptions, F::Error> {
-        SaveOptions::deserialize(alloc, from)
     }
 }
 
@@ -172,29 +102,6 @@ impl Serialize for CompletionOptions {
     }
 }
 
-impl<'de> Deserialize<'de> for CompletionOptions {
-    fn deserialize<F: Format>(
-        alloc: Global,
-        from: &mut Deserializer<'de, '_, F>,
-    ) -> Result<CompletionOptions, F::Error> {
-        let mut members = Members::of(alloc, from);
-        let read = CompletionOptions {
-            trigger_characters: members.optional("triggerCharacters", from),
-            resolve_provider: members.optional("resolveProvider", from),
-        };
-        members.end(read, from)
-    }
-}
-
-impl DeserializeOwned for CompletionOptions {
-    fn deserialize_owned<F: Format>(
-        alloc: Global,
-        from: &mut Deserializer<'_, '_, F>,
-    ) -> Result<CompletionOptions, F::Error> {
-        CompletionOptions::deserialize(alloc, from)
-    }
-}
-
 impl Described for SignatureHelpOptions {}
 
 impl Serialize for SignatureHelpOptions {
@@ -203,29 +110,6 @@ impl Serialize for SignatureHelpOptions {
         object.some("triggerCharacters", &self.trigger_characters, out);
         object.some("retriggerCharacters", &self.retrigger_characters, out);
         object.end(out)
-    }
-}
-
-impl<'de> Deserialize<'de> for SignatureHelpOptions {
-    fn deserialize<F: Format>(
-        alloc: Global,
-        from: &mut Deserializer<'de, '_, F>,
-    ) -> Result<SignatureHelpOptions, F::Error> {
-        let mut members = Members::of(alloc, from);
-        let read = SignatureHelpOptions {
-            trigger_characters: members.optional("triggerCharacters", from),
-            retrigger_characters: members.optional("retriggerCharacters", from),
-        };
-        members.end(read, from)
-    }
-}
-
-impl DeserializeOwned for SignatureHelpOptions {
-    fn deserialize_owned<F: Format>(
-        alloc: Global,
-        from: &mut Deserializer<'_, '_, F>,
-    ) -> Result<SignatureHelpOptions, F::Error> {
-        SignatureHelpOptions::deserialize(alloc, from)
     }
 }
 
@@ -240,29 +124,6 @@ impl Serialize for CodeActionOptions {
     }
 }
 
-impl<'de> Deserialize<'de> for CodeActionOptions {
-    fn deserialize<F: Format>(
-        alloc: Global,
-        from: &mut Deserializer<'de, '_, F>,
-    ) -> Result<CodeActionOptions, F::Error> {
-        let mut members = Members::of(alloc, from);
-        let read = CodeActionOptions {
-            code_action_kinds: members.optional("codeActionKinds", from),
-            resolve_provider: members.optional("resolveProvider", from),
-        };
-        members.end(read, from)
-    }
-}
-
-impl DeserializeOwned for CodeActionOptions {
-    fn deserialize_owned<F: Format>(
-        alloc: Global,
-        from: &mut Deserializer<'_, '_, F>,
-    ) -> Result<CodeActionOptions, F::Error> {
-        CodeActionOptions::deserialize(alloc, from)
-    }
-}
-
 impl Described for RenameOptions {}
 
 impl Serialize for RenameOptions {
@@ -273,28 +134,6 @@ impl Serialize for RenameOptions {
     }
 }
 
-impl<'de> Deserialize<'de> for RenameOptions {
-    fn deserialize<F: Format>(
-        alloc: Global,
-        from: &mut Deserializer<'de, '_, F>,
-    ) -> Result<RenameOptions, F::Error> {
-        let mut members = Members::of(alloc, from);
-        let read = RenameOptions {
-            prepare_provider: members.optional("prepareProvider", from),
-        };
-        members.end(read, from)
-    }
-}
-
-impl DeserializeOwned for RenameOptions {
-    fn deserialize_owned<F: Format>(
-        alloc: Global,
-        from: &mut Deserializer<'_, '_, F>,
-    ) -> Result<RenameOptions, F::Error> {
-        RenameOptions::deserialize(alloc, from)
-    }
-}
-
 impl Described for ExecuteCommandOptions {}
 
 impl Serialize for ExecuteCommandOptions {
@@ -302,27 +141,6 @@ impl Serialize for ExecuteCommandOptions {
         let mut object = Object::begin(out);
         object.member("commands", &self.commands, out);
         object.end(out)
-    }
-}
-
-impl<'de> Deserialize<'de> for ExecuteCommandOptions {
-    fn deserialize<F: Format>(
-        alloc: Global,
-        from: &mut Deserializer<'de, '_, F>,
-    ) -> Result<ExecuteCommandOptions, F::Error> {
-        let members = Members::of(alloc, from);
-        let commands = members.required("commands", from)?;
-        let read = ExecuteCommandOptions { commands };
-        members.end(read, from)
-    }
-}
-
-impl DeserializeOwned for ExecuteCommandOptions {
-    fn deserialize_owned<F: Format>(
-        alloc: Global,
-        from: &mut Deserializer<'_, '_, F>,
-    ) -> Result<ExecuteCommandOptions, F::Error> {
-        ExecuteCommandOptions::deserialize(alloc, from)
     }
 }
 
@@ -338,31 +156,6 @@ impl Serialize for SemanticTokensOptions {
     }
 }
 
-impl<'de> Deserialize<'de> for SemanticTokensOptions {
-    fn deserialize<F: Format>(
-        alloc: Global,
-        from: &mut Deserializer<'de, '_, F>,
-    ) -> Result<SemanticTokensOptions, F::Error> {
-        let mut members = Members::of(alloc, from);
-        let legend = members.required("legend", from)?;
-        let read = SemanticTokensOptions {
-            legend,
-            range: members.optional("range", from),
-            full: members.optional("full", from),
-        };
-        members.end(read, from)
-    }
-}
-
-impl DeserializeOwned for SemanticTokensOptions {
-    fn deserialize_owned<F: Format>(
-        alloc: Global,
-        from: &mut Deserializer<'_, '_, F>,
-    ) -> Result<SemanticTokensOptions, F::Error> {
-        SemanticTokensOptions::deserialize(alloc, from)
-    }
-}
-
 impl Described for SemanticTokensLegend {}
 
 impl Serialize for SemanticTokensLegend {
@@ -371,30 +164,5 @@ impl Serialize for SemanticTokensLegend {
         object.member("tokenTypes", &self.token_types, out);
         object.member("tokenModifiers", &self.token_modifiers, out);
         object.end(out)
-    }
-}
-
-impl<'de> Deserialize<'de> for SemanticTokensLegend {
-    fn deserialize<F: Format>(
-        alloc: Global,
-        from: &mut Deserializer<'de, '_, F>,
-    ) -> Result<SemanticTokensLegend, F::Error> {
-        let members = Members::of(alloc, from);
-        let token_types = members.required("tokenTypes", from)?;
-        let token_modifiers = members.required("tokenModifiers", from)?;
-        let read = SemanticTokensLegend {
-            token_types,
-            token_modifiers,
-        };
-        members.end(read, from)
-    }
-}
-
-impl DeserializeOwned for SemanticTokensLegend {
-    fn deserialize_owned<F: Format>(
-        alloc: Global,
-        from: &mut Deserializer<'_, '_, F>,
-    ) -> Result<SemanticTokensLegend, F::Error> {
-        SemanticTokensLegend::deserialize(alloc, from)
     }
 }

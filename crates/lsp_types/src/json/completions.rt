@@ -24,15 +24,6 @@ impl<'de> Deserialize<'de> for CompletionItemKind {
     }
 }
 
-impl DeserializeOwned for CompletionItemKind {
-    fn deserialize_owned<F: Format>(
-        alloc: Global,
-        from: &mut Deserializer<'_, '_, F>,
-    ) -> Result<CompletionItemKind, F::Error> {
-        CompletionItemKind::deserialize(alloc, from)
-    }
-}
-
 impl Described for InsertTextFormat {}
 
 impl Serialize for InsertTextFormat {
@@ -47,15 +38,6 @@ impl<'de> Deserialize<'de> for InsertTextFormat {
         from: &mut Deserializer<'de, '_, F>,
     ) -> Result<InsertTextFormat, F::Error> {
         Ok(InsertTextFormat(number_within(alloc, from, 1, 2)?))
-    }
-}
-
-impl DeserializeOwned for InsertTextFormat {
-    fn deserialize_owned<F: Format>(
-        alloc: Global,
-        from: &mut Deserializer<'_, '_, F>,
-    ) -> Result<InsertTextFormat, F::Error> {
-        InsertTextFormat::deserialize(alloc, from)
     }
 }
 
@@ -125,10 +107,10 @@ impl Serialize for CompletionList {
     }
 }
 
-impl<'de> Deserialize<'de> for CompletionList {
-    fn deserialize<F: Format>(
+impl DeserializeOwned for CompletionList {
+    fn deserialize_owned<F: Format>(
         alloc: Global,
-        from: &mut Deserializer<'de, '_, F>,
+        from: &mut Deserializer<'_, '_, F>,
     ) -> Result<CompletionList, F::Error> {
         let members = Members::of(alloc, from);
         let is_incomplete = members.required("isIncomplete", from)?;
@@ -138,14 +120,5 @@ impl<'de> Deserialize<'de> for CompletionList {
             items,
         };
         members.end(read, from)
-    }
-}
-
-impl DeserializeOwned for CompletionList {
-    fn deserialize_owned<F: Format>(
-        alloc: Global,
-        from: &mut Deserializer<'_, '_, F>,
-    ) -> Result<CompletionList, F::Error> {
-        CompletionList::deserialize(alloc, from)
     }
 }

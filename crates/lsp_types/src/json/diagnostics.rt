@@ -27,15 +27,6 @@ impl<'de> Deserialize<'de> for DiagnosticSeverity {
     }
 }
 
-impl DeserializeOwned for DiagnosticSeverity {
-    fn deserialize_owned<F: Format>(
-        alloc: Global,
-        from: &mut Deserializer<'_, '_, F>,
-    ) -> Result<DiagnosticSeverity, F::Error> {
-        DiagnosticSeverity::deserialize(alloc, from)
-    }
-}
-
 impl Described for DiagnosticTag {}
 
 impl Serialize for DiagnosticTag {
@@ -50,15 +41,6 @@ impl<'de> Deserialize<'de> for DiagnosticTag {
         from: &mut Deserializer<'de, '_, F>,
     ) -> Result<DiagnosticTag, F::Error> {
         Ok(DiagnosticTag(number_within(alloc, from, 1, 2)?))
-    }
-}
-
-impl DeserializeOwned for DiagnosticTag {
-    fn deserialize_owned<F: Format>(
-        alloc: Global,
-        from: &mut Deserializer<'_, '_, F>,
-    ) -> Result<DiagnosticTag, F::Error> {
-        DiagnosticTag::deserialize(alloc, from)
     }
 }
 
@@ -83,15 +65,6 @@ impl<'de> Deserialize<'de> for DiagnosticRelatedInformation {
         let message = members.required("message", from)?;
         let read = DiagnosticRelatedInformation { location, message };
         members.end(read, from)
-    }
-}
-
-impl DeserializeOwned for DiagnosticRelatedInformation {
-    fn deserialize_owned<F: Format>(
-        alloc: Global,
-        from: &mut Deserializer<'_, '_, F>,
-    ) -> Result<DiagnosticRelatedInformation, F::Error> {
-        DiagnosticRelatedInformation::deserialize(alloc, from)
     }
 }
 
@@ -134,15 +107,6 @@ impl<'de> Deserialize<'de> for Diagnostic {
     }
 }
 
-impl DeserializeOwned for Diagnostic {
-    fn deserialize_owned<F: Format>(
-        alloc: Global,
-        from: &mut Deserializer<'_, '_, F>,
-    ) -> Result<Diagnostic, F::Error> {
-        Diagnostic::deserialize(alloc, from)
-    }
-}
-
 impl Described for PublishDiagnosticsParams {}
 
 impl Serialize for PublishDiagnosticsParams {
@@ -155,10 +119,10 @@ impl Serialize for PublishDiagnosticsParams {
     }
 }
 
-impl<'de> Deserialize<'de> for PublishDiagnosticsParams {
-    fn deserialize<F: Format>(
+impl DeserializeOwned for PublishDiagnosticsParams {
+    fn deserialize_owned<F: Format>(
         alloc: Global,
-        from: &mut Deserializer<'de, '_, F>,
+        from: &mut Deserializer<'_, '_, F>,
     ) -> Result<PublishDiagnosticsParams, F::Error> {
         let mut members = Members::of(alloc, from);
         let uri = members.required("uri", from)?;
@@ -169,15 +133,6 @@ impl<'de> Deserialize<'de> for PublishDiagnosticsParams {
             diagnostics,
         };
         members.end(read, from)
-    }
-}
-
-impl DeserializeOwned for PublishDiagnosticsParams {
-    fn deserialize_owned<F: Format>(
-        alloc: Global,
-        from: &mut Deserializer<'_, '_, F>,
-    ) -> Result<PublishDiagnosticsParams, F::Error> {
-        PublishDiagnosticsParams::deserialize(alloc, from)
     }
 }
 

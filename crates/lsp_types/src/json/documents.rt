@@ -66,15 +66,6 @@ impl<'de> Deserialize<'de> for TextDocumentIdentifier {
     }
 }
 
-impl DeserializeOwned for TextDocumentIdentifier {
-    fn deserialize_owned<F: Format>(
-        alloc: Global,
-        from: &mut Deserializer<'_, '_, F>,
-    ) -> Result<TextDocumentIdentifier, F::Error> {
-        TextDocumentIdentifier::deserialize(alloc, from)
-    }
-}
-
 impl Described for VersionedTextDocumentIdentifier {}
 
 impl Serialize for VersionedTextDocumentIdentifier {
@@ -96,15 +87,6 @@ impl<'de> Deserialize<'de> for VersionedTextDocumentIdentifier {
         let version = members.required("version", from)?;
         let read = VersionedTextDocumentIdentifier { uri, version };
         members.end(read, from)
-    }
-}
-
-impl DeserializeOwned for VersionedTextDocumentIdentifier {
-    fn deserialize_owned<F: Format>(
-        alloc: Global,
-        from: &mut Deserializer<'_, '_, F>,
-    ) -> Result<VersionedTextDocumentIdentifier, F::Error> {
-        VersionedTextDocumentIdentifier::deserialize(alloc, from)
     }
 }
 
@@ -141,15 +123,6 @@ impl<'de> Deserialize<'de> for TextDocumentItem {
     }
 }
 
-impl DeserializeOwned for TextDocumentItem {
-    fn deserialize_owned<F: Format>(
-        alloc: Global,
-        from: &mut Deserializer<'_, '_, F>,
-    ) -> Result<TextDocumentItem, F::Error> {
-        TextDocumentItem::deserialize(alloc, from)
-    }
-}
-
 impl Described for DidOpenTextDocumentParams {}
 
 impl Serialize for DidOpenTextDocumentParams {
@@ -160,24 +133,15 @@ impl Serialize for DidOpenTextDocumentParams {
     }
 }
 
-impl<'de> Deserialize<'de> for DidOpenTextDocumentParams {
-    fn deserialize<F: Format>(
-        alloc: Global,
-        from: &mut Deserializer<'de, '_, F>,
-    ) -> Result<DidOpenTextDocumentParams, F::Error> {
-        let members = Members::of(alloc, from);
-        let text_document = members.required("textDocument", from)?;
-        let read = DidOpenTextDocumentParams { text_document };
-        members.end(read, from)
-    }
-}
-
 impl DeserializeOwned for DidOpenTextDocumentParams {
     fn deserialize_owned<F: Format>(
         alloc: Global,
         from: &mut Deserializer<'_, '_, F>,
     ) -> Result<DidOpenTextDocumentParams, F::Error> {
-        DidOpenTextDocumentParams::deserialize(alloc, from)
+        let members = Members::of(alloc, from);
+        let text_document = members.required("textDocument", from)?;
+        let read = DidOpenTextDocumentParams { text_document };
+        members.end(read, from)
     }
 }
 
@@ -192,10 +156,10 @@ impl Serialize for DidChangeTextDocumentParams {
     }
 }
 
-impl<'de> Deserialize<'de> for DidChangeTextDocumentParams {
-    fn deserialize<F: Format>(
+impl DeserializeOwned for DidChangeTextDocumentParams {
+    fn deserialize_owned<F: Format>(
         alloc: Global,
-        from: &mut Deserializer<'de, '_, F>,
+        from: &mut Deserializer<'_, '_, F>,
     ) -> Result<DidChangeTextDocumentParams, F::Error> {
         let members = Members::of(alloc, from);
         let text_document = members.required("textDocument", from)?;
@@ -205,15 +169,6 @@ impl<'de> Deserialize<'de> for DidChangeTextDocumentParams {
             content_changes,
         };
         members.end(read, from)
-    }
-}
-
-impl DeserializeOwned for DidChangeTextDocumentParams {
-    fn deserialize_owned<F: Format>(
-        alloc: Global,
-        from: &mut Deserializer<'_, '_, F>,
-    ) -> Result<DidChangeTextDocumentParams, F::Error> {
-        DidChangeTextDocumentParams::deserialize(alloc, from)
     }
 }
 
@@ -228,10 +183,10 @@ impl Serialize for DidSaveTextDocumentParams {
     }
 }
 
-impl<'de> Deserialize<'de> for DidSaveTextDocumentParams {
-    fn deserialize<F: Format>(
+impl DeserializeOwned for DidSaveTextDocumentParams {
+    fn deserialize_owned<F: Format>(
         alloc: Global,
-        from: &mut Deserializer<'de, '_, F>,
+        from: &mut Deserializer<'_, '_, F>,
     ) -> Result<DidSaveTextDocumentParams, F::Error> {
         let mut members = Members::of(alloc, from);
         let text_document = members.required("textDocument", from)?;
@@ -240,15 +195,6 @@ impl<'de> Deserialize<'de> for DidSaveTextDocumentParams {
             text: members.optional("text", from),
         };
         members.end(read, from)
-    }
-}
-
-impl DeserializeOwned for DidSaveTextDocumentParams {
-    fn deserialize_owned<F: Format>(
-        alloc: Global,
-        from: &mut Deserializer<'_, '_, F>,
-    ) -> Result<DidSaveTextDocumentParams, F::Error> {
-        DidSaveTextDocumentParams::deserialize(alloc, from)
     }
 }
 
@@ -262,24 +208,15 @@ impl Serialize for TextDocumentParams {
     }
 }
 
-impl<'de> Deserialize<'de> for TextDocumentParams {
-    fn deserialize<F: Format>(
-        alloc: Global,
-        from: &mut Deserializer<'de, '_, F>,
-    ) -> Result<TextDocumentParams, F::Error> {
-        let members = Members::of(alloc, from);
-        let text_document = members.required("textDocument", from)?;
-        let read = TextDocumentParams { text_document };
-        members.end(read, from)
-    }
-}
-
 impl DeserializeOwned for TextDocumentParams {
     fn deserialize_owned<F: Format>(
         alloc: Global,
         from: &mut Deserializer<'_, '_, F>,
     ) -> Result<TextDocumentParams, F::Error> {
-        TextDocumentParams::deserialize(alloc, from)
+        let members = Members::of(alloc, from);
+        let text_document = members.required("textDocument", from)?;
+        let read = TextDocumentParams { text_document };
+        members.end(read, from)
     }
 }
 
@@ -294,10 +231,10 @@ impl Serialize for TextDocumentPositionParams {
     }
 }
 
-impl<'de> Deserialize<'de> for TextDocumentPositionParams {
-    fn deserialize<F: Format>(
+impl DeserializeOwned for TextDocumentPositionParams {
+    fn deserialize_owned<F: Format>(
         alloc: Global,
-        from: &mut Deserializer<'de, '_, F>,
+        from: &mut Deserializer<'_, '_, F>,
     ) -> Result<TextDocumentPositionParams, F::Error> {
         let members = Members::of(alloc, from);
         let text_document = members.required("textDocument", from)?;
@@ -307,15 +244,6 @@ impl<'de> Deserialize<'de> for TextDocumentPositionParams {
             position,
         };
         members.end(read, from)
-    }
-}
-
-impl DeserializeOwned for TextDocumentPositionParams {
-    fn deserialize_owned<F: Format>(
-        alloc: Global,
-        from: &mut Deserializer<'_, '_, F>,
-    ) -> Result<TextDocumentPositionParams, F::Error> {
-        TextDocumentPositionParams::deserialize(alloc, from)
     }
 }
 
@@ -330,10 +258,10 @@ impl Serialize for TextDocumentRangeParams {
     }
 }
 
-impl<'de> Deserialize<'de> for TextDocumentRangeParams {
-    fn deserialize<F: Format>(
+impl DeserializeOwned for TextDocumentRangeParams {
+    fn deserialize_owned<F: Format>(
         alloc: Global,
-        from: &mut Deserializer<'de, '_, F>,
+        from: &mut Deserializer<'_, '_, F>,
     ) -> Result<TextDocumentRangeParams, F::Error> {
         let members = Members::of(alloc, from);
         let text_document = members.required("textDocument", from)?;
@@ -343,15 +271,6 @@ impl<'de> Deserialize<'de> for TextDocumentRangeParams {
             range,
         };
         members.end(read, from)
-    }
-}
-
-impl DeserializeOwned for TextDocumentRangeParams {
-    fn deserialize_owned<F: Format>(
-        alloc: Global,
-        from: &mut Deserializer<'_, '_, F>,
-    ) -> Result<TextDocumentRangeParams, F::Error> {
-        TextDocumentRangeParams::deserialize(alloc, from)
     }
 }
 
@@ -367,10 +286,10 @@ impl Serialize for ReferenceParams {
     }
 }
 
-impl<'de> Deserialize<'de> for ReferenceParams {
-    fn deserialize<F: Format>(
+impl DeserializeOwned for ReferenceParams {
+    fn deserialize_owned<F: Format>(
         alloc: Global,
-        from: &mut Deserializer<'de, '_, F>,
+        from: &mut Deserializer<'_, '_, F>,
     ) -> Result<ReferenceParams, F::Error> {
         let members = Members::of(alloc, from);
         let text_document = members.required("textDocument", from)?;
@@ -382,15 +301,6 @@ impl<'de> Deserialize<'de> for ReferenceParams {
             context,
         };
         members.end(read, from)
-    }
-}
-
-impl DeserializeOwned for ReferenceParams {
-    fn deserialize_owned<F: Format>(
-        alloc: Global,
-        from: &mut Deserializer<'_, '_, F>,
-    ) -> Result<ReferenceParams, F::Error> {
-        ReferenceParams::deserialize(alloc, from)
     }
 }
 
@@ -415,14 +325,5 @@ impl<'de> Deserialize<'de> for ReferenceContext {
             include_declaration,
         };
         members.end(read, from)
-    }
-}
-
-impl DeserializeOwned for ReferenceContext {
-    fn deserialize_owned<F: Format>(
-        alloc: Global,
-        from: &mut Deserializer<'_, '_, F>,
-    ) -> Result<ReferenceContext, F::Error> {
-        ReferenceContext::deserialize(alloc, from)
     }
 }

@@ -1,8 +1,7 @@
 // Edits as JSON.
 use crate::edits::{
-    DocumentFormattingParams, DocumentRangeFormattingParams, FormattingOptions,
-    OptionalVersionedTextDocumentIdentifier, PrepareRename, RenameParams, TextDocumentEdit,
-    TextEdit, WorkspaceEdit,
+    DocumentFormattingParams, FormattingOptions, OptionalVersionedTextDocumentIdentifier,
+    RenameParams, TextDocumentEdit, TextEdit, WorkspaceEdit,
 };
 use crate::json::{Members, Object};
 use serde::{
@@ -34,15 +33,6 @@ impl<'de> Deserialize<'de> for TextEdit {
     }
 }
 
-impl DeserializeOwned for TextEdit {
-    fn deserialize_owned<F: Format>(
-        alloc: Global,
-        from: &mut Deserializer<'_, '_, F>,
-    ) -> Result<TextEdit, F::Error> {
-        TextEdit::deserialize(alloc, from)
-    }
-}
-
 impl Described for OptionalVersionedTextDocumentIdentifier {}
 
 impl Serialize for OptionalVersionedTextDocumentIdentifier {
@@ -66,15 +56,6 @@ impl<'de> Deserialize<'de> for OptionalVersionedTextDocumentIdentifier {
             version: members.optional("version", from),
         };
         members.end(read, from)
-    }
-}
-
-impl DeserializeOwned for OptionalVersionedTextDocumentIdentifier {
-    fn deserialize_owned<F: Format>(
-        alloc: Global,
-        from: &mut Deserializer<'_, '_, F>,
-    ) -> Result<OptionalVersionedTextDocumentIdentifier, F::Error> {
-        OptionalVersionedTextDocumentIdentifier::deserialize(alloc, from)
     }
 }
 
@@ -105,15 +86,6 @@ impl<'de> Deserialize<'de> for TextDocumentEdit {
     }
 }
 
-impl DeserializeOwned for TextDocumentEdit {
-    fn deserialize_owned<F: Format>(
-        alloc: Global,
-        from: &mut Deserializer<'_, '_, F>,
-    ) -> Result<TextDocumentEdit, F::Error> {
-        TextDocumentEdit::deserialize(alloc, from)
-    }
-}
-
 impl Described for WorkspaceEdit {}
 
 impl Serialize for WorkspaceEdit {
@@ -139,15 +111,6 @@ impl<'de> Deserialize<'de> for WorkspaceEdit {
     }
 }
 
-impl DeserializeOwned for WorkspaceEdit {
-    fn deserialize_owned<F: Format>(
-        alloc: Global,
-        from: &mut Deserializer<'_, '_, F>,
-    ) -> Result<WorkspaceEdit, F::Error> {
-        WorkspaceEdit::deserialize(alloc, from)
-    }
-}
-
 impl Described for RenameParams {}
 
 impl Serialize for RenameParams {
@@ -160,10 +123,10 @@ impl Serialize for RenameParams {
     }
 }
 
-impl<'de> Deserialize<'de> for RenameParams {
-    fn deserialize<F: Format>(
+impl DeserializeOwned for RenameParams {
+    fn deserialize_owned<F: Format>(
         alloc: Global,
-        from: &mut Deserializer<'de, '_, F>,
+        from: &mut Deserializer<'_, '_, F>,
     ) -> Result<RenameParams, F::Error> {
         let members = Members::of(alloc, from);
         let text_document = members.required("textDocument", from)?;
@@ -175,48 +138,6 @@ impl<'de> Deserialize<'de> for RenameParams {
             new_name,
         };
         members.end(read, from)
-    }
-}
-
-impl DeserializeOwned for RenameParams {
-    fn deserialize_owned<F: Format>(
-        alloc: Global,
-        from: &mut Deserializer<'_, '_, F>,
-    ) -> Result<RenameParams, F::Error> {
-        RenameParams::deserialize(alloc, from)
-    }
-}
-
-impl Described for PrepareRename {}
-
-impl Serialize for PrepareRename {
-    fn serialize<S: Serializer>(&self, out: &mut S) -> Result<(), S::Error> {
-        let mut object = Object::begin(out);
-        object.member("range", &self.range, out);
-        object.member("placeholder", &self.placeholder, out);
-        object.end(out)
-    }
-}
-
-impl<'de> Deserialize<'de> for PrepareRename {
-    fn deserialize<F: Format>(
-        alloc: Global,
-        from: &mut Deserializer<'de, '_, F>,
-    ) -> Result<PrepareRename, F::Error> {
-        let members = Members::of(alloc, from);
-        let range = members.required("range", from)?;
-        let placeholder = members.required("placeholder", from)?;
-        let read = PrepareRename { range, placeholder };
-        members.end(read, from)
-    }
-}
-
-impl DeserializeOwned for PrepareRename {
-    fn deserialize_owned<F: Format>(
-        alloc: Global,
-        from: &mut Deserializer<'_, '_, F>,
-    ) -> Result<PrepareRename, F::Error> {
-        PrepareRename::deserialize(alloc, from)
     }
 }
 
@@ -257,15 +178,6 @@ impl<'de> Deserialize<'de> for FormattingOptions {
     }
 }
 
-impl DeserializeOwned for FormattingOptions {
-    fn deserialize_owned<F: Format>(
-        alloc: Global,
-        from: &mut Deserializer<'_, '_, F>,
-    ) -> Result<FormattingOptions, F::Error> {
-        FormattingOptions::deserialize(alloc, from)
-    }
-}
-
 impl Described for DocumentFormattingParams {}
 
 impl Serialize for DocumentFormattingParams {
@@ -277,10 +189,10 @@ impl Serialize for DocumentFormattingParams {
     }
 }
 
-impl<'de> Deserialize<'de> for DocumentFormattingParams {
-    fn deserialize<F: Format>(
+impl DeserializeOwned for DocumentFormattingParams {
+    fn deserialize_owned<F: Format>(
         alloc: Global,
-        from: &mut Deserializer<'de, '_, F>,
+        from: &mut Deserializer<'_, '_, F>,
     ) -> Result<DocumentFormattingParams, F::Error> {
         let members = Members::of(alloc, from);
         let text_document = members.required("textDocument", from)?;
@@ -290,53 +202,5 @@ impl<'de> Deserialize<'de> for DocumentFormattingParams {
             options,
         };
         members.end(read, from)
-    }
-}
-
-impl DeserializeOwned for DocumentFormattingParams {
-    fn deserialize_owned<F: Format>(
-        alloc: Global,
-        from: &mut Deserializer<'_, '_, F>,
-    ) -> Result<DocumentFormattingParams, F::Error> {
-        DocumentFormattingParams::deserialize(alloc, from)
-    }
-}
-
-impl Described for DocumentRangeFormattingParams {}
-
-impl Serialize for DocumentRangeFormattingParams {
-    fn serialize<S: Serializer>(&self, out: &mut S) -> Result<(), S::Error> {
-        let mut object = Object::begin(out);
-        object.member("textDocument", &self.text_document, out);
-        object.member("range", &self.range, out);
-        object.member("options", &self.options, out);
-        object.end(out)
-    }
-}
-
-impl<'de> Deserialize<'de> for DocumentRangeFormattingParams {
-    fn deserialize<F: Format>(
-        alloc: Global,
-        from: &mut Deserializer<'de, '_, F>,
-    ) -> Result<DocumentRangeFormattingParams, F::Error> {
-        let members = Members::of(alloc, from);
-        let text_document = members.required("textDocument", from)?;
-        let range = members.required("range", from)?;
-        let options = members.required("options", from)?;
-        let read = DocumentRangeFormattingParams {
-            text_document,
-            range,
-            options,
-        };
-        members.end(read, from)
-    }
-}
-
-impl DeserializeOwned for DocumentRangeFormattingParams {
-    fn deserialize_owned<F: Format>(
-        alloc: Global,
-        from: &mut Deserializer<'_, '_, F>,
-    ) -> Result<DocumentRangeFormattingParams, F::Error> {
-        DocumentRangeFormattingParams::deserialize(alloc, from)
     }
 }

@@ -24,15 +24,6 @@ impl<'de> Deserialize<'de> for InlayHintKind {
     }
 }
 
-impl DeserializeOwned for InlayHintKind {
-    fn deserialize_owned<F: Format>(
-        alloc: Global,
-        from: &mut Deserializer<'_, '_, F>,
-    ) -> Result<InlayHintKind, F::Error> {
-        InlayHintKind::deserialize(alloc, from)
-    }
-}
-
 impl Described for InlayHint {}
 
 impl Serialize for InlayHint {
@@ -49,10 +40,10 @@ impl Serialize for InlayHint {
     }
 }
 
-impl<'de> Deserialize<'de> for InlayHint {
-    fn deserialize<F: Format>(
+impl DeserializeOwned for InlayHint {
+    fn deserialize_owned<F: Format>(
         alloc: Global,
-        from: &mut Deserializer<'de, '_, F>,
+        from: &mut Deserializer<'_, '_, F>,
     ) -> Result<InlayHint, F::Error> {
         let mut members = Members::of(alloc, from);
         let position = members.required("position", from)?;
@@ -67,14 +58,5 @@ impl<'de> Deserialize<'de> for InlayHint {
             data: members.optional("data", from),
         };
         members.end(read, from)
-    }
-}
-
-impl DeserializeOwned for InlayHint {
-    fn deserialize_owned<F: Format>(
-        alloc: Global,
-        from: &mut Deserializer<'_, '_, F>,
-    ) -> Result<InlayHint, F::Error> {
-        InlayHint::deserialize(alloc, from)
     }
 }

@@ -30,15 +30,6 @@ impl<'de> Deserialize<'de> for MarkupContent {
     }
 }
 
-impl DeserializeOwned for MarkupContent {
-    fn deserialize_owned<F: Format>(
-        alloc: Global,
-        from: &mut Deserializer<'_, '_, F>,
-    ) -> Result<MarkupContent, F::Error> {
-        MarkupContent::deserialize(alloc, from)
-    }
-}
-
 impl Described for Hover {}
 
 impl Serialize for Hover {
@@ -50,10 +41,10 @@ impl Serialize for Hover {
     }
 }
 
-impl<'de> Deserialize<'de> for Hover {
-    fn deserialize<F: Format>(
+impl DeserializeOwned for Hover {
+    fn deserialize_owned<F: Format>(
         alloc: Global,
-        from: &mut Deserializer<'de, '_, F>,
+        from: &mut Deserializer<'_, '_, F>,
     ) -> Result<Hover, F::Error> {
         let mut members = Members::of(alloc, from);
         let contents = members.required("contents", from)?;
@@ -62,15 +53,6 @@ impl<'de> Deserialize<'de> for Hover {
             range: members.optional("range", from),
         };
         members.end(read, from)
-    }
-}
-
-impl DeserializeOwned for Hover {
-    fn deserialize_owned<F: Format>(
-        alloc: Global,
-        from: &mut Deserializer<'_, '_, F>,
-    ) -> Result<Hover, F::Error> {
-        Hover::deserialize(alloc, from)
     }
 }
 

@@ -21,10 +21,10 @@ impl Serialize for InitializeParams {
     }
 }
 
-impl<'de> Deserialize<'de> for InitializeParams {
-    fn deserialize<F: Format>(
+impl DeserializeOwned for InitializeParams {
+    fn deserialize_owned<F: Format>(
         alloc: Global,
-        from: &mut Deserializer<'de, '_, F>,
+        from: &mut Deserializer<'_, '_, F>,
     ) -> Result<InitializeParams, F::Error> {
         let mut members = Members::of(alloc, from);
         let capabilities = members.required("capabilities", from)?;
@@ -37,15 +37,6 @@ impl<'de> Deserialize<'de> for InitializeParams {
             capabilities,
         };
         members.end(read, from)
-    }
-}
-
-impl DeserializeOwned for InitializeParams {
-    fn deserialize_owned<F: Format>(
-        alloc: Global,
-        from: &mut Deserializer<'_, '_, F>,
-    ) -> Result<InitializeParams, F::Error> {
-        InitializeParams::deserialize(alloc, from)
     }
 }
 
@@ -72,15 +63,6 @@ impl<'de> Deserialize<'de> for ServerInfo {
             version: members.optional("version", from),
         };
         members.end(read, from)
-    }
-}
-
-impl DeserializeOwned for ServerInfo {
-    fn deserialize_owned<F: Format>(
-        alloc: Global,
-        from: &mut Deserializer<'_, '_, F>,
-    ) -> Result<ServerInfo, F::Error> {
-        ServerInfo::deserialize(alloc, from)
     }
 }
 

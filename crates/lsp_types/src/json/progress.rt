@@ -4,9 +4,7 @@ use crate::progress::{
     ProgressParams, WorkDoneProgressBegin, WorkDoneProgressCreateParams, WorkDoneProgressEnd,
     WorkDoneProgressParams, WorkDoneProgressReport,
 };
-use serde::{
-    Described, Deserialize, DeserializeOwned, Deserializer, Format, Serialize, Serializer,
-};
+use serde::{Described, DeserializeOwned, Deserializer, Format, Serialize, Serializer};
 use std::alloc::Global;
 
 impl Described for WorkDoneProgressParams {}
@@ -19,25 +17,16 @@ impl Serialize for WorkDoneProgressParams {
     }
 }
 
-impl<'de> Deserialize<'de> for WorkDoneProgressParams {
-    fn deserialize<F: Format>(
+impl DeserializeOwned for WorkDoneProgressParams {
+    fn deserialize_owned<F: Format>(
         alloc: Global,
-        from: &mut Deserializer<'de, '_, F>,
+        from: &mut Deserializer<'_, '_, F>,
     ) -> Result<WorkDoneProgressParams, F::Error> {
         let mut members = Members::of(alloc, from);
         let read = WorkDoneProgressParams {
             work_done_token: members.optional("workDoneToken", from),
         };
         members.end(read, from)
-    }
-}
-
-impl DeserializeOwned for WorkDoneProgressParams {
-    fn deserialize_owned<F: Format>(
-        alloc: Global,
-        from: &mut Deserializer<'_, '_, F>,
-    ) -> Result<WorkDoneProgressParams, F::Error> {
-        WorkDoneProgressParams::deserialize(alloc, from)
     }
 }
 
@@ -51,24 +40,15 @@ impl Serialize for WorkDoneProgressCreateParams {
     }
 }
 
-impl<'de> Deserialize<'de> for WorkDoneProgressCreateParams {
-    fn deserialize<F: Format>(
-        alloc: Global,
-        from: &mut Deserializer<'de, '_, F>,
-    ) -> Result<WorkDoneProgressCreateParams, F::Error> {
-        let members = Members::of(alloc, from);
-        let token = members.required("token", from)?;
-        let read = WorkDoneProgressCreateParams { token };
-        members.end(read, from)
-    }
-}
-
 impl DeserializeOwned for WorkDoneProgressCreateParams {
     fn deserialize_owned<F: Format>(
         alloc: Global,
         from: &mut Deserializer<'_, '_, F>,
     ) -> Result<WorkDoneProgressCreateParams, F::Error> {
-        WorkDoneProgressCreateParams::deserialize(alloc, from)
+        let members = Members::of(alloc, from);
+        let token = members.required("token", from)?;
+        let read = WorkDoneProgressCreateParams { token };
+        members.end(read, from)
     }
 }
 
@@ -97,10 +77,10 @@ impl Serialize for WorkDoneProgressBegin {
     }
 }
 
-impl<'de> Deserialize<'de> for WorkDoneProgressBegin {
-    fn deserialize<F: Format>(
+impl DeserializeOwned for WorkDoneProgressBegin {
+    fn deserialize_owned<F: Format>(
         alloc: Global,
-        from: &mut Deserializer<'de, '_, F>,
+        from: &mut Deserializer<'_, '_, F>,
     ) -> Result<WorkDoneProgressBegin, F::Error> {
         let mut members = Members::of(alloc, from);
         members.kind("begin", from)?;
@@ -112,15 +92,6 @@ impl<'de> Deserialize<'de> for WorkDoneProgressBegin {
             percentage: members.optional("percentage", from),
         };
         members.end(read, from)
-    }
-}
-
-impl DeserializeOwned for WorkDoneProgressBegin {
-    fn deserialize_owned<F: Format>(
-        alloc: Global,
-        from: &mut Deserializer<'_, '_, F>,
-    ) -> Result<WorkDoneProgressBegin, F::Error> {
-        WorkDoneProgressBegin::deserialize(alloc, from)
     }
 }
 
@@ -137,10 +108,10 @@ impl Serialize for WorkDoneProgressReport {
     }
 }
 
-impl<'de> Deserialize<'de> for WorkDoneProgressReport {
-    fn deserialize<F: Format>(
+impl DeserializeOwned for WorkDoneProgressReport {
+    fn deserialize_owned<F: Format>(
         alloc: Global,
-        from: &mut Deserializer<'de, '_, F>,
+        from: &mut Deserializer<'_, '_, F>,
     ) -> Result<WorkDoneProgressReport, F::Error> {
         let mut members = Members::of(alloc, from);
         members.kind("report", from)?;
@@ -150,15 +121,6 @@ impl<'de> Deserialize<'de> for WorkDoneProgressReport {
             percentage: members.optional("percentage", from),
         };
         members.end(read, from)
-    }
-}
-
-impl DeserializeOwned for WorkDoneProgressReport {
-    fn deserialize_owned<F: Format>(
-        alloc: Global,
-        from: &mut Deserializer<'_, '_, F>,
-    ) -> Result<WorkDoneProgressReport, F::Error> {
-        WorkDoneProgressReport::deserialize(alloc, from)
     }
 }
 
@@ -173,10 +135,10 @@ impl Serialize for WorkDoneProgressEnd {
     }
 }
 
-impl<'de> Deserialize<'de> for WorkDoneProgressEnd {
-    fn deserialize<F: Format>(
+impl DeserializeOwned for WorkDoneProgressEnd {
+    fn deserialize_owned<F: Format>(
         alloc: Global,
-        from: &mut Deserializer<'de, '_, F>,
+        from: &mut Deserializer<'_, '_, F>,
     ) -> Result<WorkDoneProgressEnd, F::Error> {
         let mut members = Members::of(alloc, from);
         members.kind("end", from)?;
@@ -184,14 +146,5 @@ impl<'de> Deserialize<'de> for WorkDoneProgressEnd {
             message: members.optional("message", from),
         };
         members.end(read, from)
-    }
-}
-
-impl DeserializeOwned for WorkDoneProgressEnd {
-    fn deserialize_owned<F: Format>(
-        alloc: Global,
-        from: &mut Deserializer<'_, '_, F>,
-    ) -> Result<WorkDoneProgressEnd, F::Error> {
-        WorkDoneProgressEnd::deserialize(alloc, from)
     }
 }

@@ -18,10 +18,10 @@ impl Serialize for SignatureHelp {
     }
 }
 
-impl<'de> Deserialize<'de> for SignatureHelp {
-    fn deserialize<F: Format>(
+impl DeserializeOwned for SignatureHelp {
+    fn deserialize_owned<F: Format>(
         alloc: Global,
-        from: &mut Deserializer<'de, '_, F>,
+        from: &mut Deserializer<'_, '_, F>,
     ) -> Result<SignatureHelp, F::Error> {
         let mut members = Members::of(alloc, from);
         let signatures = members.required("signatures", from)?;
@@ -31,15 +31,6 @@ impl<'de> Deserialize<'de> for SignatureHelp {
             active_parameter: members.optional("activeParameter", from),
         };
         members.end(read, from)
-    }
-}
-
-impl DeserializeOwned for SignatureHelp {
-    fn deserialize_owned<F: Format>(
-        alloc: Global,
-        from: &mut Deserializer<'_, '_, F>,
-    ) -> Result<SignatureHelp, F::Error> {
-        SignatureHelp::deserialize(alloc, from)
     }
 }
 
@@ -73,15 +64,6 @@ impl<'de> Deserialize<'de> for SignatureInformation {
     }
 }
 
-impl DeserializeOwned for SignatureInformation {
-    fn deserialize_owned<F: Format>(
-        alloc: Global,
-        from: &mut Deserializer<'_, '_, F>,
-    ) -> Result<SignatureInformation, F::Error> {
-        SignatureInformation::deserialize(alloc, from)
-    }
-}
-
 impl Described for ParameterInformation {}
 
 impl Serialize for ParameterInformation {
@@ -105,14 +87,5 @@ impl<'de> Deserialize<'de> for ParameterInformation {
             documentation: members.optional("documentation", from),
         };
         members.end(read, from)
-    }
-}
-
-impl DeserializeOwned for ParameterInformation {
-    fn deserialize_owned<F: Format>(
-        alloc: Global,
-        from: &mut Deserializer<'_, '_, F>,
-    ) -> Result<ParameterInformation, F::Error> {
-        ParameterInformation::deserialize(alloc, from)
     }
 }

@@ -1,9 +1,7 @@
 // Semantic tokens as JSON.
 use crate::json::{Members, Object};
 use crate::tokens::SemanticTokens;
-use serde::{
-    Described, Deserialize, DeserializeOwned, Deserializer, Format, Serialize, Serializer,
-};
+use serde::{Described, DeserializeOwned, Deserializer, Format, Serialize, Serializer};
 use std::alloc::Global;
 
 impl Described for SemanticTokens {}
@@ -17,10 +15,10 @@ impl Serialize for SemanticTokens {
     }
 }
 
-impl<'de> Deserialize<'de> for SemanticTokens {
-    fn deserialize<F: Format>(
+impl DeserializeOwned for SemanticTokens {
+    fn deserialize_owned<F: Format>(
         alloc: Global,
-        from: &mut Deserializer<'de, '_, F>,
+        from: &mut Deserializer<'_, '_, F>,
     ) -> Result<SemanticTokens, F::Error> {
         let mut members = Members::of(alloc, from);
         let data = members.required("data", from)?;
@@ -29,14 +27,5 @@ impl<'de> Deserialize<'de> for SemanticTokens {
             data,
         };
         members.end(read, from)
-    }
-}
-
-impl DeserializeOwned for SemanticTokens {
-    fn deserialize_owned<F: Format>(
-        alloc: Global,
-        from: &mut Deserializer<'_, '_, F>,
-    ) -> Result<SemanticTokens, F::Error> {
-        SemanticTokens::deserialize(alloc, from)
     }
 }

@@ -24,15 +24,6 @@ impl<'de> Deserialize<'de> for MessageType {
     }
 }
 
-impl DeserializeOwned for MessageType {
-    fn deserialize_owned<F: Format>(
-        alloc: Global,
-        from: &mut Deserializer<'_, '_, F>,
-    ) -> Result<MessageType, F::Error> {
-        MessageType::deserialize(alloc, from)
-    }
-}
-
 impl Described for ShowMessageParams {}
 
 impl Serialize for ShowMessageParams {
@@ -44,24 +35,15 @@ impl Serialize for ShowMessageParams {
     }
 }
 
-impl<'de> Deserialize<'de> for ShowMessageParams {
-    fn deserialize<F: Format>(
+impl DeserializeOwned for ShowMessageParams {
+    fn deserialize_owned<F: Format>(
         alloc: Global,
-        from: &mut Deserializer<'de, '_, F>,
+        from: &mut Deserializer<'_, '_, F>,
     ) -> Result<ShowMessageParams, F::Error> {
         let members = Members::of(alloc, from);
         let typ = members.required("type", from)?;
         let message = members.required("message", from)?;
         let read = ShowMessageParams { typ, message };
         members.end(read, from)
-    }
-}
-
-impl DeserializeOwned for ShowMessageParams {
-    fn deserialize_owned<F: Format>(
-        alloc: Global,
-        from: &mut Deserializer<'_, '_, F>,
-    ) -> Result<ShowMessageParams, F::Error> {
-        ShowMessageParams::deserialize(alloc, from)
     }
 }

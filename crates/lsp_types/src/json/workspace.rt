@@ -52,24 +52,15 @@ impl Serialize for ConfigurationParams {
     }
 }
 
-impl<'de> Deserialize<'de> for ConfigurationParams {
-    fn deserialize<F: Format>(
-        alloc: Global,
-        from: &mut Deserializer<'de, '_, F>,
-    ) -> Result<ConfigurationParams, F::Error> {
-        let members = Members::of(alloc, from);
-        let items = members.required("items", from)?;
-        let read = ConfigurationParams { items };
-        members.end(read, from)
-    }
-}
-
 impl DeserializeOwned for ConfigurationParams {
     fn deserialize_owned<F: Format>(
         alloc: Global,
         from: &mut Deserializer<'_, '_, F>,
     ) -> Result<ConfigurationParams, F::Error> {
-        ConfigurationParams::deserialize(alloc, from)
+        let members = Members::of(alloc, from);
+        let items = members.required("items", from)?;
+        let read = ConfigurationParams { items };
+        members.end(read, from)
     }
 }
 
@@ -95,15 +86,6 @@ impl<'de> Deserialize<'de> for ConfigurationItem {
             section: members.optional("section", from),
         };
         members.end(read, from)
-    }
-}
-
-impl DeserializeOwned for ConfigurationItem {
-    fn deserialize_owned<F: Format>(
-        alloc: Global,
-        from: &mut Deserializer<'_, '_, F>,
-    ) -> Result<ConfigurationItem, F::Error> {
-        ConfigurationItem::deserialize(alloc, from)
     }
 }
 
@@ -156,10 +138,10 @@ impl Serialize for ExecuteCommandParams {
     }
 }
 
-impl<'de> Deserialize<'de> for ExecuteCommandParams {
-    fn deserialize<F: Format>(
+impl DeserializeOwned for ExecuteCommandParams {
+    fn deserialize_owned<F: Format>(
         alloc: Global,
-        from: &mut Deserializer<'de, '_, F>,
+        from: &mut Deserializer<'_, '_, F>,
     ) -> Result<ExecuteCommandParams, F::Error> {
         let mut members = Members::of(alloc, from);
         let command = members.required("command", from)?;
@@ -168,15 +150,6 @@ impl<'de> Deserialize<'de> for ExecuteCommandParams {
             arguments: members.optional("arguments", from),
         };
         members.end(read, from)
-    }
-}
-
-impl DeserializeOwned for ExecuteCommandParams {
-    fn deserialize_owned<F: Format>(
-        alloc: Global,
-        from: &mut Deserializer<'_, '_, F>,
-    ) -> Result<ExecuteCommandParams, F::Error> {
-        ExecuteCommandParams::deserialize(alloc, from)
     }
 }
 
@@ -191,10 +164,10 @@ impl Serialize for ApplyWorkspaceEditParams {
     }
 }
 
-impl<'de> Deserialize<'de> for ApplyWorkspaceEditParams {
-    fn deserialize<F: Format>(
+impl DeserializeOwned for ApplyWorkspaceEditParams {
+    fn deserialize_owned<F: Format>(
         alloc: Global,
-        from: &mut Deserializer<'de, '_, F>,
+        from: &mut Deserializer<'_, '_, F>,
     ) -> Result<ApplyWorkspaceEditParams, F::Error> {
         let mut members = Members::of(alloc, from);
         let edit = members.required("edit", from)?;
@@ -203,15 +176,6 @@ impl<'de> Deserialize<'de> for ApplyWorkspaceEditParams {
             edit,
         };
         members.end(read, from)
-    }
-}
-
-impl DeserializeOwned for ApplyWorkspaceEditParams {
-    fn deserialize_owned<F: Format>(
-        alloc: Global,
-        from: &mut Deserializer<'_, '_, F>,
-    ) -> Result<ApplyWorkspaceEditParams, F::Error> {
-        ApplyWorkspaceEditParams::deserialize(alloc, from)
     }
 }
 
@@ -227,10 +191,10 @@ impl Serialize for ApplyWorkspaceEditResult {
     }
 }
 
-impl<'de> Deserialize<'de> for ApplyWorkspaceEditResult {
-    fn deserialize<F: Format>(
+impl DeserializeOwned for ApplyWorkspaceEditResult {
+    fn deserialize_owned<F: Format>(
         alloc: Global,
-        from: &mut Deserializer<'de, '_, F>,
+        from: &mut Deserializer<'_, '_, F>,
     ) -> Result<ApplyWorkspaceEditResult, F::Error> {
         let mut members = Members::of(alloc, from);
         let applied = members.required("applied", from)?;
@@ -240,14 +204,5 @@ impl<'de> Deserialize<'de> for ApplyWorkspaceEditResult {
             failed_change: members.optional("failedChange", from),
         };
         members.end(read, from)
-    }
-}
-
-impl DeserializeOwned for ApplyWorkspaceEditResult {
-    fn deserialize_owned<F: Format>(
-        alloc: Global,
-        from: &mut Deserializer<'_, '_, F>,
-    ) -> Result<ApplyWorkspaceEditResult, F::Error> {
-        ApplyWorkspaceEditResult::deserialize(alloc, from)
     }
 }
