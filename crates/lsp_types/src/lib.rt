@@ -1,12 +1,13 @@
-//! Types of LSP 3.17 that most servers use, under the standard's names. Each is read (`Request::params_as`) and written (`Act::reply`,
-//! `Act::tell`, `Act::ask`) by `serde`. Only `InitializeResult` and `ServerCapabilities` are not read, since a server may
-//! announce what they have no field for.
+//! Types of LSP 3.17 that most servers use, under the standard's names. What a client sends is read (`Request::params_as`), and what
+//! a server sends is written (`Act::reply`, `Act::tell`, `Act::ask`), by `serde`. Nearly all types go both ways. Only written are
+//! `ServerCapabilities` with its options, `InitializeResult`, `DocumentSymbol` and `ProgressParams`.
 //!
 //! On reading, members that a type lacks are passed over, and a member that may be missing may be null. It is an error if a
 //! required member is missing, if one has another type, or if a number or a name is none that the standard lists. Where the
 //! standard has a choice of types, the one that a server needs is here: its fields say which.
 //!
-//! `Position` and `Range` are those of `lsp_text`, so `Text::offset_at` takes a position that was read.
+//! `Position`, `Range` and `TextDocumentContentChangeEvent` are types of `lsp_text`, so `Text::offset_at` takes a position that was
+//! read, and `TextDocuments::change` of `lsp_documents` the changes.
 //!
 //! Each is safe and each call returns; that its keys are the standard's is tested and not proved. Take the crate beside
 //! `lsp_server`, or copy the types that you need.
