@@ -70,7 +70,9 @@ AreNoPath _ names = ⊥
 abbrev pub Refuses : FileUriFault → List ℕ → Type 0
 Refuses Memory uri = ⊤
 Refuses NotFile uri = (rest : List ℕ) → uri ≢ codes "file://" ++ rest
-Refuses Host uri = (rest : List ℕ) × (uri ≡ codes "file://" ++ rest) × ((names : List ℕ) → IsFileUri uri names → ⊥)
+Refuses Host uri =
+    (rest : List ℕ) × (uri ≡ codes "file://" ++ rest)
+    × ((names : List ℕ) → IsFileUri uri names → ⊥)
 Refuses fault uri = (names : List ℕ) × IsFileUri uri names × AreNoPath fault names
 
 -- when a path has no URI, by the fault

@@ -14,7 +14,9 @@ are_behind line start (t ∷ ts) = is_behind line start t && are_behind t.line t
 -- the five numbers of a token: how many lines it stands behind a place, how many units behind it if it is on that line, or
 -- behind the line's start, its length, its type and its modifiers
 abbrev pub five_behind : ℕ → ℕ → SemanticToken → List ℕ
-five_behind line start t = (t.line - line) ∷ cond (line == t.line) (t.start - start) t.start ∷ t.length ∷ t.token_type ∷ t.token_modifiers ∷ []
+five_behind line start t =
+    (t.line - line) ∷ cond (line == t.line) (t.start - start) t.start
+    ∷ t.length ∷ t.token_type ∷ t.token_modifiers ∷ []
 
 -- the numbers of tokens: of each those behind the one before it, and of the first those behind a place
 abbrev pub numbers_behind : ℕ → ℕ → List SemanticToken → List ℕ

@@ -51,7 +51,8 @@ fn stays(byte: u8) -> bool
 
 /// Adds a path as it stands in a URI.
 fn push_path(uri: &mut String, path: &str) -> Result<(), AllocError>
-    ensures { OnOk result (string_bytes uri.new ≡ string_bytes uri.old ++ flat_map written path.now) }
+    ensures { OnOk result
+        (string_bytes uri.new ≡ string_bytes uri.old ++ flat_map written path.now) }
 {
     for byte in path.as_bytes() {
         if stays(*byte) {
@@ -89,7 +90,8 @@ fn lacks(bytes: &[u8], byte: u8) -> bool
 }
 
 fn is_absolute(path: &[u8]) -> bool
-    ensures { MatchBool result ((names : List ℕ) × (path.now ≡ 47 ∷ names)) ((names : List ℕ) → path.now ≢ 47 ∷ names) }
+    ensures { MatchBool result ((names : List ℕ) × (path.now ≡ 47 ∷ names))
+        ((names : List ℕ) → path.now ≢ 47 ∷ names) }
 {
     match path {
         [b'/', ..] => true,

@@ -33,7 +33,10 @@ impl Hover {
 
     /// A text, about the place that was asked for.
     pub fn new(kind: MarkupKind, value: String) -> Hover
-        ensures { result ≡ record { contents = record { kind = kind; value = value }; range = None } }
+        ensures { result ≡ record {
+          contents = record { kind = kind; value = value };
+          range = None;
+        } }
     {
         Hover {
             contents: MarkupContent { kind, value },

@@ -26,7 +26,8 @@ impl ConfigurationParams {
     /// One section, of no document. `Err` means that an allocation failed.
     pub fn section(alloc: Global, section: &str) -> Result<ConfigurationParams, AllocError>
         ensures { IfOk result (λ params. (item : Item) × (params.items.items ≡ item ∷ [])
-            × (item.scope_uri ≡ None) × (option_map string_bytes item.«section» ≡ Some «section».now)) }
+            × (item.scope_uri ≡ None)
+            × (option_map string_bytes item.«section» ≡ Some «section».now)) }
     {
         let item = ConfigurationItem {
             scope_uri: None,
