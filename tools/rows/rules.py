@@ -345,19 +345,24 @@ class Echo:
 
 def typed(came):
     """What comes of a message whose params are a place in a document (LSP 3.17, "TextDocumentPositionParams"). Params that lack a key
-    are refused (JSON-RPC 2.0, section 5.1), in the words of the Rust crate `serde_json`. Types of messages: LSP 3.17, "MessageType"."""
+    are refused (JSON-RPC 2.0, section 5.1), in the words of the Rust crate `serde_json`, and a value that does not fit by its key
+    (docs/TYPES.md). Types of messages: LSP 3.17, "MessageType"."""
     params, id = came["params"], came.get("id")
-    document, at = (params.get(it, {}) for it in ["textDocument", "position"])
-    wanted = [(params, "textDocument"), (document, "uri"), (params, "position"), (at, "line"), (at, "character")]
-    missing = [f"missing field `{key}`" for where, key in wanted if key not in where]
+    document, at = (params.get(it) if isinstance(params.get(it), dict) else {} for it in ["textDocument", "position"])
+    wanted = [(params, "textDocument", dict), (document, "uri", str), (params, "position", dict), (at, "line", int), (at, "character", int)]
+    misfits = [
+        f"invalid `{key}`" if key in where else f"missing field `{key}`"
+        for where, key, kind in wanted
+        if not isinstance(where.get(key), kind)
+    ]
     if id is None:
-        if missing:
-            return [{"method": "window/logMessage", "params": {"message": f"{came['method']}: {missing[0]}", "type": 1}}]
+        if misfits:
+            return [{"method": "window/logMessage", "params": {"message": f"{came['method']}: {misfits[0]}", "type": 1}}]
         return [{"method": "typed/told", "params": at}, {"method": "window/logMessage", "params": {"message": "told", "type": 2}}]
     if came["method"] == "typed/none":
         return [{"id": id, "error": NOT_FOUND}]
-    if missing:
-        return [{"id": id, "error": {"code": -32602, "message": missing[0]}}]
+    if misfits:
+        return [{"id": id, "error": {"code": -32602, "message": misfits[0]}}]
     if came["method"] == "typed/uri":
         return [{"id": id, "result": document["uri"]}]
     if came["method"] == "typed/show":

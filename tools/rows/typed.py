@@ -1,58 +1,13 @@
-"""What has to come of messages that are read and written by the types of `lsp_types`: the members that LSP 3.17 gives each type, and
-their values. Nothing here calls a library of this repository."""
+"""What has to come of values that are read and written by the types of `lsp_types`: the members that LSP 3.17 gives each type, and their
+values. Nothing here calls a library of this repository.
+
+A row is `typed NAME VALUE`. The value is read by that type and written again, so what comes is the value with the members of the type
+alone, without those that are null, or `refused` if the standard allows no such value."""
 import json
+import re
+from urllib.parse import quote, unquote_to_bytes
 
 from rules import is_whole, ordered
-
-# The members of what a server sends that the types have, each with the members of its own value, in a list if it is one. None is for a
-# value that is kept as it is.
-RANGE = {"start": {"line": None, "character": None}, "end": {"line": None, "character": None}}
-MARKUP = {"kind": None, "value": None}
-EDIT = {"range": RANGE, "newText": None}
-COMPLETION = {"triggerCharacters": None, "resolveProvider": None}
-PROVIDERS = ["hover", "definition", "references", "documentSymbol", "documentFormatting", "rename"]
-CAPABILITIES = {"positionEncoding": None, "textDocumentSync": None, "completionProvider": COMPLETION, **{f"{it}Provider": None for it in PROVIDERS}}
-TEXTS = ["detail", "sortText", "filterText", "insertText", "insertTextFormat"]
-ITEM = {"label": None, "kind": None, "documentation": MARKUP, "textEdit": EDIT, **dict.fromkeys(TEXTS)}
-DIAGNOSTIC = {"range": RANGE, **dict.fromkeys(["severity", "code", "source", "message", "data"])}
-SYMBOL = {"name": None, "detail": None, "kind": None, "range": RANGE, "selectionRange": RANGE}
-SYMBOL = {**SYMBOL, "children": [{**SYMBOL, "children": None}]}
-RESULTS = {
-    "initialize": {"capabilities": CAPABILITIES, "serverInfo": {"name": None, "version": None}},
-    "textDocument/hover": {"contents": MARKUP, "range": RANGE},
-    "textDocument/completion": {"isIncomplete": None, "items": [ITEM]},
-    "textDocument/definition": [{"uri": None, "range": RANGE}],
-    "textDocument/documentSymbol": [SYMBOL],
-}
-PARAMS = {
-    "textDocument/publishDiagnostics": {"uri": None, "version": None, "diagnostics": [DIAGNOSTIC]},
-    "window/showMessage": {"type": None, "message": None},
-    "workspace/configuration": {"items": [{"scopeUri": None, "section": None}]},
-}
-
-
-def kept(members, value):
-    """What is left of a value whose type has these members."""
-    if isinstance(members, list):
-        return [kept(members[0], it) for it in value]
-    if members is None:
-        return value
-    return {name: kept(it, value[name]) for name, it in members.items() if name in value}
-
-
-def written_answer(text):
-    message = json.loads(text)
-    method = message["method"]
-    if "result" in message:
-        value = kept(RESULTS[method], message["result"])
-        if method == "initialize" and "textDocumentSync" in value["capabilities"]:
-            # The type has the kind of changes alone, which the standard allows in the place of the options.
-            value["capabilities"]["textDocumentSync"] = value["capabilities"]["textDocumentSync"]["change"]
-    elif method == "workspace/applyEdit":
-        value = {"changes": {uri: kept([EDIT], it) for uri, it in message["params"]["edit"]["changes"].items()}}
-    else:
-        value = kept(PARAMS[method], message["params"])
-    return [ordered(value)]
 
 
 class Misfit(ValueError):
@@ -64,74 +19,325 @@ def fits(condition):
         raise Misfit
 
 
-def member(value, name, is_right):
-    """A member that the standard asks for."""
-    fits(isinstance(value, dict) and is_right(value.get(name)))
-    return value[name]
+def kind(is_right):
+    """The values that this is true of, each kept as it is."""
+
+    def read(value):
+        fits(is_right(value))
+        return value
+
+    return read
 
 
-def is_text(value):
-    return isinstance(value, str)
+def is_number(value):
+    return isinstance(value, int) and not isinstance(value, bool)
 
 
-def is_object(value):
-    return isinstance(value, dict)
+TEXT = kind(lambda value: isinstance(value, str))
+TRUTH = kind(lambda value: isinstance(value, bool))
+INTEGER = kind(is_whole)
+# `uinteger` goes to 2^31 - 1 by the standard. That a number up to 2^32 - 1 is read is told in docs/DECISIONS.md.
+UNSIGNED = kind(lambda value: is_number(value) and 0 <= value < 2**32)
+NUMBER_OR_TEXT = kind(lambda value: is_whole(value) or isinstance(value, str))
+ANY = kind(lambda value: True)
 
 
-def is_unsigned(value):
-    """A number of a position, by the rule that docs/DECISIONS.md has for documents too."""
-    return isinstance(value, int) and not isinstance(value, bool) and 0 <= value < 2**32
+def line(value):
+    """A line. A negative one counts as 0 (LSP 3.17, "Position")."""
+    fits(is_number(value) and -(2**63) <= value < 2**32)
+    return max(0, value)
 
 
-def is_line(value):
-    """A line, by the same rule: a negative one counts as 0 (LSP 3.17, "Position")."""
-    return is_unsigned(value) or isinstance(value, int) and -(2**63) <= value < 0
+def among(first, last):
+    """The numbers that the standard lists."""
+    return kind(lambda value: is_number(value) and first <= value <= last)
 
 
-def or_null(is_right):
-    return lambda value: value is None or is_right(value)
+def named(*names):
+    return kind(lambda value: value in names)
 
 
-def place(value):
-    return f"{max(0, member(value, 'line', is_line))}:{member(value, 'character', is_unsigned)}"
+def some(read):
+    """A list."""
+
+    def items(value):
+        fits(isinstance(value, list))
+        return [read_as(read, it) for it in value]
+
+    return items
 
 
-def changed(change):
-    fits(isinstance(change, dict))
-    span = change.get("range")
-    where = "all" if span is None else f"{place(member(span, 'start', is_object))}-{place(member(span, 'end', is_object))}"
-    return f" {where} {ordered(member(change, 'text', is_text))}"
+def each(read):
+    """An object with a value for each name."""
+
+    def members(value):
+        fits(isinstance(value, dict))
+        return {name: read_as(read, it) for name, it in value.items()}
+
+    return members
 
 
-def fields(method, params):
-    if method == "initialize":
-        process = params.get("processId")
-        fits(process is None or is_whole(process))
-        root, options = (ordered(params.get(it)) for it in ["rootUri", "initializationOptions"])
-        fits("capabilities" in params and or_null(is_text)(params.get("rootUri")))
-        return f"{process or 0} {root} {options} {ordered(params['capabilities'])}"
-    item = member(params, "textDocument", is_object)
-    uri = member(item, "uri", is_text)
-    if method == "textDocument/didOpen":
-        language, version = member(item, "languageId", is_text), member(item, "version", is_whole)
-        return f"{uri} {language} {version} {ordered(member(item, 'text', is_text))}"
-    if method == "textDocument/didChange":
-        changes = member(params, "contentChanges", lambda it: isinstance(it, list))
-        return f"{uri} {member(item, 'version', is_whole)}" + "".join(map(changed, changes))
-    if method == "textDocument/didSave":
-        fits(or_null(is_text)(params.get("text")))
-        return f"{uri} {ordered(params.get('text'))}"
-    if method == "textDocument/didClose":
-        return uri
-    return f"{uri} {place(member(params, 'position', is_object))}"
+def nullable(read):
+    """A member that is always written. The library also takes it as null if it is missing."""
+
+    def or_null(value):
+        return None if value is None else read_as(read, value)
+
+    or_null.is_kept = True
+    return or_null
 
 
-def read_answer(text):
-    message = json.loads(text)
+def progress(value):
+    """LSP 3.17, "Work Done Progress": what its `kind` says."""
+    fits(isinstance(value, dict) and value.get("kind") in ("begin", "report", "end"))
+    return {"kind": value["kind"], **read_as(f"WorkDoneProgress{value['kind'].capitalize()}", value)}
+
+
+DOCUMENT = {"textDocument": "TextDocumentIdentifier"}
+PLACE = {**DOCUMENT, "position": "Position"}
+PART = {**DOCUMENT, "range": "Range"}
+MESSAGE = {"type": among(1, 4), "message": TEXT}
+# A name with `?` is of a member that may be missing or null.
+TYPES = {
+    "Position": {"line": line, "character": UNSIGNED},
+    "Range": {"start": "Position", "end": "Position"},
+    "Location": {"uri": TEXT, "range": "Range"},
+    "TextDocumentIdentifier": {"uri": TEXT},
+    "VersionedTextDocumentIdentifier": {"uri": TEXT, "version": INTEGER},
+    "TextDocumentItem": {"uri": TEXT, "languageId": TEXT, "version": INTEGER, "text": TEXT},
+    "DidOpenTextDocumentParams": {"textDocument": "TextDocumentItem"},
+    "TextDocumentContentChangeEvent": {"range?": "Range", "text": TEXT},
+    "DidChangeTextDocumentParams": {
+        "textDocument": "VersionedTextDocumentIdentifier",
+        "contentChanges": some("TextDocumentContentChangeEvent"),
+    },
+    "DidSaveTextDocumentParams": {**DOCUMENT, "text?": TEXT},
+    "TextDocumentParams": DOCUMENT,
+    "TextDocumentPositionParams": PLACE,
+    "TextDocumentRangeParams": PART,
+    "ReferenceContext": {"includeDeclaration": TRUTH},
+    "ReferenceParams": {**PLACE, "context": "ReferenceContext"},
+    "WorkspaceFolder": {"uri": TEXT, "name": TEXT},
+    "ServerInfo": {"name": TEXT, "version?": TEXT},
+    "InitializeParams": {
+        "processId": nullable(INTEGER),
+        "clientInfo?": "ServerInfo",
+        "rootUri": nullable(TEXT),
+        "workspaceFolders?": some("WorkspaceFolder"),
+        "initializationOptions?": ANY,
+        "capabilities": ANY,
+    },
+    "MarkupContent": {"kind": named("plaintext", "markdown"), "value": TEXT},
+    "Hover": {"contents": "MarkupContent", "range?": "Range"},
+    "TextEdit": {"range": "Range", "newText": TEXT},
+    "OptionalVersionedTextDocumentIdentifier": {"uri": TEXT, "version": nullable(INTEGER)},
+    "TextDocumentEdit": {"textDocument": "OptionalVersionedTextDocumentIdentifier", "edits": some("TextEdit")},
+    "WorkspaceEdit": {"changes?": each(some("TextEdit")), "documentChanges?": some("TextDocumentEdit")},
+    "RenameParams": {**PLACE, "newName": TEXT},
+    "FormattingOptions": {
+        "tabSize": UNSIGNED,
+        "insertSpaces": TRUTH,
+        "trimTrailingWhitespace?": TRUTH,
+        "insertFinalNewline?": TRUTH,
+        "trimFinalNewlines?": TRUTH,
+    },
+    "DocumentFormattingParams": {**DOCUMENT, "options": "FormattingOptions"},
+    "Command": {"title": TEXT, "command": TEXT, "arguments?": some(ANY)},
+    "ExecuteCommandParams": {"command": TEXT, "arguments?": some(ANY)},
+    "ApplyWorkspaceEditParams": {"label?": TEXT, "edit": "WorkspaceEdit"},
+    "ApplyWorkspaceEditResult": {"applied": TRUTH, "failureReason?": TEXT, "failedChange?": UNSIGNED},
+    "CompletionItem": {
+        "label": TEXT,
+        "kind?": among(1, 25),
+        "detail?": TEXT,
+        "documentation?": "MarkupContent",
+        "sortText?": TEXT,
+        "filterText?": TEXT,
+        "insertText?": TEXT,
+        "insertTextFormat?": among(1, 2),
+        "textEdit?": "TextEdit",
+        "additionalTextEdits?": some("TextEdit"),
+        "command?": "Command",
+        "data?": ANY,
+    },
+    "CompletionList": {"isIncomplete": TRUTH, "items": some("CompletionItem")},
+    "DiagnosticRelatedInformation": {"location": "Location", "message": TEXT},
+    "Diagnostic": {
+        "range": "Range",
+        "severity?": among(1, 4),
+        "code?": NUMBER_OR_TEXT,
+        "source?": TEXT,
+        "message": TEXT,
+        "tags?": some(among(1, 2)),
+        "relatedInformation?": some("DiagnosticRelatedInformation"),
+        "data?": ANY,
+    },
+    "PublishDiagnosticsParams": {"uri": TEXT, "version?": INTEGER, "diagnostics": some("Diagnostic")},
+    "CodeActionContext": {"diagnostics": some("Diagnostic"), "only?": some(TEXT), "triggerKind?": among(1, 2)},
+    "CodeActionParams": {**PART, "context": "CodeActionContext"},
+    "CodeAction": {
+        "title": TEXT,
+        "kind?": TEXT,
+        "diagnostics?": some("Diagnostic"),
+        "isPreferred?": TRUTH,
+        "edit?": "WorkspaceEdit",
+        "command?": "Command",
+        "data?": ANY,
+    },
+    "DocumentSymbol": {
+        "name": TEXT,
+        "detail?": TEXT,
+        "kind": UNSIGNED,
+        "range": "Range",
+        "selectionRange": "Range",
+        "children": some("DocumentSymbol"),
+    },
+    "ParameterInformation": {"label": TEXT, "documentation?": "MarkupContent"},
+    "SignatureInformation": {
+        "label": TEXT,
+        "documentation?": "MarkupContent",
+        "parameters?": some("ParameterInformation"),
+        "activeParameter?": UNSIGNED,
+    },
+    "SignatureHelp": {"signatures": some("SignatureInformation"), "activeSignature?": UNSIGNED, "activeParameter?": UNSIGNED},
+    "SemanticTokens": {"resultId?": TEXT, "data": some(UNSIGNED)},
+    "InlayHint": {
+        "position": "Position",
+        "label": TEXT,
+        "kind?": among(1, 2),
+        "tooltip?": TEXT,
+        "paddingLeft?": TRUTH,
+        "paddingRight?": TRUTH,
+        "data?": ANY,
+    },
+    "ShowMessageParams": MESSAGE,
+    "ConfigurationItem": {"scopeUri?": TEXT, "section?": TEXT},
+    "ConfigurationParams": {"items": some("ConfigurationItem")},
+    "WorkDoneProgressParams": {"workDoneToken?": NUMBER_OR_TEXT},
+    "WorkDoneProgressCreateParams": {"token": NUMBER_OR_TEXT},
+    "WorkDoneProgressBegin": {"title": TEXT, "cancellable?": TRUTH, "message?": TEXT, "percentage?": UNSIGNED},
+    "WorkDoneProgressReport": {"cancellable?": TRUTH, "message?": TEXT, "percentage?": UNSIGNED},
+    "WorkDoneProgressEnd": {"message?": TEXT},
+    "ProgressParams": {"token": NUMBER_OR_TEXT, "value": progress},
+}
+
+
+def all_capabilities(characters, names):
+    """The members of `ServerCapabilities` that have a field, as the program of rows fills them in."""
+    true = "hover references documentSymbol documentFormatting documentRangeFormatting inlayHint workspaceSymbol"
+    return {
+        "textDocumentSync": {"openClose": True, "change": 2, "willSave": False, "willSaveWaitUntil": True, "save": {"includeText": True}},
+        "completionProvider": {"triggerCharacters": characters, "resolveProvider": True},
+        "signatureHelpProvider": {"triggerCharacters": characters, "retriggerCharacters": names},
+        "codeActionProvider": {"codeActionKinds": names, "resolveProvider": True},
+        "renameProvider": {"prepareProvider": True},
+        "executeCommandProvider": {"commands": names},
+        "semanticTokensProvider": {"legend": {"tokenTypes": names, "tokenModifiers": characters}, "range": False, "full": True},
+        "definitionProvider": False,
+        **{f"{it}Provider": True for it in true.split()},
+    }
+
+
+def read_as(how, value):
+    """A value as one of these types, or by one of these functions, without what is not the type's own."""
+    if not isinstance(how, str):
+        return how(value)
+    fits(isinstance(value, dict))
+    found = {}
+    for name, member in TYPES[how].items():
+        key, is_kept = name.rstrip("?"), getattr(member, "is_kept", False)
+        given = value.get(key)
+        if key == "children" and given is None:
+            given = []
+        if given is not None or is_kept:
+            found[key] = read_as(member, given)
+        else:
+            fits(name.endswith("?") or key in value and member is ANY)
+            if member is ANY and not name.endswith("?"):
+                found[key] = None
+    return found
+
+
+def capabilities_answer(value):
+    """A server's capabilities: each field, and `more`, whose members count if both have one."""
+    more = value.get("more")
+    fits(more is None or isinstance(more, dict))
+    encoding = {"positionEncoding": value["positionEncoding"]} if "positionEncoding" in value else {}
+    return {**encoding, **all_capabilities(value["characters"], value["names"]), **(more or {})}
+
+
+def result_answer(value):
+    """LSP 3.17, "Initialize Request", of a server that can do nothing."""
+    return {"capabilities": {}, "serverInfo": read_as("ServerInfo", value)}
+
+
+OTHERS = {"ServerCapabilities": capabilities_answer, "InitializeResult": result_answer}
+
+
+def typed_answer(text):
+    name, _, value = text.partition(" ")
+    value = json.loads(value)
     try:
-        return [fields(message["method"], message["params"])]
+        return [ordered(OTHERS[name](value) if name in OTHERS else read_as(name, value))]
     except Misfit:
         return ["refused"]
 
 
-ROWS = {"reads": read_answer, "writes_as": written_answer}
+def quoted(text):
+    return json.dumps(text, ensure_ascii=False)
+
+
+def uri_answer(text):
+    """RFC 8089 and RFC 3986: the unreserved characters and `/` stand as they are."""
+    path = json.loads(text)
+    if not path.startswith("/"):
+        return ["Relative"]
+    return ["Nul" if "\0" in path else quoted("file://" + quote(path, safe="/"))]
+
+
+def path_answer(uri):
+    """The same, back."""
+    if not uri.startswith("file://"):
+        return ["NotFile"]
+    found = re.fullmatch("file://(?:localhost)?(/.*)", uri)
+    if not found:
+        return ["Host"]
+    path = found[1]
+    if "?" in path or "#" in path:
+        return ["Query"]
+    if re.search("%(?![0-9A-Fa-f]{2})", path):
+        return ["Escape"]
+    named = unquote_to_bytes(path)
+    if b"\0" in named:
+        return ["Nul"]
+    try:
+        return [quoted(named.decode())]
+    except UnicodeDecodeError:
+        return ["NotUtf8"]
+
+
+def tokens_answer(text):
+    """LSP 3.17, "Integer Encoding for Tokens"."""
+    numbers, last = [], [0, 0]
+    for line, start, *others in json.loads(text):
+        if [line, start] < last:
+            return ["not in order"]
+        numbers += [line - last[0], start - last[1] if line == last[0] else start, *others]
+        last = [line, start]
+    return [ordered({"data": numbers})]
+
+
+def offset_answer(rest):
+    """LSP 3.17, "Position": a character past the line's end is that end, and one within a pair is its start (docs/DECISIONS.md)."""
+    position, _, text = rest.partition(" ")
+    found, lines = read_as("Position", json.loads(position)), re.split("(?<=\n)|(?<=\r)(?!\n)", json.loads(text))
+    before, units = "".join(lines[: found["line"]]), 0
+    for it in lines[found["line"]].rstrip("\r\n") if found["line"] < len(lines) else "":
+        units += 1 + (it > "\uffff")
+        if units > found["character"]:
+            break
+        before += it
+    return [str(len(before.encode()))]
+
+
+ROWS = {"typed": typed_answer, "uri": uri_answer, "path": path_answer, "tokens": tokens_answer, "offset": offset_answer}

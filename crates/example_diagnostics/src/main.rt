@@ -16,7 +16,8 @@ use lsp_types::{
     ConfigurationParams, Diagnostic, DiagnosticSeverity, DidChangeTextDocumentParams,
     DidCloseTextDocumentParams, DidOpenTextDocumentParams, Hover, InitializeParams,
     InitializeResult, Location, MarkupKind, Position, PublishDiagnosticsParams, Range,
-    ServerCapabilities, TextDocumentPositionParams, TextDocumentSyncKind, methods,
+    ServerCapabilities, TextDocumentPositionParams, TextDocumentSyncKind, TextDocumentSyncOptions,
+    methods,
 };
 use serde_json::Value;
 use std::alloc::{AllocError, Global};
@@ -76,7 +77,7 @@ impl Server for Checker {
         let configuration = params.capabilities.pointer("/workspace/configuration");
         self.configures = configuration.and_then(|can| can.as_bool()) == Some(true);
         let capabilities = ServerCapabilities {
-            text_document_sync: Some(TextDocumentSyncKind::FULL),
+            text_document_sync: Some(TextDocumentSyncOptions::new(TextDocumentSyncKind::FULL)),
             hover_provider: Some(true),
             definition_provider: Some(true),
             ..ServerCapabilities::default()

@@ -4,8 +4,10 @@ ghost use Rattle.std.specs.String.{string_bytes};
 ghost use Rattle.lsp_text.specs.Documents.{Change, Document};
 ghost use Rattle.lsp_text.specs.Edits.{edited_by};
 
+use crate::json::{members_in, needed, put};
 use crate::position::{PositionEncoding, Range};
 use crate::text::Text;
+use serde::{Described, Deserialize, Deserializer, Format, Serialize, Serializer};
 use std::alloc::{AllocError, Global};
 use std::marker::Model;
 
@@ -23,6 +25,31 @@ impl Model for ContentChange {
     ghost Value = { Change };
 
     ghost view = { λ c. record { range = c.range; text = string_bytes c.text } };
+}
+
+impl Described for ContentChange {}
+
+impl Serialize for ContentChange {
+    fn serialize<S: Serializer>(&self, out: &mut S) -> Result<(), S::Error> {
+        out.begin_map(None)?;
+        if let Some(range) = &self.range {
+            put("range", range, out)?;
+        }
+        put("text", &self.text, out)?;
+        out.end_map()
+    }
+}
+
+impl<'de> Deserialize<'de> for ContentChange {
+    fn deserialize<F: Format>(
+        alloc: Global,
+        from: &mut Deserializer<'de, '_, F>,
+    ) -> Result<ContentChange, F::Error> {
+        let (range, text) = members_in::<Option<Range>, String, F>(alloc, "range", "text", from)?;
+        let text = needed(text, "text", from)?;
+        let range = range.flatten();
+        Ok(ContentChange { range, text })
+    }
 }
 
 /// A document that a client has opened (LSP 3.17, `TextDocumentItem`). Contracts see its language, its version and its text.

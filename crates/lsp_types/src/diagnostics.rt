@@ -1,11 +1,10 @@
 //! What a server finds wrong with a document.
-use crate::documents::Range;
-use serde::Serialize;
+use crate::documents::Location;
+use lsp_text::Range;
 use serde_json::Value;
 
-/// How severe a diagnostic is (LSP 3.17, "DiagnosticSeverity").
-#[derive(Clone, Copy, Drop, Serialize)]
-#[serde(transparent)]
+/// How severe a diagnostic is (LSP 3.17, "DiagnosticSeverity"). On reading, another number is refused.
+#[derive(Clone, Copy, Drop)]
 pub struct DiagnosticSeverity(pub u32);
 
 impl DiagnosticSeverity {
@@ -19,9 +18,19 @@ impl DiagnosticSeverity {
     pub const HINT: DiagnosticSeverity = DiagnosticSeverity(4);
 }
 
-/// A number or a text: the code of a diagnostic, for one (LSP 3.17, "Diagnostic").
-#[derive(Drop, Serialize)]
-#[serde(untagged)]
+/// How a client may show a diagnostic (LSP 3.17, "DiagnosticTag"). On reading, another number is refused.
+#[derive(Clone, Copy, Drop)]
+pub struct DiagnosticTag(pub u32);
+
+impl DiagnosticTag {
+    /// Faded: code that nothing uses.
+    pub const UNNECESSARY: DiagnosticTag = DiagnosticTag(1);
+    /// Struck through: code that is not to be used.
+    pub const DEPRECATED: DiagnosticTag = DiagnosticTag(2);
+}
+
+/// A number or a text: the code of a diagnostic, or a token of progress (LSP 3.17, "Diagnostic" and "ProgressToken").
+#[derive(Drop)]
 pub enum NumberOrString {
     /// A number.
     Number(i32),
@@ -29,24 +38,33 @@ pub enum NumberOrString {
     String(String),
 }
 
+/// A place that has to do with a diagnostic (LSP 3.17, "DiagnosticRelatedInformation").
+#[derive(Drop)]
+pub struct DiagnosticRelatedInformation {
+    /// The place.
+    pub location: Location,
+    /// What it has to do with it.
+    pub message: String,
+}
+
 /// What is wrong with a part of a document (LSP 3.17, "Diagnostic").
-#[derive(Drop, Serialize)]
+#[derive(Drop)]
 pub struct Diagnostic {
     /// The part.
     pub range: Range,
     /// How severe it is.
-    #[serde(skip_serializing_if = "Option::is_none")]
     pub severity: Option<DiagnosticSeverity>,
     /// The code of the rule that it breaks.
-    #[serde(skip_serializing_if = "Option::is_none")]
     pub code: Option<NumberOrString>,
     /// Who says so, as the name of a compiler.
-    #[serde(skip_serializing_if = "Option::is_none")]
     pub source: Option<String>,
     /// What is wrong, for people.
     pub message: String,
+    /// How it may be shown.
+    pub tags: Option<Vec<DiagnosticTag>>,
+    /// Places that have to do with it.
+    pub related_information: Option<Vec<DiagnosticRelatedInformation>>,
     /// What the client gives back in a code action's context.
-    #[serde(skip_serializing_if = "Option::is_none")]
     pub data: Option<Value>,
 }
 
@@ -61,6 +79,8 @@ impl Diagnostic {
           code = None;
           source = None;
           message = message;
+          tags = None;
+          related_information = None;
           «data» = None;
         } }
     {
@@ -70,18 +90,19 @@ impl Diagnostic {
             code: None,
             source: None,
             message,
+            tags: None,
+            related_information: None,
             data: None,
         }
     }
 }
 
 /// The params of `textDocument/publishDiagnostics` (LSP 3.17, "PublishDiagnostics Notification").
-#[derive(Drop, Serialize)]
+#[derive(Drop)]
 pub struct PublishDiagnosticsParams {
     /// The document's URI.
     pub uri: String,
     /// The version of the document that was looked at.
-    #[serde(skip_serializing_if = "Option::is_none")]
     pub version: Option<i32>,
     /// All that is wrong with it. An empty list takes away what was shown before.
     pub diagnostics: Vec<Diagnostic>,

@@ -1,69 +1,8 @@
-//! Places in texts, and what a client tells of its documents.
-use serde::{Deserialize, Deserializer, Format, Serialize};
-use std::alloc::Global;
-
-/// A place between two characters (LSP 3.17, "Position"). On reading, a negative line counts as 0.
-#[derive(Clone, Copy, Drop, PartialEq, Serialize)]
-pub struct Position {
-    /// The line, from 0.
-    pub line: u32,
-    /// The offset in the line, from 0: in UTF-16 code units, unless `positionEncoding` says otherwise.
-    pub character: u32,
-}
-
-impl Position {
-    ghost use Rattle.std.specs.Prelude.{◌≡◌};
-
-    /// A place in a line.
-    pub fn new(line: u32, character: u32) -> Position
-        ensures { result ≡ record { line = line; character = character } }
-    {
-        Position { line, character }
-    }
-}
-
-/// A position as it is sent.
-#[derive(Drop, Deserialize)]
-struct SentPosition {
-    line: i64,
-    character: u32,
-}
-
-impl<'de> Deserialize<'de> for Position {
-    fn deserialize<F: Format>(
-        alloc: Global,
-        from: &mut Deserializer<'de, '_, F>,
-    ) -> Result<Position, F::Error> {
-        let sent = SentPosition::deserialize(alloc, from)?;
-        match u32::try_from(sent.line.max(0)) {
-            Ok(line) => Ok(Position::new(line, sent.character)),
-            Err(_) => Err(from.invalid()),
-        }
-    }
-}
-
-/// A part of a text, from its start up to its end, which is exclusive (LSP 3.17, "Range").
-#[derive(Clone, Copy, Drop, PartialEq, Serialize, Deserialize)]
-pub struct Range {
-    /// Where it begins.
-    pub start: Position,
-    /// Where it ends.
-    pub end: Position,
-}
-
-impl Range {
-    ghost use Rattle.std.specs.Prelude.{◌≡◌};
-
-    /// From one place up to another.
-    pub fn new(start: Position, end: Position) -> Range
-        ensures { result ≡ record { start = start; end = end } }
-    {
-        Range { start, end }
-    }
-}
+//! Places in documents, and what a client tells of its documents.
+use lsp_text::{ContentChange, Position, Range};
 
 /// A part of a document (LSP 3.17, "Location").
-#[derive(Drop, Serialize)]
+#[derive(Drop)]
 pub struct Location {
     /// The document's URI.
     pub uri: String,
@@ -72,14 +11,14 @@ pub struct Location {
 }
 
 /// A document (LSP 3.17, "TextDocumentIdentifier").
-#[derive(Drop, Deserialize)]
+#[derive(Drop)]
 pub struct TextDocumentIdentifier {
     /// Its URI.
     pub uri: String,
 }
 
 /// A document at a version (LSP 3.17, "VersionedTextDocumentIdentifier").
-#[derive(Drop, Deserialize)]
+#[derive(Drop)]
 pub struct VersionedTextDocumentIdentifier {
     /// Its URI.
     pub uri: String,
@@ -88,12 +27,11 @@ pub struct VersionedTextDocumentIdentifier {
 }
 
 /// A document with its text (LSP 3.17, "TextDocumentItem").
-#[derive(Drop, Deserialize)]
+#[derive(Drop)]
 pub struct TextDocumentItem {
     /// Its URI.
     pub uri: String,
     /// The language that it is in, as `rust`.
-    #[serde(rename = "languageId")]
     pub language_id: String,
     /// Its version, which grows with each change.
     pub version: i32,
@@ -102,57 +40,84 @@ pub struct TextDocumentItem {
 }
 
 /// The params of `textDocument/didOpen` (LSP 3.17, "DidOpenTextDocument Notification").
-#[derive(Drop, Deserialize)]
+#[derive(Drop)]
 pub struct DidOpenTextDocumentParams {
     /// The document that was opened.
-    #[serde(rename = "textDocument")]
     pub text_document: TextDocumentItem,
 }
 
 /// The params of `textDocument/didChange` (LSP 3.17, "DidChangeTextDocument Notification").
-#[derive(Drop, Deserialize)]
+#[derive(Drop)]
 pub struct DidChangeTextDocumentParams {
     /// The document, at its version after all changes.
-    #[serde(rename = "textDocument")]
     pub text_document: VersionedTextDocumentIdentifier,
     /// The changes. Each is of the text that the one before it left.
-    #[serde(rename = "contentChanges")]
-    pub content_changes: Vec<TextDocumentContentChangeEvent>,
-}
-
-/// A change of a document's text (LSP 3.17, "TextDocumentContentChangeEvent").
-#[derive(Drop, Deserialize)]
-pub struct TextDocumentContentChangeEvent {
-    /// The part that is replaced. `None` means the whole text.
-    pub range: Option<Range>,
-    /// The text in its place.
-    pub text: String,
+    pub content_changes: Vec<ContentChange>,
 }
 
 /// The params of `textDocument/didSave` (LSP 3.17, "DidSaveTextDocument Notification").
-#[derive(Drop, Deserialize)]
+#[derive(Drop)]
 pub struct DidSaveTextDocumentParams {
     /// The document that was saved.
-    #[serde(rename = "textDocument")]
     pub text_document: TextDocumentIdentifier,
     /// Its text, if the server asked for it.
     pub text: Option<String>,
 }
 
-/// The params of `textDocument/didClose` (LSP 3.17, "DidCloseTextDocument Notification").
-#[derive(Drop, Deserialize)]
-pub struct DidCloseTextDocumentParams {
-    /// The document that was closed.
-    #[serde(rename = "textDocument")]
+/// A document: the params of requests about a whole one (LSP 3.17, "DocumentSymbolParams" and others).
+#[derive(Drop)]
+pub struct TextDocumentParams {
+    /// The document.
     pub text_document: TextDocumentIdentifier,
 }
 
-/// A place in a document: the params of hover, definition and others (LSP 3.17, "TextDocumentPositionParams").
-#[derive(Drop, Deserialize)]
+/// The params of `textDocument/didClose` (LSP 3.17, "DidCloseTextDocument Notification").
+pub type DidCloseTextDocumentParams = TextDocumentParams;
+
+/// The params of `textDocument/documentSymbol` (LSP 3.17, "Document Symbols Request").
+pub type DocumentSymbolParams = TextDocumentParams;
+
+/// The params of `textDocument/semanticTokens/full` (LSP 3.17, "Semantic Tokens").
+pub type SemanticTokensParams = TextDocumentParams;
+
+/// A place in a document: the params of hover, definition, signature help and others (LSP 3.17, "TextDocumentPositionParams").
+#[derive(Drop)]
 pub struct TextDocumentPositionParams {
     /// The document.
-    #[serde(rename = "textDocument")]
     pub text_document: TextDocumentIdentifier,
     /// The place in it.
     pub position: Position,
+}
+
+/// A part of a document: the params of requests about one (LSP 3.17, "InlayHintParams" and others).
+#[derive(Drop)]
+pub struct TextDocumentRangeParams {
+    /// The document.
+    pub text_document: TextDocumentIdentifier,
+    /// The part of it.
+    pub range: Range,
+}
+
+/// The params of `textDocument/inlayHint` (LSP 3.17, "Inlay Hint Request").
+pub type InlayHintParams = TextDocumentRangeParams;
+
+/// The params of `textDocument/semanticTokens/range` (LSP 3.17, "Semantic Tokens").
+pub type SemanticTokensRangeParams = TextDocumentRangeParams;
+
+/// The params of `textDocument/references` (LSP 3.17, "Find References Request").
+#[derive(Drop)]
+pub struct ReferenceParams {
+    /// The document.
+    pub text_document: TextDocumentIdentifier,
+    /// The place in it.
+    pub position: Position,
+    /// Which references are asked for.
+    pub context: ReferenceContext,
+}
+
+/// Which references are asked for (LSP 3.17, "ReferenceContext").
+#[derive(Clone, Copy, Drop)]
+pub struct ReferenceContext {
+    /// Whether the declaration is one of them.
+    pub include_declaration: bool,
 }

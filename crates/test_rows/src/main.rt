@@ -9,7 +9,9 @@
 //! - `body`: what a content part means. `id`: how an id prints. `values`: a message that is cloned, converted and written. `extract`:
 //!   params that are taken out.
 //! - `queues`, `dispatch`, `link`: calls on a state, as steps. `replay`: all steps of a dispatcher at once.
-//! - `reads`, `writes_as`: params and results by the types of `lsp_types`. `document`: a notification of an open document.
+//! - `typed`: a value that is read and written by a type of `lsp_types`. `uri`, `path`: a path and its URI. `tokens`: the numbers of
+//!   semantic tokens. `offset`: the place of a position that was read.
+//! - `document`: a notification of an open document.
 //!
 //! If an allocation fails, in a call or in the program, the row has a line `refused: ..`, and is run once more; of a case this is so
 //! for the call alone. The program ends with status 1 if that fails too, or if it has no memory for the table or for a line.
@@ -25,13 +27,13 @@ mod links;
 mod lists;
 mod messages;
 mod queues;
-mod reading;
 mod rows;
 mod servers;
 mod stop;
 mod table;
 mod typed;
-mod writing;
+mod types;
+mod uris;
 
 use rows::Rows;
 use std::io;

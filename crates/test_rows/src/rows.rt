@@ -3,7 +3,7 @@ use crate::calls::{Attempt, Run, attempt_of};
 use crate::documents::Documents;
 use crate::stop::{Stop, count_in};
 use crate::table::{Case, Given, case_in};
-use crate::{dispatching, links, lists, messages, queues, reading, writing};
+use crate::{dispatching, links, lists, messages, queues, types, uris};
 use std::alloc::{AllocError, Global};
 
 /// What the next row is about.
@@ -72,8 +72,11 @@ impl Rows {
             "dispatch" => dispatching::dispatched(self.alloc, rest),
             "replay" => dispatching::replayed(self.alloc, rest),
             "link" => links::answers(self.alloc, rest),
-            "reads" => reading::answer(self.alloc, rest),
-            "writes_as" => writing::answer(self.alloc, rest),
+            "typed" => types::answer(self.alloc, rest),
+            "uri" => uris::uri(self.alloc, rest),
+            "path" => uris::path(self.alloc, rest),
+            "tokens" => uris::tokens(self.alloc, rest),
+            "offset" => uris::offset(self.alloc, rest),
             "calls" => lists::called(self.alloc, rest),
             "writes" => lists::written(self.alloc, rest),
             _ => lists::session(self.alloc, word, rest),

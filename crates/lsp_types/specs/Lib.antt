@@ -1,0 +1,2 @@
+pub mod FileUris
+pub mod Tokens

@@ -1,0 +1,187 @@
+//! Paths of files and their URIs (RFC 8089).
+ghost use Rattle.std.specs.Prelude.{◌≡◌, ◌++◌, IfOk, IfErr, MatchBool, OnOk, string_bytes, All, ◌≢◌, ◌<◌, ◌∷◌, List, ℕ};
+ghost use Rattle.percent_encoding.specs.Percent.{percent_decode as without_escapes};
+ghost use Rattle.std.specs.List.{flat_map};
+ghost use Rattle.lsp_types.specs.FileUris.{stays as is_kept, written, uri_of, IsPath, begins_digits as digits_first, is_escaped as escaped, Lacks, AreNoPath, IsPathOf, IsFileUri, Names, Refuses, HasNoUri};
+
+use percent_encoding::{percent_decode, percent_encode_byte};
+use std::alloc::{AllocError, Global};
+
+/// Why a text names no path, or a path has no URI.
+#[derive(Clone, Copy, Debug, Drop, PartialEq)]
+pub enum FileUriFault {
+    /// An allocation failed.
+    Memory,
+    /// The text does not begin with `file://`.
+    NotFile,
+    /// Behind `file://` stands another host than `localhost`, or no absolute path.
+    Host,
+    /// It has a query or a fragment: a `?` or `#` without an escape.
+    Query,
+    /// A `%` stands before less than two hexadecimal digits.
+    Escape,
+    /// The path is not absolute: it does not begin with `/`.
+    Relative,
+    /// The path has a NUL, which no file has.
+    Nul,
+    /// The path is no UTF-8.
+    NotUtf8,
+}
+
+impl From<AllocError> for FileUriFault {
+    ghost use Rattle.lsp_types.specs.declared.file_uri.FileUriFault.{FileUriFault};
+
+    ghost from_gives = { λ _ fault. fault ≡ FileUriFault.Memory };
+
+    fn from(_: AllocError) -> FileUriFault {
+        FileUriFault::Memory
+    }
+}
+
+fn stays(byte: u8) -> bool
+    ensures { result ≡ is_kept byte }
+{
+    byte.is_ascii_alphanumeric()
+        || byte == b'-'
+        || byte == b'.'
+        || byte == b'_'
+        || byte == b'~'
+        || byte == b'/'
+}
+
+/// Adds a path as it stands in a URI.
+fn push_path(uri: &mut String, path: &str) -> Result<(), AllocError>
+    ensures { OnOk result
+        (string_bytes uri.new ≡ string_bytes uri.old ++ flat_map written path.now) }
+{
+    for byte in path.as_bytes() {
+        if stays(*byte) {
+            uri.push(char::from(*byte))?;
+        } else {
+            uri.push_str(percent_encode_byte(*byte))?;
+        }
+    }
+    Ok(())
+}
+
+/// The URI of an absolute path, as `file:///project/a%20b`. Letters, digits and `-._~/` stand as they are, and each other byte as
+/// `%` and two digits (RFC 3986, section 2.3). It is an error if the path does not begin with `/` (`Relative`), or has a NUL.
+pub fn uri_of_path(alloc: Global, path: &str) -> Result<String, FileUriFault>
+    ensures ok { IfOk result (λ uri. string_bytes uri ≡ uri_of path.now) }
+    ensures path { IfOk result (λ _. IsPath path.now) }
+    ensures err { IfErr result (λ fault. HasNoUri fault path.now) }
+{
+    if !is_absolute(path.as_bytes()) {
+        return Err(FileUriFault::Relative);
+    }
+    if !lacks(path.as_bytes(), 0) {
+        return Err(FileUriFault::Nul);
+    }
+    let mut uri = String::from_str(alloc, "file://")?;
+    push_path(&mut uri, path)?;
+    Ok(uri)
+}
+
+/// Whether no byte is this one.
+fn lacks(bytes: &[u8], byte: u8) -> bool
+    ensures { MatchBool result (Lacks byte bytes.now) (Lacks byte bytes.now → ⊥) }
+{
+    !bytes.contains(&byte)
+}
+
+fn is_absolute(path: &[u8]) -> bool
+    ensures { MatchBool result ((names : List ℕ) × (path.now ≡ 47 ∷ names))
+        ((names : List ℕ) → path.now ≢ 47 ∷ names) }
+{
+    match path {
+        [b'/', ..] => true,
+        _ => false,
+    }
+}
+
+/// Whether two hexadecimal digits come first.
+fn begins_digits(bytes: &[u8]) -> bool
+    ensures { result ≡ digits_first bytes.now }
+{
+    match bytes {
+        [high, low, ..] => high.is_ascii_hexdigit() && low.is_ascii_hexdigit(),
+        _ => false,
+    }
+}
+
+/// Whether each `%` stands before two hexadecimal digits.
+fn is_escaped(bytes: &[u8]) -> bool
+    ensures { result ≡ escaped bytes.now }
+{
+    for i in 0..bytes.len() {
+        if bytes[i] == b'%' && !begins_digits(&bytes[i + 1..]) {
+            return false;
+        }
+    }
+    true
+}
+
+/// What stands behind the first `/` of the path of a file URI.
+fn names_in(uri: &str) -> Result<&str, FileUriFault>
+    ensures ok { IfOk result (λ names. IsFileUri uri.now names.now) }
+    ensures err { IfErr result (λ fault. Refuses fault uri.now) }
+{
+    if let Some(names) = uri.strip_prefix("file:///") {
+        return Ok(names);
+    }
+    if let Some(names) = uri.strip_prefix("file://localhost/") {
+        return Ok(names);
+    }
+    match uri.strip_prefix("file://") {
+        Some(_) => Err(FileUriFault::Host),
+        None => Err(FileUriFault::NotFile),
+    }
+}
+
+/// The path behind whose `/` these names stand.
+fn absolute_path(alloc: Global, names: &[u8]) -> Result<Vec<u8>, AllocError>
+    ensures { IfOk result (λ path. path.items ≡ 47 ∷ without_escapes names.now) }
+{
+    let mut path = vec![in alloc; b'/']?;
+    percent_decode(names).append_to(&mut path)?;
+    Ok(path)
+}
+
+/// The path behind whose `/` these names stand in a URI.
+fn path_of_names(alloc: Global, names: &[u8]) -> Result<String, FileUriFault>
+    ensures ok { IfOk result (λ path. IsPathOf names.now (string_bytes path)) }
+    ensures err { IfErr result (λ fault. AreNoPath fault names.now) }
+{
+    if !lacks(names, b'?') || !lacks(names, b'#') {
+        return Err(FileUriFault::Query);
+    }
+    if !is_escaped(names) {
+        return Err(FileUriFault::Escape);
+    }
+    let path = absolute_path(alloc, names)?;
+    if !lacks(path.as_slice(), 0) {
+        return Err(FileUriFault::Nul);
+    }
+    match String::from_utf8(path) {
+        Ok(path) => Ok(path),
+        Err(_) => Err(FileUriFault::NotUtf8),
+    }
+}
+
+/// The path that a file URI names, as `/project/a b` (RFC 8089). The host is empty or `localhost`. Of a Windows path
+/// `file:///c%3A/a` gives `/c:/a`.
+///
+/// It is an error if the text is no such URI (`NotFile`, `Host`), has a query or a fragment (`Query`), or a `%` without two
+/// hexadecimal digits (`Escape`), and if the path has a NUL or is no UTF-8.
+pub fn path_of_uri(alloc: Global, uri: &str) -> Result<String, FileUriFault>
+    ensures ok { IfOk result (λ path. Names uri.now (string_bytes path)) }
+    ensures err { IfErr result (λ fault. Refuses fault uri.now) }
+{
+    let names = names_in(uri)?;
+    path_of_names(alloc, names.as_bytes())
+}
+
+/// A path that has a URI is the one that its URI names.
+pub fn paths_come_back()
+    ensures { (path : List ℕ) → All (λ b. b < 256) path → IsPath path → Names (uri_of path) path }
+{}

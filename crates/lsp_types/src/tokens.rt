@@ -1,0 +1,86 @@
+//! Semantic tokens: what each word of a text is.
+ghost use Rattle.std.specs.Prelude.{◌≡◌, true, false, IfOk, MatchOption, None, OnOk, ◌++◌};
+
+use std::alloc::{AllocError, Global};
+
+/// A word of a text, and what it is (LSP 3.17, "Semantic Tokens").
+#[derive(Clone, Copy, Drop)]
+pub struct SemanticToken {
+    /// Its line, from 0.
+    pub line: u32,
+    /// Where it begins in its line, as `Position::character`.
+    pub start: u32,
+    /// How long it is, in the same units.
+    pub length: u32,
+    /// Its type, as a place in the legend's `token_types`.
+    pub token_type: u32,
+    /// Its modifiers: bit 0 stands for the first of the legend's `token_modifiers`, and so on.
+    pub token_modifiers: u32,
+}
+
+/// The result of `textDocument/semanticTokens/full` and `/range`, or null (LSP 3.17, "Semantic Tokens").
+#[derive(Drop)]
+pub struct SemanticTokens {
+    /// A name for this result, for requests of what changed since.
+    pub result_id: Option<String>,
+    /// Five numbers for each token.
+    pub data: Vec<u32>,
+}
+
+impl SemanticToken {
+    ghost use Rattle.lsp_types.specs.Tokens.{is_behind, five_behind};
+
+    /// Whether it stands behind a place, or at it.
+    fn is_behind(&self, line: u32, start: u32) -> bool
+        ensures { result ≡ is_behind line start self.now }
+    {
+        line < self.line || line == self.line && start <= self.start
+    }
+
+    /// Adds its numbers behind a place.
+    fn push_behind(&self, line: u32, start: u32, data: &mut Vec<u32>) -> Result<(), AllocError>
+        requires { is_behind line start self.now ≡ true }
+        ensures { OnOk result (data.new.items ≡ data.old.items ++ five_behind line start self.now) }
+    {
+        data.push(self.line - line)?;
+        if line == self.line {
+            data.push(self.start - start)?;
+        } else {
+            data.push(self.start)?;
+        }
+        data.push(self.length)?;
+        data.push(self.token_type)?;
+        data.push(self.token_modifiers)?;
+        Ok(())
+    }
+}
+
+impl SemanticTokens {
+    ghost use Rattle.lsp_types.specs.Tokens.{are_behind, numbers_behind};
+
+    /// The numbers of tokens (LSP 3.17, "Integer Encoding for Tokens"). `None` means that they are not in the order of the text.
+    pub fn encode(
+        alloc: Global,
+        tokens: &[SemanticToken],
+    ) -> Result<Option<SemanticTokens>, AllocError>
+        ensures { IfOk result (λ o. MatchOption o (are_behind 0 0 tokens.now ≡ false)
+            (λ found. (are_behind 0 0 tokens.now ≡ true)
+            × (found.«data».items ≡ numbers_behind 0 0 tokens.now) × (found.result_id ≡ None))) }
+    {
+        let mut data = Vec::new(alloc);
+        let mut line = 0;
+        let mut start = 0;
+        for token in tokens {
+            if !token.is_behind(line, start) {
+                return Ok(None);
+            }
+            token.push_behind(line, start, &mut data)?;
+            line = token.line;
+            start = token.start;
+        }
+        Ok(Some(SemanticTokens {
+            result_id: None,
+            data,
+        }))
+    }
+}

@@ -1,0 +1,64 @@
+// Paths and their URIs, the numbers of semantic tokens, and the place that params ask about.
+use crate::messages::value_in;
+use crate::stop::{Stop, cut};
+use lsp_text::{PositionEncoding, Text};
+use lsp_types::{FileUriFault, Position, SemanticToken, SemanticTokens, path_of_uri, uri_of_path};
+use serde_json::{Value, from_value, to_value};
+use std::alloc::{AllocError, Global};
+
+/// The URI of a path, or why it has none. The path is a text of JSON.
+pub fn uri(alloc: Global, text: &str) -> Result<String, Stop> {
+    let path = value_in(alloc, text)?;
+    let path = path.as_str().ok_or(Stop::Table)?;
+    told(alloc, uri_of_path(alloc, path))
+}
+
+/// The path of a URI as a text of JSON, or why it has none.
+pub fn path(alloc: Global, text: &str) -> Result<String, Stop> {
+    told(alloc, path_of_uri(alloc, text))
+}
+
+fn told(alloc: Global, outcome: Result<String, FileUriFault>) -> Result<String, Stop> {
+    match outcome {
+        Ok(text) => Ok(Value::String(text).to_string(alloc)?),
+        Err(FileUriFault::Memory) => Err(Stop::Memory),
+        Err(fault) => Ok(format!(in alloc; "{fault:?}")?),
+    }
+}
+
+/// The numbers of tokens, each of which is a list of five.
+pub fn tokens(alloc: Global, text: &str) -> Result<String, Stop> {
+    let value = value_in(alloc, text)?;
+    let lists: Vec<Vec<u32>> = from_value(alloc, value)?;
+    let tokens = tokens_in(alloc, lists.as_slice())?;
+    match SemanticTokens::encode(alloc, tokens.as_slice())? {
+        Some(found) => Ok(to_value(alloc, &found)?.to_string(alloc)?),
+        None => Ok(String::from_str(alloc, "not in order")?),
+    }
+}
+
+fn tokens_in(alloc: Global, lists: &[Vec<u32>]) -> Result<Vec<SemanticToken>, AllocError> {
+    let mut tokens = Vec::new(alloc);
+    for list in lists {
+        if let [line, start, length, token_type, token_modifiers] = list.as_slice() {
+            tokens.push(SemanticToken {
+                line: *line,
+                start: *start,
+                length: *length,
+                token_type: *token_type,
+                token_modifiers: *token_modifiers,
+            })?;
+        }
+    }
+    Ok(tokens)
+}
+
+/// Where a position is in a text, in bytes, by UTF-16. Both are given as JSON, the position first.
+pub fn offset(alloc: Global, text: &str) -> Result<String, Stop> {
+    let (position, text) = cut(text, " ")?;
+    let position: Position = from_value(alloc, value_in(alloc, position)?)?;
+    let text: String = from_value(alloc, value_in(alloc, text)?)?;
+    let text = Text::new(alloc, text.as_str())?;
+    let place = text.offset_at(position, PositionEncoding::Utf16);
+    Ok(format!(in alloc; "{place}")?)
+}
