@@ -3,6 +3,7 @@
 
 Each recording, each reply and each exit status is compared. It ends in status 1 at the first difference.
 """
+import json
 import os
 import socket
 import subprocess
@@ -236,6 +237,47 @@ def check_replay_in_another_order(log):
                 expect("the replay", replayed.end(), wanted)
 
 
+def progress(token, value):
+    params = {"token": token, "value": value}
+    return b'{"jsonrpc":"2.0","method":"$/progress","params":%s}' % json.dumps(params, separators=(",", ":")).encode()
+
+
+# Two long requests with tokens; the client cancels the second while it runs.
+JOBS = [*SLOW, b'{"jsonrpc":"2.0","method":"$/cancelRequest","params":{"id":2}}']
+BEGUN, FAR, DONE = (progress(1, {"kind": kind}) for kind in ["begin", "report", "end"])
+PARTS = [progress("first", [1]), progress("first", [2]), progress("second", [3])]
+CANCELED = b'{"jsonrpc":"2.0","id":2,"error":{"code":-32800,"message":"canceled by client"}}'
+CANCELED_FIRST = CANCELED.replace(b'"id":2', b'"id":1')
+
+
+def check_replay_of_jobs(log):
+    print("what time decides in a session with jobs is not compared, and all else is")
+    recorded = [b"-> " + it for it in JOBS]
+    recorded += [b"<- " + it for it in [BEGUN, FAR, PARTS[0], PARTS[2], PARTS[1], DONE, SLOW_REPLIES[0], CANCELED]]
+    log.write_bytes(b"".join(line + b"\n" for line in recorded))
+    good = (0, b"5 answers, each as recorded\n", b"")
+
+    def bad(wanted, found):
+        return 1, b"recorded: %s\nfound: %s\n" % (wanted, found), b"Error: not as recorded\n"
+
+    for said, wanted in [
+        ([BEGUN, FAR, PARTS[0], PARTS[2], PARTS[1], DONE, SLOW_REPLIES[0], CANCELED], good),
+        ([*PARTS, BEGUN, FAR, FAR, CANCELED, DONE, SLOW_REPLIES[0], FAR], good),
+        ([*PARTS, *SLOW_REPLIES], good),
+        ([PARTS[2], PARTS[1], PARTS[0], SLOW_REPLIES[0], CANCELED], bad(PARTS[0], PARTS[1])),
+        ([PARTS[0], PARTS[2], SLOW_REPLIES[0], CANCELED], bad(PARTS[1], b"nothing")),
+        ([*PARTS, SLOW_REPLIES[0], CANCELED, CANCELED], bad(b"nothing more", CANCELED)),
+        ([*PARTS, CANCELED_FIRST, CANCELED], bad(SLOW_REPLIES[0], CANCELED_FIRST)),
+    ]:
+        with socket.create_server((HOST, 0)) as listener, replay(log, listener.getsockname()[1]) as replayed:
+            listener.settimeout(PATIENCE)
+            with listener.accept()[0] as theirs:
+                receive(theirs, b"".join(map(frame, JOBS)))
+                theirs.sendall(b"".join(map(frame, said)))
+                theirs.shutdown(socket.SHUT_WR)
+                expect("the replay", replayed.end(), wanted)
+
+
 def main():
     for program in [SERVE, RECORDER]:
         if not os.access(program, os.X_OK):
@@ -243,7 +285,7 @@ def main():
             return 2
     try:
         with tempfile.TemporaryDirectory() as folder:
-            for check in [check_session, check_early_close, check_last_words, check_pipes, check_replay, check_replay_in_another_order]:
+            for check in [check_session, check_early_close, check_last_words, check_pipes, check_replay, check_replay_in_another_order, check_replay_of_jobs]:
                 check(Path(folder) / "session.log")
     except Difference as difference:
         print(f"recorder_client.py: FAILED: {difference}", file=sys.stderr)

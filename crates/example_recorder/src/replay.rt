@@ -2,8 +2,9 @@
 use crate::line::{Way, message_of, split};
 use anyhow::{Result, bail};
 use crossbeam_channel::Receiver;
-use lsp_server::{Connection, Message};
-use std::alloc::Global;
+use lsp_server::{Connection, ErrorCode, Message, RequestId, Response};
+use serde_json::Value;
+use std::alloc::{AllocError, Global};
 use std::io::Write;
 use std::sync::Wait;
 use std::time::{Clock, Duration};
@@ -26,8 +27,10 @@ pub fn write_frames<W: Write>(alloc: Global, recording: &str, writer: &mut W) ->
 /// Sends the client's messages of a recording, compares what the server says with what it said then, and counts that.
 ///
 /// If the recording has a message of the server, it is awaited. A reply may come earlier or later than it did, since requests may
-/// take other times. The server's notifications and requests keep their order. The first difference goes to `report`, and is an
-/// error. The connection is closed at the end.
+/// take other times. So may parts of a result, those of one token in their order. The server's other notifications and requests keep
+/// their order. How far a request is (`$/progress` of work done) is not compared. A request that the client cancels may come to what it
+/// came to, or to -32800 (LSP 3.17, "Cancellation Support"). The first difference goes to `report`, and is an error. The connection is
+/// closed at the end.
 pub fn compare<R: Wait + Clock + AllocGlobal, W: Write>(
     rt: &R,
     recording: &str,
@@ -36,19 +39,24 @@ pub fn compare<R: Wait + Clock + AllocGlobal, W: Write>(
 ) -> Result<u64> {
     let Connection { sender, receiver } = connection;
     let mut early = Vec::new(rt.alloc());
+    let mut cancelled = Vec::new(rt.alloc());
     let mut count: u64 = 0;
     for line in recording.lines() {
         let (way, body) = split(line)?;
         let message = message_of(rt.alloc(), body)?;
         match way {
             Way::ToServer => {
+                cancelled.extend(cancelled_by(&message)?)?;
                 if sender.send(rt, message).is_err() {
                     bail!("the server is gone");
                 }
             }
+            Way::ToClient if is_of_work_done(&message) => {}
             Way::ToClient => {
                 let found = find(rt, &receiver, &mut early, &message)?;
-                expect(rt.alloc(), found.as_ref(), Some(body), report)?;
+                if !is_by_cancellation(found.as_ref(), &message, cancelled.as_slice()) {
+                    expect(rt.alloc(), found.as_ref(), Some(body), report)?;
+                }
                 count = count.saturating_add(1);
             }
         }
@@ -79,19 +87,79 @@ fn find<R: Wait + Clock>(
     Ok(None)
 }
 
+/// The server's next message that is compared.
 fn receive<R: Wait + Clock>(rt: &R, receiver: &Receiver<Message>) -> Option<Message> {
-    receiver
-        .recv_timeout(rt, Duration::from_secs(PATIENCE))
-        .ok()
+    for _ in rt.forever() {
+        match receiver.recv_timeout(rt, Duration::from_secs(PATIENCE)) {
+            Ok(message) if is_of_work_done(&message) => {}
+            Ok(message) => return Some(message),
+            Err(_) => break,
+        }
+    }
+    None
 }
 
-/// Whether both are replies to one request, or none is a reply: such messages have one order.
+/// The params of a notification of progress.
+fn progress_in(message: &Message) -> Option<&Value> {
+    match message {
+        Message::Notification(told) if told.method.as_str() == "$/progress" => Some(&told.params),
+        _ => None,
+    }
+}
+
+/// Whether a message says how far a request is, and is no part of a result (LSP 3.17, "Work Done Progress").
+fn is_of_work_done(message: &Message) -> bool {
+    progress_in(message).is_some_and(|params| params.pointer("/value/kind").is_some())
+}
+
+/// The request that the client cancels by a message.
+fn cancelled_by(message: &Message) -> Result<Option<RequestId>, AllocError> {
+    match message {
+        Message::Notification(sent) if sent.method.as_str() == "$/cancelRequest" => {
+            match sent.params.get("id") {
+                Some(id) => RequestId::from_value(id),
+                None => Ok(None),
+            }
+        }
+        _ => Ok(None),
+    }
+}
+
+/// Whether both are replies to a request that the client cancelled, and one says so by its error.
+fn is_by_cancellation(
+    found: Option<&Message>,
+    recorded: &Message,
+    cancelled: &[RequestId],
+) -> bool {
+    match (found, recorded) {
+        (Some(Message::Response(found)), Message::Response(recorded)) => {
+            cancelled.contains(&recorded.id) && (is_refused(found) || is_refused(recorded))
+        }
+        _ => false,
+    }
+}
+
+/// Whether a reply is the error of a request that was cancelled.
+fn is_refused(reply: &Response) -> bool {
+    match &reply.response_result {
+        Ok(_found) => false,
+        Err(error) => error.code == ErrorCode::RequestCanceled.number(),
+    }
+}
+
+/// Whether both are replies to one request, or progress under one token, or neither: such messages have one order.
 fn is_in_place_of(found: &Message, recorded: &Message) -> bool {
     match (found, recorded) {
         (Message::Response(found), Message::Response(recorded)) => found.id == recorded.id,
         (Message::Response(_reply), _other) | (_other, Message::Response(_reply)) => false,
-        _ => true,
+        _ => token_of(found) == token_of(recorded),
     }
+}
+
+/// The token of progress: a text or a number (LSP 3.17, `ProgressToken`).
+fn token_of(message: &Message) -> Option<(Option<&str>, Option<i64>)> {
+    let token = progress_in(message)?.get("token")?;
+    Some((token.as_str(), token.as_i64()))
 }
 
 /// Compares what was found with what was recorded. With no recorded body nothing is to be found.
