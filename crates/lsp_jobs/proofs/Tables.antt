@@ -1,6 +1,6 @@
 -- Each request that waits has the ticket of its job.
 use Rattle.serde_json.specs.Data.{Data}
-use Rattle.std.proofs.Common.{◌≡◌, refl, sym, ◌∙◌, ap, subst, ℕ, Bool, true, false, cond, List, [], ◌∷◌, ◌++◌, length, ◌+◌, Option, Some, None, option_map, Result, Ok, Err, OnErr, OnOk}
+use Rattle.std.proofs.Common.{◌≡◌, sym, ◌∙◌, ap, subst, ℕ, Bool, true, false, cond, List, [], ◌∷◌, ◌++◌, length, ◌+◌, Some, None, option_map, Result, Ok, Err, OnErr, OnOk}
 use Rattle.std.specs.FinMap.{FinMap, get-empty, get-insert, get-remove}
 use Rattle.std.specs.FinMap as map
 use Rattle.std.specs.Ordering.{eq_by_cmp}
@@ -12,7 +12,6 @@ use Rattle.lsp_message.specs.Id.{Id, id_cmp}
 use Rattle.lsp_message.specs.IdLaws.{id_total}
 use Rattle.lsp_jobs.proofs.Tickets.{still, newest}
 use Rattle.lsp_jobs.specs.Outcomes.{KnowsAll, IsSaidBy, MaySend, all_jobs}
-use Rattle.lsp_jobs.specs.PendingJobs.{PendingJobs}
 use Rattle.lsp_jobs.specs.Waiting.{HaveTickets, MaySay, job_of, pending_of}
 use Rattle.lsp_jobs.specs.declared.channel.Item.{Item}
 use Rattle.lsp_jobs.specs.declared.channel.Known.{Known}
