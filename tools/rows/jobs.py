@@ -192,8 +192,6 @@ class Working(Talker):
         """The job that a request gives, if it gives one."""
         if "id" in came and came.get("method", "").startswith("job "):
             return self.make(came["method"][4:], came.get("params"))
-        if "id" in came and came.get("method") == "fixed":
-            return self.make("fixed", came.get("params"))
         return None
 
     def replied(self, came):

@@ -295,7 +295,7 @@ impl Job for Fixed {
     }
 }
 
-/// The job of all rows: one with a script, or a fixed one.
+/// The job of a pool by hand: one with a script, or a fixed one.
 pub type AnyJob = Either<Scripted, Fixed>;
 
 /// The id of a job that answers no request.

@@ -1,7 +1,8 @@
 // A pool by hand: `pool WORKERS STEP; STEP ..`, or `WORKERS:WAITING` if only so many jobs may wait. A step is one of these, with what is
 // told of it:
 //
-// - `submit ID KEY SCRIPT`: gives the pool a job (`jobs.rt`), which comes to the list of the key: `taken`, `full KEY` or `no memory`.
+// - `submit ID KEY SCRIPT`: gives the pool a job (`jobs.rt`), which comes to the list of the key: `taken`, `full KEY` or `no memory`. With the
+//   script `fixed` it is one of another kind.
 // - `begun N`, `ended N`, `reported N`: waits until N jobs began, ended or were done with their reports; nothing is told.
 // - `hear`: waits for a signal: `heard`, or `closed`.
 // - `message`: takes the next message: `ID report PARAMS`, `ID ask NUMBER METHOD PARAMS`, `ID outcome VALUE of KEY`,
@@ -12,7 +13,7 @@
 //
 // The client of such a job gave the tokens `w` and 7. At the end the pool is ended, nothing more may be heard then, and it is told how many jobs began and how many saw their cancellation.
 use crate::attempt::{Attempt, Stop};
-use crate::jobs::{AnyJob, Scripted};
+use crate::jobs::{AnyJob, Fixed, Scripted};
 use crate::signals::{Signal, Signals};
 use crate::table::pool_of;
 use crossbeam_channel::Receiver;
@@ -198,6 +199,10 @@ fn job_of(
     script: &str,
     key: i32,
 ) -> Result<AnyJob, AllocError> {
+    let value = json!(in alloc; [key])?;
+    if script == "fixed" {
+        return Ok(Either::Right(Fixed { value }));
+    }
     let params = json!(in alloc; { "workDoneToken": "w", "partialResultToken": 7 })?;
     Ok(Either::Left(Scripted {
         alloc,
@@ -205,6 +210,6 @@ fn job_of(
         script: String::from_str(alloc, script)?,
         work: WorkDone::of(alloc, &params)?,
         parts: PartialResults::of(alloc, &params)?,
-        value: json!(in alloc; [key])?,
+        value,
     }))
 }

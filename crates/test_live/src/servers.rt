@@ -1,7 +1,6 @@
 // The handler of all rows, and their server: it speaks, asks, and starts jobs.
-use crate::jobs::{AnyJob, Fixed, Scripted, own_id};
+use crate::jobs::{Scripted, own_id};
 use crate::signals::{Signal, Signals};
-use either::Either;
 use lsp_jobs::{AnsweredBy, JobEnd, JobServer, NewJob, PartialResults, WorkDone};
 use lsp_message::{Notification, Request, RequestId, ResponseError};
 use lsp_service::{Act, Server};
@@ -52,8 +51,8 @@ pub enum Asked {
 /// - It says `demo/hello` first, and asks for the configuration.
 /// - It answers `demo/echo` with its params, asks its client `demo/asked` at `demo/ask` and answers with the reply, keeps `demo/hold`
 ///   until the next notification, and knows no other method but two:
-/// - `job SCRIPT` gives a job with this script (`jobs.rt`), which comes to the params. `fixed` gives one of another kind. `later SCRIPT`
-///   is one that it starts at the notification `start`. What it keeps for a job is the job's number, from 1.
+/// - `job SCRIPT` gives a job with this script (`jobs.rt`), which comes to the params. `later SCRIPT` is one that it starts at the
+///   notification `start`. What it keeps for a job is the job's number, from 1.
 /// - The notification `job SCRIPT` starts a job under an id of its own, whose outcome it publishes. At `answer` it answers the request
 ///   whose id is the first of the params itself. At one whose method begins with `$/` it does nothing.
 /// - At another notification it pushes its params, asks for the configuration and answers what it keeps.
@@ -75,7 +74,7 @@ pub struct Talker {
 type Acts = Vec<Act<Asked>>;
 
 /// A job with its number.
-type Numbered = NewJob<AnyJob, u64>;
+type Numbered = NewJob<Scripted, u64>;
 
 impl Talker {
     /// A server to which nothing came.
@@ -110,7 +109,7 @@ impl Talker {
     }
 
     /// A job with this script, and its number.
-    fn job_of(&mut self, script: &str, value: Value) -> Result<(AnyJob, u64), AllocError> {
+    fn job_of(&mut self, script: &str, value: Value) -> Result<(Scripted, u64), AllocError> {
         self.numbered = self.numbered.saturating_add(1);
         let job = Scripted {
             alloc: self.alloc,
@@ -120,7 +119,7 @@ impl Talker {
             parts: PartialResults::of(self.alloc, &value)?,
             value,
         };
-        Ok((Either::Left(job), self.numbered))
+        Ok((job, self.numbered))
     }
 
     /// Keeps the job of a request `later SCRIPT`. Other requests come back.
@@ -234,7 +233,7 @@ impl Server for Talker {
     }
 }
 
-impl JobServer<AnyJob> for Talker {
+impl JobServer<Scripted> for Talker {
     ghost use Rattle.std.specs.Prelude.{⊤};
 
     type Key = u64;
@@ -243,14 +242,7 @@ impl JobServer<AnyJob> for Talker {
 
     ghost finishes = { λ _ _ _ _ _ _. ⊤ };
 
-    fn job(&mut self, request: Request) -> Result<AnsweredBy<AnyJob, u64>, AllocError> {
-        if request.method.as_str() == "fixed" {
-            self.numbered = self.numbered.saturating_add(1);
-            let job = Fixed {
-                value: request.params,
-            };
-            return Ok(AnsweredBy::Job(Either::Right(job), self.numbered));
-        }
+    fn job(&mut self, request: Request) -> Result<AnsweredBy<Scripted, u64>, AllocError> {
         let Some(script) = request.method.as_str().strip_prefix("job ") else {
             return Ok(AnsweredBy::Server(request));
         };
