@@ -10,8 +10,8 @@ use lsp_message::ResponseError;
 use serde_json::Value;
 use std::alloc::AllocError;
 
-/// A job of one of two kinds: a server with both is a `JobServer<Either<A, B>>`, and one with three kinds a
-/// `JobServer<Either<A, Either<B, C>>>`. It is for what its kind is for, and answers, reports and asks what that does.
+/// A job of one of two kinds, for a `JobPool`. It is for what its kind is for, and answers, reports and asks what that does. No server
+/// over it has been proved: the checker of kit 13f stops at an `impl JobServer<Either<A, B>>` of two concrete jobs.
 impl<A: Job, B: Job> Job for Either<A, B> {
     ghost use Rattle.either.specs.Either.{MatchEither};
 

@@ -86,8 +86,11 @@ impl Unread {
 
     /// Nobody waits for the job any more.
     pub fn cancel(&self) {
-        if !self.is_cancelled() {
-            let _ = self.word.fetch_add(CANCELLED, Ordering::SeqCst);
+        if self.is_cancelled() {
+            return;
+        }
+        // The job's thread sleeps only where there is no room.
+        if self.word.fetch_add(CANCELLED, Ordering::SeqCst) >= MESSAGES {
             self.word.wake_all();
         }
     }
