@@ -1,10 +1,11 @@
-// The types as JSON: members are written and read one after another, under the standard's names. For a wide type this takes the
-// prover a fifth of what the derives take.
+// The types as JSON: members are written and read one after another, under the standard's names. No step gives up on its own: what
+// fails is kept until the object's end, so that nothing is let go half way. That is what makes the derives dear for the prover.
 use serde::{Deserialize, Deserializer, Format, Kind, Name, Serialize, Serializer};
 use serde_json::Value;
 use std::alloc::Global;
 
 mod actions;
+mod blanks;
 mod capabilities;
 mod completions;
 mod diagnostics;
@@ -20,52 +21,58 @@ mod tokens;
 mod window;
 mod workspace;
 
+/// A value that stands for one that could not be read.
+pub trait Blank {
+    /// It. What holds it is let go.
+    fn blank(alloc: Global) -> Self;
+}
+
 /// An object that is written. After a failure nothing is written.
 #[derive(Drop)]
-pub struct Object<S: Serializer> {
+pub struct Object<'s, S: Serializer> {
+    out: &'s mut S,
     done: Result<(), S::Error>,
 }
 
-impl<S: Serializer> Object<S> {
+impl<'s, S: Serializer> Object<'s, S> {
     /// Begins it.
-    pub fn begin(out: &mut S) -> Object<S> {
-        Object {
-            done: out.begin_map(None),
-        }
+    pub fn begin(out: &'s mut S) -> Object<'s, S> {
+        let done = out.begin_map(None);
+        Object { out, done }
     }
 
     /// Writes a member.
-    pub fn member<T: Serialize>(&mut self, name: &str, value: &T, out: &mut S) {
-        if self.done.is_ok() {
-            self.done = put(name, value, out);
-        }
-    }
-
-    /// Writes a member `kind` of this name.
-    pub fn kind(&mut self, name: &str, out: &mut S) {
-        if self.done.is_ok() {
-            self.done = put_kind(name, out);
-        }
+    pub fn member<T: Serialize>(self, name: &str, value: &T) -> Object<'s, S> {
+        let Object { out, done } = self;
+        let done = match done {
+            Ok(()) => put(name, value, out),
+            Err(failed) => Err(failed),
+        };
+        Object { out, done }
     }
 
     /// Writes a member, if it has a value.
-    pub fn some<T: Serialize>(&mut self, name: &str, value: &Option<T>, out: &mut S) {
-        if let Some(value) = value {
-            self.member(name, value, out);
+    pub fn some<T: Serialize>(self, name: &str, value: &Option<T>) -> Object<'s, S> {
+        match value {
+            Some(value) => self.member(name, value),
+            None => self,
         }
     }
 
-    /// Writes the members of an object beside the others. Another value fails.
-    pub fn rest(&mut self, value: &Value, out: &mut S) {
-        if self.done.is_ok() {
-            self.done = put_rest(value, out);
-        }
+    /// Writes the members of an object beside the others, if there is one. Another value fails.
+    pub fn rest(self, value: &Option<Value>) -> Object<'s, S> {
+        let Object { out, done } = self;
+        let done = match (done, value) {
+            (Ok(()), Some(value)) => put_rest(value, out),
+            (done, _) => done,
+        };
+        Object { out, done }
     }
 
     /// Ends it, or gives what failed.
-    pub fn end(self, out: &mut S) -> Result<(), S::Error> {
+    pub fn end(self) -> Result<(), S::Error> {
         self.done?;
-        out.end_map()
+        self.out.end_map()
     }
 }
 
@@ -79,101 +86,112 @@ fn put_rest<S: Serializer>(value: &Value, out: &mut S) -> Result<(), S::Error> {
     value.serialize(out)
 }
 
-fn put_kind<S: Serializer>(name: &str, out: &mut S) -> Result<(), S::Error> {
-    out.key("kind")?;
-    out.str(name)
-}
-
-/// The members of an object that is read. Each is looked for from the object's begin, and others are passed over.
+/// The members of an object that is read. Each is looked for from the object's begin, and others are passed over. After a failure
+/// nothing is read.
 #[derive(Drop)]
-pub struct Members<F: Format> {
+pub struct Members<'f, 'de, 's, F: Format> {
     alloc: Global,
+    from: &'f mut Deserializer<'de, 's, F>,
     start: F::Mark,
     failed: Option<F::Error>,
 }
 
-impl<F: Format> Members<F> {
+impl<'f, 'de, 's, F: Format> Members<'f, 'de, 's, F> {
     /// Those of the object that comes next.
-    pub fn of(alloc: Global, from: &mut Deserializer<'_, '_, F>) -> Members<F> {
+    pub fn of(alloc: Global, from: &'f mut Deserializer<'de, 's, F>) -> Members<'f, 'de, 's, F> {
+        let start = from.mark();
         Members {
             alloc,
-            start: from.mark(),
+            from,
+            start,
             failed: None,
         }
     }
 
-    /// The member of a name, if there is one.
-    fn find<'de, T: Deserialize<'de>>(
-        &self,
-        name: &str,
-        from: &mut Deserializer<'de, '_, F>,
-    ) -> Result<Option<T>, F::Error> {
-        from.rewind(self.start);
-        let names = [Name::exact(name)];
-        let mut found = None;
-        from.begin_map()?;
-        for _ in 0..u64::MAX {
-            match from.next_key(&names)? {
-                Some(0) if found.is_some() => return Err(from.duplicate(name)),
-                Some(0) => found = Some(value_of(self.alloc, name, from)?),
-                Some(_) => from.skip()?,
-                None => break,
+    /// A member that has to be there.
+    pub fn required<T: Deserialize<'de> + Blank>(&mut self, name: &str) -> T {
+        match self.found(name) {
+            Some(value) => value,
+            None => {
+                self.lacks(name);
+                T::blank(self.alloc)
             }
         }
-        Ok(found)
     }
 
-    /// A member that has to be there.
-    pub fn required<'de, T: Deserialize<'de>>(
-        &self,
-        name: &str,
-        from: &mut Deserializer<'de, '_, F>,
-    ) -> Result<T, F::Error> {
-        match self.find(name, from)? {
-            Some(value) => Ok(value),
-            None => Err(from.missing(name)),
+    /// A member that may be missing or null.
+    pub fn optional<T: Deserialize<'de>>(&mut self, name: &str) -> Option<T> {
+        self.found::<Option<T>>(name).flatten()
+    }
+
+    /// Has the member `kind` be this name.
+    pub fn kind(&mut self, name: &str) {
+        let kind: String = self.required("kind");
+        if kind.as_str() != name && self.failed.is_none() {
+            self.failed = Some(self.from.unknown_variant());
         }
     }
 
-    /// Looks whether the member `kind` has this name.
-    pub fn kind<'de>(
-        &self,
-        name: &str,
-        from: &mut Deserializer<'de, '_, F>,
-    ) -> Result<(), F::Error> {
-        let kind: String = self.required("kind", from)?;
-        if kind.as_str() == name {
-            Ok(())
-        } else {
-            Err(from.unknown_variant())
+    /// What was made of the object, if each member could be read. The last search for one has passed it.
+    pub fn end<T: Drop>(self, value: T) -> Result<T, F::Error> {
+        let Members {
+            from,
+            start,
+            failed,
+            ..
+        } = self;
+        match failed {
+            None => {
+                from.release(start);
+                Ok(value)
+            }
+            Some(failed) => {
+                drop(value);
+                Err(failed)
+            }
         }
     }
 
-    /// A member that may be missing or null. If it can't be read, `end` says so.
-    pub fn optional<'de, T: Deserialize<'de>>(
-        &mut self,
-        name: &str,
-        from: &mut Deserializer<'de, '_, F>,
-    ) -> Option<T> {
-        match self.find::<Option<T>>(name, from) {
-            Ok(value) => value.flatten(),
-            Err(error) => {
-                self.failed = Some(error);
+    fn lacks(&mut self, name: &str) {
+        if self.failed.is_none() {
+            self.failed = Some(self.from.missing(name));
+        }
+    }
+
+    /// The member of a name, if there is one and it could be read.
+    fn found<T: Deserialize<'de>>(&mut self, name: &str) -> Option<T> {
+        if self.failed.is_some() {
+            return None;
+        }
+        self.from.rewind(self.start);
+        match find(self.alloc, name, self.from) {
+            Ok(found) => found,
+            Err(failed) => {
+                self.failed = Some(failed);
                 None
             }
         }
     }
+}
 
-    /// Passes the object, and gives what was made of it if each member could be read.
-    pub fn end<T: Drop>(self, value: T, from: &mut Deserializer<'_, '_, F>) -> Result<T, F::Error> {
-        if let Some(error) = self.failed {
-            return Err(error);
+/// The member of a name in the object that comes next, if there is one.
+fn find<'de, T: Deserialize<'de>, F: Format>(
+    alloc: Global,
+    name: &str,
+    from: &mut Deserializer<'de, '_, F>,
+) -> Result<Option<T>, F::Error> {
+    let names = [Name::exact(name)];
+    let mut found = None;
+    from.begin_map()?;
+    for _ in 0..u64::MAX {
+        match from.next_key(&names)? {
+            Some(0) if found.is_some() => return Err(from.duplicate(name)),
+            Some(0) => found = Some(value_of(alloc, name, from)?),
+            Some(_) => from.skip()?,
+            None => break,
         }
-        from.rewind(self.start);
-        from.skip()?;
-        from.release(self.start);
-        Ok(value)
     }
+    Ok(found)
 }
 
 /// The value of a member. If it is no object and no list, and does not fit, the error names the member.

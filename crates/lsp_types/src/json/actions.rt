@@ -11,11 +11,11 @@ impl Described for CodeActionParams {}
 
 impl Serialize for CodeActionParams {
     fn serialize<S: Serializer>(&self, out: &mut S) -> Result<(), S::Error> {
-        let mut object = Object::begin(out);
-        object.member("textDocument", &self.text_document, out);
-        object.member("range", &self.range, out);
-        object.member("context", &self.context, out);
-        object.end(out)
+        Object::begin(out)
+            .member("textDocument", &self.text_document)
+            .member("range", &self.range)
+            .member("context", &self.context)
+            .end()
     }
 }
 
@@ -24,16 +24,13 @@ impl DeserializeOwned for CodeActionParams {
         alloc: Global,
         from: &mut Deserializer<'_, '_, F>,
     ) -> Result<CodeActionParams, F::Error> {
-        let members = Members::of(alloc, from);
-        let text_document = members.required("textDocument", from)?;
-        let range = members.required("range", from)?;
-        let context = members.required("context", from)?;
+        let mut members = Members::of(alloc, from);
         let read = CodeActionParams {
-            text_document,
-            range,
-            context,
+            text_document: members.required("textDocument"),
+            range: members.required("range"),
+            context: members.required("context"),
         };
-        members.end(read, from)
+        members.end(read)
     }
 }
 
@@ -41,11 +38,11 @@ impl Described for CodeActionContext {}
 
 impl Serialize for CodeActionContext {
     fn serialize<S: Serializer>(&self, out: &mut S) -> Result<(), S::Error> {
-        let mut object = Object::begin(out);
-        object.member("diagnostics", &self.diagnostics, out);
-        object.some("only", &self.only, out);
-        object.some("triggerKind", &self.trigger_kind, out);
-        object.end(out)
+        Object::begin(out)
+            .member("diagnostics", &self.diagnostics)
+            .some("only", &self.only)
+            .some("triggerKind", &self.trigger_kind)
+            .end()
     }
 }
 
@@ -55,13 +52,12 @@ impl<'de> Deserialize<'de> for CodeActionContext {
         from: &mut Deserializer<'de, '_, F>,
     ) -> Result<CodeActionContext, F::Error> {
         let mut members = Members::of(alloc, from);
-        let diagnostics = members.required("diagnostics", from)?;
         let read = CodeActionContext {
-            diagnostics,
-            only: members.optional("only", from),
-            trigger_kind: members.optional("triggerKind", from),
+            diagnostics: members.required("diagnostics"),
+            only: members.optional("only"),
+            trigger_kind: members.optional("triggerKind"),
         };
-        members.end(read, from)
+        members.end(read)
     }
 }
 
@@ -78,7 +74,10 @@ impl<'de> Deserialize<'de> for CodeActionTriggerKind {
         alloc: Global,
         from: &mut Deserializer<'de, '_, F>,
     ) -> Result<CodeActionTriggerKind, F::Error> {
-        Ok(CodeActionTriggerKind(number_within(alloc, from, 1, 2)?))
+        match number_within(alloc, from, 1, 2) {
+            Ok(number) => Ok(CodeActionTriggerKind(number)),
+            Err(failed) => Err(failed),
+        }
     }
 }
 
@@ -86,15 +85,15 @@ impl Described for CodeAction {}
 
 impl Serialize for CodeAction {
     fn serialize<S: Serializer>(&self, out: &mut S) -> Result<(), S::Error> {
-        let mut object = Object::begin(out);
-        object.member("title", &self.title, out);
-        object.some("kind", &self.kind, out);
-        object.some("diagnostics", &self.diagnostics, out);
-        object.some("isPreferred", &self.is_preferred, out);
-        object.some("edit", &self.edit, out);
-        object.some("command", &self.command, out);
-        object.some("data", &self.data, out);
-        object.end(out)
+        Object::begin(out)
+            .member("title", &self.title)
+            .some("kind", &self.kind)
+            .some("diagnostics", &self.diagnostics)
+            .some("isPreferred", &self.is_preferred)
+            .some("edit", &self.edit)
+            .some("command", &self.command)
+            .some("data", &self.data)
+            .end()
     }
 }
 
@@ -104,16 +103,15 @@ impl DeserializeOwned for CodeAction {
         from: &mut Deserializer<'_, '_, F>,
     ) -> Result<CodeAction, F::Error> {
         let mut members = Members::of(alloc, from);
-        let title = members.required("title", from)?;
         let read = CodeAction {
-            title,
-            kind: members.optional("kind", from),
-            diagnostics: members.optional("diagnostics", from),
-            is_preferred: members.optional("isPreferred", from),
-            edit: members.optional("edit", from),
-            command: members.optional("command", from),
-            data: members.optional("data", from),
+            title: members.required("title"),
+            kind: members.optional("kind"),
+            diagnostics: members.optional("diagnostics"),
+            is_preferred: members.optional("isPreferred"),
+            edit: members.optional("edit"),
+            command: members.optional("command"),
+            data: members.optional("data"),
         };
-        members.end(read, from)
+        members.end(read)
     }
 }

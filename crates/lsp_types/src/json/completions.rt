@@ -20,7 +20,10 @@ impl<'de> Deserialize<'de> for CompletionItemKind {
         alloc: Global,
         from: &mut Deserializer<'de, '_, F>,
     ) -> Result<CompletionItemKind, F::Error> {
-        Ok(CompletionItemKind(number_within(alloc, from, 1, 25)?))
+        match number_within(alloc, from, 1, 25) {
+            Ok(number) => Ok(CompletionItemKind(number)),
+            Err(failed) => Err(failed),
+        }
     }
 }
 
@@ -37,7 +40,10 @@ impl<'de> Deserialize<'de> for InsertTextFormat {
         alloc: Global,
         from: &mut Deserializer<'de, '_, F>,
     ) -> Result<InsertTextFormat, F::Error> {
-        Ok(InsertTextFormat(number_within(alloc, from, 1, 2)?))
+        match number_within(alloc, from, 1, 2) {
+            Ok(number) => Ok(InsertTextFormat(number)),
+            Err(failed) => Err(failed),
+        }
     }
 }
 
@@ -45,20 +51,20 @@ impl Described for CompletionItem {}
 
 impl Serialize for CompletionItem {
     fn serialize<S: Serializer>(&self, out: &mut S) -> Result<(), S::Error> {
-        let mut object = Object::begin(out);
-        object.member("label", &self.label, out);
-        object.some("kind", &self.kind, out);
-        object.some("detail", &self.detail, out);
-        object.some("documentation", &self.documentation, out);
-        object.some("sortText", &self.sort_text, out);
-        object.some("filterText", &self.filter_text, out);
-        object.some("insertText", &self.insert_text, out);
-        object.some("insertTextFormat", &self.insert_text_format, out);
-        object.some("textEdit", &self.text_edit, out);
-        object.some("additionalTextEdits", &self.additional_text_edits, out);
-        object.some("command", &self.command, out);
-        object.some("data", &self.data, out);
-        object.end(out)
+        Object::begin(out)
+            .member("label", &self.label)
+            .some("kind", &self.kind)
+            .some("detail", &self.detail)
+            .some("documentation", &self.documentation)
+            .some("sortText", &self.sort_text)
+            .some("filterText", &self.filter_text)
+            .some("insertText", &self.insert_text)
+            .some("insertTextFormat", &self.insert_text_format)
+            .some("textEdit", &self.text_edit)
+            .some("additionalTextEdits", &self.additional_text_edits)
+            .some("command", &self.command)
+            .some("data", &self.data)
+            .end()
     }
 }
 
@@ -68,22 +74,21 @@ impl<'de> Deserialize<'de> for CompletionItem {
         from: &mut Deserializer<'de, '_, F>,
     ) -> Result<CompletionItem, F::Error> {
         let mut members = Members::of(alloc, from);
-        let label = members.required("label", from)?;
         let read = CompletionItem {
-            label,
-            kind: members.optional("kind", from),
-            detail: members.optional("detail", from),
-            documentation: members.optional("documentation", from),
-            sort_text: members.optional("sortText", from),
-            filter_text: members.optional("filterText", from),
-            insert_text: members.optional("insertText", from),
-            insert_text_format: members.optional("insertTextFormat", from),
-            text_edit: members.optional("textEdit", from),
-            additional_text_edits: members.optional("additionalTextEdits", from),
-            command: members.optional("command", from),
-            data: members.optional("data", from),
+            label: members.required("label"),
+            kind: members.optional("kind"),
+            detail: members.optional("detail"),
+            documentation: members.optional("documentation"),
+            sort_text: members.optional("sortText"),
+            filter_text: members.optional("filterText"),
+            insert_text: members.optional("insertText"),
+            insert_text_format: members.optional("insertTextFormat"),
+            text_edit: members.optional("textEdit"),
+            additional_text_edits: members.optional("additionalTextEdits"),
+            command: members.optional("command"),
+            data: members.optional("data"),
         };
-        members.end(read, from)
+        members.end(read)
     }
 }
 
@@ -100,10 +105,10 @@ impl Described for CompletionList {}
 
 impl Serialize for CompletionList {
     fn serialize<S: Serializer>(&self, out: &mut S) -> Result<(), S::Error> {
-        let mut object = Object::begin(out);
-        object.member("isIncomplete", &self.is_incomplete, out);
-        object.member("items", &self.items, out);
-        object.end(out)
+        Object::begin(out)
+            .member("isIncomplete", &self.is_incomplete)
+            .member("items", &self.items)
+            .end()
     }
 }
 
@@ -112,13 +117,11 @@ impl DeserializeOwned for CompletionList {
         alloc: Global,
         from: &mut Deserializer<'_, '_, F>,
     ) -> Result<CompletionList, F::Error> {
-        let members = Members::of(alloc, from);
-        let is_incomplete = members.required("isIncomplete", from)?;
-        let items = members.required("items", from)?;
+        let mut members = Members::of(alloc, from);
         let read = CompletionList {
-            is_incomplete,
-            items,
+            is_incomplete: members.required("isIncomplete"),
+            items: members.required("items"),
         };
-        members.end(read, from)
+        members.end(read)
     }
 }

@@ -23,7 +23,10 @@ impl<'de> Deserialize<'de> for DiagnosticSeverity {
         alloc: Global,
         from: &mut Deserializer<'de, '_, F>,
     ) -> Result<DiagnosticSeverity, F::Error> {
-        Ok(DiagnosticSeverity(number_within(alloc, from, 1, 4)?))
+        match number_within(alloc, from, 1, 4) {
+            Ok(number) => Ok(DiagnosticSeverity(number)),
+            Err(failed) => Err(failed),
+        }
     }
 }
 
@@ -40,7 +43,10 @@ impl<'de> Deserialize<'de> for DiagnosticTag {
         alloc: Global,
         from: &mut Deserializer<'de, '_, F>,
     ) -> Result<DiagnosticTag, F::Error> {
-        Ok(DiagnosticTag(number_within(alloc, from, 1, 2)?))
+        match number_within(alloc, from, 1, 2) {
+            Ok(number) => Ok(DiagnosticTag(number)),
+            Err(failed) => Err(failed),
+        }
     }
 }
 
@@ -48,10 +54,10 @@ impl Described for DiagnosticRelatedInformation {}
 
 impl Serialize for DiagnosticRelatedInformation {
     fn serialize<S: Serializer>(&self, out: &mut S) -> Result<(), S::Error> {
-        let mut object = Object::begin(out);
-        object.member("location", &self.location, out);
-        object.member("message", &self.message, out);
-        object.end(out)
+        Object::begin(out)
+            .member("location", &self.location)
+            .member("message", &self.message)
+            .end()
     }
 }
 
@@ -60,11 +66,12 @@ impl<'de> Deserialize<'de> for DiagnosticRelatedInformation {
         alloc: Global,
         from: &mut Deserializer<'de, '_, F>,
     ) -> Result<DiagnosticRelatedInformation, F::Error> {
-        let members = Members::of(alloc, from);
-        let location = members.required("location", from)?;
-        let message = members.required("message", from)?;
-        let read = DiagnosticRelatedInformation { location, message };
-        members.end(read, from)
+        let mut members = Members::of(alloc, from);
+        let read = DiagnosticRelatedInformation {
+            location: members.required("location"),
+            message: members.required("message"),
+        };
+        members.end(read)
     }
 }
 
@@ -72,16 +79,16 @@ impl Described for Diagnostic {}
 
 impl Serialize for Diagnostic {
     fn serialize<S: Serializer>(&self, out: &mut S) -> Result<(), S::Error> {
-        let mut object = Object::begin(out);
-        object.member("range", &self.range, out);
-        object.some("severity", &self.severity, out);
-        object.some("code", &self.code, out);
-        object.some("source", &self.source, out);
-        object.member("message", &self.message, out);
-        object.some("tags", &self.tags, out);
-        object.some("relatedInformation", &self.related_information, out);
-        object.some("data", &self.data, out);
-        object.end(out)
+        Object::begin(out)
+            .member("range", &self.range)
+            .some("severity", &self.severity)
+            .some("code", &self.code)
+            .some("source", &self.source)
+            .member("message", &self.message)
+            .some("tags", &self.tags)
+            .some("relatedInformation", &self.related_information)
+            .some("data", &self.data)
+            .end()
     }
 }
 
@@ -91,19 +98,17 @@ impl<'de> Deserialize<'de> for Diagnostic {
         from: &mut Deserializer<'de, '_, F>,
     ) -> Result<Diagnostic, F::Error> {
         let mut members = Members::of(alloc, from);
-        let range = members.required("range", from)?;
-        let message = members.required("message", from)?;
         let read = Diagnostic {
-            range,
-            severity: members.optional("severity", from),
-            code: members.optional("code", from),
-            source: members.optional("source", from),
-            message,
-            tags: members.optional("tags", from),
-            related_information: members.optional("relatedInformation", from),
-            data: members.optional("data", from),
+            range: members.required("range"),
+            severity: members.optional("severity"),
+            code: members.optional("code"),
+            source: members.optional("source"),
+            message: members.required("message"),
+            tags: members.optional("tags"),
+            related_information: members.optional("relatedInformation"),
+            data: members.optional("data"),
         };
-        members.end(read, from)
+        members.end(read)
     }
 }
 
@@ -111,11 +116,11 @@ impl Described for PublishDiagnosticsParams {}
 
 impl Serialize for PublishDiagnosticsParams {
     fn serialize<S: Serializer>(&self, out: &mut S) -> Result<(), S::Error> {
-        let mut object = Object::begin(out);
-        object.member("uri", &self.uri, out);
-        object.some("version", &self.version, out);
-        object.member("diagnostics", &self.diagnostics, out);
-        object.end(out)
+        Object::begin(out)
+            .member("uri", &self.uri)
+            .some("version", &self.version)
+            .member("diagnostics", &self.diagnostics)
+            .end()
     }
 }
 
@@ -125,14 +130,12 @@ impl DeserializeOwned for PublishDiagnosticsParams {
         from: &mut Deserializer<'_, '_, F>,
     ) -> Result<PublishDiagnosticsParams, F::Error> {
         let mut members = Members::of(alloc, from);
-        let uri = members.required("uri", from)?;
-        let diagnostics = members.required("diagnostics", from)?;
         let read = PublishDiagnosticsParams {
-            uri,
-            version: members.optional("version", from),
-            diagnostics,
+            uri: members.required("uri"),
+            version: members.optional("version"),
+            diagnostics: members.required("diagnostics"),
         };
-        members.end(read, from)
+        members.end(read)
     }
 }
 
@@ -152,9 +155,17 @@ impl<'de> Deserialize<'de> for NumberOrString {
         alloc: Global,
         from: &mut Deserializer<'de, '_, F>,
     ) -> Result<NumberOrString, F::Error> {
-        match from.peek()? {
-            Kind::Str => Ok(NumberOrString::String(from.string(alloc)?)),
-            _ => Ok(NumberOrString::Number(i32::deserialize(alloc, from)?)),
+        let kind = from.peek()?;
+        if matches!(kind, Kind::Str) {
+            match from.string(alloc) {
+                Ok(text) => Ok(NumberOrString::String(text)),
+                Err(failed) => Err(failed),
+            }
+        } else {
+            match i32::deserialize(alloc, from) {
+                Ok(number) => Ok(NumberOrString::Number(number)),
+                Err(failed) => Err(failed),
+            }
         }
     }
 }

@@ -15,10 +15,10 @@ impl Described for Location {}
 
 impl Serialize for Location {
     fn serialize<S: Serializer>(&self, out: &mut S) -> Result<(), S::Error> {
-        let mut object = Object::begin(out);
-        object.member("uri", &self.uri, out);
-        object.member("range", &self.range, out);
-        object.end(out)
+        Object::begin(out)
+            .member("uri", &self.uri)
+            .member("range", &self.range)
+            .end()
     }
 }
 
@@ -27,11 +27,12 @@ impl<'de> Deserialize<'de> for Location {
         alloc: Global,
         from: &mut Deserializer<'de, '_, F>,
     ) -> Result<Location, F::Error> {
-        let members = Members::of(alloc, from);
-        let uri = members.required("uri", from)?;
-        let range = members.required("range", from)?;
-        let read = Location { uri, range };
-        members.end(read, from)
+        let mut members = Members::of(alloc, from);
+        let read = Location {
+            uri: members.required("uri"),
+            range: members.required("range"),
+        };
+        members.end(read)
     }
 }
 
@@ -48,9 +49,7 @@ impl Described for TextDocumentIdentifier {}
 
 impl Serialize for TextDocumentIdentifier {
     fn serialize<S: Serializer>(&self, out: &mut S) -> Result<(), S::Error> {
-        let mut object = Object::begin(out);
-        object.member("uri", &self.uri, out);
-        object.end(out)
+        Object::begin(out).member("uri", &self.uri).end()
     }
 }
 
@@ -59,10 +58,11 @@ impl<'de> Deserialize<'de> for TextDocumentIdentifier {
         alloc: Global,
         from: &mut Deserializer<'de, '_, F>,
     ) -> Result<TextDocumentIdentifier, F::Error> {
-        let members = Members::of(alloc, from);
-        let uri = members.required("uri", from)?;
-        let read = TextDocumentIdentifier { uri };
-        members.end(read, from)
+        let mut members = Members::of(alloc, from);
+        let read = TextDocumentIdentifier {
+            uri: members.required("uri"),
+        };
+        members.end(read)
     }
 }
 
@@ -70,10 +70,10 @@ impl Described for VersionedTextDocumentIdentifier {}
 
 impl Serialize for VersionedTextDocumentIdentifier {
     fn serialize<S: Serializer>(&self, out: &mut S) -> Result<(), S::Error> {
-        let mut object = Object::begin(out);
-        object.member("uri", &self.uri, out);
-        object.member("version", &self.version, out);
-        object.end(out)
+        Object::begin(out)
+            .member("uri", &self.uri)
+            .member("version", &self.version)
+            .end()
     }
 }
 
@@ -82,11 +82,12 @@ impl<'de> Deserialize<'de> for VersionedTextDocumentIdentifier {
         alloc: Global,
         from: &mut Deserializer<'de, '_, F>,
     ) -> Result<VersionedTextDocumentIdentifier, F::Error> {
-        let members = Members::of(alloc, from);
-        let uri = members.required("uri", from)?;
-        let version = members.required("version", from)?;
-        let read = VersionedTextDocumentIdentifier { uri, version };
-        members.end(read, from)
+        let mut members = Members::of(alloc, from);
+        let read = VersionedTextDocumentIdentifier {
+            uri: members.required("uri"),
+            version: members.required("version"),
+        };
+        members.end(read)
     }
 }
 
@@ -94,12 +95,12 @@ impl Described for TextDocumentItem {}
 
 impl Serialize for TextDocumentItem {
     fn serialize<S: Serializer>(&self, out: &mut S) -> Result<(), S::Error> {
-        let mut object = Object::begin(out);
-        object.member("uri", &self.uri, out);
-        object.member("languageId", &self.language_id, out);
-        object.member("version", &self.version, out);
-        object.member("text", &self.text, out);
-        object.end(out)
+        Object::begin(out)
+            .member("uri", &self.uri)
+            .member("languageId", &self.language_id)
+            .member("version", &self.version)
+            .member("text", &self.text)
+            .end()
     }
 }
 
@@ -108,18 +109,14 @@ impl<'de> Deserialize<'de> for TextDocumentItem {
         alloc: Global,
         from: &mut Deserializer<'de, '_, F>,
     ) -> Result<TextDocumentItem, F::Error> {
-        let members = Members::of(alloc, from);
-        let uri = members.required("uri", from)?;
-        let language_id = members.required("languageId", from)?;
-        let version = members.required("version", from)?;
-        let text = members.required("text", from)?;
+        let mut members = Members::of(alloc, from);
         let read = TextDocumentItem {
-            uri,
-            language_id,
-            version,
-            text,
+            uri: members.required("uri"),
+            language_id: members.required("languageId"),
+            version: members.required("version"),
+            text: members.required("text"),
         };
-        members.end(read, from)
+        members.end(read)
     }
 }
 
@@ -127,9 +124,9 @@ impl Described for DidOpenTextDocumentParams {}
 
 impl Serialize for DidOpenTextDocumentParams {
     fn serialize<S: Serializer>(&self, out: &mut S) -> Result<(), S::Error> {
-        let mut object = Object::begin(out);
-        object.member("textDocument", &self.text_document, out);
-        object.end(out)
+        Object::begin(out)
+            .member("textDocument", &self.text_document)
+            .end()
     }
 }
 
@@ -138,10 +135,11 @@ impl DeserializeOwned for DidOpenTextDocumentParams {
         alloc: Global,
         from: &mut Deserializer<'_, '_, F>,
     ) -> Result<DidOpenTextDocumentParams, F::Error> {
-        let members = Members::of(alloc, from);
-        let text_document = members.required("textDocument", from)?;
-        let read = DidOpenTextDocumentParams { text_document };
-        members.end(read, from)
+        let mut members = Members::of(alloc, from);
+        let read = DidOpenTextDocumentParams {
+            text_document: members.required("textDocument"),
+        };
+        members.end(read)
     }
 }
 
@@ -149,10 +147,10 @@ impl Described for DidChangeTextDocumentParams {}
 
 impl Serialize for DidChangeTextDocumentParams {
     fn serialize<S: Serializer>(&self, out: &mut S) -> Result<(), S::Error> {
-        let mut object = Object::begin(out);
-        object.member("textDocument", &self.text_document, out);
-        object.member("contentChanges", &self.content_changes, out);
-        object.end(out)
+        Object::begin(out)
+            .member("textDocument", &self.text_document)
+            .member("contentChanges", &self.content_changes)
+            .end()
     }
 }
 
@@ -161,14 +159,12 @@ impl DeserializeOwned for DidChangeTextDocumentParams {
         alloc: Global,
         from: &mut Deserializer<'_, '_, F>,
     ) -> Result<DidChangeTextDocumentParams, F::Error> {
-        let members = Members::of(alloc, from);
-        let text_document = members.required("textDocument", from)?;
-        let content_changes = members.required("contentChanges", from)?;
+        let mut members = Members::of(alloc, from);
         let read = DidChangeTextDocumentParams {
-            text_document,
-            content_changes,
+            text_document: members.required("textDocument"),
+            content_changes: members.required("contentChanges"),
         };
-        members.end(read, from)
+        members.end(read)
     }
 }
 
@@ -176,10 +172,10 @@ impl Described for DidSaveTextDocumentParams {}
 
 impl Serialize for DidSaveTextDocumentParams {
     fn serialize<S: Serializer>(&self, out: &mut S) -> Result<(), S::Error> {
-        let mut object = Object::begin(out);
-        object.member("textDocument", &self.text_document, out);
-        object.some("text", &self.text, out);
-        object.end(out)
+        Object::begin(out)
+            .member("textDocument", &self.text_document)
+            .some("text", &self.text)
+            .end()
     }
 }
 
@@ -189,12 +185,11 @@ impl DeserializeOwned for DidSaveTextDocumentParams {
         from: &mut Deserializer<'_, '_, F>,
     ) -> Result<DidSaveTextDocumentParams, F::Error> {
         let mut members = Members::of(alloc, from);
-        let text_document = members.required("textDocument", from)?;
         let read = DidSaveTextDocumentParams {
-            text_document,
-            text: members.optional("text", from),
+            text_document: members.required("textDocument"),
+            text: members.optional("text"),
         };
-        members.end(read, from)
+        members.end(read)
     }
 }
 
@@ -202,9 +197,9 @@ impl Described for TextDocumentParams {}
 
 impl Serialize for TextDocumentParams {
     fn serialize<S: Serializer>(&self, out: &mut S) -> Result<(), S::Error> {
-        let mut object = Object::begin(out);
-        object.member("textDocument", &self.text_document, out);
-        object.end(out)
+        Object::begin(out)
+            .member("textDocument", &self.text_document)
+            .end()
     }
 }
 
@@ -213,10 +208,11 @@ impl DeserializeOwned for TextDocumentParams {
         alloc: Global,
         from: &mut Deserializer<'_, '_, F>,
     ) -> Result<TextDocumentParams, F::Error> {
-        let members = Members::of(alloc, from);
-        let text_document = members.required("textDocument", from)?;
-        let read = TextDocumentParams { text_document };
-        members.end(read, from)
+        let mut members = Members::of(alloc, from);
+        let read = TextDocumentParams {
+            text_document: members.required("textDocument"),
+        };
+        members.end(read)
     }
 }
 
@@ -224,10 +220,10 @@ impl Described for TextDocumentPositionParams {}
 
 impl Serialize for TextDocumentPositionParams {
     fn serialize<S: Serializer>(&self, out: &mut S) -> Result<(), S::Error> {
-        let mut object = Object::begin(out);
-        object.member("textDocument", &self.text_document, out);
-        object.member("position", &self.position, out);
-        object.end(out)
+        Object::begin(out)
+            .member("textDocument", &self.text_document)
+            .member("position", &self.position)
+            .end()
     }
 }
 
@@ -236,14 +232,12 @@ impl DeserializeOwned for TextDocumentPositionParams {
         alloc: Global,
         from: &mut Deserializer<'_, '_, F>,
     ) -> Result<TextDocumentPositionParams, F::Error> {
-        let members = Members::of(alloc, from);
-        let text_document = members.required("textDocument", from)?;
-        let position = members.required("position", from)?;
+        let mut members = Members::of(alloc, from);
         let read = TextDocumentPositionParams {
-            text_document,
-            position,
+            text_document: members.required("textDocument"),
+            position: members.required("position"),
         };
-        members.end(read, from)
+        members.end(read)
     }
 }
 
@@ -251,10 +245,10 @@ impl Described for TextDocumentRangeParams {}
 
 impl Serialize for TextDocumentRangeParams {
     fn serialize<S: Serializer>(&self, out: &mut S) -> Result<(), S::Error> {
-        let mut object = Object::begin(out);
-        object.member("textDocument", &self.text_document, out);
-        object.member("range", &self.range, out);
-        object.end(out)
+        Object::begin(out)
+            .member("textDocument", &self.text_document)
+            .member("range", &self.range)
+            .end()
     }
 }
 
@@ -263,14 +257,12 @@ impl DeserializeOwned for TextDocumentRangeParams {
         alloc: Global,
         from: &mut Deserializer<'_, '_, F>,
     ) -> Result<TextDocumentRangeParams, F::Error> {
-        let members = Members::of(alloc, from);
-        let text_document = members.required("textDocument", from)?;
-        let range = members.required("range", from)?;
+        let mut members = Members::of(alloc, from);
         let read = TextDocumentRangeParams {
-            text_document,
-            range,
+            text_document: members.required("textDocument"),
+            range: members.required("range"),
         };
-        members.end(read, from)
+        members.end(read)
     }
 }
 
@@ -278,11 +270,11 @@ impl Described for ReferenceParams {}
 
 impl Serialize for ReferenceParams {
     fn serialize<S: Serializer>(&self, out: &mut S) -> Result<(), S::Error> {
-        let mut object = Object::begin(out);
-        object.member("textDocument", &self.text_document, out);
-        object.member("position", &self.position, out);
-        object.member("context", &self.context, out);
-        object.end(out)
+        Object::begin(out)
+            .member("textDocument", &self.text_document)
+            .member("position", &self.position)
+            .member("context", &self.context)
+            .end()
     }
 }
 
@@ -291,16 +283,13 @@ impl DeserializeOwned for ReferenceParams {
         alloc: Global,
         from: &mut Deserializer<'_, '_, F>,
     ) -> Result<ReferenceParams, F::Error> {
-        let members = Members::of(alloc, from);
-        let text_document = members.required("textDocument", from)?;
-        let position = members.required("position", from)?;
-        let context = members.required("context", from)?;
+        let mut members = Members::of(alloc, from);
         let read = ReferenceParams {
-            text_document,
-            position,
-            context,
+            text_document: members.required("textDocument"),
+            position: members.required("position"),
+            context: members.required("context"),
         };
-        members.end(read, from)
+        members.end(read)
     }
 }
 
@@ -308,9 +297,9 @@ impl Described for ReferenceContext {}
 
 impl Serialize for ReferenceContext {
     fn serialize<S: Serializer>(&self, out: &mut S) -> Result<(), S::Error> {
-        let mut object = Object::begin(out);
-        object.member("includeDeclaration", &self.include_declaration, out);
-        object.end(out)
+        Object::begin(out)
+            .member("includeDeclaration", &self.include_declaration)
+            .end()
     }
 }
 
@@ -319,11 +308,10 @@ impl<'de> Deserialize<'de> for ReferenceContext {
         alloc: Global,
         from: &mut Deserializer<'de, '_, F>,
     ) -> Result<ReferenceContext, F::Error> {
-        let members = Members::of(alloc, from);
-        let include_declaration = members.required("includeDeclaration", from)?;
+        let mut members = Members::of(alloc, from);
         let read = ReferenceContext {
-            include_declaration,
+            include_declaration: members.required("includeDeclaration"),
         };
-        members.end(read, from)
+        members.end(read)
     }
 }

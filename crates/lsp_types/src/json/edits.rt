@@ -13,10 +13,10 @@ impl Described for TextEdit {}
 
 impl Serialize for TextEdit {
     fn serialize<S: Serializer>(&self, out: &mut S) -> Result<(), S::Error> {
-        let mut object = Object::begin(out);
-        object.member("range", &self.range, out);
-        object.member("newText", &self.new_text, out);
-        object.end(out)
+        Object::begin(out)
+            .member("range", &self.range)
+            .member("newText", &self.new_text)
+            .end()
     }
 }
 
@@ -25,11 +25,12 @@ impl<'de> Deserialize<'de> for TextEdit {
         alloc: Global,
         from: &mut Deserializer<'de, '_, F>,
     ) -> Result<TextEdit, F::Error> {
-        let members = Members::of(alloc, from);
-        let range = members.required("range", from)?;
-        let new_text = members.required("newText", from)?;
-        let read = TextEdit { range, new_text };
-        members.end(read, from)
+        let mut members = Members::of(alloc, from);
+        let read = TextEdit {
+            range: members.required("range"),
+            new_text: members.required("newText"),
+        };
+        members.end(read)
     }
 }
 
@@ -37,10 +38,10 @@ impl Described for OptionalVersionedTextDocumentIdentifier {}
 
 impl Serialize for OptionalVersionedTextDocumentIdentifier {
     fn serialize<S: Serializer>(&self, out: &mut S) -> Result<(), S::Error> {
-        let mut object = Object::begin(out);
-        object.member("uri", &self.uri, out);
-        object.member("version", &self.version, out);
-        object.end(out)
+        Object::begin(out)
+            .member("uri", &self.uri)
+            .member("version", &self.version)
+            .end()
     }
 }
 
@@ -50,12 +51,11 @@ impl<'de> Deserialize<'de> for OptionalVersionedTextDocumentIdentifier {
         from: &mut Deserializer<'de, '_, F>,
     ) -> Result<OptionalVersionedTextDocumentIdentifier, F::Error> {
         let mut members = Members::of(alloc, from);
-        let uri = members.required("uri", from)?;
         let read = OptionalVersionedTextDocumentIdentifier {
-            uri,
-            version: members.optional("version", from),
+            uri: members.required("uri"),
+            version: members.optional("version"),
         };
-        members.end(read, from)
+        members.end(read)
     }
 }
 
@@ -63,10 +63,10 @@ impl Described for TextDocumentEdit {}
 
 impl Serialize for TextDocumentEdit {
     fn serialize<S: Serializer>(&self, out: &mut S) -> Result<(), S::Error> {
-        let mut object = Object::begin(out);
-        object.member("textDocument", &self.text_document, out);
-        object.member("edits", &self.edits, out);
-        object.end(out)
+        Object::begin(out)
+            .member("textDocument", &self.text_document)
+            .member("edits", &self.edits)
+            .end()
     }
 }
 
@@ -75,14 +75,12 @@ impl<'de> Deserialize<'de> for TextDocumentEdit {
         alloc: Global,
         from: &mut Deserializer<'de, '_, F>,
     ) -> Result<TextDocumentEdit, F::Error> {
-        let members = Members::of(alloc, from);
-        let text_document = members.required("textDocument", from)?;
-        let edits = members.required("edits", from)?;
+        let mut members = Members::of(alloc, from);
         let read = TextDocumentEdit {
-            text_document,
-            edits,
+            text_document: members.required("textDocument"),
+            edits: members.required("edits"),
         };
-        members.end(read, from)
+        members.end(read)
     }
 }
 
@@ -90,10 +88,10 @@ impl Described for WorkspaceEdit {}
 
 impl Serialize for WorkspaceEdit {
     fn serialize<S: Serializer>(&self, out: &mut S) -> Result<(), S::Error> {
-        let mut object = Object::begin(out);
-        object.some("changes", &self.changes, out);
-        object.some("documentChanges", &self.document_changes, out);
-        object.end(out)
+        Object::begin(out)
+            .some("changes", &self.changes)
+            .some("documentChanges", &self.document_changes)
+            .end()
     }
 }
 
@@ -104,10 +102,10 @@ impl<'de> Deserialize<'de> for WorkspaceEdit {
     ) -> Result<WorkspaceEdit, F::Error> {
         let mut members = Members::of(alloc, from);
         let read = WorkspaceEdit {
-            changes: members.optional("changes", from),
-            document_changes: members.optional("documentChanges", from),
+            changes: members.optional("changes"),
+            document_changes: members.optional("documentChanges"),
         };
-        members.end(read, from)
+        members.end(read)
     }
 }
 
@@ -115,11 +113,11 @@ impl Described for RenameParams {}
 
 impl Serialize for RenameParams {
     fn serialize<S: Serializer>(&self, out: &mut S) -> Result<(), S::Error> {
-        let mut object = Object::begin(out);
-        object.member("textDocument", &self.text_document, out);
-        object.member("position", &self.position, out);
-        object.member("newName", &self.new_name, out);
-        object.end(out)
+        Object::begin(out)
+            .member("textDocument", &self.text_document)
+            .member("position", &self.position)
+            .member("newName", &self.new_name)
+            .end()
     }
 }
 
@@ -128,16 +126,13 @@ impl DeserializeOwned for RenameParams {
         alloc: Global,
         from: &mut Deserializer<'_, '_, F>,
     ) -> Result<RenameParams, F::Error> {
-        let members = Members::of(alloc, from);
-        let text_document = members.required("textDocument", from)?;
-        let position = members.required("position", from)?;
-        let new_name = members.required("newName", from)?;
+        let mut members = Members::of(alloc, from);
         let read = RenameParams {
-            text_document,
-            position,
-            new_name,
+            text_document: members.required("textDocument"),
+            position: members.required("position"),
+            new_name: members.required("newName"),
         };
-        members.end(read, from)
+        members.end(read)
     }
 }
 
@@ -145,17 +140,13 @@ impl Described for FormattingOptions {}
 
 impl Serialize for FormattingOptions {
     fn serialize<S: Serializer>(&self, out: &mut S) -> Result<(), S::Error> {
-        let mut object = Object::begin(out);
-        object.member("tabSize", &self.tab_size, out);
-        object.member("insertSpaces", &self.insert_spaces, out);
-        object.some(
-            "trimTrailingWhitespace",
-            &self.trim_trailing_whitespace,
-            out,
-        );
-        object.some("insertFinalNewline", &self.insert_final_newline, out);
-        object.some("trimFinalNewlines", &self.trim_final_newlines, out);
-        object.end(out)
+        Object::begin(out)
+            .member("tabSize", &self.tab_size)
+            .member("insertSpaces", &self.insert_spaces)
+            .some("trimTrailingWhitespace", &self.trim_trailing_whitespace)
+            .some("insertFinalNewline", &self.insert_final_newline)
+            .some("trimFinalNewlines", &self.trim_final_newlines)
+            .end()
     }
 }
 
@@ -165,16 +156,14 @@ impl<'de> Deserialize<'de> for FormattingOptions {
         from: &mut Deserializer<'de, '_, F>,
     ) -> Result<FormattingOptions, F::Error> {
         let mut members = Members::of(alloc, from);
-        let tab_size = members.required("tabSize", from)?;
-        let insert_spaces = members.required("insertSpaces", from)?;
         let read = FormattingOptions {
-            tab_size,
-            insert_spaces,
-            trim_trailing_whitespace: members.optional("trimTrailingWhitespace", from),
-            insert_final_newline: members.optional("insertFinalNewline", from),
-            trim_final_newlines: members.optional("trimFinalNewlines", from),
+            tab_size: members.required("tabSize"),
+            insert_spaces: members.required("insertSpaces"),
+            trim_trailing_whitespace: members.optional("trimTrailingWhitespace"),
+            insert_final_newline: members.optional("insertFinalNewline"),
+            trim_final_newlines: members.optional("trimFinalNewlines"),
         };
-        members.end(read, from)
+        members.end(read)
     }
 }
 
@@ -182,10 +171,10 @@ impl Described for DocumentFormattingParams {}
 
 impl Serialize for DocumentFormattingParams {
     fn serialize<S: Serializer>(&self, out: &mut S) -> Result<(), S::Error> {
-        let mut object = Object::begin(out);
-        object.member("textDocument", &self.text_document, out);
-        object.member("options", &self.options, out);
-        object.end(out)
+        Object::begin(out)
+            .member("textDocument", &self.text_document)
+            .member("options", &self.options)
+            .end()
     }
 }
 
@@ -194,13 +183,11 @@ impl DeserializeOwned for DocumentFormattingParams {
         alloc: Global,
         from: &mut Deserializer<'_, '_, F>,
     ) -> Result<DocumentFormattingParams, F::Error> {
-        let members = Members::of(alloc, from);
-        let text_document = members.required("textDocument", from)?;
-        let options = members.required("options", from)?;
+        let mut members = Members::of(alloc, from);
         let read = DocumentFormattingParams {
-            text_document,
-            options,
+            text_document: members.required("textDocument"),
+            options: members.required("options"),
         };
-        members.end(read, from)
+        members.end(read)
     }
 }

@@ -20,7 +20,10 @@ impl<'de> Deserialize<'de> for InlayHintKind {
         alloc: Global,
         from: &mut Deserializer<'de, '_, F>,
     ) -> Result<InlayHintKind, F::Error> {
-        Ok(InlayHintKind(number_within(alloc, from, 1, 2)?))
+        match number_within(alloc, from, 1, 2) {
+            Ok(number) => Ok(InlayHintKind(number)),
+            Err(failed) => Err(failed),
+        }
     }
 }
 
@@ -28,15 +31,15 @@ impl Described for InlayHint {}
 
 impl Serialize for InlayHint {
     fn serialize<S: Serializer>(&self, out: &mut S) -> Result<(), S::Error> {
-        let mut object = Object::begin(out);
-        object.member("position", &self.position, out);
-        object.member("label", &self.label, out);
-        object.some("kind", &self.kind, out);
-        object.some("tooltip", &self.tooltip, out);
-        object.some("paddingLeft", &self.padding_left, out);
-        object.some("paddingRight", &self.padding_right, out);
-        object.some("data", &self.data, out);
-        object.end(out)
+        Object::begin(out)
+            .member("position", &self.position)
+            .member("label", &self.label)
+            .some("kind", &self.kind)
+            .some("tooltip", &self.tooltip)
+            .some("paddingLeft", &self.padding_left)
+            .some("paddingRight", &self.padding_right)
+            .some("data", &self.data)
+            .end()
     }
 }
 
@@ -46,17 +49,15 @@ impl DeserializeOwned for InlayHint {
         from: &mut Deserializer<'_, '_, F>,
     ) -> Result<InlayHint, F::Error> {
         let mut members = Members::of(alloc, from);
-        let position = members.required("position", from)?;
-        let label = members.required("label", from)?;
         let read = InlayHint {
-            position,
-            label,
-            kind: members.optional("kind", from),
-            tooltip: members.optional("tooltip", from),
-            padding_left: members.optional("paddingLeft", from),
-            padding_right: members.optional("paddingRight", from),
-            data: members.optional("data", from),
+            position: members.required("position"),
+            label: members.required("label"),
+            kind: members.optional("kind"),
+            tooltip: members.optional("tooltip"),
+            padding_left: members.optional("paddingLeft"),
+            padding_right: members.optional("paddingRight"),
+            data: members.optional("data"),
         };
-        members.end(read, from)
+        members.end(read)
     }
 }

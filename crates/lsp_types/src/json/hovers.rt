@@ -2,7 +2,7 @@
 use crate::hovers::{Hover, MarkupContent, MarkupKind};
 use crate::json::{Members, Object};
 use serde::{
-    Described, Deserialize, DeserializeOwned, Deserializer, Format, Serialize, Serializer,
+    Described, Deserialize, DeserializeOwned, Deserializer, Format, Name, Serialize, Serializer,
 };
 use std::alloc::Global;
 
@@ -10,10 +10,10 @@ impl Described for MarkupContent {}
 
 impl Serialize for MarkupContent {
     fn serialize<S: Serializer>(&self, out: &mut S) -> Result<(), S::Error> {
-        let mut object = Object::begin(out);
-        object.member("kind", &self.kind, out);
-        object.member("value", &self.value, out);
-        object.end(out)
+        Object::begin(out)
+            .member("kind", &self.kind)
+            .member("value", &self.value)
+            .end()
     }
 }
 
@@ -22,11 +22,12 @@ impl<'de> Deserialize<'de> for MarkupContent {
         alloc: Global,
         from: &mut Deserializer<'de, '_, F>,
     ) -> Result<MarkupContent, F::Error> {
-        let members = Members::of(alloc, from);
-        let kind = members.required("kind", from)?;
-        let value = members.required("value", from)?;
-        let read = MarkupContent { kind, value };
-        members.end(read, from)
+        let mut members = Members::of(alloc, from);
+        let read = MarkupContent {
+            kind: members.required("kind"),
+            value: members.required("value"),
+        };
+        members.end(read)
     }
 }
 
@@ -34,10 +35,10 @@ impl Described for Hover {}
 
 impl Serialize for Hover {
     fn serialize<S: Serializer>(&self, out: &mut S) -> Result<(), S::Error> {
-        let mut object = Object::begin(out);
-        object.member("contents", &self.contents, out);
-        object.some("range", &self.range, out);
-        object.end(out)
+        Object::begin(out)
+            .member("contents", &self.contents)
+            .some("range", &self.range)
+            .end()
     }
 }
 
@@ -47,12 +48,11 @@ impl DeserializeOwned for Hover {
         from: &mut Deserializer<'_, '_, F>,
     ) -> Result<Hover, F::Error> {
         let mut members = Members::of(alloc, from);
-        let contents = members.required("contents", from)?;
         let read = Hover {
-            contents,
-            range: members.optional("range", from),
+            contents: members.required("contents"),
+            range: members.optional("range"),
         };
-        members.end(read, from)
+        members.end(read)
     }
 }
 
@@ -69,13 +69,12 @@ impl Serialize for MarkupKind {
 
 impl<'de> Deserialize<'de> for MarkupKind {
     fn deserialize<F: Format>(
-        alloc: Global,
+        _alloc: Global,
         from: &mut Deserializer<'de, '_, F>,
     ) -> Result<MarkupKind, F::Error> {
-        let name = from.string(alloc)?;
-        match name.as_str() {
-            "plaintext" => Ok(MarkupKind::PlainText),
-            "markdown" => Ok(MarkupKind::Markdown),
+        match from.variant(&[Name::exact("plaintext"), Name::exact("markdown")])? {
+            0 => Ok(MarkupKind::PlainText),
+            1 => Ok(MarkupKind::Markdown),
             _ => Err(from.unknown_variant()),
         }
     }

@@ -10,14 +10,14 @@ impl Described for InitializeParams {}
 
 impl Serialize for InitializeParams {
     fn serialize<S: Serializer>(&self, out: &mut S) -> Result<(), S::Error> {
-        let mut object = Object::begin(out);
-        object.member("processId", &self.process_id, out);
-        object.some("clientInfo", &self.client_info, out);
-        object.member("rootUri", &self.root_uri, out);
-        object.some("workspaceFolders", &self.workspace_folders, out);
-        object.some("initializationOptions", &self.initialization_options, out);
-        object.member("capabilities", &self.capabilities, out);
-        object.end(out)
+        Object::begin(out)
+            .member("processId", &self.process_id)
+            .some("clientInfo", &self.client_info)
+            .member("rootUri", &self.root_uri)
+            .some("workspaceFolders", &self.workspace_folders)
+            .some("initializationOptions", &self.initialization_options)
+            .member("capabilities", &self.capabilities)
+            .end()
     }
 }
 
@@ -27,16 +27,15 @@ impl DeserializeOwned for InitializeParams {
         from: &mut Deserializer<'_, '_, F>,
     ) -> Result<InitializeParams, F::Error> {
         let mut members = Members::of(alloc, from);
-        let capabilities = members.required("capabilities", from)?;
         let read = InitializeParams {
-            process_id: members.optional("processId", from),
-            client_info: members.optional("clientInfo", from),
-            root_uri: members.optional("rootUri", from),
-            workspace_folders: members.optional("workspaceFolders", from),
-            initialization_options: members.optional("initializationOptions", from),
-            capabilities,
+            process_id: members.optional("processId"),
+            client_info: members.optional("clientInfo"),
+            root_uri: members.optional("rootUri"),
+            workspace_folders: members.optional("workspaceFolders"),
+            initialization_options: members.optional("initializationOptions"),
+            capabilities: members.required("capabilities"),
         };
-        members.end(read, from)
+        members.end(read)
     }
 }
 
@@ -44,10 +43,10 @@ impl Described for ServerInfo {}
 
 impl Serialize for ServerInfo {
     fn serialize<S: Serializer>(&self, out: &mut S) -> Result<(), S::Error> {
-        let mut object = Object::begin(out);
-        object.member("name", &self.name, out);
-        object.some("version", &self.version, out);
-        object.end(out)
+        Object::begin(out)
+            .member("name", &self.name)
+            .some("version", &self.version)
+            .end()
     }
 }
 
@@ -57,12 +56,11 @@ impl<'de> Deserialize<'de> for ServerInfo {
         from: &mut Deserializer<'de, '_, F>,
     ) -> Result<ServerInfo, F::Error> {
         let mut members = Members::of(alloc, from);
-        let name = members.required("name", from)?;
         let read = ServerInfo {
-            name,
-            version: members.optional("version", from),
+            name: members.required("name"),
+            version: members.optional("version"),
         };
-        members.end(read, from)
+        members.end(read)
     }
 }
 
@@ -70,9 +68,9 @@ impl Described for InitializeResult {}
 
 impl Serialize for InitializeResult {
     fn serialize<S: Serializer>(&self, out: &mut S) -> Result<(), S::Error> {
-        let mut object = Object::begin(out);
-        object.member("capabilities", &self.capabilities, out);
-        object.member("serverInfo", &self.server_info, out);
-        object.end(out)
+        Object::begin(out)
+            .member("capabilities", &self.capabilities)
+            .member("serverInfo", &self.server_info)
+            .end()
     }
 }

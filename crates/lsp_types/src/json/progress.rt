@@ -11,9 +11,9 @@ impl Described for WorkDoneProgressParams {}
 
 impl Serialize for WorkDoneProgressParams {
     fn serialize<S: Serializer>(&self, out: &mut S) -> Result<(), S::Error> {
-        let mut object = Object::begin(out);
-        object.some("workDoneToken", &self.work_done_token, out);
-        object.end(out)
+        Object::begin(out)
+            .some("workDoneToken", &self.work_done_token)
+            .end()
     }
 }
 
@@ -24,9 +24,9 @@ impl DeserializeOwned for WorkDoneProgressParams {
     ) -> Result<WorkDoneProgressParams, F::Error> {
         let mut members = Members::of(alloc, from);
         let read = WorkDoneProgressParams {
-            work_done_token: members.optional("workDoneToken", from),
+            work_done_token: members.optional("workDoneToken"),
         };
-        members.end(read, from)
+        members.end(read)
     }
 }
 
@@ -34,9 +34,7 @@ impl Described for WorkDoneProgressCreateParams {}
 
 impl Serialize for WorkDoneProgressCreateParams {
     fn serialize<S: Serializer>(&self, out: &mut S) -> Result<(), S::Error> {
-        let mut object = Object::begin(out);
-        object.member("token", &self.token, out);
-        object.end(out)
+        Object::begin(out).member("token", &self.token).end()
     }
 }
 
@@ -45,10 +43,11 @@ impl DeserializeOwned for WorkDoneProgressCreateParams {
         alloc: Global,
         from: &mut Deserializer<'_, '_, F>,
     ) -> Result<WorkDoneProgressCreateParams, F::Error> {
-        let members = Members::of(alloc, from);
-        let token = members.required("token", from)?;
-        let read = WorkDoneProgressCreateParams { token };
-        members.end(read, from)
+        let mut members = Members::of(alloc, from);
+        let read = WorkDoneProgressCreateParams {
+            token: members.required("token"),
+        };
+        members.end(read)
     }
 }
 
@@ -56,10 +55,10 @@ impl<T: Serialize> Described for ProgressParams<T> {}
 
 impl<T: Serialize> Serialize for ProgressParams<T> {
     fn serialize<S: Serializer>(&self, out: &mut S) -> Result<(), S::Error> {
-        let mut object = Object::begin(out);
-        object.member("token", &self.token, out);
-        object.member("value", &self.value, out);
-        object.end(out)
+        Object::begin(out)
+            .member("token", &self.token)
+            .member("value", &self.value)
+            .end()
     }
 }
 
@@ -67,13 +66,13 @@ impl Described for WorkDoneProgressBegin {}
 
 impl Serialize for WorkDoneProgressBegin {
     fn serialize<S: Serializer>(&self, out: &mut S) -> Result<(), S::Error> {
-        let mut object = Object::begin(out);
-        object.kind("begin", out);
-        object.member("title", &self.title, out);
-        object.some("cancellable", &self.cancellable, out);
-        object.some("message", &self.message, out);
-        object.some("percentage", &self.percentage, out);
-        object.end(out)
+        Object::begin(out)
+            .member("kind", &"begin")
+            .member("title", &self.title)
+            .some("cancellable", &self.cancellable)
+            .some("message", &self.message)
+            .some("percentage", &self.percentage)
+            .end()
     }
 }
 
@@ -83,15 +82,14 @@ impl DeserializeOwned for WorkDoneProgressBegin {
         from: &mut Deserializer<'_, '_, F>,
     ) -> Result<WorkDoneProgressBegin, F::Error> {
         let mut members = Members::of(alloc, from);
-        members.kind("begin", from)?;
-        let title = members.required("title", from)?;
+        members.kind("begin");
         let read = WorkDoneProgressBegin {
-            title,
-            cancellable: members.optional("cancellable", from),
-            message: members.optional("message", from),
-            percentage: members.optional("percentage", from),
+            title: members.required("title"),
+            cancellable: members.optional("cancellable"),
+            message: members.optional("message"),
+            percentage: members.optional("percentage"),
         };
-        members.end(read, from)
+        members.end(read)
     }
 }
 
@@ -99,12 +97,12 @@ impl Described for WorkDoneProgressReport {}
 
 impl Serialize for WorkDoneProgressReport {
     fn serialize<S: Serializer>(&self, out: &mut S) -> Result<(), S::Error> {
-        let mut object = Object::begin(out);
-        object.kind("report", out);
-        object.some("cancellable", &self.cancellable, out);
-        object.some("message", &self.message, out);
-        object.some("percentage", &self.percentage, out);
-        object.end(out)
+        Object::begin(out)
+            .member("kind", &"report")
+            .some("cancellable", &self.cancellable)
+            .some("message", &self.message)
+            .some("percentage", &self.percentage)
+            .end()
     }
 }
 
@@ -114,13 +112,13 @@ impl DeserializeOwned for WorkDoneProgressReport {
         from: &mut Deserializer<'_, '_, F>,
     ) -> Result<WorkDoneProgressReport, F::Error> {
         let mut members = Members::of(alloc, from);
-        members.kind("report", from)?;
+        members.kind("report");
         let read = WorkDoneProgressReport {
-            cancellable: members.optional("cancellable", from),
-            message: members.optional("message", from),
-            percentage: members.optional("percentage", from),
+            cancellable: members.optional("cancellable"),
+            message: members.optional("message"),
+            percentage: members.optional("percentage"),
         };
-        members.end(read, from)
+        members.end(read)
     }
 }
 
@@ -128,10 +126,10 @@ impl Described for WorkDoneProgressEnd {}
 
 impl Serialize for WorkDoneProgressEnd {
     fn serialize<S: Serializer>(&self, out: &mut S) -> Result<(), S::Error> {
-        let mut object = Object::begin(out);
-        object.kind("end", out);
-        object.some("message", &self.message, out);
-        object.end(out)
+        Object::begin(out)
+            .member("kind", &"end")
+            .some("message", &self.message)
+            .end()
     }
 }
 
@@ -141,10 +139,10 @@ impl DeserializeOwned for WorkDoneProgressEnd {
         from: &mut Deserializer<'_, '_, F>,
     ) -> Result<WorkDoneProgressEnd, F::Error> {
         let mut members = Members::of(alloc, from);
-        members.kind("end", from)?;
+        members.kind("end");
         let read = WorkDoneProgressEnd {
-            message: members.optional("message", from),
+            message: members.optional("message"),
         };
-        members.end(read, from)
+        members.end(read)
     }
 }

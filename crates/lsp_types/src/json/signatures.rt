@@ -10,11 +10,11 @@ impl Described for SignatureHelp {}
 
 impl Serialize for SignatureHelp {
     fn serialize<S: Serializer>(&self, out: &mut S) -> Result<(), S::Error> {
-        let mut object = Object::begin(out);
-        object.member("signatures", &self.signatures, out);
-        object.some("activeSignature", &self.active_signature, out);
-        object.some("activeParameter", &self.active_parameter, out);
-        object.end(out)
+        Object::begin(out)
+            .member("signatures", &self.signatures)
+            .some("activeSignature", &self.active_signature)
+            .some("activeParameter", &self.active_parameter)
+            .end()
     }
 }
 
@@ -24,13 +24,12 @@ impl DeserializeOwned for SignatureHelp {
         from: &mut Deserializer<'_, '_, F>,
     ) -> Result<SignatureHelp, F::Error> {
         let mut members = Members::of(alloc, from);
-        let signatures = members.required("signatures", from)?;
         let read = SignatureHelp {
-            signatures,
-            active_signature: members.optional("activeSignature", from),
-            active_parameter: members.optional("activeParameter", from),
+            signatures: members.required("signatures"),
+            active_signature: members.optional("activeSignature"),
+            active_parameter: members.optional("activeParameter"),
         };
-        members.end(read, from)
+        members.end(read)
     }
 }
 
@@ -38,12 +37,12 @@ impl Described for SignatureInformation {}
 
 impl Serialize for SignatureInformation {
     fn serialize<S: Serializer>(&self, out: &mut S) -> Result<(), S::Error> {
-        let mut object = Object::begin(out);
-        object.member("label", &self.label, out);
-        object.some("documentation", &self.documentation, out);
-        object.some("parameters", &self.parameters, out);
-        object.some("activeParameter", &self.active_parameter, out);
-        object.end(out)
+        Object::begin(out)
+            .member("label", &self.label)
+            .some("documentation", &self.documentation)
+            .some("parameters", &self.parameters)
+            .some("activeParameter", &self.active_parameter)
+            .end()
     }
 }
 
@@ -53,14 +52,13 @@ impl<'de> Deserialize<'de> for SignatureInformation {
         from: &mut Deserializer<'de, '_, F>,
     ) -> Result<SignatureInformation, F::Error> {
         let mut members = Members::of(alloc, from);
-        let label = members.required("label", from)?;
         let read = SignatureInformation {
-            label,
-            documentation: members.optional("documentation", from),
-            parameters: members.optional("parameters", from),
-            active_parameter: members.optional("activeParameter", from),
+            label: members.required("label"),
+            documentation: members.optional("documentation"),
+            parameters: members.optional("parameters"),
+            active_parameter: members.optional("activeParameter"),
         };
-        members.end(read, from)
+        members.end(read)
     }
 }
 
@@ -68,10 +66,10 @@ impl Described for ParameterInformation {}
 
 impl Serialize for ParameterInformation {
     fn serialize<S: Serializer>(&self, out: &mut S) -> Result<(), S::Error> {
-        let mut object = Object::begin(out);
-        object.member("label", &self.label, out);
-        object.some("documentation", &self.documentation, out);
-        object.end(out)
+        Object::begin(out)
+            .member("label", &self.label)
+            .some("documentation", &self.documentation)
+            .end()
     }
 }
 
@@ -81,11 +79,10 @@ impl<'de> Deserialize<'de> for ParameterInformation {
         from: &mut Deserializer<'de, '_, F>,
     ) -> Result<ParameterInformation, F::Error> {
         let mut members = Members::of(alloc, from);
-        let label = members.required("label", from)?;
         let read = ParameterInformation {
-            label,
-            documentation: members.optional("documentation", from),
+            label: members.required("label"),
+            documentation: members.optional("documentation"),
         };
-        members.end(read, from)
+        members.end(read)
     }
 }

@@ -15,13 +15,13 @@ impl Described for DocumentSymbol {}
 
 impl Serialize for DocumentSymbol {
     fn serialize<S: Serializer>(&self, out: &mut S) -> Result<(), S::Error> {
-        let mut object = Object::begin(out);
-        object.member("name", &self.name, out);
-        object.some("detail", &self.detail, out);
-        object.member("kind", &self.kind, out);
-        object.member("range", &self.range, out);
-        object.member("selectionRange", &self.selection_range, out);
-        object.member("children", &self.children, out);
-        object.end(out)
+        Object::begin(out)
+            .member("name", &self.name)
+            .some("detail", &self.detail)
+            .member("kind", &self.kind)
+            .member("range", &self.range)
+            .member("selectionRange", &self.selection_range)
+            .member("children", &self.children)
+            .end()
     }
 }

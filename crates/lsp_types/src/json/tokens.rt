@@ -8,10 +8,10 @@ impl Described for SemanticTokens {}
 
 impl Serialize for SemanticTokens {
     fn serialize<S: Serializer>(&self, out: &mut S) -> Result<(), S::Error> {
-        let mut object = Object::begin(out);
-        object.some("resultId", &self.result_id, out);
-        object.member("data", &self.data, out);
-        object.end(out)
+        Object::begin(out)
+            .some("resultId", &self.result_id)
+            .member("data", &self.data)
+            .end()
     }
 }
 
@@ -21,11 +21,10 @@ impl DeserializeOwned for SemanticTokens {
         from: &mut Deserializer<'_, '_, F>,
     ) -> Result<SemanticTokens, F::Error> {
         let mut members = Members::of(alloc, from);
-        let data = members.required("data", from)?;
         let read = SemanticTokens {
-            result_id: members.optional("resultId", from),
-            data,
+            result_id: members.optional("resultId"),
+            data: members.required("data"),
         };
-        members.end(read, from)
+        members.end(read)
     }
 }

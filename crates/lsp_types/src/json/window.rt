@@ -20,7 +20,10 @@ impl<'de> Deserialize<'de> for MessageType {
         alloc: Global,
         from: &mut Deserializer<'de, '_, F>,
     ) -> Result<MessageType, F::Error> {
-        Ok(MessageType(number_within(alloc, from, 1, 4)?))
+        match number_within(alloc, from, 1, 4) {
+            Ok(number) => Ok(MessageType(number)),
+            Err(failed) => Err(failed),
+        }
     }
 }
 
@@ -28,10 +31,10 @@ impl Described for ShowMessageParams {}
 
 impl Serialize for ShowMessageParams {
     fn serialize<S: Serializer>(&self, out: &mut S) -> Result<(), S::Error> {
-        let mut object = Object::begin(out);
-        object.member("type", &self.typ, out);
-        object.member("message", &self.message, out);
-        object.end(out)
+        Object::begin(out)
+            .member("type", &self.typ)
+            .member("message", &self.message)
+            .end()
     }
 }
 
@@ -40,10 +43,11 @@ impl DeserializeOwned for ShowMessageParams {
         alloc: Global,
         from: &mut Deserializer<'_, '_, F>,
     ) -> Result<ShowMessageParams, F::Error> {
-        let members = Members::of(alloc, from);
-        let typ = members.required("type", from)?;
-        let message = members.required("message", from)?;
-        let read = ShowMessageParams { typ, message };
-        members.end(read, from)
+        let mut members = Members::of(alloc, from);
+        let read = ShowMessageParams {
+            typ: members.required("type"),
+            message: members.required("message"),
+        };
+        members.end(read)
     }
 }

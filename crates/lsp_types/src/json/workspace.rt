@@ -13,10 +13,10 @@ impl Described for WorkspaceFolder {}
 
 impl Serialize for WorkspaceFolder {
     fn serialize<S: Serializer>(&self, out: &mut S) -> Result<(), S::Error> {
-        let mut object = Object::begin(out);
-        object.member("uri", &self.uri, out);
-        object.member("name", &self.name, out);
-        object.end(out)
+        Object::begin(out)
+            .member("uri", &self.uri)
+            .member("name", &self.name)
+            .end()
     }
 }
 
@@ -25,11 +25,12 @@ impl<'de> Deserialize<'de> for WorkspaceFolder {
         alloc: Global,
         from: &mut Deserializer<'de, '_, F>,
     ) -> Result<WorkspaceFolder, F::Error> {
-        let members = Members::of(alloc, from);
-        let uri = members.required("uri", from)?;
-        let name = members.required("name", from)?;
-        let read = WorkspaceFolder { uri, name };
-        members.end(read, from)
+        let mut members = Members::of(alloc, from);
+        let read = WorkspaceFolder {
+            uri: members.required("uri"),
+            name: members.required("name"),
+        };
+        members.end(read)
     }
 }
 
@@ -46,9 +47,7 @@ impl Described for ConfigurationParams {}
 
 impl Serialize for ConfigurationParams {
     fn serialize<S: Serializer>(&self, out: &mut S) -> Result<(), S::Error> {
-        let mut object = Object::begin(out);
-        object.member("items", &self.items, out);
-        object.end(out)
+        Object::begin(out).member("items", &self.items).end()
     }
 }
 
@@ -57,10 +56,11 @@ impl DeserializeOwned for ConfigurationParams {
         alloc: Global,
         from: &mut Deserializer<'_, '_, F>,
     ) -> Result<ConfigurationParams, F::Error> {
-        let members = Members::of(alloc, from);
-        let items = members.required("items", from)?;
-        let read = ConfigurationParams { items };
-        members.end(read, from)
+        let mut members = Members::of(alloc, from);
+        let read = ConfigurationParams {
+            items: members.required("items"),
+        };
+        members.end(read)
     }
 }
 
@@ -68,10 +68,10 @@ impl Described for ConfigurationItem {}
 
 impl Serialize for ConfigurationItem {
     fn serialize<S: Serializer>(&self, out: &mut S) -> Result<(), S::Error> {
-        let mut object = Object::begin(out);
-        object.some("scopeUri", &self.scope_uri, out);
-        object.some("section", &self.section, out);
-        object.end(out)
+        Object::begin(out)
+            .some("scopeUri", &self.scope_uri)
+            .some("section", &self.section)
+            .end()
     }
 }
 
@@ -82,10 +82,10 @@ impl<'de> Deserialize<'de> for ConfigurationItem {
     ) -> Result<ConfigurationItem, F::Error> {
         let mut members = Members::of(alloc, from);
         let read = ConfigurationItem {
-            scope_uri: members.optional("scopeUri", from),
-            section: members.optional("section", from),
+            scope_uri: members.optional("scopeUri"),
+            section: members.optional("section"),
         };
-        members.end(read, from)
+        members.end(read)
     }
 }
 
@@ -93,11 +93,11 @@ impl Described for Command {}
 
 impl Serialize for Command {
     fn serialize<S: Serializer>(&self, out: &mut S) -> Result<(), S::Error> {
-        let mut object = Object::begin(out);
-        object.member("title", &self.title, out);
-        object.member("command", &self.command, out);
-        object.some("arguments", &self.arguments, out);
-        object.end(out)
+        Object::begin(out)
+            .member("title", &self.title)
+            .member("command", &self.command)
+            .some("arguments", &self.arguments)
+            .end()
     }
 }
 
@@ -107,14 +107,12 @@ impl<'de> Deserialize<'de> for Command {
         from: &mut Deserializer<'de, '_, F>,
     ) -> Result<Command, F::Error> {
         let mut members = Members::of(alloc, from);
-        let title = members.required("title", from)?;
-        let command = members.required("command", from)?;
         let read = Command {
-            title,
-            command,
-            arguments: members.optional("arguments", from),
+            title: members.required("title"),
+            command: members.required("command"),
+            arguments: members.optional("arguments"),
         };
-        members.end(read, from)
+        members.end(read)
     }
 }
 
@@ -131,10 +129,10 @@ impl Described for ExecuteCommandParams {}
 
 impl Serialize for ExecuteCommandParams {
     fn serialize<S: Serializer>(&self, out: &mut S) -> Result<(), S::Error> {
-        let mut object = Object::begin(out);
-        object.member("command", &self.command, out);
-        object.some("arguments", &self.arguments, out);
-        object.end(out)
+        Object::begin(out)
+            .member("command", &self.command)
+            .some("arguments", &self.arguments)
+            .end()
     }
 }
 
@@ -144,12 +142,11 @@ impl DeserializeOwned for ExecuteCommandParams {
         from: &mut Deserializer<'_, '_, F>,
     ) -> Result<ExecuteCommandParams, F::Error> {
         let mut members = Members::of(alloc, from);
-        let command = members.required("command", from)?;
         let read = ExecuteCommandParams {
-            command,
-            arguments: members.optional("arguments", from),
+            command: members.required("command"),
+            arguments: members.optional("arguments"),
         };
-        members.end(read, from)
+        members.end(read)
     }
 }
 
@@ -157,10 +154,10 @@ impl Described for ApplyWorkspaceEditParams {}
 
 impl Serialize for ApplyWorkspaceEditParams {
     fn serialize<S: Serializer>(&self, out: &mut S) -> Result<(), S::Error> {
-        let mut object = Object::begin(out);
-        object.some("label", &self.label, out);
-        object.member("edit", &self.edit, out);
-        object.end(out)
+        Object::begin(out)
+            .some("label", &self.label)
+            .member("edit", &self.edit)
+            .end()
     }
 }
 
@@ -170,12 +167,11 @@ impl DeserializeOwned for ApplyWorkspaceEditParams {
         from: &mut Deserializer<'_, '_, F>,
     ) -> Result<ApplyWorkspaceEditParams, F::Error> {
         let mut members = Members::of(alloc, from);
-        let edit = members.required("edit", from)?;
         let read = ApplyWorkspaceEditParams {
-            label: members.optional("label", from),
-            edit,
+            label: members.optional("label"),
+            edit: members.required("edit"),
         };
-        members.end(read, from)
+        members.end(read)
     }
 }
 
@@ -183,11 +179,11 @@ impl Described for ApplyWorkspaceEditResult {}
 
 impl Serialize for ApplyWorkspaceEditResult {
     fn serialize<S: Serializer>(&self, out: &mut S) -> Result<(), S::Error> {
-        let mut object = Object::begin(out);
-        object.member("applied", &self.applied, out);
-        object.some("failureReason", &self.failure_reason, out);
-        object.some("failedChange", &self.failed_change, out);
-        object.end(out)
+        Object::begin(out)
+            .member("applied", &self.applied)
+            .some("failureReason", &self.failure_reason)
+            .some("failedChange", &self.failed_change)
+            .end()
     }
 }
 
@@ -197,12 +193,11 @@ impl DeserializeOwned for ApplyWorkspaceEditResult {
         from: &mut Deserializer<'_, '_, F>,
     ) -> Result<ApplyWorkspaceEditResult, F::Error> {
         let mut members = Members::of(alloc, from);
-        let applied = members.required("applied", from)?;
         let read = ApplyWorkspaceEditResult {
-            applied,
-            failure_reason: members.optional("failureReason", from),
-            failed_change: members.optional("failedChange", from),
+            applied: members.required("applied"),
+            failure_reason: members.optional("failureReason"),
+            failed_change: members.optional("failedChange"),
         };
-        members.end(read, from)
+        members.end(read)
     }
 }
