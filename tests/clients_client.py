@@ -95,7 +95,7 @@ def comes_and_goes(server):
 def sends_no_message(server):
     with server.stream() as stream:
         stream.sendall(b"GET / HTTP/1.1\r\n\r\n")
-        expect("the line of a client that sends no message", server.says("it"), "read fault 6")
+        expect("the line of a client that sends no message", server.says("it"), "read fault 4")
 
 
 def resets(server):
