@@ -116,13 +116,18 @@ def leaves(server):
 
 
 def comes_without_descriptors(server):
-    """While nothing can be opened the system refuses a client; it waits, and is served when that is over."""
+    """While nothing can be opened the system refuses clients. One that waits is served when that is over.
+
+    The program may have had the descriptor of one more client already, as it waited: so the first that comes is no more than told of.
+    """
     process = server.process.pid
     before = resource.prlimit(process, resource.RLIMIT_NOFILE)
     resource.prlimit(process, resource.RLIMIT_NOFILE, (FOR_NO_CLIENT, before[1]))
+    with server.stream():
+        expect("the first refusal", "Too many open files" in server.says("a client"), True)
     with server.stream() as stream, stream.makefile("rb") as source, stream.makefile("wb") as sink:
-        said = server.says("a client that was refused")
-        expect("the line of a client that was refused", "Too many open files" in said, True)
+        for _ in range(2):
+            expect("a refusal", "Too many open files" in server.says("a client that waits"), True)
         resource.prlimit(process, resource.RLIMIT_NOFILE, before)
         session(Editor(source, sink))
     server.lines_seen = len(server.lines())
