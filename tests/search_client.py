@@ -264,10 +264,10 @@ def check_all(program):
         server.send_bytes(frame(SHUTDOWN))
         expect("a reply", server.receive(), SHUTDOWN_REPLY)
         server.send_bytes(frame(EXIT))
-        status, rest, errors = server.finish()
-    expect("after the last reply", rest, b"")
-    expect("standard error", errors, "")
-    expect("the status", status, 0)
+        expect("after the last reply", server.socket.recv(1), b"")
+        expect("whether it still runs, for the next client", server.process.poll(), None)
+        server.errors.seek(0)
+        expect("standard error", server.errors.read(), b"")
 
 
 if __name__ == "__main__":

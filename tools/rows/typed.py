@@ -316,6 +316,15 @@ def path_answer(uri):
         return ["NotUtf8"]
 
 
+def folders_answer(text):
+    """LSP 3.17, "Initialize Request": `workspaceFolders`, or `rootUri` of a client that has no such list."""
+    params = json.loads(text)
+    folders, root = params.get("workspaceFolders"), params.get("rootUri")
+    uris = [it["uri"] for it in folders] if folders is not None else [root] * (root is not None)
+    named = [path_answer(uri)[0] for uri in uris]
+    return [ordered([json.loads(it) for it in named if it.startswith('"')])]
+
+
 def tokens_answer(text):
     """LSP 3.17, "Integer Encoding for Tokens"."""
     numbers, last = [], [0, 0]
@@ -340,4 +349,4 @@ def offset_answer(rest):
     return [str(len(before.encode()))]
 
 
-ROWS = {"typed": typed_answer, "uri": uri_answer, "path": path_answer, "tokens": tokens_answer, "offset": offset_answer}
+ROWS = {"typed": typed_answer, "uri": uri_answer, "path": path_answer, "folders": folders_answer, "tokens": tokens_answer, "offset": offset_answer}

@@ -8,6 +8,7 @@
 #![tactic(auto)]
 
 use anyhow::{Result as Answer, bail};
+use lsp_server::clients::serve_clients;
 use lsp_server::{
     Act, EndSession, Notification, Request, ResponseError, Server, SessionEnd, read_as,
     session_with, write_as,
@@ -21,9 +22,7 @@ use lsp_types::{
 };
 use serde_json::Value;
 use std::alloc::{AllocError, Global};
-use std::io::{BufRead, BufReader, Write};
-use std::net::{Net, TcpListener, TcpStream};
-use std::{env, io, mem};
+use std::{env, mem};
 
 /// What documents are checked against, and which hovers wait.
 #[derive(Drop)]
@@ -313,51 +312,23 @@ fn heading_above(text: &str, line: u32) -> Option<u32> {
     heading
 }
 
-/// How many bytes are read at once.
-const READ_AHEAD: usize = 65536;
-
 fn main(rt: HostRuntime) -> Answer<()> {
     let alloc: Global = rt.alloc();
-    // Many clients pass `--stdio`: it asks for what comes without an address.
-    let address = env::args(&rt)?
-        .skip(1)
-        .find(|word| word.as_str() != "--stdio");
-    match address {
-        Some(address) => serve_socket(&rt, address.as_str()),
-        None => {
-            let mut reader = BufReader::with_capacity(alloc, READ_AHEAD, rt.reader())?;
-            serve(alloc, &mut reader, &mut io::writer(&rt))
-        }
-    }
-}
-
-/// Serves one client. The error says why its session did not end as it should.
-fn serve<R: BufRead, W: Write>(alloc: Global, reader: &mut R, writer: &mut W) -> Answer<()> {
-    let server = Checker::new(alloc);
-    let (_server, answer) = session_with(alloc, reader, writer, server, &mut EndSession, u64::MAX);
-    match answer? {
+    let words: Vec<String> = env::args(&rt)?.skip(1).collect(alloc)?;
+    let served = serve_clients(&rt, words.as_slice(), |mut reader, mut writer| {
+        let server = Checker::new(alloc);
+        let (_server, answer) = session_with(
+            alloc,
+            &mut reader,
+            &mut writer,
+            server,
+            &mut EndSession,
+            u64::MAX,
+        );
+        answer
+    })?;
+    match served? {
         SessionEnd::ShutDown => Ok(()),
         SessionEnd::Closed => bail!("the client left without a shutdown"),
     }
-}
-
-/// Serves the clients that connect to an address, as `127.0.0.1:9257`, one after another, until it is stopped. What goes wrong with one
-/// of them is printed.
-fn serve_socket<R>(rt: &R, address: &str) -> Answer<()>
-where
-    R: Net<Listener = TcpListener, Stream = TcpStream> + AllocGlobal + Eprint,
-{
-    let listener = TcpListener::bind(rt, address)?;
-    for stream in listener.incoming() {
-        if let Err(error) = serve_stream(rt.alloc(), stream?) {
-            eprintln!(rt; "{error:#}")?;
-        }
-    }
-    Ok(())
-}
-
-fn serve_stream(alloc: Global, stream: TcpStream) -> Answer<()> {
-    let mut writer = stream.try_clone()?;
-    let mut reader = BufReader::with_capacity(alloc, READ_AHEAD, stream)?;
-    serve(alloc, &mut reader, &mut writer)
 }

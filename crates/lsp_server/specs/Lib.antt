@@ -80,6 +80,7 @@ pub use Rattle.lsp_session.specs.Turns
 pub use Rattle.lsp_session.specs.WriteLoop
 pub use Rattle.lsp_threads.specs.Pump
 pub use Rattle.lsp_threads.specs.Threads
+pub mod Clients
 pub mod IoFault
 pub mod Unread
 pub mod Weighing

@@ -21,7 +21,7 @@ use std::thread::Threads;
 use std::time::Clock;
 
 /// How many bytes a reader is asked for at once: as many as a pipe holds.
-const READ_AHEAD: usize = 65536;
+pub(crate) const READ_AHEAD: usize = 65536;
 
 /// The two channels of one side: what it sends, and what it receives.
 ///

@@ -5,6 +5,7 @@
 //! your own. `docs/WRITING_A_SERVER.md` goes through all three.
 #![tactic(auto)]
 
+pub mod clients;
 mod connection;
 pub mod dispatch;
 mod io_fault;

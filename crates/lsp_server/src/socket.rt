@@ -104,14 +104,8 @@ impl Connection {
         R::Stream: Send + 'static,
         ensures { IfErr result (λ fault. is_connect_fault fault ≡ true) }
     {
-        // What waits is one write, so holding it back gathers nothing. If the option is refused, frames are only slower.
-        let _ = stream.set_nodelay(true);
-        let patience = Duration::from_secs(WRITE_SECONDS);
-        stream
-            .set_write_timeout(Some(patience))
-            .map_err(socket_fault)?;
-        let reader = stream.try_clone().map_err(socket_fault)?;
-        Connection::over(rt, reader, WriteHalf { stream }, limit)
+        let (reader, writer) = halves(stream).map_err(socket_fault)?;
+        Connection::over(rt, reader, writer, limit)
     }
 }
 
@@ -121,10 +115,19 @@ fn socket_fault(error: io::Error) -> IoFault
     IoFault::Socket(error.kind())
 }
 
+/// What reads from a stream, and what writes to it.
+pub(crate) fn halves<S: OpenStream + Drop>(stream: S) -> io::Result<(S, WriteHalf<S>)> {
+    // What waits is one write, so holding it back gathers nothing. If the option is refused, frames are only slower.
+    let _ = stream.set_nodelay(true);
+    stream.set_write_timeout(Some(Duration::from_secs(WRITE_SECONDS)))?;
+    let reader = stream.try_clone()?;
+    Ok((reader, WriteHalf { stream }))
+}
+
 /// A stream as the thread that writes holds it. Its outgoing direction ends with this value: the peer reads the end then,
 /// although the thread that reads still holds the stream. After a write that failed, both directions end, so that the
 /// thread that reads waits no longer for a peer that can't be answered.
-struct WriteHalf<S: OpenStream> {
+pub struct WriteHalf<S: OpenStream> {
     stream: S,
 }
 

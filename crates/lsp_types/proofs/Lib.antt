@@ -1,1 +1,2 @@
 mod FileUriLemmas
+mod FolderLemmas

@@ -1,2 +1,3 @@
 pub mod FileUris
+pub mod Folders
 pub mod Tokens

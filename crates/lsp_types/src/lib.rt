@@ -21,6 +21,7 @@ mod diagnostics;
 mod documents;
 mod edits;
 mod file_uri;
+mod folders;
 mod hints;
 mod hovers;
 mod json;

@@ -75,6 +75,7 @@ impl Rows {
             "typed" => types::answer(self.alloc, rest),
             "uri" => uris::uri(self.alloc, rest),
             "path" => uris::path(self.alloc, rest),
+            "folders" => uris::folders(self.alloc, rest),
             "tokens" => uris::tokens(self.alloc, rest),
             "offset" => uris::offset(self.alloc, rest),
             "calls" => lists::called(self.alloc, rest),

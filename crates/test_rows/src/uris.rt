@@ -1,8 +1,10 @@
-// Paths and their URIs, the numbers of semantic tokens, and the place that params ask about.
+// Paths and their URIs, the folders that are open, the numbers of semantic tokens, and the place that params ask about.
 use crate::messages::value_in;
 use crate::stop::{Stop, cut};
 use lsp_text::{PositionEncoding, Text};
-use lsp_types::{FileUriFault, Position, SemanticToken, SemanticTokens, path_of_uri, uri_of_path};
+use lsp_types::{
+    FileUriFault, InitializeParams, Position, SemanticToken, SemanticTokens, path_of_uri, uri_of_path,
+};
 use serde_json::{Value, from_value, to_value};
 use std::alloc::{AllocError, Global};
 
@@ -16,6 +18,13 @@ pub fn uri(alloc: Global, text: &str) -> Result<String, Stop> {
 /// The path of a URI as a text of JSON, or why it has none.
 pub fn path(alloc: Global, text: &str) -> Result<String, Stop> {
     told(alloc, path_of_uri(alloc, text))
+}
+
+/// The paths of the folders that the params of `initialize` name, as a list of JSON.
+pub fn folders(alloc: Global, text: &str) -> Result<String, Stop> {
+    let params: InitializeParams = from_value(alloc, value_in(alloc, text)?)?;
+    let paths = params.folder_paths(alloc)?;
+    Ok(to_value(alloc, &paths)?.to_string(alloc)?)
 }
 
 fn told(alloc: Global, outcome: Result<String, FileUriFault>) -> Result<String, Stop> {

@@ -1,0 +1,180 @@
+#!/usr/bin/env python3
+"""Clients of servers that serve one after another, over a socket: what goes wrong with one is a line on standard error, and the next is
+served as ever. Some come and go, send no message, reset, or leave without `shutdown`; and one comes while the program has no descriptors.
+
+Then the same servers are started with `--stdio`, and at addresses where nobody may listen. It ends in status 1 at the first difference.
+"""
+import resource
+import socket
+import struct
+import subprocess
+import sys
+import tempfile
+import time
+from pathlib import Path
+
+sys.dont_write_bytecode = True
+
+from editor import PATIENCE, Difference, Editor, connect, expect, session
+
+CRATES = Path(__file__).resolve().parent.parent / "crates"
+WAYS = [
+    ["example_diagnostics"],
+    ["example_search"],
+    ["example_search", "threads"],
+    ["example_search", "jobs"],
+]
+LEFT = "the client left without a shutdown"
+# A descriptor each for standard input, output and error, and for the socket that listens.
+FOR_NO_CLIENT = 4
+
+
+def command(way):
+    name, *words = way
+    return [str(CRATES / name / "out" / name), *words]
+
+
+def free_address():
+    with socket.socket() as free:
+        free.bind(("127.0.0.1", 0))
+        return "127.0.0.1:%d" % free.getsockname()[1]
+
+
+class Listening:
+    """A program that serves the clients of an address."""
+
+    def __init__(self, way):
+        self.address = free_address()
+        self.errors = tempfile.TemporaryFile()
+        pipe = subprocess.PIPE
+        self.process = subprocess.Popen([*command(way), self.address], stdin=pipe, stdout=pipe, stderr=self.errors)
+        self.lines_seen = 0
+
+    def __enter__(self):
+        return self
+
+    def __exit__(self, *_):
+        self.process.kill()
+        self.process.wait()
+        for file in [self.process.stdin, self.process.stdout, self.errors]:
+            file.close()
+
+    def is_up(self):
+        return self.process.poll() is None
+
+    def is_used(self):
+        """A whole session, with nothing on standard error."""
+        connect(self.address, self.is_up)
+        expect("whether it still runs", self.is_up(), True)
+        expect("standard error after a whole session", self.lines()[self.lines_seen :], [])
+
+    def lines(self):
+        self.errors.seek(0)
+        return self.errors.read().decode().splitlines()
+
+    def says(self, what):
+        """The next line on standard error, as soon as it is there."""
+        deadline = time.monotonic() + PATIENCE
+        while len(self.lines()) <= self.lines_seen:
+            if not self.is_up() or time.monotonic() > deadline:
+                raise Difference(f"no line on standard error of {what}")
+            time.sleep(0.01)
+        self.lines_seen += 1
+        return self.lines()[self.lines_seen - 1]
+
+    def stream(self):
+        host, _, port = self.address.rpartition(":")
+        return socket.create_connection((host, int(port)), timeout=PATIENCE)
+
+
+def comes_and_goes(server):
+    server.stream().close()
+    expect("the line of a client that sends nothing", server.says("it"), "disconnected channel")
+
+
+def sends_no_message(server):
+    with server.stream() as stream:
+        stream.sendall(b"GET / HTTP/1.1\r\n\r\n")
+        expect("the line of a client that sends no message", server.says("it"), "read fault 4")
+
+
+def resets(server):
+    """It ends its connection so that the system tells the server of an error."""
+    with server.stream() as stream:
+        stream.sendall(b"Content-Length: 10\r\n\r\n{")
+        stream.setsockopt(socket.SOL_SOCKET, socket.SO_LINGER, struct.pack("ii", 1, 0))
+    expect("the line of a client that resets", server.says("it") in {"read fault 1", "read fault 7"}, True)
+
+
+def leaves(server):
+    with server.stream() as stream, stream.makefile("rb") as source, stream.makefile("wb") as sink:
+        editor = Editor(source, sink)
+        editor.ask("initialize", {"processId": None, "rootUri": None, "capabilities": {}})
+        editor.notify("initialized", {})
+        editor.notify("exit")
+        expect("the line of a client that leaves", server.says("it"), LEFT)
+
+
+def comes_without_descriptors(server):
+    """While nothing can be opened the system refuses clients. One that waits is served when that is over.
+
+    The program may have had the descriptor of one more client already, as it waited: so the first that comes is no more than told of.
+    """
+    process = server.process.pid
+    before = resource.prlimit(process, resource.RLIMIT_NOFILE)
+    resource.prlimit(process, resource.RLIMIT_NOFILE, (FOR_NO_CLIENT, before[1]))
+    with server.stream():
+        expect("the first refusal", "Too many open files" in server.says("a client"), True)
+    with server.stream() as stream, stream.makefile("rb") as source, stream.makefile("wb") as sink:
+        for _ in range(2):
+            expect("a refusal", "Too many open files" in server.says("a client that waits"), True)
+        resource.prlimit(process, resource.RLIMIT_NOFILE, before)
+        session(Editor(source, sink))
+    server.lines_seen = len(server.lines())
+
+
+CLIENTS = [comes_and_goes, sends_no_message, resets, leaves, comes_without_descriptors]
+
+
+def serves_all(way):
+    with Listening(way) as server:
+        server.is_used()
+        for client in CLIENTS:
+            client(server)
+            server.is_used()
+
+
+def is_started_with_stdio(way):
+    """The word asks for standard input and output, where it ends with its session."""
+    pipe = subprocess.PIPE
+    process = subprocess.Popen([*command(way), "--stdio"], stdin=pipe, stdout=pipe)
+    try:
+        session(Editor(process.stdout, process.stdin))
+        expect("the exit status", process.wait(timeout=PATIENCE), 0)
+    finally:
+        process.kill()
+
+
+def can_not_listen(way):
+    """An address that is used, and a word that is none."""
+    with socket.socket() as used:
+        used.bind(("127.0.0.1", 0))
+        used.listen()
+        for word in ["127.0.0.1:%d" % used.getsockname()[1], "nonsense"]:
+            ran = subprocess.run([*command(way), word], stdin=subprocess.DEVNULL, capture_output=True, timeout=PATIENCE)
+            expect(f"the status at {word}", (ran.returncode, ran.stdout), (1, b""))
+            expect(f"whether it says why at {word}", ran.stderr.startswith(b"Error: ") and ran.stderr.count(b"\n") == 1, True)
+
+
+def main():
+    try:
+        for way in WAYS:
+            for check in [serves_all, is_started_with_stdio, can_not_listen]:
+                check(way)
+                print(" ".join(way), check.__name__.replace("_", " "))
+    except (Difference, OSError, subprocess.TimeoutExpired) as fault:
+        sys.exit(f"tests/clients_client.py: {' '.join(way)}, {check.__name__}: {fault}")
+
+
+if __name__ == "__main__":
+    main()
