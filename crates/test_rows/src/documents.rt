@@ -4,6 +4,7 @@
 // of it, or what is wrong, and whether a text is lost by it, and then each document that was open once: its URI, its version, its
 // language, its text, and how many lines it has and the position of each place where a character begins. One that is closed shows
 // `-`, and one whose text is lost `?`. A body that is no message has `unread`: it may have told of any document, so each text is lost.
+use crate::messages::quoted;
 use crate::stop::Stop;
 use lsp_documents::{DocumentFault, Made, NotMade, TextDocuments, position_encoding};
 use lsp_text::{PositionEncoding, Text, TextDocument};
@@ -40,13 +41,29 @@ impl Documents {
     }
 
     fn heard(&mut self, text: &str) -> Result<String, Stop> {
-        let Some(message) = read(self.alloc, text)? else {
-            self.documents.lose_all();
-            return self.kept(text, "unread");
-        };
+        match read(self.alloc, text) {
+            Ok(Some(message)) => {
+                let came = self.heard_message(text, &message);
+                drop(message);
+                came
+            }
+            Ok(None) => {
+                self.documents.lose_all();
+                self.kept(text, "unread")
+            }
+            Err(stop) => Err(stop),
+        }
+    }
+
+    fn heard_message(&mut self, text: &str, message: &Value) -> Result<String, Stop> {
         let none = Value::Null;
         let params = message.get("params").unwrap_or(&none);
-        let method = method_of(&message);
+        let came = self.heard_params(text, method_of(message), params);
+        drop(none);
+        came
+    }
+
+    fn heard_params(&mut self, text: &str, method: &str, params: &Value) -> Result<String, Stop> {
         if method == "initialize" {
             self.documents = TextDocuments::new(self.alloc, position_encoding(params));
             self.seen = Vec::new(self.alloc);
@@ -129,7 +146,7 @@ impl Documents {
         let version = document.version();
         let language = document.language_id();
         let text = String::from_str(self.alloc, document.text().as_str())?;
-        let text = Value::from(text).to_string(self.alloc)?;
+        let text = quoted(self.alloc, text)?;
         let lines = document.text().line_count();
         let places = self.places_text(document.text())?;
         format!(in self.alloc; "\t{uri} {version:?} {language} {text} {lines}{places}")
@@ -150,16 +167,30 @@ impl Documents {
 
 /// Tells documents a message once more.
 fn tell(alloc: Global, documents: &mut TextDocuments, text: &str) -> Result<(), Stop> {
-    let Some(message) = read(alloc, text)? else {
-        documents.lose_all();
-        return Ok(());
-    };
+    match read(alloc, text) {
+        Ok(Some(message)) => {
+            let told = tell_message(documents, &message);
+            drop(message);
+            told
+        }
+        Ok(None) => {
+            documents.lose_all();
+            Ok(())
+        }
+        Err(stop) => Err(stop),
+    }
+}
+
+fn tell_message(documents: &mut TextDocuments, message: &Value) -> Result<(), Stop> {
     let none = Value::Null;
     let params = message.get("params").unwrap_or(&none);
-    match hear(documents, method_of(&message), params) {
-        Err(missed) if missed.fault == DocumentFault::Memory => Err(Stop::Memory),
-        _ => Ok(()),
+    let heard = hear(documents, method_of(message), params);
+    let is_missed = matches!(&heard, Err(missed) if missed.fault == DocumentFault::Memory);
+    drop(none);
+    if is_missed {
+        return Err(Stop::Memory);
     }
+    Ok(())
 }
 
 /// The message of a body, if it is one.

@@ -15,9 +15,15 @@ use std::alloc::Global;
 /// What comes of these steps on a link without bytes.
 pub fn answers(alloc: Global, steps: &str) -> Result<String, Stop> {
     let mut link = Link::default(alloc);
+    let said = called(alloc, &mut link, steps);
+    drop(link);
+    said
+}
+
+fn called(alloc: Global, link: &mut Link, steps: &str) -> Result<String, Stop> {
     let mut said = String::new(alloc);
     for step in steps.split("; ") {
-        add_step(&mut said, call(alloc, &mut link, step)?.as_str())?;
+        add_step(&mut said, call(alloc, link, step)?.as_str())?;
     }
     Ok(said)
 }
@@ -32,20 +38,31 @@ fn call(alloc: Global, link: &mut Link, step: &str) -> Result<String, Stop> {
         }
         "take" => take(alloc, link),
         "skip" => Ok(format!(in alloc; "skipped {}", link.skip())?),
-        "deep" => {
-            let params = nested(alloc, count_in(word)?)?;
-            let method = String::from_str(alloc, "deep")?;
-            write(alloc, link, &Message::from(Notification { method, params }))
-        }
-        _ => write(alloc, link, &message_in(alloc, step)?),
+        "deep" => write(alloc, link, deep_message(alloc, count_in(word)?)),
+        _ => write(alloc, link, message_in(alloc, step)),
     }
 }
 
-fn write(alloc: Global, link: &mut Link, message: &Message) -> Result<String, Stop> {
-    if link.write(message).is_err() {
-        return Err(Stop::Memory);
+fn deep_message(alloc: Global, levels: usize) -> Result<Message, Stop> {
+    let method = String::from_str(alloc, "deep")?;
+    match nested(alloc, levels) {
+        Ok(params) => Ok(Message::from(Notification { method, params })),
+        Err(error) => Err(Stop::from(error)),
     }
-    Ok(format!(in alloc; "{} on the way", link.on_way().len())?)
+}
+
+fn write(alloc: Global, link: &mut Link, message: Result<Message, Stop>) -> Result<String, Stop> {
+    match message {
+        Ok(message) => {
+            let written = link.write(&message);
+            drop(message);
+            if written.is_err() {
+                return Err(Stop::Memory);
+            }
+            Ok(format!(in alloc; "{} on the way", link.on_way().len())?)
+        }
+        Err(stop) => Err(stop),
+    }
 }
 
 fn take(alloc: Global, link: &mut Link) -> Result<String, Stop> {

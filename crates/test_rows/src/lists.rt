@@ -40,9 +40,7 @@ fn inbox<'a>(
         match event {
             "" => {}
             "timeout" => list.events.push_back(Event::Timeout)?,
-            text => list
-                .events
-                .push_back(Event::Message(message_in(alloc, text)?))?,
+            text => add_message(alloc, &mut list, text)?,
         }
     }
     Ok(Events {
@@ -54,6 +52,13 @@ fn inbox<'a>(
     })
 }
 
+fn add_message(alloc: Global, list: &mut ListInbox, text: &str) -> Result<(), Stop> {
+    match message_in(alloc, text) {
+        Ok(message) => Ok(list.events.push_back(Event::Message(message))?),
+        Err(stop) => Err(stop),
+    }
+}
+
 /// How many messages an outbox takes, and how many bytes a writer, without a new allocation. If that fails in a call, the reply to `shutdown` of
 /// `shutdown` may be missing, and a message that is handed on: both are no refusal.
 const MESSAGES: usize = 32;
@@ -62,8 +67,9 @@ const BYTES: usize = 4096;
 
 /// An empty outbox that takes its messages without a new allocation.
 fn outbox<'a>(alloc: Global, room: &str, is_some: &'a Cell<bool>) -> Result<Sent<'a>, Stop> {
-    let mut list = ListOutbox::new(alloc, count_in(room)?);
-    list.sent = Vec::with_capacity(alloc, MESSAGES)?;
+    let room = count_in(room)?;
+    let sent = Vec::with_capacity(alloc, MESSAGES)?;
+    let list = ListOutbox { sent, room };
     Ok(Sent { list, is_some })
 }
 
@@ -82,17 +88,27 @@ pub fn called(alloc: Global, row: &str) -> Result<String, Stop> {
     let (answers, row) = cut(row, " | ")?;
     let (room, events) = cut(row, " | ")?;
     let sent = Cell::new(false);
+    let mut boxes = Boxes {
+        inbox: inbox(alloc, events, Habit::Gives, &sent)?,
+        outbox: outbox(alloc, room, &sent)?,
+        gate: gate(alloc, answers)?,
+        id: RequestId::from(1),
+    };
+    let said = called_row(alloc, &mut boxes, names);
+    drop(boxes);
+    said
+}
+
+fn gate(alloc: Global, answers: &str) -> Result<ListGate, Stop> {
     let mut gate = ListGate::new(alloc);
     for answer in answers.chars() {
         gate.answers.push_back(answer == 'y')?;
     }
-    let mut boxes = Boxes {
-        inbox: inbox(alloc, events, Habit::Gives, &sent)?,
-        outbox: outbox(alloc, room, &sent)?,
-        gate,
-        id: RequestId::from(1),
-    };
-    let texts = called_texts(alloc, &mut boxes, names)?;
+    Ok(gate)
+}
+
+fn called_row(alloc: Global, boxes: &mut Boxes<'_>, names: &str) -> Result<String, Stop> {
+    let texts = called_texts(alloc, boxes, names)?;
     let sent = member_texts(alloc, boxes.outbox.list.sent.as_slice())?;
     let (events, answers) = (boxes.inbox.list.events.len(), boxes.gate.answers.len());
     let seconds = boxes.inbox.seconds;
@@ -135,13 +151,23 @@ fn done(alloc: Global, answer: Option<Result<(), ProtocolError>>) -> Result<Stri
     }
 }
 
-/// These words, or why not. An allocation that failed is no answer.
+/// These words, or why not.
 fn said(alloc: Global, answer: Result<(), ProtocolError>, words: &str) -> Result<String, Stop> {
     match answer {
         Ok(()) => Ok(String::from_str(alloc, words)?),
-        Err(error) if error.is_out_of_memory() => Err(Stop::Memory),
-        Err(error) => Ok(format!(in alloc; "{error}")?),
+        Err(error) => error_text(alloc, error),
     }
+}
+
+/// What the error says. An allocation that failed is no answer.
+fn error_text(alloc: Global, error: ProtocolError) -> Result<String, Stop> {
+    let is_memory = error.is_out_of_memory();
+    let text = format!(in alloc; "{error}");
+    drop(error);
+    if is_memory {
+        return Err(Stop::Memory);
+    }
+    Ok(text?)
 }
 
 /// The id and the params of a start.
@@ -152,16 +178,15 @@ fn started(alloc: Global, boxes: &mut Boxes<'_>, turns: u64) -> Result<String, S
         gate,
         id,
     } = boxes;
-    let Some(answer) = start_within(alloc, inbox, outbox, gate, turns) else {
-        return Ok(String::from_str(alloc, "undecided")?);
-    };
-    match answer {
-        Ok((came, params)) => {
-            let words = format!(in alloc; "{came} {params}")?;
+    match start_within(alloc, inbox, outbox, gate, turns) {
+        Some(Ok((came, params))) => {
+            let words = format!(in alloc; "{came} {params}");
+            drop(params);
             *id = came;
-            Ok(words)
+            Ok(words?)
         }
-        Err(error) => said(alloc, Err(error), ""),
+        Some(Err(error)) => error_text(alloc, error),
+        None => Ok(String::from_str(alloc, "undecided")?),
     }
 }
 
@@ -182,15 +207,19 @@ fn finished(alloc: Global, boxes: &mut Boxes<'_>, turns: u64) -> Result<String, 
 
 /// What `shutdown` answers to a request of this method.
 fn shut(alloc: Global, boxes: &mut Boxes<'_>, method: &str) -> Result<String, Stop> {
+    let last = String::from_str(alloc, "last")?;
+    let method = String::from_str(alloc, method)?;
     let request = Request {
-        id: RequestId::from(String::from_str(alloc, "last")?),
-        method: String::from_str(alloc, method)?,
+        id: RequestId::from(last),
+        method,
         params: Value::Null,
     };
-    match shutdown(alloc, &mut boxes.inbox, &mut boxes.outbox, &request) {
+    let answer = shutdown(alloc, &mut boxes.inbox, &mut boxes.outbox, &request);
+    drop(request);
+    match answer {
         Ok(true) => Ok(String::from_str(alloc, "true")?),
         Ok(false) => Ok(String::from_str(alloc, "false")?),
-        Err(error) => said(alloc, Err(error), ""),
+        Err(error) => error_text(alloc, error),
     }
 }
 
@@ -205,56 +234,87 @@ pub fn session(alloc: Global, word: &str, row: &str) -> Result<String, Stop> {
     let mut inbox = inbox(alloc, events, habit, &sent)?;
     let mut outbox = outbox(alloc, room, &sent)?;
     let mut echo = Echo::new(alloc);
-    let ended = match word {
-        "serve" => {
-            let none = Value::Object(Map::new(alloc));
-            serve(alloc, &mut inbox, &mut outbox, none, &mut echo)
-        }
-        "woken" => {
-            let mut service = WokenQueuedServer::new(alloc, Talker::new(alloc));
-            serve_service(alloc, &mut inbox, &mut outbox, &mut service).answer
-        }
-        "served" => {
-            let mut service = QueuedServer::new(alloc, Talker::new(alloc));
-            serve_service(alloc, &mut inbox, &mut outbox, &mut service).answer
-        }
-        _ => return Err(Stop::Table),
-    };
-    let end = ended_text(alloc, ended)?;
+    let end = end_text(alloc, word, &mut inbox, &mut outbox, &mut echo)?;
     let texts = member_texts(alloc, outbox.list.sent.as_slice())?;
     let (asked, told) = (echo.asked, echo.told);
     Ok(format!(in alloc; "{end}; sent {texts}; {asked} asked, {told} told")?)
 }
 
-fn ended_text(alloc: Global, ended: Result<SessionEnd, ProtocolError>) -> Result<String, Stop> {
+fn end_text(
+    alloc: Global,
+    word: &str,
+    inbox: &mut Events<'_>,
+    outbox: &mut Sent<'_>,
+    echo: &mut Echo,
+) -> Result<String, Stop> {
+    let ended = match word {
+        "serve" => serve(alloc, inbox, outbox, Value::Object(Map::new(alloc)), echo),
+        "woken" => woken(alloc, inbox, outbox),
+        "served" => served(alloc, inbox, outbox),
+        _ => return Err(Stop::Table),
+    };
     match ended {
         Ok(end) => Ok(String::from_str(alloc, end_name(end))?),
-        Err(error) => said(alloc, Err(error), ""),
+        Err(error) => error_text(alloc, error),
     }
+}
+
+fn woken(
+    alloc: Global,
+    inbox: &mut Events<'_>,
+    outbox: &mut Sent<'_>,
+) -> Result<SessionEnd, ProtocolError> {
+    let mut service = WokenQueuedServer::new(alloc, Talker::new(alloc));
+    let served = serve_service(alloc, inbox, outbox, &mut service);
+    drop(service);
+    served.answer
+}
+
+fn served(
+    alloc: Global,
+    inbox: &mut Events<'_>,
+    outbox: &mut Sent<'_>,
+) -> Result<SessionEnd, ProtocolError> {
+    let mut service = QueuedServer::new(alloc, Talker::new(alloc));
+    let served = serve_service(alloc, inbox, outbox, &mut service);
+    drop(service);
+    served.answer
 }
 
 /// What is written of the events, and what is handed on afterwards.
 pub fn written(alloc: Global, row: &str) -> Result<String, Stop> {
     let (counts, events) = cut(row, " | ")?;
     let (fills, room) = cut(counts, " ")?;
-    let (sent, flushed) = (Cell::new(false), Cell::new(0));
+    let fills = count_in(fills)?;
+    let sent = Cell::new(false);
     let mut inbox = inbox(alloc, events, Habit::Gives, &sent)?;
     let mut spent = outbox(alloc, room, &sent)?;
+    let text = written_text(alloc, &mut inbox, &mut spent, fills)?;
+    let on = member_texts(alloc, spent.list.sent.as_slice())?;
+    let left = inbox.list.events.len();
+    Ok(format!(in alloc; "{text}; on {on}; left {left}")?)
+}
+
+fn written_text(
+    alloc: Global,
+    inbox: &mut Events<'_>,
+    spent: &mut Sent<'_>,
+    fills: usize,
+) -> Result<String, Stop> {
+    let flushed = Cell::new(0);
     let mut writer = Sink {
         taken: Vec::with_capacity(alloc, BYTES)?,
         written: &flushed,
         step: usize::MAX,
-        room: count_in(fills)?,
+        room: fills,
         kind: ErrorKind::BrokenPipe,
         bad_flush: 0,
         flushes: 0,
     };
-    let end = write_loop(alloc, &mut inbox, &mut writer, &mut spent);
+    let end = write_loop(alloc, inbox, &mut writer, spent);
     if end == WriteEnd::Fault(WriteFault::Memory) {
         return Err(Stop::Memory);
     }
     let taken = escape(alloc, writer.taken.as_slice())?;
-    let on = member_texts(alloc, spent.list.sent.as_slice())?;
-    let left = inbox.list.events.len();
-    Ok(format!(in alloc; "{end:?}; wrote {taken}; on {on}; left {left}")?)
+    Ok(format!(in alloc; "{end:?}; wrote {taken}")?)
 }

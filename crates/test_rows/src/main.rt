@@ -55,7 +55,13 @@ fn run<R: Input + Print + AllocGlobal>(rt: &R) -> Result<(), Stop> {
     let alloc = rt.alloc();
     let table = io::read_to_string(alloc, rt.reader())?;
     let mut rows = Rows::new(alloc)?;
-    for line in table.as_str().lines() {
+    let printed = print_rows(rt, &mut rows, table.as_str());
+    drop(rows);
+    printed
+}
+
+fn print_rows<R: Print>(rt: &R, rows: &mut Rows, table: &str) -> Result<(), Stop> {
+    for line in table.lines() {
         rt.println(line)?;
         rt.print(rows.run(line)?.as_str())?;
     }

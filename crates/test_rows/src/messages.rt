@@ -7,18 +7,54 @@ use std::alloc::{AllocError, Global};
 
 /// The tree of a text that is one.
 pub fn value_in(alloc: Global, text: &str) -> Result<Value, Stop> {
-    Ok(Value::from_str(alloc, text)?)
+    match Value::from_str(alloc, text) {
+        Ok(tree) => Ok(tree),
+        Err(fault) => Err(Stop::from(fault)),
+    }
 }
 
 /// The message of a member text.
 pub fn message_in(alloc: Global, text: &str) -> Result<Message, Stop> {
-    let tree = value_in(alloc, text)?;
-    Message::from_value(alloc, &tree)?.ok_or(Stop::Table)
+    match value_in(alloc, text) {
+        Ok(tree) => {
+            let read = Message::from_value(alloc, &tree);
+            drop(tree);
+            message_of(read)
+        }
+        Err(stop) => Err(stop),
+    }
+}
+
+fn message_of(read: Result<Option<Message>, AllocError>) -> Result<Message, Stop> {
+    match read {
+        Ok(Some(message)) => Ok(message),
+        Ok(None) => Err(Stop::Table),
+        Err(error) => Err(Stop::from(error)),
+    }
+}
+
+/// A text as JSON writes it.
+pub fn quoted(alloc: Global, text: String) -> Result<String, AllocError> {
+    let value = Value::from(text);
+    let quoted = value.to_string(alloc);
+    drop(value);
+    quoted
 }
 
 /// The id in a JSON text.
 pub fn id_in(alloc: Global, word: &str) -> Result<RequestId, Stop> {
-    RequestId::from_value(&value_in(alloc, word)?)?.ok_or(Stop::Table)
+    read_id(alloc, word)?.ok_or(Stop::Table)
+}
+
+fn read_id(alloc: Global, text: &str) -> Result<Option<RequestId>, Stop> {
+    match value_in(alloc, text) {
+        Ok(tree) => {
+            let read = RequestId::from_value(&tree);
+            drop(tree);
+            Ok(read?)
+        }
+        Err(stop) => Err(stop),
+    }
 }
 
 /// So many lists, each in the next.
@@ -39,14 +75,21 @@ pub fn text_or(
     otherwise: &str,
 ) -> Result<String, AllocError> {
     match message {
-        Some(message) => message.member_text(alloc),
+        Some(message) => text_of(alloc, message),
         None => String::from_str(alloc, otherwise),
     }
 }
 
+/// The member text of a message.
+pub fn text_of(alloc: Global, message: Message) -> Result<String, AllocError> {
+    let text = message.member_text(alloc);
+    drop(message);
+    text
+}
+
 /// The id in a tree, as it prints.
 pub fn id_text(alloc: Global, text: &str) -> Result<String, Stop> {
-    match RequestId::from_value(&value_in(alloc, text)?)? {
+    match read_id(alloc, text)? {
         Some(id) => Ok(format!(in alloc; "{id}")?),
         None => Ok(String::from_str(alloc, "no id")?),
     }
@@ -55,7 +98,7 @@ pub fn id_text(alloc: Global, text: &str) -> Result<String, Stop> {
 /// What a content part means in a frame, and as a tree if that is something else.
 pub fn meaning(alloc: Global, escaped: &str) -> Result<String, Stop> {
     let body = unescape(alloc, escaped)?;
-    let by_tree = text_or(alloc, parsed(alloc, body.as_slice())?, "no message")?;
+    let by_tree = tree_text(alloc, body.as_slice())?;
     let header = format!(in alloc; "Content-Length: {}\r\n\r\n", body.len())?;
     let mut frame = Vec::from_slice(alloc, header.as_bytes())?;
     frame.extend_from_slice(body.as_slice())?;
@@ -65,10 +108,24 @@ pub fn meaning(alloc: Global, escaped: &str) -> Result<String, Stop> {
     }
 }
 
-fn parsed(alloc: Global, body: &[u8]) -> Result<Option<Message>, AllocError> {
+fn tree_text(alloc: Global, body: &[u8]) -> Result<String, AllocError> {
     match Value::from_slice(alloc, body) {
-        Ok(tree) => Message::from_value(alloc, &tree),
-        Err(_) => Ok(None),
+        Ok(tree) => {
+            let read = Message::from_value(alloc, &tree);
+            drop(tree);
+            parsed_text(alloc, read)
+        }
+        Err(_) => String::from_str(alloc, "no message"),
+    }
+}
+
+fn parsed_text(
+    alloc: Global,
+    read: Result<Option<Message>, AllocError>,
+) -> Result<String, AllocError> {
+    match read {
+        Ok(message) => text_or(alloc, message, "no message"),
+        Err(error) => Err(error),
     }
 }
 
@@ -82,9 +139,30 @@ fn meant(alloc: Global, message: Option<Message>, by_tree: String) -> Result<Str
 
 /// Reads the message in a member text, clones it, and gives its texts, its tree and its frame.
 pub fn values(alloc: Global, text: &str) -> Result<String, Stop> {
-    let message = message_in(alloc, text)?.clone()?;
+    match message_in(alloc, text) {
+        Ok(message) => {
+            let clone = message.clone();
+            drop(message);
+            cloned_text(alloc, clone)
+        }
+        Err(stop) => Err(stop),
+    }
+}
+
+fn cloned_text(alloc: Global, clone: Result<Message, AllocError>) -> Result<String, Stop> {
+    match clone {
+        Ok(message) => {
+            let texts = texts_of(alloc, &message);
+            drop(message);
+            texts
+        }
+        Err(error) => Err(Stop::from(error)),
+    }
+}
+
+fn texts_of(alloc: Global, message: &Message) -> Result<String, Stop> {
     let members = message.member_text(alloc)?;
-    let tree = message.to_value(alloc)?;
+    let tree = tree_of(alloc, message)?;
     let body = message.body_text(alloc)?;
     let mut frame = Vec::new(alloc);
     if message.write(alloc, &mut frame).is_err() {
@@ -94,21 +172,48 @@ pub fn values(alloc: Global, text: &str) -> Result<String, Stop> {
     Ok(format!(in alloc; "{members}\n  {tree}\n  {body}\n  {frame}")?)
 }
 
+fn tree_of(alloc: Global, message: &Message) -> Result<String, AllocError> {
+    match message.to_value(alloc) {
+        Ok(tree) => {
+            let text = format!(in alloc; "{tree}");
+            drop(tree);
+            text
+        }
+        Err(error) => Err(error),
+    }
+}
+
 /// `METHOD MESSAGE`: the params of a message as a number, if it has this method.
 pub fn extracted(alloc: Global, row: &str) -> Result<String, Stop> {
     let (method, text) = cut(row, " ")?;
-    let said = match message_in(alloc, text)? {
-        Message::Request(request) => of_request(alloc, request, method)?,
-        Message::Notification(notification) => of_notification(alloc, notification, method)?,
-        Message::Response(_) => return Err(Stop::Table),
-    };
-    Ok(escape(alloc, said.as_bytes())?)
+    match message_in(alloc, text) {
+        Ok(message) => {
+            let said = extracted_of(alloc, message, method)?;
+            Ok(escape(alloc, said.as_bytes())?)
+        }
+        Err(stop) => Err(stop),
+    }
+}
+
+fn extracted_of(alloc: Global, message: Message, method: &str) -> Result<String, Stop> {
+    match message {
+        Message::Request(request) => Ok(of_request(alloc, request, method)?),
+        Message::Notification(notification) => Ok(of_notification(alloc, notification, method)?),
+        Message::Response(response) => {
+            drop(response);
+            Err(Stop::Table)
+        }
+    }
 }
 
 fn of_request(alloc: Global, request: Request, method: &str) -> Result<String, AllocError> {
     match request.extract::<i32>(alloc, method) {
         Ok((id, number)) => format!(in alloc; "{id}: {number}"),
-        Err(error) => format!(in alloc; "{error}"),
+        Err(error) => {
+            let said = format!(in alloc; "{error}");
+            drop(error);
+            said
+        }
     }
 }
 
@@ -119,6 +224,10 @@ fn of_notification(
 ) -> Result<String, AllocError> {
     match notification.extract::<i32>(alloc, method) {
         Ok(number) => format!(in alloc; "{number}"),
-        Err(error) => format!(in alloc; "{error}"),
+        Err(error) => {
+            let said = format!(in alloc; "{error}");
+            drop(error);
+            said
+        }
     }
 }

@@ -7,10 +7,11 @@
 // | `receive ID DATA`, `cancel ID`, `answer ID` | `register`, `cancel` and `complete` of `Incoming` |
 // | `pending` | `has_pending` |
 // | `shown` | how the queues print for a programmer |
-use crate::messages::{id_in, nested, text_or, value_in};
+use crate::messages::{id_in, nested, text_of, value_in};
 use crate::stop::{Stop, add_step, count_in, cut};
-use lsp_message::Message;
-use lsp_queue::ReqQueue;
+use lsp_message::{Message, Request};
+use lsp_queue::{RegisterFault, ReqQueue};
+use serde_json::Value;
 use std::alloc::Global;
 
 type Queue = ReqQueue<char, char>;
@@ -18,9 +19,15 @@ type Queue = ReqQueue<char, char>;
 /// What comes of these steps on new queues.
 pub fn answers(alloc: Global, steps: &str) -> Result<String, Stop> {
     let mut queue = ReqQueue::default(alloc);
+    let said = called(alloc, &mut queue, steps);
+    drop(queue);
+    said
+}
+
+fn called(alloc: Global, queue: &mut Queue, steps: &str) -> Result<String, Stop> {
     let mut said = String::new(alloc);
     for step in steps.split("; ") {
-        add_step(&mut said, call(alloc, &mut queue, step)?.as_str())?;
+        add_step(&mut said, call(alloc, queue, step)?.as_str())?;
     }
     Ok(said)
 }
@@ -47,21 +54,43 @@ fn register(alloc: Global, queue: &mut Queue, verb: &str, words: &str) -> Result
     let (params, data) = rest.rsplit_once(" ").ok_or(Stop::Table)?;
     let data = data_in(data)?;
     let method = String::from_str(alloc, method)?;
-    let params = match verb {
-        "deep" => nested(alloc, count_in(params)?)?,
-        _ => value_in(alloc, params)?,
-    };
-    let registered = match verb {
-        "register_value" => queue.outgoing.register_value(method, params, data),
-        _ => queue.outgoing.register(method, params, data),
-    };
+    match params_in(alloc, verb, params) {
+        Ok(params) => {
+            let registered = match verb {
+                "register_value" => queue.outgoing.register_value(method, params, data),
+                _ => queue.outgoing.register(method, params, data),
+            };
+            registered_text(alloc, registered, verb)
+        }
+        Err(stop) => Err(stop),
+    }
+}
+
+fn params_in(alloc: Global, verb: &str, params: &str) -> Result<Value, Stop> {
+    match verb {
+        "deep" => Ok(nested(alloc, count_in(params)?)?),
+        _ => value_in(alloc, params),
+    }
+}
+
+fn registered_text(
+    alloc: Global,
+    registered: Result<Request, RegisterFault<char>>,
+    verb: &str,
+) -> Result<String, Stop> {
     match registered {
         Ok(request) => {
-            let text = text_or(alloc, Some(Message::from(request)), "")?;
+            let text = text_of(alloc, Message::from(request))?;
             Ok(format!(in alloc; "sent {text}")?)
         }
-        Err(fault) if verb == "deep" => Ok(format!(in alloc; "{fault:?}")?),
-        Err(_) => Err(Stop::Memory),
+        Err(fault) => refused_text(alloc, fault, verb),
+    }
+}
+
+fn refused_text(alloc: Global, fault: RegisterFault<char>, verb: &str) -> Result<String, Stop> {
+    match verb {
+        "deep" => Ok(format!(in alloc; "{fault:?}")?),
+        _ => Err(Stop::Memory),
     }
 }
 
@@ -74,8 +103,12 @@ fn receive(alloc: Global, queue: &mut Queue, words: &str) -> Result<String, Stop
 }
 
 fn cancel(alloc: Global, queue: &mut Queue, word: &str) -> Result<String, Stop> {
-    let reply = queue.incoming.cancel(id_in(alloc, word)?)?;
-    let text = text_or(alloc, reply.map(Message::from), "none")?;
+    let text = match queue.incoming.cancel(id_in(alloc, word)?) {
+        Ok(Some(reply)) => text_of(alloc, Message::from(reply)),
+        Ok(None) => String::from_str(alloc, "none"),
+        Err(error) => Err(error),
+    };
+    let text = text?;
     Ok(format!(in alloc; "cancelled {text}")?)
 }
 

@@ -32,14 +32,25 @@ impl Handler for Echo {
     fn answer(&mut self, request: &Request) -> Result<Result<Value, ResponseError>, AllocError> {
         self.asked = self.asked.saturating_add(1);
         if request.method.as_str() == "demo/echo" {
-            return Ok(Ok(request.params.clone()?));
+            return found(request.params.clone());
         }
-        Ok(Err(ResponseError::method_not_found(self.alloc)?))
+        match ResponseError::method_not_found(self.alloc) {
+            Ok(error) => Ok(Err(error)),
+            Err(error) => Err(error),
+        }
     }
 
     fn note(&mut self, _notification: &Notification) -> Result<(), AllocError> {
         self.told = self.told.saturating_add(1);
         Ok(())
+    }
+}
+
+/// The outcome that this was made for.
+fn found(made: Result<Value, AllocError>) -> Result<Result<Value, ResponseError>, AllocError> {
+    match made {
+        Ok(value) => Ok(Ok(value)),
+        Err(error) => Err(error),
     }
 }
 
@@ -79,28 +90,62 @@ impl Talker {
         }
     }
 
-    fn one(&self, act: Act<Asked>) -> Result<Acts, AllocError> {
+    /// Adds a notification.
+    fn tell(&self, acts: &mut Acts, method: &str, params: Value) -> Result<(), AllocError> {
+        match String::from_str(self.alloc, method) {
+            Ok(method) => Ok(acts.push(Act::Tell(Notification { method, params }))?),
+            Err(error) => {
+                drop(params);
+                Err(error)
+            }
+        }
+    }
+
+    /// A notification alone.
+    fn told(&self, method: &str, params: Value) -> Result<Acts, AllocError> {
         let mut acts = Vec::new(self.alloc);
-        acts.push(act)?;
+        self.tell(&mut acts, method, params)?;
         Ok(acts)
     }
 
-    fn tell(&self, method: &str, params: Value) -> Result<Act<Asked>, AllocError> {
-        let method = String::from_str(self.alloc, method)?;
-        Ok(Act::Tell(Notification { method, params }))
-    }
-
-    fn configuration(&mut self) -> Result<Act<Asked>, AllocError> {
+    /// Adds the question for the configuration.
+    fn configuration(&mut self, acts: &mut Acts) -> Result<(), AllocError> {
         self.questions = self.questions.saturating_add(1);
         let method = String::from_str(self.alloc, "workspace/configuration")?;
-        Ok(Act::Ask(method, Value::Null, Asked::Configuration(self.questions)))
+        let asked = Asked::Configuration(self.questions);
+        Ok(acts.push(Act::Ask(method, Value::Null, asked))?)
     }
 
     /// Adds the answers to what it keeps.
-    fn release(&mut self, mut acts: Acts) -> Result<Acts, AllocError> {
+    fn release(&mut self, acts: &mut Acts) -> Result<(), AllocError> {
         for id in mem::replace(&mut self.held, Vec::new(self.alloc)) {
             acts.push(Act::Reply(id, Ok(Value::Null)))?;
         }
+        Ok(())
+    }
+
+    /// Asks the client, whose reply is the answer to this request.
+    fn ask(&self, id: RequestId, params: Value) -> Result<Acts, AllocError> {
+        match String::from_str(self.alloc, "demo/asked") {
+            Ok(method) => Act::one(self.alloc, Act::Ask(method, params, Asked::For(id))),
+            Err(error) => {
+                drop(params);
+                Err(error)
+            }
+        }
+    }
+
+    /// Keeps a request.
+    fn hold(&mut self, id: RequestId) -> Result<Acts, AllocError> {
+        self.held.push(id)?;
+        Ok(Vec::new(self.alloc))
+    }
+
+    /// Pushes these params, asks for the configuration and answers what it keeps.
+    fn push(&mut self, params: Value) -> Result<Acts, AllocError> {
+        let mut acts = self.told("demo/pushed", params)?;
+        self.configuration(&mut acts)?;
+        self.release(&mut acts)?;
         Ok(acts)
     }
 }
@@ -108,13 +153,14 @@ impl Talker {
 impl Server for Talker {
     type Payload = Asked;
 
-    fn initialize(&mut self, _params: Value) -> Result<Result<Value, ResponseError>, AllocError> {
-        Ok(Ok(json!(in self.alloc; { "capabilities": {} })?))
+    fn initialize(&mut self, params: Value) -> Result<Result<Value, ResponseError>, AllocError> {
+        drop(params);
+        found(json!(in self.alloc; { "capabilities": {} }))
     }
 
     fn initialized(&mut self) -> Result<Acts, AllocError> {
-        let mut acts = self.one(self.tell("demo/hello", Value::Object(Map::new(self.alloc)))?)?;
-        acts.push(self.configuration()?)?;
+        let mut acts = self.told("demo/hello", Value::Object(Map::new(self.alloc)))?;
+        self.configuration(&mut acts)?;
         Ok(acts)
     }
 
@@ -124,16 +170,16 @@ impl Server for Talker {
         }
         let Request { id, method, params } = request;
         match method.as_str() {
-            "demo/echo" => self.one(Act::Reply(id, Ok(params))),
-            "demo/ask" => {
-                let method = String::from_str(self.alloc, "demo/asked")?;
-                self.one(Act::Ask(method, params, Asked::For(id)))
-            }
+            "demo/echo" => Act::one(self.alloc, Act::Reply(id, Ok(params))),
+            "demo/ask" => self.ask(id, params),
             "demo/hold" => {
-                self.held.push(id)?;
-                Ok(Vec::new(self.alloc))
+                drop(params);
+                self.hold(id)
             }
-            _ => self.one(Act::method_not_found(self.alloc, id)?),
+            _ => {
+                drop(params);
+                typed::unknown(self.alloc, id)
+            }
         }
     }
 
@@ -141,9 +187,7 @@ impl Server for Talker {
         if notification.method.as_str().starts_with("typed/") {
             return typed::noticed(self.alloc, notification);
         }
-        let mut acts = self.one(self.tell("demo/pushed", notification.params)?)?;
-        acts.push(self.configuration()?)?;
-        self.release(acts)
+        self.push(notification.params)
     }
 
     fn response(
@@ -152,14 +196,16 @@ impl Server for Talker {
         outcome: Result<Value, ResponseError>,
     ) -> Result<Acts, AllocError> {
         match asked {
-            Asked::For(id) => self.one(Act::Reply(id, outcome)),
+            Asked::For(id) => Act::one(self.alloc, Act::Reply(id, outcome)),
             Asked::Configuration(number) => {
-                self.one(self.tell("demo/pushed", Value::from(number))?)
+                drop(outcome);
+                self.told("demo/pushed", Value::from(number))
             }
         }
     }
 
-    fn unsent(&mut self, _asked: Asked) -> Result<(), AllocError> {
+    fn unsent(&mut self, asked: Asked) -> Result<(), AllocError> {
+        drop(asked);
         Ok(())
     }
 }
@@ -170,7 +216,8 @@ impl WokenServer for Talker {
     ghost wakes = { λ _ _ _. ⊤ };
 
     fn woken(&mut self, _alloc: Global) -> Result<Acts, AllocError> {
-        let acts = self.one(self.tell("demo/woken", Value::Null)?)?;
-        self.release(acts)
+        let mut acts = self.told("demo/woken", Value::Null)?;
+        self.release(&mut acts)?;
+        Ok(acts)
     }
 }

@@ -32,7 +32,8 @@ impl From<AllocError> for Stop {
 }
 
 impl<T: Drop> From<AllocFailed<T>> for Stop {
-    fn from(_: AllocFailed<T>) -> Stop {
+    fn from(refused: AllocFailed<T>) -> Stop {
+        drop(refused);
         Stop::Memory
     }
 }
@@ -46,7 +47,9 @@ impl From<serde_json::Error> for Stop {
 
 impl From<io::Error> for Stop {
     fn from(error: io::Error) -> Stop {
-        match error.kind() {
+        let kind = error.kind();
+        drop(error);
+        match kind {
             ErrorKind::OutOfMemory => Stop::Memory,
             _ => Stop::Stream,
         }

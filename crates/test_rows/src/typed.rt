@@ -22,7 +22,28 @@ pub fn asked<P: Drop>(alloc: Global, request: Request) -> Result<Vec<Act<P>>, Al
                 |id, _place: TextDocumentPositionParams| shown(alloc, id),
             )
         }
-        _ => Act::one(alloc, Act::method_not_found(alloc, request.id)?),
+        _ => unknown(alloc, taken_id(request)),
+    }
+}
+
+/// The answer to a request whose method nobody knows.
+pub fn unknown<P: Drop>(alloc: Global, id: RequestId) -> Result<Vec<Act<P>>, AllocError> {
+    let mut acts = Vec::new(alloc);
+    add(&mut acts, Act::method_not_found(alloc, id))?;
+    Ok(acts)
+}
+
+fn taken_id(request: Request) -> RequestId {
+    let Request { id, method, params } = request;
+    drop(method);
+    drop(params);
+    id
+}
+
+fn add<P: Drop>(acts: &mut Vec<Act<P>>, act: Result<Act<P>, AllocError>) -> Result<(), AllocError> {
+    match act {
+        Ok(act) => Ok(acts.push(act)?),
+        Err(error) => Err(error),
     }
 }
 
@@ -39,21 +60,23 @@ pub fn noticed<P: Drop>(
 fn above(alloc: Global, at: Position) -> Result<Result<Position, ResponseError>, AllocError> {
     match at.line.checked_sub(1) {
         Some(line) => Ok(Ok(Position::new(line, at.character))),
-        None => {
-            let error = ResponseError::new(alloc, ErrorCode::RequestFailed, "no line above")?;
-            Ok(Err(error))
-        }
+        None => match ResponseError::new(alloc, ErrorCode::RequestFailed, "no line above") {
+            Ok(error) => Ok(Err(error)),
+            Err(error) => Err(error),
+        },
     }
 }
 
 fn shown<P: Drop>(alloc: Global, id: RequestId) -> Result<Vec<Act<P>>, AllocError> {
-    let mut acts = Act::one(alloc, Act::show(alloc, MessageType::INFO, "here")?)?;
-    acts.push(Act::reply(alloc, id, &())?)?;
+    let mut acts = Vec::new(alloc);
+    add(&mut acts, Act::show(alloc, MessageType::INFO, "here"))?;
+    add(&mut acts, Act::reply(alloc, id, &()))?;
     Ok(acts)
 }
 
 fn told<P: Drop>(alloc: Global, at: Position) -> Result<Vec<Act<P>>, AllocError> {
-    let mut acts = Act::one(alloc, Act::tell(alloc, "typed/told", &at)?)?;
-    acts.push(Act::log(alloc, MessageType::WARNING, "told")?)?;
+    let mut acts = Vec::new(alloc);
+    add(&mut acts, Act::tell(alloc, "typed/told", &at))?;
+    add(&mut acts, Act::log(alloc, MessageType::WARNING, "told"))?;
     Ok(acts)
 }
