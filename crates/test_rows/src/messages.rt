@@ -141,7 +141,7 @@ fn meant(alloc: Global, message: Option<Message>, by_tree: String) -> Result<Str
 pub fn values(alloc: Global, text: &str) -> Result<String, Stop> {
     match message_in(alloc, text) {
         Ok(message) => {
-            let clone = message.clone();
+            let clone: Result<Message, AllocError> = message.clone();
             drop(message);
             cloned_text(alloc, clone)
         }

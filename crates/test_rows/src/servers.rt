@@ -32,7 +32,8 @@ impl Handler for Echo {
     fn answer(&mut self, request: &Request) -> Result<Result<Value, ResponseError>, AllocError> {
         self.asked = self.asked.saturating_add(1);
         if request.method.as_str() == "demo/echo" {
-            return found(request.params.clone());
+            let params: Result<Value, AllocError> = request.params.clone();
+            return found(params);
         }
         match ResponseError::method_not_found(self.alloc) {
             Ok(error) => Ok(Err(error)),

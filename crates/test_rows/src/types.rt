@@ -229,7 +229,10 @@ fn member<T: DeserializeOwned>(alloc: Global, found: &Value, key: &str) -> Resul
 
 fn copied(found: Option<&Value>) -> Result<Value, AllocError> {
     match found {
-        Some(value) => value.clone(),
+        Some(value) => {
+            let copy: Result<Value, AllocError> = value.clone();
+            copy
+        }
         None => Ok(Value::Null),
     }
 }
