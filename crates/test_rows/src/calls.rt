@@ -172,15 +172,19 @@ fn inbox_answer(alloc: Global, reader: &mut Source<'_>) -> Result<Attempt, Stop>
 fn texts_in<I: Inbox>(alloc: Global, inbox: &mut I) -> Result<String, AllocError> {
     let mut texts = String::new(alloc);
     for _ in 0..MOST {
-        let event = inbox.receive_for(1);
-        let text = event_text(alloc, &event);
-        drop(event);
-        let Some(text) = text? else {
-            break;
-        };
-        texts.push_str(text.as_str())?;
+        match next_text(alloc, inbox)? {
+            Some(text) => texts.push_str(text.as_str())?,
+            None => break,
+        }
     }
     Ok(texts)
+}
+
+fn next_text<I: Inbox>(alloc: Global, inbox: &mut I) -> Result<Option<String>, AllocError> {
+    let event = inbox.receive_for(1);
+    let text = event_text(alloc, &event);
+    drop(event);
+    text
 }
 
 /// The member text of an event that is a message.
@@ -330,7 +334,7 @@ fn session_answer(
         Some(limit) => session_within(alloc, reader, writer, none, &mut echo, limit),
         None => session(alloc, reader, writer, none, &mut echo),
     };
-    ended_answer(alloc, run, end, writer, "")
+    ended_answer(alloc, run, end, writer, None)
 }
 
 /// How a session of the server that speaks ends, and what it wrote.
@@ -344,7 +348,7 @@ fn speaks_answer(
         Some(limit) => limited_end(alloc, reader, writer, &mut EndSession, limit),
         None => speaks_end(alloc, reader, writer),
     };
-    ended_answer(alloc, run, end, writer, "")
+    ended_answer(alloc, run, end, writer, None)
 }
 
 fn limited_end<L: Listener>(
@@ -392,7 +396,7 @@ fn line_answer(
     let end = line.answer(served);
     drop(line);
     drop(service);
-    ended_answer(alloc, run, end, writer, "")
+    ended_answer(alloc, run, end, writer, None)
 }
 
 /// The same if content parts are passed over, and how many of each kind: not UTF-8, no JSON, no message, lists. With a limit the server is
@@ -405,29 +409,23 @@ fn tolerant_answer(
 ) -> Result<Attempt, Stop> {
     if let Some(limit) = run.limit() {
         let end = limited_end(alloc, reader, writer, &mut Ignore, limit);
-        return ended_answer(alloc, run, end, writer, "");
+        return ended_answer(alloc, run, end, writer, None);
     }
     let mut counts = FaultCounts::new();
-    let mut woken = WokenQueuedServer::new(alloc, Talker::new(alloc));
-    let end = session_of_service(alloc, reader, writer, &mut woken, &mut counts, u64::MAX);
-    drop(woken);
-    match passed_text(alloc, counts) {
-        Ok(passed) => ended_answer(alloc, run, end, writer, passed.as_str()),
-        Err(error) => {
-            drop(end);
-            Err(Stop::from(error))
-        }
-    }
+    let end = tolerant_end(alloc, reader, writer, &mut counts);
+    ended_answer(alloc, run, end, writer, Some(counts))
 }
 
-fn passed_text(alloc: Global, counts: FaultCounts) -> Result<String, AllocError> {
-    let FaultCounts {
-        not_text,
-        no_json,
-        no_message,
-        batches,
-    } = counts;
-    format!(in alloc; "; passed {not_text} {no_json} {no_message} {batches}")
+fn tolerant_end(
+    alloc: Global,
+    reader: &mut Source<'_>,
+    writer: &mut Sink<'_>,
+    counts: &mut FaultCounts,
+) -> Result<SessionEnd, SessionFault> {
+    let mut woken = WokenQueuedServer::new(alloc, Talker::new(alloc));
+    let end = session_of_service(alloc, reader, writer, &mut woken, counts, u64::MAX);
+    drop(woken);
+    end
 }
 
 fn ended_answer(
@@ -435,15 +433,37 @@ fn ended_answer(
     run: Run<'_>,
     ended: Result<SessionEnd, SessionFault>,
     writer: &Sink<'_>,
-    passed: &str,
+    passed: Option<FaultCounts>,
 ) -> Result<Attempt, Stop> {
     let is_refused = matches!(&ended, Err(SessionFault::Memory));
-    let end = ended_text(alloc, &ended);
+    let text = ended_line(alloc, &ended, writer, passed);
     drop(ended);
-    let end = end?;
+    Ok(run.answer(text?, is_refused))
+}
+
+fn ended_line(
+    alloc: Global,
+    ended: &Result<SessionEnd, SessionFault>,
+    writer: &Sink<'_>,
+    passed: Option<FaultCounts>,
+) -> Result<String, AllocError> {
+    let end = ended_text(alloc, ended)?;
     let written = escape(alloc, writer.taken.as_slice())?;
-    let text = format!(in alloc; "{end}; wrote {written}{passed}")?;
-    Ok(run.answer(text, is_refused))
+    let passed = passed_text(alloc, passed)?;
+    format!(in alloc; "{end}; wrote {written}{passed}")
+}
+
+fn passed_text(alloc: Global, passed: Option<FaultCounts>) -> Result<String, AllocError> {
+    let Some(counts) = passed else {
+        return Ok(String::new(alloc));
+    };
+    let FaultCounts {
+        not_text,
+        no_json,
+        no_message,
+        batches,
+    } = counts;
+    format!(in alloc; "; passed {not_text} {no_json} {no_message} {batches}")
 }
 
 fn ended_text(

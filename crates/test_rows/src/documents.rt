@@ -4,7 +4,7 @@
 // of it, or what is wrong, and whether a text is lost by it, and then each document that was open once: its URI, its version, its
 // language, its text, and how many lines it has and the position of each place where a character begins. One that is closed shows
 // `-`, and one whose text is lost `?`. A body that is no message has `unread`: it may have told of any document, so each text is lost.
-use crate::messages::quoted;
+use crate::messages::{quoted, text_in};
 use crate::stop::Stop;
 use lsp_documents::{DocumentFault, Made, NotMade, TextDocuments, position_encoding};
 use lsp_text::{PositionEncoding, Text, TextDocument};
@@ -145,11 +145,15 @@ impl Documents {
     fn open_text(&self, uri: &str, document: &TextDocument) -> Result<String, AllocError> {
         let version = document.version();
         let language = document.language_id();
-        let text = String::from_str(self.alloc, document.text().as_str())?;
-        let text = quoted(self.alloc, text)?;
-        let lines = document.text().line_count();
-        let places = self.places_text(document.text())?;
-        format!(in self.alloc; "\t{uri} {version:?} {language} {text} {lines}{places}")
+        let text = self.text_shown(document.text())?;
+        format!(in self.alloc; "\t{uri} {version:?} {language} {text}")
+    }
+
+    fn text_shown(&self, text: &Text) -> Result<String, AllocError> {
+        let quoted = quoted(self.alloc, String::from_str(self.alloc, text.as_str())?)?;
+        let lines = text.line_count();
+        let places = self.places_text(text)?;
+        format!(in self.alloc; "{quoted} {lines}{places}")
     }
 
     fn places_text(&self, text: &Text) -> Result<String, AllocError> {
@@ -203,7 +207,7 @@ fn read(alloc: Global, text: &str) -> Result<Option<Value>, Stop> {
 }
 
 fn method_of(message: &Value) -> &str {
-    message.get("method").and_then(Value::as_str).unwrap_or("")
+    text_in(message.get("method"))
 }
 
 fn hear<'v>(

@@ -25,31 +25,21 @@ use lsp_session::{
     finish_within, serve, serve_service, shutdown, start_within, wait_within, write_loop,
 };
 use serde_json::{Map, Value};
-use std::alloc::Global;
+use std::alloc::{AllocError, Global};
 use std::cell::Cell;
 use std::io::ErrorKind;
+use std::mem;
 
-fn inbox<'a>(
-    alloc: Global,
-    events: &str,
-    habit: Habit,
-    sent: &'a Cell<bool>,
-) -> Result<Events<'a>, Stop> {
-    let mut list = ListInbox::new(alloc);
+/// Adds the events of a row.
+fn add_events(alloc: Global, list: &mut ListInbox, events: &str) -> Result<(), Stop> {
     for event in events.split("; ") {
         match event {
             "" => {}
             "timeout" => list.events.push_back(Event::Timeout)?,
-            text => add_message(alloc, &mut list, text)?,
+            text => add_message(alloc, list, text)?,
         }
     }
-    Ok(Events {
-        list,
-        habit,
-        sent,
-        is_ready: true,
-        seconds: 0,
-    })
+    Ok(())
 }
 
 fn add_message(alloc: Global, list: &mut ListInbox, text: &str) -> Result<(), Stop> {
@@ -65,15 +55,7 @@ const MESSAGES: usize = 32;
 
 const BYTES: usize = 4096;
 
-/// An empty outbox that takes its messages without a new allocation.
-fn outbox<'a>(alloc: Global, room: &str, is_some: &'a Cell<bool>) -> Result<Sent<'a>, Stop> {
-    let room = count_in(room)?;
-    let sent = Vec::with_capacity(alloc, MESSAGES)?;
-    let list = ListOutbox { sent, room };
-    Ok(Sent { list, is_some })
-}
-
-/// The boxes of a row of calls, and the id that the last start gave.
+/// The boxes of a row, and the id that the last start gave.
 #[derive(Drop)]
 struct Boxes<'a> {
     inbox: Events<'a>,
@@ -82,33 +64,66 @@ struct Boxes<'a> {
     id: RequestId,
 }
 
+impl<'a> Boxes<'a> {
+    /// Empty boxes. The outbox takes its messages without a new allocation.
+    fn new(
+        alloc: Global,
+        room: usize,
+        habit: Habit,
+        is_some: &'a Cell<bool>,
+    ) -> Result<Boxes<'a>, AllocError> {
+        let sent = Vec::with_capacity(alloc, MESSAGES)?;
+        Ok(Boxes {
+            inbox: Events {
+                list: ListInbox::new(alloc),
+                habit,
+                sent: is_some,
+                is_ready: true,
+                seconds: 0,
+            },
+            outbox: Sent {
+                list: ListOutbox { sent, room },
+                is_some,
+            },
+            gate: ListGate::new(alloc),
+            id: RequestId::from(1),
+        })
+    }
+}
+
 /// What the calls give; what was sent, what is left of the events and the answers, and for how long the last wait was.
 pub fn called(alloc: Global, row: &str) -> Result<String, Stop> {
     let (names, row) = cut(row, " | ")?;
     let (answers, row) = cut(row, " | ")?;
     let (room, events) = cut(row, " | ")?;
     let sent = Cell::new(false);
-    let mut boxes = Boxes {
-        inbox: inbox(alloc, events, Habit::Gives, &sent)?,
-        outbox: outbox(alloc, room, &sent)?,
-        gate: gate(alloc, answers)?,
-        id: RequestId::from(1),
-    };
-    let said = called_row(alloc, &mut boxes, names);
+    let mut boxes = Boxes::new(alloc, count_in(room)?, Habit::Gives, &sent)?;
+    let said = called_row(alloc, &mut boxes, names, answers, events);
     drop(boxes);
     said
 }
 
-fn gate(alloc: Global, answers: &str) -> Result<ListGate, Stop> {
-    let mut gate = ListGate::new(alloc);
+fn add_answers(gate: &mut ListGate, answers: &str) -> Result<(), AllocError> {
     for answer in answers.chars() {
         gate.answers.push_back(answer == 'y')?;
     }
-    Ok(gate)
+    Ok(())
 }
 
-fn called_row(alloc: Global, boxes: &mut Boxes<'_>, names: &str) -> Result<String, Stop> {
+fn called_row(
+    alloc: Global,
+    boxes: &mut Boxes<'_>,
+    names: &str,
+    answers: &str,
+    events: &str,
+) -> Result<String, Stop> {
+    add_answers(&mut boxes.gate, answers)?;
+    add_events(alloc, &mut boxes.inbox.list, events)?;
     let texts = called_texts(alloc, boxes, names)?;
+    boxes_text(alloc, boxes, texts.as_str())
+}
+
+fn boxes_text(alloc: Global, boxes: &Boxes<'_>, texts: &str) -> Result<String, Stop> {
     let sent = member_texts(alloc, boxes.outbox.list.sent.as_slice())?;
     let (events, answers) = (boxes.inbox.list.events.len(), boxes.gate.answers.len());
     let seconds = boxes.inbox.seconds;
@@ -118,10 +133,14 @@ fn called_row(alloc: Global, boxes: &mut Boxes<'_>, names: &str) -> Result<Strin
 fn called_texts(alloc: Global, boxes: &mut Boxes<'_>, names: &str) -> Result<String, Stop> {
     let mut texts = String::new(alloc);
     for name in names.split(' ') {
-        let said = call(alloc, boxes, name)?;
-        texts.push_str(format!(in alloc; "{name} {said}; ")?.as_str())?;
+        texts.push_str(called_text(alloc, boxes, name)?.as_str())?;
     }
     Ok(texts)
+}
+
+fn called_text(alloc: Global, boxes: &mut Boxes<'_>, name: &str) -> Result<String, Stop> {
+    let said = call(alloc, boxes, name)?;
+    Ok(format!(in alloc; "{name} {said}; ")?)
 }
 
 fn call(alloc: Global, boxes: &mut Boxes<'_>, name: &str) -> Result<String, Stop> {
@@ -179,14 +198,24 @@ fn started(alloc: Global, boxes: &mut Boxes<'_>, turns: u64) -> Result<String, S
         id,
     } = boxes;
     match start_within(alloc, inbox, outbox, gate, turns) {
-        Some(Ok((came, params))) => {
+        Some(answer) => started_text(alloc, id, answer),
+        None => Ok(String::from_str(alloc, "undecided")?),
+    }
+}
+
+fn started_text(
+    alloc: Global,
+    id: &mut RequestId,
+    answer: Result<(RequestId, Value), ProtocolError>,
+) -> Result<String, Stop> {
+    match answer {
+        Ok((came, params)) => {
             let words = format!(in alloc; "{came} {params}");
             drop(params);
-            *id = came;
+            drop(mem::replace(id, came));
             Ok(words?)
         }
-        Some(Err(error)) => error_text(alloc, error),
-        None => Ok(String::from_str(alloc, "undecided")?),
+        Err(error) => error_text(alloc, error),
     }
 }
 
@@ -231,11 +260,22 @@ pub fn session(alloc: Global, word: &str, row: &str) -> Result<String, Stop> {
         "woken" => Habit::Wakes,
         _ => Habit::Gives,
     };
-    let mut inbox = inbox(alloc, events, habit, &sent)?;
-    let mut outbox = outbox(alloc, room, &sent)?;
+    let mut boxes = Boxes::new(alloc, count_in(room)?, habit, &sent)?;
+    let said = session_text(alloc, word, &mut boxes, events);
+    drop(boxes);
+    said
+}
+
+fn session_text(
+    alloc: Global,
+    word: &str,
+    boxes: &mut Boxes<'_>,
+    events: &str,
+) -> Result<String, Stop> {
+    add_events(alloc, &mut boxes.inbox.list, events)?;
     let mut echo = Echo::new(alloc);
-    let end = end_text(alloc, word, &mut inbox, &mut outbox, &mut echo)?;
-    let texts = member_texts(alloc, outbox.list.sent.as_slice())?;
+    let end = end_text(alloc, word, &mut boxes.inbox, &mut boxes.outbox, &mut echo)?;
+    let texts = member_texts(alloc, boxes.outbox.list.sent.as_slice())?;
     let (asked, told) = (echo.asked, echo.told);
     Ok(format!(in alloc; "{end}; sent {texts}; {asked} asked, {told} told")?)
 }
@@ -287,11 +327,22 @@ pub fn written(alloc: Global, row: &str) -> Result<String, Stop> {
     let (fills, room) = cut(counts, " ")?;
     let fills = count_in(fills)?;
     let sent = Cell::new(false);
-    let mut inbox = inbox(alloc, events, Habit::Gives, &sent)?;
-    let mut spent = outbox(alloc, room, &sent)?;
-    let text = written_text(alloc, &mut inbox, &mut spent, fills)?;
-    let on = member_texts(alloc, spent.list.sent.as_slice())?;
-    let left = inbox.list.events.len();
+    let mut boxes = Boxes::new(alloc, count_in(room)?, Habit::Gives, &sent)?;
+    let said = written_row(alloc, &mut boxes, events, fills);
+    drop(boxes);
+    said
+}
+
+fn written_row(
+    alloc: Global,
+    boxes: &mut Boxes<'_>,
+    events: &str,
+    fills: usize,
+) -> Result<String, Stop> {
+    add_events(alloc, &mut boxes.inbox.list, events)?;
+    let text = written_text(alloc, &mut boxes.inbox, &mut boxes.outbox, fills)?;
+    let on = member_texts(alloc, boxes.outbox.list.sent.as_slice())?;
+    let left = boxes.inbox.list.events.len();
     Ok(format!(in alloc; "{text}; on {on}; left {left}")?)
 }
 

@@ -62,8 +62,13 @@ fn run<R: Input + Print + AllocGlobal>(rt: &R) -> Result<(), Stop> {
 
 fn print_rows<R: Print>(rt: &R, rows: &mut Rows, table: &str) -> Result<(), Stop> {
     for line in table.lines() {
-        rt.println(line)?;
-        rt.print(rows.run(line)?.as_str())?;
+        print_row(rt, rows, line)?;
     }
     Ok(())
+}
+
+fn print_row<R: Print>(rt: &R, rows: &mut Rows, line: &str) -> Result<(), Stop> {
+    rt.println(line)?;
+    let said = rows.run(line)?;
+    Ok(rt.print(said.as_str())?)
 }

@@ -1,6 +1,6 @@
 // What bytes and trees mean as messages, and what messages become.
 use crate::escapes::{escape, unescape};
-use crate::stop::{Stop, cut};
+use crate::stop::{Stop, add_step, cut};
 use lsp_message::{Message, Notification, Request, RequestId};
 use serde_json::Value;
 use std::alloc::{AllocError, Global};
@@ -30,6 +30,14 @@ fn message_of(read: Result<Option<Message>, AllocError>) -> Result<Message, Stop
         Ok(Some(message)) => Ok(message),
         Ok(None) => Err(Stop::Table),
         Err(error) => Err(Stop::from(error)),
+    }
+}
+
+/// The text that was found, or an empty one.
+pub fn text_in(found: Option<&Value>) -> &str {
+    match found {
+        Some(Value::String(text)) => text.as_str(),
+        _ => "",
     }
 }
 
@@ -90,7 +98,11 @@ pub fn text_of(alloc: Global, message: Message) -> Result<String, AllocError> {
 /// The id in a tree, as it prints.
 pub fn id_text(alloc: Global, text: &str) -> Result<String, Stop> {
     match read_id(alloc, text)? {
-        Some(id) => Ok(format!(in alloc; "{id}")?),
+        Some(id) => {
+            let said = format!(in alloc; "{id}");
+            drop(id);
+            Ok(said?)
+        }
         None => Ok(String::from_str(alloc, "no id")?),
     }
 }
@@ -161,15 +173,19 @@ fn cloned_text(alloc: Global, clone: Result<Message, AllocError>) -> Result<Stri
 }
 
 fn texts_of(alloc: Global, message: &Message) -> Result<String, Stop> {
-    let members = message.member_text(alloc)?;
-    let tree = tree_of(alloc, message)?;
-    let body = message.body_text(alloc)?;
+    let mut texts = message.member_text(alloc)?;
+    add_step(&mut texts, tree_of(alloc, message)?.as_str())?;
+    add_step(&mut texts, message.body_text(alloc)?.as_str())?;
+    add_step(&mut texts, frame_of(alloc, message)?.as_str())?;
+    Ok(texts)
+}
+
+fn frame_of(alloc: Global, message: &Message) -> Result<String, Stop> {
     let mut frame = Vec::new(alloc);
     if message.write(alloc, &mut frame).is_err() {
         return Err(Stop::Memory);
     }
-    let frame = escape(alloc, frame.as_slice())?;
-    Ok(format!(in alloc; "{members}\n  {tree}\n  {body}\n  {frame}")?)
+    Ok(escape(alloc, frame.as_slice())?)
 }
 
 fn tree_of(alloc: Global, message: &Message) -> Result<String, AllocError> {
@@ -208,7 +224,11 @@ fn extracted_of(alloc: Global, message: Message, method: &str) -> Result<String,
 
 fn of_request(alloc: Global, request: Request, method: &str) -> Result<String, AllocError> {
     match request.extract::<i32>(alloc, method) {
-        Ok((id, number)) => format!(in alloc; "{id}: {number}"),
+        Ok((id, number)) => {
+            let said = format!(in alloc; "{id}: {number}");
+            drop(id);
+            said
+        }
         Err(error) => {
             let said = format!(in alloc; "{error}");
             drop(error);

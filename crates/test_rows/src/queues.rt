@@ -9,10 +9,10 @@
 // | `shown` | how the queues print for a programmer |
 use crate::messages::{id_in, nested, text_of, value_in};
 use crate::stop::{Stop, add_step, count_in, cut};
-use lsp_message::{Message, Request};
+use lsp_message::{Message, Request, RequestId, Response};
 use lsp_queue::{RegisterFault, ReqQueue};
 use serde_json::Value;
-use std::alloc::Global;
+use std::alloc::{AllocError, Global};
 
 type Queue = ReqQueue<char, char>;
 
@@ -96,7 +96,8 @@ fn refused_text(alloc: Global, fault: RegisterFault<char>, verb: &str) -> Result
 
 fn receive(alloc: Global, queue: &mut Queue, words: &str) -> Result<String, Stop> {
     let (id, data) = cut(words, " ")?;
-    match queue.incoming.register(id_in(alloc, id)?, data_in(data)?) {
+    let data = data_in(data)?;
+    match queue.incoming.register(id_in(alloc, id)?, data) {
         Ok(()) => Ok(format!(in alloc; "received {id}")?),
         Err(_) => Err(Stop::Memory),
     }
@@ -104,20 +105,34 @@ fn receive(alloc: Global, queue: &mut Queue, words: &str) -> Result<String, Stop
 
 fn cancel(alloc: Global, queue: &mut Queue, word: &str) -> Result<String, Stop> {
     let text = match queue.incoming.cancel(id_in(alloc, word)?) {
-        Ok(Some(reply)) => text_of(alloc, Message::from(reply)),
-        Ok(None) => String::from_str(alloc, "none"),
-        Err(error) => Err(error),
+        Ok(reply) => reply_text(alloc, reply)?,
+        Err(_) => return Err(Stop::Memory),
     };
-    let text = text?;
     Ok(format!(in alloc; "cancelled {text}")?)
+}
+
+fn reply_text(alloc: Global, reply: Option<Response>) -> Result<String, AllocError> {
+    match reply {
+        Some(reply) => text_of(alloc, Message::from(reply)),
+        None => String::from_str(alloc, "none"),
+    }
 }
 
 fn complete(alloc: Global, queue: &mut Queue, verb: &str, word: &str) -> Result<String, Stop> {
     let id = id_in(alloc, word)?;
     let data = match verb {
         "complete" => queue.outgoing.complete(id),
-        "answer" => queue.incoming.complete(&id),
-        _ => return Err(Stop::Table),
+        "answer" => answered(queue, id),
+        _ => {
+            drop(id);
+            return Err(Stop::Table);
+        }
     };
     Ok(format!(in alloc; "{verb} {data:?}")?)
+}
+
+fn answered(queue: &mut Queue, id: RequestId) -> Option<char> {
+    let data = queue.incoming.complete(&id);
+    drop(id);
+    data
 }

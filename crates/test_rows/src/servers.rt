@@ -2,8 +2,8 @@
 use crate::typed;
 use lsp_message::{Notification, Request, RequestId, ResponseError};
 use lsp_service::{Act, Server, WokenServer};
-use lsp_session::Handler;
-use serde_json::{Map, Value, json};
+use lsp_session::{Handler, initialize_result};
+use serde_json::{Map, Value};
 use std::alloc::{AllocError, Global};
 use std::mem;
 
@@ -64,6 +64,13 @@ pub enum Asked {
     Configuration(u64),
 }
 
+/// The answer to a request with its params.
+fn echoed(alloc: Global, request: Request) -> Result<Acts, AllocError> {
+    let Request { id, method, params } = request;
+    drop(method);
+    Act::one(alloc, Act::Reply(id, Ok(params)))
+}
+
 /// Pushes, asks, and answers late.
 ///
 /// - It says `demo/hello` first, and asks for the configuration.
@@ -91,10 +98,10 @@ impl Talker {
         }
     }
 
-    /// Adds a notification.
-    fn tell(&self, acts: &mut Acts, method: &str, params: Value) -> Result<(), AllocError> {
+    /// A notification alone.
+    fn told(&self, method: &str, params: Value) -> Result<Acts, AllocError> {
         match String::from_str(self.alloc, method) {
-            Ok(method) => Ok(acts.push(Act::Tell(Notification { method, params }))?),
+            Ok(method) => Act::one(self.alloc, Act::Tell(Notification { method, params })),
             Err(error) => {
                 drop(params);
                 Err(error)
@@ -102,35 +109,33 @@ impl Talker {
         }
     }
 
-    /// A notification alone.
-    fn told(&self, method: &str, params: Value) -> Result<Acts, AllocError> {
-        let mut acts = Vec::new(self.alloc);
-        self.tell(&mut acts, method, params)?;
-        Ok(acts)
-    }
-
-    /// Adds the question for the configuration.
-    fn configuration(&mut self, acts: &mut Acts) -> Result<(), AllocError> {
+    /// A notification, and the question for the configuration.
+    fn asking(&mut self, method: &str, params: Value) -> Result<Acts, AllocError> {
+        let mut acts = self.told(method, params)?;
         self.questions = self.questions.saturating_add(1);
         let method = String::from_str(self.alloc, "workspace/configuration")?;
         let asked = Asked::Configuration(self.questions);
-        Ok(acts.push(Act::Ask(method, Value::Null, asked))?)
+        acts.push(Act::Ask(method, Value::Null, asked))?;
+        Ok(acts)
     }
 
     /// Adds the answers to what it keeps.
-    fn release(&mut self, acts: &mut Acts) -> Result<(), AllocError> {
+    fn release(&mut self, mut acts: Acts) -> Result<Acts, AllocError> {
         for id in mem::replace(&mut self.held, Vec::new(self.alloc)) {
             acts.push(Act::Reply(id, Ok(Value::Null)))?;
         }
-        Ok(())
+        Ok(acts)
     }
 
     /// Asks the client, whose reply is the answer to this request.
-    fn ask(&self, id: RequestId, params: Value) -> Result<Acts, AllocError> {
+    fn ask(&self, request: Request) -> Result<Acts, AllocError> {
+        let Request { id, method, params } = request;
+        drop(method);
         match String::from_str(self.alloc, "demo/asked") {
             Ok(method) => Act::one(self.alloc, Act::Ask(method, params, Asked::For(id))),
             Err(error) => {
                 drop(params);
+                drop(id);
                 Err(error)
             }
         }
@@ -141,14 +146,6 @@ impl Talker {
         self.held.push(id)?;
         Ok(Vec::new(self.alloc))
     }
-
-    /// Pushes these params, asks for the configuration and answers what it keeps.
-    fn push(&mut self, params: Value) -> Result<Acts, AllocError> {
-        let mut acts = self.told("demo/pushed", params)?;
-        self.configuration(&mut acts)?;
-        self.release(&mut acts)?;
-        Ok(acts)
-    }
 }
 
 impl Server for Talker {
@@ -156,31 +153,19 @@ impl Server for Talker {
 
     fn initialize(&mut self, params: Value) -> Result<Result<Value, ResponseError>, AllocError> {
         drop(params);
-        found(json!(in self.alloc; { "capabilities": {} }))
+        found(initialize_result(self.alloc, Value::Object(Map::new(self.alloc))))
     }
 
     fn initialized(&mut self) -> Result<Acts, AllocError> {
-        let mut acts = self.told("demo/hello", Value::Object(Map::new(self.alloc)))?;
-        self.configuration(&mut acts)?;
-        Ok(acts)
+        self.asking("demo/hello", Value::Object(Map::new(self.alloc)))
     }
 
     fn request(&mut self, request: Request) -> Result<Acts, AllocError> {
-        if request.method.as_str().starts_with("typed/") {
-            return typed::asked(self.alloc, request);
-        }
-        let Request { id, method, params } = request;
-        match method.as_str() {
-            "demo/echo" => Act::one(self.alloc, Act::Reply(id, Ok(params))),
-            "demo/ask" => self.ask(id, params),
-            "demo/hold" => {
-                drop(params);
-                self.hold(id)
-            }
-            _ => {
-                drop(params);
-                typed::unknown(self.alloc, id)
-            }
+        match request.method.as_str() {
+            "demo/echo" => echoed(self.alloc, request),
+            "demo/ask" => self.ask(request),
+            "demo/hold" => self.hold(typed::taken_id(request)),
+            _ => typed::asked(self.alloc, request),
         }
     }
 
@@ -188,7 +173,8 @@ impl Server for Talker {
         if notification.method.as_str().starts_with("typed/") {
             return typed::noticed(self.alloc, notification);
         }
-        self.push(notification.params)
+        let acts = self.asking("demo/pushed", notification.params)?;
+        self.release(acts)
     }
 
     fn response(
@@ -217,8 +203,7 @@ impl WokenServer for Talker {
     ghost wakes = { λ _ _ _. ⊤ };
 
     fn woken(&mut self, _alloc: Global) -> Result<Acts, AllocError> {
-        let mut acts = self.told("demo/woken", Value::Null)?;
-        self.release(&mut acts)?;
-        Ok(acts)
+        let acts = self.told("demo/woken", Value::Null)?;
+        self.release(acts)
     }
 }

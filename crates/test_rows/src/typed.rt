@@ -28,21 +28,35 @@ pub fn asked<P: Drop>(alloc: Global, request: Request) -> Result<Vec<Act<P>>, Al
 
 /// The answer to a request whose method nobody knows.
 pub fn unknown<P: Drop>(alloc: Global, id: RequestId) -> Result<Vec<Act<P>>, AllocError> {
-    let mut acts = Vec::new(alloc);
-    add(&mut acts, Act::method_not_found(alloc, id))?;
-    Ok(acts)
+    one(alloc, Act::method_not_found(alloc, id))
 }
 
-fn taken_id(request: Request) -> RequestId {
+/// The id of a request, without the rest.
+pub fn taken_id(request: Request) -> RequestId {
     let Request { id, method, params } = request;
     drop(method);
     drop(params);
     id
 }
 
-fn add<P: Drop>(acts: &mut Vec<Act<P>>, act: Result<Act<P>, AllocError>) -> Result<(), AllocError> {
+/// A list of this act.
+fn one<P: Drop>(alloc: Global, act: Result<Act<P>, AllocError>) -> Result<Vec<Act<P>>, AllocError> {
     match act {
-        Ok(act) => Ok(acts.push(act)?),
+        Ok(act) => Act::one(alloc, act),
+        Err(error) => Err(error),
+    }
+}
+
+/// These acts, and behind them this one.
+fn and<P: Drop>(
+    mut acts: Vec<Act<P>>,
+    act: Result<Act<P>, AllocError>,
+) -> Result<Vec<Act<P>>, AllocError> {
+    match act {
+        Ok(act) => {
+            acts.push(act)?;
+            Ok(acts)
+        }
         Err(error) => Err(error),
     }
 }
@@ -68,15 +82,18 @@ fn above(alloc: Global, at: Position) -> Result<Result<Position, ResponseError>,
 }
 
 fn shown<P: Drop>(alloc: Global, id: RequestId) -> Result<Vec<Act<P>>, AllocError> {
-    let mut acts = Vec::new(alloc);
-    add(&mut acts, Act::show(alloc, MessageType::INFO, "here"))?;
-    add(&mut acts, Act::reply(alloc, id, &()))?;
-    Ok(acts)
+    match one(alloc, Act::show(alloc, MessageType::INFO, "here")) {
+        Ok(acts) => and(acts, Act::reply(alloc, id, &())),
+        Err(error) => {
+            drop(id);
+            Err(error)
+        }
+    }
 }
 
 fn told<P: Drop>(alloc: Global, at: Position) -> Result<Vec<Act<P>>, AllocError> {
-    let mut acts = Vec::new(alloc);
-    add(&mut acts, Act::tell(alloc, "typed/told", &at))?;
-    add(&mut acts, Act::log(alloc, MessageType::WARNING, "told"))?;
-    Ok(acts)
+    match one(alloc, Act::tell(alloc, "typed/told", &at)) {
+        Ok(acts) => and(acts, Act::log(alloc, MessageType::WARNING, "told")),
+        Err(error) => Err(error),
+    }
 }

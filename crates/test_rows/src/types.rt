@@ -1,5 +1,5 @@
 // Values that are read by the types of `lsp_types` and written again.
-use crate::messages::value_in;
+use crate::messages::{text_in, value_in};
 use crate::stop::{Stop, cut};
 use lsp_types::{
     ApplyWorkspaceEditParams, ApplyWorkspaceEditResult, CodeAction, CodeActionOptions,
@@ -139,9 +139,9 @@ fn of_window(alloc: Global, name: &str, value: Value) -> Result<String, Error> {
 
 /// Progress by the type of its kind.
 fn of_progress(alloc: Global, found: &Value) -> Result<String, Error> {
-    match found.pointer("/value/kind").and_then(Value::as_str) {
-        Some("begin") => progress::<WorkDoneProgressBegin>(alloc, found),
-        Some("report") => progress::<WorkDoneProgressReport>(alloc, found),
+    match text_in(found.pointer("/value/kind")) {
+        "begin" => progress::<WorkDoneProgressBegin>(alloc, found),
+        "report" => progress::<WorkDoneProgressReport>(alloc, found),
         _ => progress::<WorkDoneProgressEnd>(alloc, found),
     }
 }
@@ -182,7 +182,7 @@ fn add_children(
     found: &Value,
     children: &mut Vec<DocumentSymbol>,
 ) -> Result<(), Error> {
-    if let Some(list) = found.get("children").and_then(Value::as_array) {
+    if let Some(Value::Array(list)) = found.get("children") {
         for child in list {
             add_child(children, symbol(alloc, child))?;
         }
