@@ -3,7 +3,7 @@ use crate::devices::{Sink, Source};
 use crate::escapes::escape;
 use crate::messages::{text_of, text_or};
 use crate::servers::{Echo, Talker};
-use crate::stop::Stop;
+use crate::stop::{Stop, add_text, made};
 use crate::table::{Case, Given};
 use lsp_message::{Front, Message, ReadFault, WriteFault, front, write_frames};
 use lsp_service::{QueuedServer, WokenQueuedServer, session_with};
@@ -203,17 +203,21 @@ fn loop_answer(alloc: Global, run: Run<'_>, reader: &mut Source<'_>) -> Result<A
         None => read_loop(alloc, reader, &mut outbox),
     };
     let is_refused = matches!(end, ReadEnd::Memory | ReadEnd::Fault(ReadFault::Memory));
-    let texts = member_texts(alloc, outbox.sent.as_slice())?;
-    let left = reader.left().len();
-    let text = format!(in alloc; "{end:?}; sent {texts}; left {left}")?;
-    Ok(run.answer(text, is_refused))
+    let text = loop_text(alloc, end, outbox.sent.as_slice(), reader.left().len());
+    drop(outbox);
+    Ok(run.answer(text?, is_refused))
+}
+
+fn loop_text(alloc: Global, end: ReadEnd, sent: &[Message], left: usize) -> Result<String, Stop> {
+    let texts = member_texts(alloc, sent)?;
+    made(format!(in alloc; "{end:?}; sent {texts}; left {left}"))
 }
 
 /// The member texts of messages, one after another.
-pub fn member_texts(alloc: Global, messages: &[Message]) -> Result<String, AllocError> {
+pub fn member_texts(alloc: Global, messages: &[Message]) -> Result<String, Stop> {
     let mut texts = String::new(alloc);
     for message in messages {
-        texts.push_str(message.member_text(alloc)?.as_str())?;
+        add_text(&mut texts, made(message.member_text(alloc)))?;
     }
     Ok(texts)
 }
@@ -302,7 +306,7 @@ fn sent_texts<O: Outbox>(
 
 fn sent_text(alloc: Global, sent: Result<(), SendFault>) -> Result<String, Stop> {
     match sent {
-        Ok(()) => Ok(String::from_str(alloc, "taken, ")?),
+        Ok(()) => made(String::from_str(alloc, "taken, ")),
         Err(fault) => back_text(alloc, fault),
     }
 }
@@ -312,7 +316,7 @@ fn back_text(alloc: Global, fault: SendFault) -> Result<String, Stop> {
     match fault {
         SendFault::Closed(message) => {
             let text = text_of(alloc, message)?;
-            Ok(format!(in alloc; "{text} back, ")?)
+            made(format!(in alloc; "{text} back, "))
         }
         SendFault::Memory(message) => {
             drop(message);

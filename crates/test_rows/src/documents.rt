@@ -5,7 +5,7 @@
 // language, its text, and how many lines it has and the position of each place where a character begins. One that is closed shows
 // `-`, and one whose text is lost `?`. A body that is no message has `unread`: it may have told of any document, so each text is lost.
 use crate::messages::{quoted, text_in};
-use crate::stop::Stop;
+use crate::stop::{Stop, add_text, made};
 use lsp_documents::{DocumentFault, Made, NotMade, TextDocuments, position_encoding};
 use lsp_text::{PositionEncoding, Text, TextDocument};
 use serde_json::Value;
@@ -68,7 +68,7 @@ impl Documents {
             self.documents = TextDocuments::new(self.alloc, position_encoding(params));
             self.seen = Vec::new(self.alloc);
             self.told = Vec::new(self.alloc);
-            return Ok(String::from_str(self.alloc, self.documents.encoding().name())?);
+            return made(String::from_str(self.alloc, self.documents.encoding().name()));
         }
         match hear(&mut self.documents, method, params) {
             Ok(made) => {
@@ -128,41 +128,43 @@ impl Documents {
         Ok(row)
     }
 
-    fn shown(&self, answer: &str) -> Result<String, AllocError> {
+    fn shown(&self, answer: &str) -> Result<String, Stop> {
         let mut row = String::from_str(self.alloc, answer)?;
         for uri in self.seen.iter() {
-            let uri = uri.as_str();
-            let shown = match self.documents.get(uri) {
-                Some(document) => self.open_text(uri, document)?,
-                None if self.documents.is_open(uri) => format!(in self.alloc; "\t{uri} ?")?,
-                None => format!(in self.alloc; "\t{uri} -")?,
-            };
-            row.push_str(shown.as_str())?;
+            add_text(&mut row, self.document_shown(uri.as_str()))?;
         }
         Ok(row)
     }
 
-    fn open_text(&self, uri: &str, document: &TextDocument) -> Result<String, AllocError> {
+    fn document_shown(&self, uri: &str) -> Result<String, Stop> {
+        match self.documents.get(uri) {
+            Some(document) => self.open_text(uri, document),
+            None if self.documents.is_open(uri) => made(format!(in self.alloc; "\t{uri} ?")),
+            None => made(format!(in self.alloc; "\t{uri} -")),
+        }
+    }
+
+    fn open_text(&self, uri: &str, document: &TextDocument) -> Result<String, Stop> {
         let version = document.version();
         let language = document.language_id();
         let text = self.text_shown(document.text())?;
-        format!(in self.alloc; "\t{uri} {version:?} {language} {text}")
+        made(format!(in self.alloc; "\t{uri} {version:?} {language} {text}"))
     }
 
-    fn text_shown(&self, text: &Text) -> Result<String, AllocError> {
+    fn text_shown(&self, text: &Text) -> Result<String, Stop> {
         let quoted = quoted(self.alloc, String::from_str(self.alloc, text.as_str())?)?;
         let lines = text.line_count();
         let places = self.places_text(text)?;
-        format!(in self.alloc; "{quoted} {lines}{places}")
+        made(format!(in self.alloc; "{quoted} {lines}{places}"))
     }
 
-    fn places_text(&self, text: &Text) -> Result<String, AllocError> {
+    fn places_text(&self, text: &Text) -> Result<String, Stop> {
         let mut places = String::new(self.alloc);
         for offset in 0..=text.as_str().len() {
             if text.as_str().is_char_boundary(offset) {
                 let place = text.position_at(offset, self.documents.encoding());
-                let shown = format!(in self.alloc; " {}:{}", place.line, place.character)?;
-                places.push_str(shown.as_str())?;
+                let shown = format!(in self.alloc; " {}:{}", place.line, place.character);
+                add_text(&mut places, made(shown))?;
             }
         }
         Ok(places)

@@ -7,7 +7,7 @@
 // | `pass COUNT` | `pass` |
 // | `take`, `skip` | the same |
 use crate::messages::{message_in, nested, text_or};
-use crate::stop::{Stop, add_step, count_in};
+use crate::stop::{Stop, add_step, count_in, made};
 use lsp_message::{Message, Notification};
 use lsp_peers::{Link, WorldFault};
 use std::alloc::Global;
@@ -23,7 +23,7 @@ pub fn answers(alloc: Global, steps: &str) -> Result<String, Stop> {
 fn called(alloc: Global, link: &mut Link, steps: &str) -> Result<String, Stop> {
     let mut said = String::new(alloc);
     for step in steps.split("; ") {
-        add_step(&mut said, call(alloc, link, step)?.as_str())?;
+        add_step(&mut said, call(alloc, link, step))?;
     }
     Ok(said)
 }
@@ -34,10 +34,10 @@ fn call(alloc: Global, link: &mut Link, step: &str) -> Result<String, Stop> {
         "pass" => {
             let count = link.pass(count_in(word)?);
             let there = link.arrived().len();
-            Ok(format!(in alloc; "passed {count}, {there} there")?)
+            made(format!(in alloc; "passed {count}, {there} there"))
         }
         "take" => take(alloc, link),
-        "skip" => Ok(format!(in alloc; "skipped {}", link.skip())?),
+        "skip" => made(format!(in alloc; "skipped {}", link.skip())),
         "deep" => write(alloc, link, deep_message(alloc, count_in(word)?)),
         _ => write(alloc, link, message_in(alloc, step)),
     }
@@ -59,7 +59,7 @@ fn write(alloc: Global, link: &mut Link, message: Result<Message, Stop>) -> Resu
             if written.is_err() {
                 return Err(Stop::Memory);
             }
-            Ok(format!(in alloc; "{} on the way", link.on_way().len())?)
+            made(format!(in alloc; "{} on the way", link.on_way().len()))
         }
         Err(stop) => Err(stop),
     }
@@ -67,8 +67,8 @@ fn write(alloc: Global, link: &mut Link, message: Result<Message, Stop>) -> Resu
 
 fn take(alloc: Global, link: &mut Link) -> Result<String, Stop> {
     match link.take() {
-        Ok(message) => Ok(text_or(alloc, message, "nothing")?),
+        Ok(message) => made(text_or(alloc, message, "nothing")),
         Err(WorldFault::Memory) => Err(Stop::Memory),
-        Err(WorldFault::NotReadBack) => Ok(String::from_str(alloc, "body not read back")?),
+        Err(WorldFault::NotReadBack) => made(String::from_str(alloc, "body not read back")),
     }
 }

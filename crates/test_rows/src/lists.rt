@@ -17,7 +17,7 @@ use crate::devices::Sink;
 use crate::escapes::escape;
 use crate::messages::message_in;
 use crate::servers::{Echo, Talker};
-use crate::stop::{Stop, count_in, cut};
+use crate::stop::{Stop, add_text, count_in, cut, made};
 use lsp_message::{Request, RequestId, WriteFault};
 use lsp_service::{QueuedServer, WokenQueuedServer};
 use lsp_session::{
@@ -125,22 +125,23 @@ fn called_row(
 
 fn boxes_text(alloc: Global, boxes: &Boxes<'_>, texts: &str) -> Result<String, Stop> {
     let sent = member_texts(alloc, boxes.outbox.list.sent.as_slice())?;
-    let (events, answers) = (boxes.inbox.list.events.len(), boxes.gate.answers.len());
+    let events = boxes.inbox.list.events.len();
+    let answers = boxes.gate.answers.len();
     let seconds = boxes.inbox.seconds;
-    Ok(format!(in alloc; "{texts}sent {sent}; left {events} and {answers}; {seconds} seconds")?)
+    made(format!(in alloc; "{texts}sent {sent}; left {events} and {answers}; {seconds} seconds"))
 }
 
 fn called_texts(alloc: Global, boxes: &mut Boxes<'_>, names: &str) -> Result<String, Stop> {
     let mut texts = String::new(alloc);
     for name in names.split(' ') {
-        texts.push_str(called_text(alloc, boxes, name)?.as_str())?;
+        add_text(&mut texts, called_text(alloc, boxes, name))?;
     }
     Ok(texts)
 }
 
 fn called_text(alloc: Global, boxes: &mut Boxes<'_>, name: &str) -> Result<String, Stop> {
     let said = call(alloc, boxes, name)?;
-    Ok(format!(in alloc; "{name} {said}; ")?)
+    made(format!(in alloc; "{name} {said}; "))
 }
 
 fn call(alloc: Global, boxes: &mut Boxes<'_>, name: &str) -> Result<String, Stop> {
@@ -152,12 +153,21 @@ fn call(alloc: Global, boxes: &mut Boxes<'_>, name: &str) -> Result<String, Stop
         None => (Habit::Gives, name),
     };
     boxes.inbox.habit = habit;
+    call_named(alloc, boxes, name, turns)
+}
+
+fn call_named(
+    alloc: Global,
+    boxes: &mut Boxes<'_>,
+    name: &str,
+    turns: u64,
+) -> Result<String, Stop> {
     match name {
         "start" => started(alloc, boxes, turns),
-        "wait" => done(
-            alloc,
-            wait_within(alloc, &mut boxes.inbox, &mut boxes.gate, turns),
-        ),
+        "wait" => {
+            let answer = wait_within(alloc, &mut boxes.inbox, &mut boxes.gate, turns);
+            done(alloc, answer)
+        }
         "finish" => finished(alloc, boxes, turns),
         method => shut(alloc, boxes, method),
     }
@@ -166,14 +176,14 @@ fn call(alloc: Global, boxes: &mut Boxes<'_>, name: &str) -> Result<String, Stop
 fn done(alloc: Global, answer: Option<Result<(), ProtocolError>>) -> Result<String, Stop> {
     match answer {
         Some(answer) => said(alloc, answer, "done"),
-        None => Ok(String::from_str(alloc, "undecided")?),
+        None => made(String::from_str(alloc, "undecided")),
     }
 }
 
 /// These words, or why not.
 fn said(alloc: Global, answer: Result<(), ProtocolError>, words: &str) -> Result<String, Stop> {
     match answer {
-        Ok(()) => Ok(String::from_str(alloc, words)?),
+        Ok(()) => made(String::from_str(alloc, words)),
         Err(error) => error_text(alloc, error),
     }
 }
@@ -186,7 +196,7 @@ fn error_text(alloc: Global, error: ProtocolError) -> Result<String, Stop> {
     if is_memory {
         return Err(Stop::Memory);
     }
-    Ok(text?)
+    made(text)
 }
 
 /// The id and the params of a start.
@@ -199,7 +209,7 @@ fn started(alloc: Global, boxes: &mut Boxes<'_>, turns: u64) -> Result<String, S
     } = boxes;
     match start_within(alloc, inbox, outbox, gate, turns) {
         Some(answer) => started_text(alloc, id, answer),
-        None => Ok(String::from_str(alloc, "undecided")?),
+        None => made(String::from_str(alloc, "undecided")),
     }
 }
 
@@ -213,7 +223,7 @@ fn started_text(
             let words = format!(in alloc; "{came} {params}");
             drop(params);
             drop(mem::replace(id, came));
-            Ok(words?)
+            made(words)
         }
         Err(error) => error_text(alloc, error),
     }
@@ -246,8 +256,7 @@ fn shut(alloc: Global, boxes: &mut Boxes<'_>, method: &str) -> Result<String, St
     let answer = shutdown(alloc, &mut boxes.inbox, &mut boxes.outbox, &request);
     drop(request);
     match answer {
-        Ok(true) => Ok(String::from_str(alloc, "true")?),
-        Ok(false) => Ok(String::from_str(alloc, "false")?),
+        Ok(is_last) => made(format!(in alloc; "{is_last}")),
         Err(error) => error_text(alloc, error),
     }
 }
@@ -277,7 +286,7 @@ fn session_text(
     let end = end_text(alloc, word, &mut boxes.inbox, &mut boxes.outbox, &mut echo)?;
     let texts = member_texts(alloc, boxes.outbox.list.sent.as_slice())?;
     let (asked, told) = (echo.asked, echo.told);
-    Ok(format!(in alloc; "{end}; sent {texts}; {asked} asked, {told} told")?)
+    made(format!(in alloc; "{end}; sent {texts}; {asked} asked, {told} told"))
 }
 
 fn end_text(
@@ -294,7 +303,7 @@ fn end_text(
         _ => return Err(Stop::Table),
     };
     match ended {
-        Ok(end) => Ok(String::from_str(alloc, end_name(end))?),
+        Ok(end) => made(String::from_str(alloc, end_name(end))),
         Err(error) => error_text(alloc, error),
     }
 }
@@ -343,7 +352,7 @@ fn written_row(
     let text = written_text(alloc, &mut boxes.inbox, &mut boxes.outbox, fills)?;
     let on = member_texts(alloc, boxes.outbox.list.sent.as_slice())?;
     let left = boxes.inbox.list.events.len();
-    Ok(format!(in alloc; "{text}; on {on}; left {left}")?)
+    made(format!(in alloc; "{text}; on {on}; left {left}"))
 }
 
 fn written_text(
@@ -367,5 +376,5 @@ fn written_text(
         return Err(Stop::Memory);
     }
     let taken = escape(alloc, writer.taken.as_slice())?;
-    Ok(format!(in alloc; "{end:?}; wrote {taken}")?)
+    made(format!(in alloc; "{end:?}; wrote {taken}"))
 }

@@ -1,6 +1,6 @@
 // What bytes and trees mean as messages, and what messages become.
 use crate::escapes::{escape, unescape};
-use crate::stop::{Stop, add_step, cut};
+use crate::stop::{Stop, add_step, cut, made};
 use lsp_message::{Message, Notification, Request, RequestId};
 use serde_json::Value;
 use std::alloc::{AllocError, Global};
@@ -101,9 +101,9 @@ pub fn id_text(alloc: Global, text: &str) -> Result<String, Stop> {
         Some(id) => {
             let said = format!(in alloc; "{id}");
             drop(id);
-            Ok(said?)
+            made(said)
         }
-        None => Ok(String::from_str(alloc, "no id")?),
+        None => made(String::from_str(alloc, "no id")),
     }
 }
 
@@ -116,7 +116,7 @@ pub fn meaning(alloc: Global, escaped: &str) -> Result<String, Stop> {
     frame.extend_from_slice(body.as_slice())?;
     match Message::read(alloc, &mut frame.as_slice()) {
         Ok(message) => meant(alloc, message, by_tree),
-        Err(fault) => Ok(format!(in alloc; "{fault}, {by_tree}")?),
+        Err(fault) => made(format!(in alloc; "{fault}, {by_tree}")),
     }
 }
 
@@ -146,7 +146,7 @@ fn meant(alloc: Global, message: Option<Message>, by_tree: String) -> Result<Str
     if said == by_tree {
         return Ok(said);
     }
-    Ok(format!(in alloc; "{said}, {by_tree}")?)
+    made(format!(in alloc; "{said}, {by_tree}"))
 }
 
 /// Reads the message in a member text, clones it, and gives its texts, its tree and its frame.
@@ -173,10 +173,11 @@ fn cloned_text(alloc: Global, clone: Result<Message, AllocError>) -> Result<Stri
 }
 
 fn texts_of(alloc: Global, message: &Message) -> Result<String, Stop> {
-    let mut texts = message.member_text(alloc)?;
-    add_step(&mut texts, tree_of(alloc, message)?.as_str())?;
-    add_step(&mut texts, message.body_text(alloc)?.as_str())?;
-    add_step(&mut texts, frame_of(alloc, message)?.as_str())?;
+    let mut texts = String::new(alloc);
+    add_step(&mut texts, made(message.member_text(alloc)))?;
+    add_step(&mut texts, made(tree_of(alloc, message)))?;
+    add_step(&mut texts, made(message.body_text(alloc)))?;
+    add_step(&mut texts, frame_of(alloc, message))?;
     Ok(texts)
 }
 
@@ -185,7 +186,7 @@ fn frame_of(alloc: Global, message: &Message) -> Result<String, Stop> {
     if message.write(alloc, &mut frame).is_err() {
         return Err(Stop::Memory);
     }
-    Ok(escape(alloc, frame.as_slice())?)
+    made(escape(alloc, frame.as_slice()))
 }
 
 fn tree_of(alloc: Global, message: &Message) -> Result<String, AllocError> {
@@ -205,7 +206,7 @@ pub fn extracted(alloc: Global, row: &str) -> Result<String, Stop> {
     match message_in(alloc, text) {
         Ok(message) => {
             let said = extracted_of(alloc, message, method)?;
-            Ok(escape(alloc, said.as_bytes())?)
+            made(escape(alloc, said.as_bytes()))
         }
         Err(stop) => Err(stop),
     }
@@ -213,8 +214,8 @@ pub fn extracted(alloc: Global, row: &str) -> Result<String, Stop> {
 
 fn extracted_of(alloc: Global, message: Message, method: &str) -> Result<String, Stop> {
     match message {
-        Message::Request(request) => Ok(of_request(alloc, request, method)?),
-        Message::Notification(notification) => Ok(of_notification(alloc, notification, method)?),
+        Message::Request(request) => made(of_request(alloc, request, method)),
+        Message::Notification(notification) => made(of_notification(alloc, notification, method)),
         Message::Response(response) => {
             drop(response);
             Err(Stop::Table)

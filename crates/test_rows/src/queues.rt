@@ -8,7 +8,7 @@
 // | `pending` | `has_pending` |
 // | `shown` | how the queues print for a programmer |
 use crate::messages::{id_in, nested, text_of, value_in};
-use crate::stop::{Stop, add_step, count_in, cut};
+use crate::stop::{Stop, add_step, count_in, cut, made};
 use lsp_message::{Message, Request, RequestId, Response};
 use lsp_queue::{RegisterFault, ReqQueue};
 use serde_json::Value;
@@ -27,7 +27,7 @@ pub fn answers(alloc: Global, steps: &str) -> Result<String, Stop> {
 fn called(alloc: Global, queue: &mut Queue, steps: &str) -> Result<String, Stop> {
     let mut said = String::new(alloc);
     for step in steps.split("; ") {
-        add_step(&mut said, call(alloc, queue, step)?.as_str())?;
+        add_step(&mut said, call(alloc, queue, step))?;
     }
     Ok(said)
 }
@@ -36,8 +36,8 @@ fn call(alloc: Global, queue: &mut Queue, step: &str) -> Result<String, Stop> {
     let (verb, words) = step.split_once(" ").unwrap_or((step, ""));
     match verb {
         "register" | "register_value" | "deep" => register(alloc, queue, verb, words),
-        "shown" => Ok(format!(in alloc; "{queue:?}")?),
-        "pending" => Ok(format!(in alloc; "pending {}", queue.has_pending())?),
+        "shown" => made(format!(in alloc; "{queue:?}")),
+        "pending" => made(format!(in alloc; "pending {}", queue.has_pending())),
         "receive" => receive(alloc, queue, words),
         "cancel" => cancel(alloc, queue, words),
         _ => complete(alloc, queue, verb, words),
@@ -81,7 +81,7 @@ fn registered_text(
     match registered {
         Ok(request) => {
             let text = text_of(alloc, Message::from(request))?;
-            Ok(format!(in alloc; "sent {text}")?)
+            made(format!(in alloc; "sent {text}"))
         }
         Err(fault) => refused_text(alloc, fault, verb),
     }
@@ -89,7 +89,7 @@ fn registered_text(
 
 fn refused_text(alloc: Global, fault: RegisterFault<char>, verb: &str) -> Result<String, Stop> {
     match verb {
-        "deep" => Ok(format!(in alloc; "{fault:?}")?),
+        "deep" => made(format!(in alloc; "{fault:?}")),
         _ => Err(Stop::Memory),
     }
 }
@@ -98,7 +98,7 @@ fn receive(alloc: Global, queue: &mut Queue, words: &str) -> Result<String, Stop
     let (id, data) = cut(words, " ")?;
     let data = data_in(data)?;
     match queue.incoming.register(id_in(alloc, id)?, data) {
-        Ok(()) => Ok(format!(in alloc; "received {id}")?),
+        Ok(()) => made(format!(in alloc; "received {id}")),
         Err(_) => Err(Stop::Memory),
     }
 }
@@ -108,7 +108,7 @@ fn cancel(alloc: Global, queue: &mut Queue, word: &str) -> Result<String, Stop> 
         Ok(reply) => reply_text(alloc, reply)?,
         Err(_) => return Err(Stop::Memory),
     };
-    Ok(format!(in alloc; "cancelled {text}")?)
+    made(format!(in alloc; "cancelled {text}"))
 }
 
 fn reply_text(alloc: Global, reply: Option<Response>) -> Result<String, AllocError> {
@@ -128,7 +128,7 @@ fn complete(alloc: Global, queue: &mut Queue, verb: &str, word: &str) -> Result<
             return Err(Stop::Table);
         }
     };
-    Ok(format!(in alloc; "{verb} {data:?}")?)
+    made(format!(in alloc; "{verb} {data:?}"))
 }
 
 fn answered(queue: &mut Queue, id: RequestId) -> Option<char> {

@@ -1,6 +1,6 @@
 // Values that are read by the types of `lsp_types` and written again.
 use crate::messages::{text_in, value_in};
-use crate::stop::{Stop, cut};
+use crate::stop::{Stop, cut, made};
 use lsp_types::{
     ApplyWorkspaceEditParams, ApplyWorkspaceEditResult, CodeAction, CodeActionOptions,
     CodeActionParams, Command, CompletionItem, CompletionList, CompletionOptions,
@@ -31,7 +31,7 @@ fn row_or_refused(alloc: Global, row: Result<String, Error>) -> Result<String, S
     match row {
         Ok(row) => Ok(row),
         Err(fault) if fault.is_memory() => Err(Stop::Memory),
-        Err(_) => Ok(String::from_str(alloc, "refused")?),
+        Err(_) => made(String::from_str(alloc, "refused")),
     }
 }
 

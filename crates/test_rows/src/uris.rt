@@ -1,6 +1,6 @@
 // Paths and their URIs, the numbers of semantic tokens, and the place that params ask about.
 use crate::messages::{quoted, value_in};
-use crate::stop::{Stop, cut};
+use crate::stop::{Stop, cut, made};
 use crate::types::written;
 use lsp_text::{PositionEncoding, Text};
 use lsp_types::{FileUriFault, Position, SemanticToken, SemanticTokens, path_of_uri, uri_of_path};
@@ -32,9 +32,9 @@ pub fn path(alloc: Global, text: &str) -> Result<String, Stop> {
 
 fn told(alloc: Global, outcome: Result<String, FileUriFault>) -> Result<String, Stop> {
     match outcome {
-        Ok(text) => Ok(quoted(alloc, text)?),
+        Ok(text) => made(quoted(alloc, text)),
         Err(FileUriFault::Memory) => Err(Stop::Memory),
-        Err(fault) => Ok(format!(in alloc; "{fault:?}")?),
+        Err(fault) => made(format!(in alloc; "{fault:?}")),
     }
 }
 
@@ -56,7 +56,7 @@ pub fn tokens(alloc: Global, text: &str) -> Result<String, Stop> {
             drop(found);
             Ok(text?)
         }
-        None => Ok(String::from_str(alloc, "not in order")?),
+        None => made(String::from_str(alloc, "not in order")),
     }
 }
 
@@ -84,5 +84,5 @@ pub fn offset(alloc: Global, text: &str) -> Result<String, Stop> {
     let text = Text::new(alloc, text.as_str())?;
     let place = text.offset_at(position, PositionEncoding::Utf16);
     drop(text);
-    Ok(format!(in alloc; "{place}")?)
+    made(format!(in alloc; "{place}"))
 }
