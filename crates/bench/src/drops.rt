@@ -1,10 +1,11 @@
 //! A server that drops all that it is given, on one thread and on three: it answers each request with a value of its own. What that costs
 //! tells whether one thread frees what another one allocated.
-use crate::threads::ended;
+use crate::session::ended;
+use crate::threads;
 use anyhow::{Result, bail};
 use lsp_server::{
-    Connection, Handler, Message, Notification, Request, Response, ResponseError, StandardOutput,
-    run_threads, session,
+    Connection, Handler, Message, Notification, Request, RequestId, Response, ResponseError,
+    StandardOutput, run_threads, session,
 };
 use serde_json::{Map, Value, json};
 use std::alloc::{AllocError, Global};
@@ -56,10 +57,10 @@ pub fn serve<R: BufRead, W: Write>(
     reply: Value,
 ) -> Result<()> {
     let capabilities = Value::Object(Map::new(alloc));
-    match session(alloc, reader, writer, capabilities, &mut Fixed { reply }) {
-        Ok(_) => Ok(()),
-        Err(fault) => bail!("{fault}"),
-    }
+    let mut fixed = Fixed { reply };
+    let answer = session(alloc, reader, writer, capabilities, &mut fixed);
+    drop(fixed);
+    ended(answer)
 }
 
 /// The session on three threads.
@@ -70,14 +71,16 @@ where
 {
     let capabilities = Value::Object(Map::new(alloc));
     let mut fixed = Fixed { reply };
-    ended(run_threads(
+    let done = run_threads(
         rt,
         alloc,
         reader,
         StandardOutput::new(*rt),
         capabilities,
         &mut fixed,
-    ))
+    );
+    drop(fixed);
+    threads::ended(done)
 }
 
 /// A loop over a connection.
@@ -86,8 +89,20 @@ where
     T: Threads + Wait + Print + Clock + AllocGlobal + Copy + Drop + Send + 'static,
     R: BufRead + Drop + Send + 'static,
 {
-    let (connection, threads) = Connection::over(rt, reader, StandardOutput::new(*rt), u64::MAX)?;
-    answer_all(rt, connection, &reply)?;
+    let opened = Connection::over(rt, reader, StandardOutput::new(*rt), u64::MAX);
+    let (connection, threads) = match opened {
+        Ok(started) => started,
+        Err(fault) => {
+            drop(reply);
+            bail!("{fault}")
+        }
+    };
+    let answered = answer_all(rt, connection, &reply);
+    drop(reply);
+    if answered.is_err() {
+        drop(threads);
+        return answered;
+    }
     threads.join(rt)?;
     Ok(())
 }
@@ -97,25 +112,75 @@ fn answer_all<T>(rt: &T, connection: Connection, reply: &Value) -> Result<()>
 where
     T: Wait + Clock + AllocGlobal,
 {
-    connection.initialize(rt, Value::Object(Map::new(rt.alloc())))?;
+    let answered = answer_each(rt, &connection, reply);
+    drop(connection);
+    answered
+}
+
+fn answer_each<T>(rt: &T, connection: &Connection, reply: &Value) -> Result<()>
+where
+    T: Wait + Clock + AllocGlobal,
+{
+    let params = connection.initialize(rt, Value::Object(Map::new(rt.alloc())));
+    match params {
+        Ok(params) => drop(params),
+        Err(error) => return Err(anyhow::Error::from(error)),
+    }
     for message in connection.receiver.iter(rt) {
-        if let Message::Request(request) = message {
-            if connection.handle_shutdown(rt, &request)? {
-                return Ok(());
+        let is_over = match message {
+            Message::Request(request) => answer(rt, connection, request, reply)?,
+            other => {
+                drop(other);
+                false
             }
-            answer(rt, &connection, request, reply)?;
+        };
+        if is_over {
+            return Ok(());
         }
     }
     bail!("the client left without a shutdown")
 }
 
-fn answer<T: Wait>(rt: &T, connection: &Connection, request: Request, reply: &Value) -> Result<()> {
-    let response = Response {
-        id: request.id,
-        response_result: Ok(reply.clone()?),
+/// Answers this request: whether it was the shutdown.
+fn answer<T>(rt: &T, connection: &Connection, request: Request, reply: &Value) -> Result<bool>
+where
+    T: Wait + Clock + AllocGlobal,
+{
+    let shut = connection.handle_shutdown(rt, &request);
+    let Request { id, method, params } = request;
+    let answered = match shut {
+        Ok(true) => {
+            drop(id);
+            Ok(true)
+        }
+        Ok(false) => send_reply(rt, connection, id, reply),
+        Err(error) => {
+            drop(id);
+            Err(anyhow::Error::from(error))
+        }
     };
-    if connection.sender.send(rt, Message::from(response)).is_err() {
+    drop(method);
+    drop(params);
+    answered
+}
+
+/// Sends the reply. The session goes on, so it gives false.
+fn send_reply<T: Wait>(
+    rt: &T,
+    connection: &Connection,
+    id: RequestId,
+    reply: &Value,
+) -> Result<bool> {
+    let result = reply.clone()?;
+    let response = Response {
+        id,
+        response_result: Ok(result),
+    };
+    let sent = connection.sender.send(rt, Message::from(response));
+    let is_sent = sent.is_ok();
+    drop(sent);
+    if !is_sent {
         bail!("the other side is gone");
     }
-    Ok(())
+    Ok(false)
 }

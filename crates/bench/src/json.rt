@@ -21,6 +21,14 @@ fn read_header<R: BufRead>(reader: &mut R, line: &mut Vec<u8>) -> Result<usize> 
     Ok(length)
 }
 
+/// The text of the value that a body has.
+fn text_of(alloc: Global, body: &[u8]) -> Result<String> {
+    let value = Value::from_slice(alloc, body)?;
+    let text = value.to_string(alloc);
+    drop(value);
+    Ok(text?)
+}
+
 /// Reads each body as a `Value`, and writes that value's text.
 pub fn write_again<R: BufRead, W: Write>(
     alloc: Global,
@@ -37,8 +45,7 @@ pub fn write_again<R: BufRead, W: Write>(
         }
         body.resize(length, 0)?;
         reader.read_exact(body.as_mut_slice())?;
-        let value = Value::from_slice(alloc, body.as_slice())?;
-        let text = value.to_string(alloc)?;
+        let text = text_of(alloc, body.as_slice())?;
         frame.clear();
         let text_length = text.len();
         write!(frame, "Content-Length: {text_length}\r\n\r\n")?;

@@ -57,24 +57,29 @@ fn main(rt: HostRuntime) -> Result<()> {
     let alloc = rt.alloc();
     keep_freed_memory(alloc);
     let words: Vec<String> = env::args(&rt)?.skip(1).collect(alloc)?;
-    let mut reader = BufReader::with_capacity(alloc, READ_AHEAD, rt.reader())?;
-    match words.as_slice() {
-        [word, counts @ ..] if word.as_str() == "queues" => queues::measure(&rt, alloc, counts),
-        [word, counts @ ..] if word.as_str() == "texts" => texts::measure(&rt, alloc, counts),
+    let reader = BufReader::with_capacity(alloc, READ_AHEAD, rt.reader())?;
+    measure(&rt, alloc, words.as_slice(), reader)
+}
+
+/// The measure that these words ask for.
+fn measure<T, R>(rt: &T, alloc: Global, words: &[String], reader: R) -> Result<()>
+where
+    T: Threads + Wait + Print + Clock + AllocGlobal + Copy + Drop + Send + 'static,
+    R: BufRead + Drop + Send + 'static,
+{
+    match words {
+        [word, counts @ ..] if word.as_str() == "queues" => queues::measure(rt, alloc, counts),
+        [word, counts @ ..] if word.as_str() == "texts" => texts::measure(rt, alloc, counts),
         [word, workers] if word.as_str() == "jobs" => {
             let workers = workers.parse::<usize>().context("how many workers")?;
-            jobs::serve(&rt, alloc, reader, workers)
+            jobs::serve(rt, alloc, reader, workers)
         }
         [word, way, count] if word.as_str() == "drops" => {
-            let reply = drops::places(alloc, count.parse::<u64>().context("how many places")?)?;
-            run_drops(&rt, alloc, way.as_str(), reader, reply)
+            let count = count.parse::<u64>().context("how many places")?;
+            run_drops(rt, alloc, way.as_str(), reader, drops::places(alloc, count)?)
         }
-        [word] if word.as_str() == "all" => {
-            let mut text = Vec::new(alloc);
-            reader.read_to_end(&mut text)?;
-            run_all(&rt, alloc, text.as_slice())
-        }
-        words => run(&rt, alloc, joined(alloc, words)?.as_str(), reader),
+        [word] if word.as_str() == "all" => run_all(rt, alloc, reader),
+        words => run(rt, alloc, joined(alloc, words)?.as_str(), reader),
     }
 }
 
@@ -101,27 +106,43 @@ where
         "session" => drops::serve(alloc, &mut reader, &mut io::writer(rt), reply),
         "run_threads" => drops::serve_in_threads(rt, alloc, reader, reply),
         "connection" => drops::serve_connection(rt, reader, reply),
-        _ => bail!("{USAGE}"),
+        _ => {
+            drop(reply);
+            bail!("{USAGE}")
+        }
     }
 }
 
 /// Each measure over these bytes, and after them those of the queues and of texts.
-fn run_all<T>(rt: &T, alloc: Global, text: &[u8]) -> Result<()>
+fn run_all<T, R>(rt: &T, alloc: Global, reader: R) -> Result<()>
 where
     T: Threads + Wait + Print + Clock + Copy + Drop + Send + 'static,
+    R: BufRead + Drop,
 {
+    let mut reader = reader;
+    let mut text = Vec::new(alloc);
+    reader.read_to_end(&mut text)?;
     for measure in OVER_FRAMES {
-        println!(rt; "{measure}")?;
-        let mut bytes = Vec::new(alloc);
-        bytes.extend_from_slice(text)?;
-        run(rt, alloc, measure, Cursor::new(bytes))?;
-        println!(rt; "")?;
+        run_again(rt, alloc, measure, text.as_slice())?;
     }
     println!(rt; "queues")?;
     queues::measure(rt, alloc, &[])?;
     println!(rt; "")?;
     println!(rt; "texts")?;
     texts::measure(rt, alloc, &[])
+}
+
+/// The measure of this name over these bytes, under its name.
+fn run_again<T>(rt: &T, alloc: Global, measure: &str, text: &[u8]) -> Result<()>
+where
+    T: Threads + Wait + Print + Copy + Drop + Send + 'static,
+{
+    println!(rt; "{measure}")?;
+    let mut bytes = Vec::new(alloc);
+    bytes.extend_from_slice(text)?;
+    run(rt, alloc, measure, Cursor::new(bytes))?;
+    println!(rt; "")?;
+    Ok(())
 }
 
 /// The measure of this name.

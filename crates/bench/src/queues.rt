@@ -13,8 +13,10 @@ const FEW: u32 = 1000;
 pub fn measure<R: Clock + Print>(rt: &R, alloc: Global, words: &[String]) -> Result<()> {
     if words.is_empty() {
         let mut queue: ReqQueue<u64, u64> = ReqQueue::default(alloc);
-        register_all(alloc, &mut queue.outgoing, FEW)?;
+        let registered = register_all(alloc, &mut queue.outgoing, FEW);
         let found = complete_all(&mut queue.outgoing, FEW);
+        drop(queue);
+        registered?;
         println!(rt; "{FEW} registered, {found} given back")?;
         return Ok(());
     }
@@ -27,11 +29,22 @@ pub fn measure<R: Clock + Print>(rt: &R, alloc: Global, words: &[String]) -> Res
 
 fn time_calls<R: Clock + Print>(rt: &R, alloc: Global, count: u32) -> Result<()> {
     let mut queue: ReqQueue<u64, u64> = ReqQueue::default(alloc);
+    let timed = time_queue(rt, alloc, &mut queue.outgoing, count);
+    drop(queue);
+    timed
+}
+
+fn time_queue<R: Clock + Print>(
+    rt: &R,
+    alloc: Global,
+    queue: &mut Outgoing<u64>,
+    count: u32,
+) -> Result<()> {
     let start = Instant::now(rt)?;
-    register_all(alloc, &mut queue.outgoing, count)?;
+    register_all(alloc, queue, count)?;
     let registered = start.elapsed(rt)?.as_nanos();
     let start = Instant::now(rt)?;
-    let found = complete_all(&mut queue.outgoing, count);
+    let found = complete_all(queue, count);
     let completed = start.elapsed(rt)?.as_nanos();
     let each = per_call(registered, count);
     let last = per_call(completed, count);
@@ -43,7 +56,9 @@ fn time_calls<R: Clock + Print>(rt: &R, alloc: Global, count: u32) -> Result<()>
 fn register_all(alloc: Global, queue: &mut Outgoing<u64>, count: u32) -> Result<()> {
     for number in 0..count {
         let registered = queue.register_value(String::new(alloc), Value::Null, u64::from(number));
-        if registered.is_err() {
+        let is_refused = registered.is_err();
+        drop(registered);
+        if is_refused {
             return Err(anyhow::Error::msg("a registration was refused"));
         }
     }

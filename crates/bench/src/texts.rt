@@ -20,8 +20,10 @@ const LONG: [u32; 2] = [1_000_000, 10_000_000];
 pub fn measure<R: Clock + Print>(rt: &R, alloc: Global, words: &[String]) -> Result<()> {
     if words.is_empty() {
         let mut text = large(alloc)?;
-        typed(alloc, &mut text, 0, 0, "x", FEW)?;
+        let typed = typed(alloc, &mut text, 0, 0, "x", FEW);
         let bytes = text.as_str().len();
+        drop(text);
+        typed?;
         println!(rt; "{bytes} bytes")?;
         return Ok(());
     }
@@ -40,19 +42,31 @@ fn time_edits<R: Clock + Print>(rt: &R, alloc: Global, count: u32) -> Result<()>
     let start = Instant::now(rt)?;
     let mut text = large(alloc)?;
     let took = start.elapsed(rt)?.as_micros();
-    println!(rt; "made and indexed: {took} us")?;
+    let timed = time_edits_of(rt, alloc, &mut text, count, took);
+    drop(text);
+    timed
+}
+
+fn time_edits_of<R: Clock + Print>(
+    rt: &R,
+    alloc: Global,
+    text: &mut Text,
+    count: u32,
+    made: u128,
+) -> Result<()> {
+    println!(rt; "made and indexed: {made} us")?;
     for line in [0u32, 12_500, LINES] {
         let start = Instant::now(rt)?;
-        typed(alloc, &mut text, line, 0, "x", count)?;
+        typed(alloc, text, line, 0, "x", count)?;
         let took = start.elapsed(rt)?.as_micros();
         println!(rt; "{count} keystrokes at line {line}: {took} us")?;
     }
     let start = Instant::now(rt)?;
-    typed(alloc, &mut text, 12_500, 0, "y\n", count)?;
+    typed(alloc, text, 12_500, 0, "y\n", count)?;
     let took = start.elapsed(rt)?.as_micros();
     println!(rt; "{count} new lines at line 12500: {took} us")?;
     let start = Instant::now(rt)?;
-    let sum = asked(&text, count);
+    let sum = asked(text, count);
     let took = start.elapsed(rt)?.as_micros();
     println!(rt; "{count} positions of offsets and back: {took} us, sum {sum}")?;
     Ok(())
