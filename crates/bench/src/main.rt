@@ -76,7 +76,13 @@ where
         }
         [word, way, count] if word.as_str() == "drops" => {
             let count = count.parse::<u64>().context("how many places")?;
-            run_drops(rt, alloc, way.as_str(), reader, drops::places(alloc, count)?)
+            run_drops(
+                rt,
+                alloc,
+                way.as_str(),
+                reader,
+                drops::places(alloc, count)?,
+            )
         }
         [word] if word.as_str() == "all" => run_all(rt, alloc, reader),
         words => run(rt, alloc, joined(alloc, words)?.as_str(), reader),
