@@ -2,12 +2,12 @@
 //! tells whether one thread frees what another one allocated.
 use crate::session::ended;
 use crate::threads;
-use anyhow::{Result, bail};
+use anyhow::{Error, Result};
 use lsp_server::{
-    Connection, Handler, Message, Notification, Request, RequestId, Response, ResponseError,
-    StandardOutput, run_threads, session,
+    Connection, Handler, IoThreads, Message, Notification, Request, RequestId, Response,
+    ResponseError, StandardOutput, run_threads, session,
 };
-use serde_json::{Map, Value, json};
+use serde_json::{Map, Value, put};
 use std::alloc::{AllocError, Global};
 use std::io::{BufRead, Write};
 use std::sync::Wait;
@@ -38,15 +38,22 @@ impl Handler for Fixed {
 }
 
 /// A list of so many places, or null for none.
-pub fn places(alloc: Global, count: u64) -> Result<Value> {
+pub fn places(alloc: Global, count: u64) -> Result<Value, AllocError> {
     if count == 0 {
         return Ok(Value::Null);
     }
     let mut list = Vec::new(alloc);
     for line in 0..count {
-        list.push(json!(in alloc; { "character": 7, "line": line })?)?;
+        list.push(place(alloc, line)?)?;
     }
     Ok(Value::Array(list))
+}
+
+fn place(alloc: Global, line: u64) -> Result<Value, AllocError> {
+    let mut members = Map::new(alloc);
+    put(&mut members, alloc, "character", Value::from(7))?;
+    put(&mut members, alloc, "line", Value::from(line))?;
+    Ok(Value::Object(members))
 }
 
 /// The session on one thread.
@@ -89,59 +96,69 @@ where
     T: Threads + Wait + Print + Clock + AllocGlobal + Copy + Drop + Send + 'static,
     R: BufRead + Drop + Send + 'static,
 {
-    let opened = Connection::over(rt, reader, StandardOutput::new(*rt), u64::MAX);
-    let (connection, threads) = match opened {
-        Ok(started) => started,
+    match Connection::over(rt, reader, StandardOutput::new(*rt), u64::MAX) {
+        Ok((connection, threads)) => answer_all(rt, connection, threads, reply),
         Err(fault) => {
             drop(reply);
-            bail!("{fault}")
+            Err(Error::from(fault))
         }
-    };
-    let answered = answer_all(rt, connection, &reply);
-    drop(reply);
-    if answered.is_err() {
-        drop(threads);
-        return answered;
     }
-    threads.join(rt)?;
-    Ok(())
 }
 
-/// From `initialize` to `exit`. The connection is dropped at the end, so that its threads end too.
-fn answer_all<T>(rt: &T, connection: Connection, reply: &Value) -> Result<()>
+/// From `initialize` to `exit`. The connection is dropped then, so that its threads end too.
+fn answer_all<T>(rt: &T, connection: Connection, threads: IoThreads, reply: Value) -> Result<()>
 where
-    T: Wait + Clock + AllocGlobal,
+    T: Threads + Wait + Clock + AllocGlobal,
 {
-    let answered = answer_each(rt, &connection, reply);
+    let answered = answer_each(rt, &connection, &reply);
     drop(connection);
-    answered
+    drop(reply);
+    match answered {
+        Ok(()) => Ok(threads.join(rt)?),
+        Err(error) => {
+            drop(threads);
+            Err(error)
+        }
+    }
 }
 
 fn answer_each<T>(rt: &T, connection: &Connection, reply: &Value) -> Result<()>
 where
     T: Wait + Clock + AllocGlobal,
 {
-    let params = connection.initialize(rt, Value::Object(Map::new(rt.alloc())));
-    match params {
-        Ok(params) => drop(params),
-        Err(error) => return Err(anyhow::Error::from(error)),
-    }
+    begin(rt, connection)?;
     for message in connection.receiver.iter(rt) {
-        let is_over = match message {
-            Message::Request(request) => answer(rt, connection, request, reply)?,
-            other => {
-                drop(other);
-                false
-            }
-        };
-        if is_over {
+        if take(rt, connection, message, reply)? {
             return Ok(());
         }
     }
-    bail!("the client left without a shutdown")
+    Err(Error::msg("the client left without a shutdown"))
 }
 
-/// Answers this request: whether it was the shutdown.
+fn begin<T: Wait + Clock + AllocGlobal>(rt: &T, connection: &Connection) -> Result<()> {
+    match connection.initialize(rt, Value::Object(Map::new(rt.alloc()))) {
+        Ok(params) => {
+            drop(params);
+            Ok(())
+        }
+        Err(error) => Err(Error::from(error)),
+    }
+}
+
+/// Answers this message, if it is a request: whether it was the shutdown.
+fn take<T>(rt: &T, connection: &Connection, message: Message, reply: &Value) -> Result<bool>
+where
+    T: Wait + Clock + AllocGlobal,
+{
+    match message {
+        Message::Request(request) => answer(rt, connection, request, reply),
+        other => {
+            drop(other);
+            Ok(false)
+        }
+    }
+}
+
 fn answer<T>(rt: &T, connection: &Connection, request: Request, reply: &Value) -> Result<bool>
 where
     T: Wait + Clock + AllocGlobal,
@@ -156,7 +173,7 @@ where
         Ok(false) => send_reply(rt, connection, id, reply),
         Err(error) => {
             drop(id);
-            Err(anyhow::Error::from(error))
+            Err(Error::from(error))
         }
     };
     drop(method);
@@ -179,8 +196,9 @@ fn send_reply<T: Wait>(
     let sent = connection.sender.send(rt, Message::from(response));
     let is_sent = sent.is_ok();
     drop(sent);
-    if !is_sent {
-        bail!("the other side is gone");
+    if is_sent {
+        Ok(false)
+    } else {
+        Err(Error::msg("the other side is gone"))
     }
-    Ok(false)
 }

@@ -25,7 +25,7 @@ mod speaking;
 mod texts;
 mod threads;
 
-use anyhow::{Context, Result, bail};
+use anyhow::{Context, Error, Result};
 use lsp_server::keep_freed_memory;
 use serde_json::Value;
 use std::alloc::Global;
@@ -68,24 +68,46 @@ where
     R: BufRead + Drop + Send + 'static,
 {
     match words {
-        [word, counts @ ..] if word.as_str() == "queues" => queues::measure(rt, alloc, counts),
-        [word, counts @ ..] if word.as_str() == "texts" => texts::measure(rt, alloc, counts),
-        [word, workers] if word.as_str() == "jobs" => {
+        [word, rest @ ..] => named(rt, alloc, word.as_str(), words, rest, reader),
+        [] => Err(Error::msg(USAGE)),
+    }
+}
+
+/// The same, where this is the first word, and those are the rest.
+fn named<T, R>(
+    rt: &T,
+    alloc: Global,
+    word: &str,
+    words: &[String],
+    rest: &[String],
+    reader: R,
+) -> Result<()>
+where
+    T: Threads + Wait + Print + Clock + AllocGlobal + Copy + Drop + Send + 'static,
+    R: BufRead + Drop + Send + 'static,
+{
+    match word {
+        "queues" => queues::measure(rt, alloc, rest),
+        "texts" => texts::measure(rt, alloc, rest),
+        "jobs" => run_jobs(rt, alloc, rest, reader),
+        "drops" => run_drops(rt, alloc, rest, reader),
+        "all" => run_all(rt, alloc, rest, reader),
+        _ => run(rt, alloc, joined(alloc, words)?.as_str(), reader),
+    }
+}
+
+/// The session whose requests are jobs of so many workers.
+fn run_jobs<T, R>(rt: &T, alloc: Global, words: &[String], reader: R) -> Result<()>
+where
+    T: Threads + Wait + Print + Copy + Drop + Send + 'static,
+    R: BufRead + Drop + Send + 'static,
+{
+    match words {
+        [workers] => {
             let workers = workers.parse::<usize>().context("how many workers")?;
             jobs::serve(rt, alloc, reader, workers)
         }
-        [word, way, count] if word.as_str() == "drops" => {
-            let count = count.parse::<u64>().context("how many places")?;
-            run_drops(
-                rt,
-                alloc,
-                way.as_str(),
-                reader,
-                drops::places(alloc, count)?,
-            )
-        }
-        [word] if word.as_str() == "all" => run_all(rt, alloc, reader),
-        words => run(rt, alloc, joined(alloc, words)?.as_str(), reader),
+        _ => Err(Error::msg(USAGE)),
     }
 }
 
@@ -101,8 +123,29 @@ fn joined(alloc: Global, words: &[String]) -> Result<String> {
     Ok(text)
 }
 
-/// The session of this name of a server that drops its params.
-fn run_drops<T, R>(rt: &T, alloc: Global, way: &str, reader: R, reply: Value) -> Result<()>
+/// The session of a server that drops its params.
+fn run_drops<T, R>(rt: &T, alloc: Global, words: &[String], reader: R) -> Result<()>
+where
+    T: Threads + Wait + Print + Clock + AllocGlobal + Copy + Drop + Send + 'static,
+    R: BufRead + Drop + Send + 'static,
+{
+    match words {
+        [way, count] => {
+            let count = count.parse::<u64>().context("how many places")?;
+            run_way(
+                rt,
+                alloc,
+                way.as_str(),
+                reader,
+                drops::places(alloc, count)?,
+            )
+        }
+        _ => Err(Error::msg(USAGE)),
+    }
+}
+
+/// The session of this name of that server.
+fn run_way<T, R>(rt: &T, alloc: Global, way: &str, reader: R, reply: Value) -> Result<()>
 where
     T: Threads + Wait + Print + Clock + AllocGlobal + Copy + Drop + Send + 'static,
     R: BufRead + Drop + Send + 'static,
@@ -114,22 +157,32 @@ where
         "connection" => drops::serve_connection(rt, reader, reply),
         _ => {
             drop(reply);
-            bail!("{USAGE}")
+            Err(Error::msg(USAGE))
         }
     }
 }
 
 /// Each measure over these bytes, and after them those of the queues and of texts.
-fn run_all<T, R>(rt: &T, alloc: Global, reader: R) -> Result<()>
+fn run_all<T, R>(rt: &T, alloc: Global, words: &[String], reader: R) -> Result<()>
 where
     T: Threads + Wait + Print + Clock + Copy + Drop + Send + 'static,
     R: BufRead + Drop,
 {
+    if !words.is_empty() {
+        return Err(Error::msg(USAGE));
+    }
     let mut reader = reader;
     let mut text = Vec::new(alloc);
     reader.read_to_end(&mut text)?;
+    run_over(rt, alloc, text.as_slice())
+}
+
+fn run_over<T>(rt: &T, alloc: Global, text: &[u8]) -> Result<()>
+where
+    T: Threads + Wait + Print + Clock + Copy + Drop + Send + 'static,
+{
     for measure in OVER_FRAMES {
-        run_again(rt, alloc, measure, text.as_slice())?;
+        run_again(rt, alloc, measure, text)?;
     }
     println!(rt; "queues")?;
     queues::measure(rt, alloc, &[])?;
@@ -169,6 +222,6 @@ where
         "threads pump" => threads::pump_on(rt, alloc, reader, writer),
         "threads run_threads" => threads::serve(rt, alloc, reader),
         "threads run_threads_with" => threads::serve_speaking(rt, alloc, reader),
-        _ => bail!("{USAGE}"),
+        _ => Err(Error::msg(USAGE)),
     }
 }
