@@ -1,12 +1,13 @@
 //! A server that drops all that it is given, on one thread and on three: it answers each request with a value of its own. What that costs
 //! tells whether one thread frees what another one allocated.
-use crate::threads::ended;
-use anyhow::{Result, bail};
+use crate::session::ended;
+use crate::threads;
+use anyhow::{Error, Result};
 use lsp_server::{
-    Connection, Handler, Message, Notification, Request, Response, ResponseError, StandardOutput,
-    run_threads, session,
+    Connection, Handler, IoThreads, Message, Notification, Request, RequestId, Response,
+    ResponseError, StandardOutput, run_threads, session,
 };
-use serde_json::{Map, Value, json};
+use serde_json::{Map, Value, put};
 use std::alloc::{AllocError, Global};
 use std::io::{BufRead, Write};
 use std::sync::Wait;
@@ -37,15 +38,22 @@ impl Handler for Fixed {
 }
 
 /// A list of so many places, or null for none.
-pub fn places(alloc: Global, count: u64) -> Result<Value> {
+pub fn places(alloc: Global, count: u64) -> Result<Value, AllocError> {
     if count == 0 {
         return Ok(Value::Null);
     }
     let mut list = Vec::new(alloc);
     for line in 0..count {
-        list.push(json!(in alloc; { "character": 7, "line": line })?)?;
+        list.push(place(alloc, line)?)?;
     }
     Ok(Value::Array(list))
+}
+
+fn place(alloc: Global, line: u64) -> Result<Value, AllocError> {
+    let mut members = Map::new(alloc);
+    put(&mut members, alloc, "character", Value::from(7))?;
+    put(&mut members, alloc, "line", Value::from(line))?;
+    Ok(Value::Object(members))
 }
 
 /// The session on one thread.
@@ -56,10 +64,10 @@ pub fn serve<R: BufRead, W: Write>(
     reply: Value,
 ) -> Result<()> {
     let capabilities = Value::Object(Map::new(alloc));
-    match session(alloc, reader, writer, capabilities, &mut Fixed { reply }) {
-        Ok(_) => Ok(()),
-        Err(fault) => bail!("{fault}"),
-    }
+    let mut fixed = Fixed { reply };
+    let answer = session(alloc, reader, writer, capabilities, &mut fixed);
+    drop(fixed);
+    ended(answer)
 }
 
 /// The session on three threads.
@@ -70,14 +78,16 @@ where
 {
     let capabilities = Value::Object(Map::new(alloc));
     let mut fixed = Fixed { reply };
-    ended(run_threads(
+    let done = run_threads(
         rt,
         alloc,
         reader,
         StandardOutput::new(*rt),
         capabilities,
         &mut fixed,
-    ))
+    );
+    drop(fixed);
+    threads::ended(done)
 }
 
 /// A loop over a connection.
@@ -86,36 +96,109 @@ where
     T: Threads + Wait + Print + Clock + AllocGlobal + Copy + Drop + Send + 'static,
     R: BufRead + Drop + Send + 'static,
 {
-    let (connection, threads) = Connection::over(rt, reader, StandardOutput::new(*rt), u64::MAX)?;
-    answer_all(rt, connection, &reply)?;
-    threads.join(rt)?;
-    Ok(())
+    match Connection::over(rt, reader, StandardOutput::new(*rt), u64::MAX) {
+        Ok((connection, threads)) => answer_all(rt, connection, threads, reply),
+        Err(fault) => {
+            drop(reply);
+            Err(Error::from(fault))
+        }
+    }
 }
 
-/// From `initialize` to `exit`. The connection is dropped at the end, so that its threads end too.
-fn answer_all<T>(rt: &T, connection: Connection, reply: &Value) -> Result<()>
+/// From `initialize` to `exit`. The connection is dropped then, so that its threads end too.
+fn answer_all<T>(rt: &T, connection: Connection, threads: IoThreads, reply: Value) -> Result<()>
+where
+    T: Threads + Wait + Clock + AllocGlobal,
+{
+    let answered = answer_each(rt, &connection, &reply);
+    drop(connection);
+    drop(reply);
+    match answered {
+        Ok(()) => Ok(threads.join(rt)?),
+        Err(error) => {
+            drop(threads);
+            Err(error)
+        }
+    }
+}
+
+fn answer_each<T>(rt: &T, connection: &Connection, reply: &Value) -> Result<()>
 where
     T: Wait + Clock + AllocGlobal,
 {
-    connection.initialize(rt, Value::Object(Map::new(rt.alloc())))?;
+    begin(rt, connection)?;
     for message in connection.receiver.iter(rt) {
-        if let Message::Request(request) = message {
-            if connection.handle_shutdown(rt, &request)? {
-                return Ok(());
-            }
-            answer(rt, &connection, request, reply)?;
+        if take(rt, connection, message, reply)? {
+            return Ok(());
         }
     }
-    bail!("the client left without a shutdown")
+    Err(Error::msg("the client left without a shutdown"))
 }
 
-fn answer<T: Wait>(rt: &T, connection: &Connection, request: Request, reply: &Value) -> Result<()> {
-    let response = Response {
-        id: request.id,
-        response_result: Ok(reply.clone()?),
-    };
-    if connection.sender.send(rt, Message::from(response)).is_err() {
-        bail!("the other side is gone");
+fn begin<T: Wait + Clock + AllocGlobal>(rt: &T, connection: &Connection) -> Result<()> {
+    match connection.initialize(rt, Value::Object(Map::new(rt.alloc()))) {
+        Ok(params) => {
+            drop(params);
+            Ok(())
+        }
+        Err(error) => Err(Error::from(error)),
     }
-    Ok(())
+}
+
+/// Answers this message, if it is a request: whether it was the shutdown.
+fn take<T>(rt: &T, connection: &Connection, message: Message, reply: &Value) -> Result<bool>
+where
+    T: Wait + Clock + AllocGlobal,
+{
+    match message {
+        Message::Request(request) => answer(rt, connection, request, reply),
+        other => {
+            drop(other);
+            Ok(false)
+        }
+    }
+}
+
+fn answer<T>(rt: &T, connection: &Connection, request: Request, reply: &Value) -> Result<bool>
+where
+    T: Wait + Clock + AllocGlobal,
+{
+    let shut = connection.handle_shutdown(rt, &request);
+    let Request { id, method, params } = request;
+    let answered = match shut {
+        Ok(true) => {
+            drop(id);
+            Ok(true)
+        }
+        Ok(false) => send_reply(rt, connection, id, reply),
+        Err(error) => {
+            drop(id);
+            Err(Error::from(error))
+        }
+    };
+    drop(method);
+    drop(params);
+    answered
+}
+
+/// Sends the reply. The session goes on, so it gives false.
+fn send_reply<T: Wait>(
+    rt: &T,
+    connection: &Connection,
+    id: RequestId,
+    reply: &Value,
+) -> Result<bool> {
+    let result = reply.clone()?;
+    let response = Response {
+        id,
+        response_result: Ok(result),
+    };
+    let sent = connection.sender.send(rt, Message::from(response));
+    let is_sent = sent.is_ok();
+    drop(sent);
+    if is_sent {
+        Ok(false)
+    } else {
+        Err(Error::msg("the other side is gone"))
+    }
 }

@@ -36,7 +36,8 @@ type Acts = Vec<Act<()>>;
 impl Server for Jobs {
     type Payload = ();
 
-    fn initialize(&mut self, _params: Value) -> Result<Result<Value, ResponseError>, AllocError> {
+    fn initialize(&mut self, params: Value) -> Result<Result<Value, ResponseError>, AllocError> {
+        drop(params);
         let mut result = Map::new(self.alloc);
         let none = Value::Object(Map::new(self.alloc));
         put(&mut result, self.alloc, "capabilities", none)?;
@@ -48,20 +49,28 @@ impl Server for Jobs {
     }
 
     fn request(&mut self, request: Request) -> Result<Acts, AllocError> {
+        let Request { id, method, params } = request;
+        drop(method);
+        drop(params);
         let mut acts = Vec::new(self.alloc);
-        acts.push(Act::method_not_found(self.alloc, request.id)?)?;
+        match Act::method_not_found(self.alloc, id) {
+            Ok(act) => acts.push(act)?,
+            Err(error) => return Err(error),
+        }
         Ok(acts)
     }
 
-    fn notification(&mut self, _notification: Notification) -> Result<Acts, AllocError> {
+    fn notification(&mut self, notification: Notification) -> Result<Acts, AllocError> {
+        drop(notification);
         Ok(Vec::new(self.alloc))
     }
 
     fn response(
         &mut self,
         _payload: (),
-        _outcome: Result<Value, ResponseError>,
+        outcome: Result<Value, ResponseError>,
     ) -> Result<Acts, AllocError> {
+        drop(outcome);
         Ok(Vec::new(self.alloc))
     }
 
@@ -74,10 +83,10 @@ impl JobServer<Computation> for Jobs {
     type Key = ();
 
     fn job(&mut self, request: Request) -> Result<AnsweredBy<Computation, ()>, AllocError> {
-        let job = Computation {
-            params: request.params,
-        };
-        Ok(AnsweredBy::Job(job, ()))
+        let Request { id, method, params } = request;
+        drop(id);
+        drop(method);
+        Ok(AnsweredBy::Job(Computation { params }, ()))
     }
 
     fn take_jobs(&mut self, alloc: Global) -> Result<Vec<NewJob<Computation, ()>>, AllocError> {
@@ -108,16 +117,17 @@ impl Job for Computation {
         _token: &CancellationToken,
         _progress: &mut P,
     ) -> Result<Result<Value, ResponseError>, AllocError> {
-        let turns = self
-            .params
+        let Computation { params } = self;
+        let turns = params
             .get("turns")
             .and_then(|turns| turns.as_u64())
             .unwrap_or(0);
         // It never comes to 0, but the compiler has to compute it to know.
         if computed(turns) == 0 {
+            drop(params);
             return Err(AllocError);
         }
-        Ok(Ok(self.params))
+        Ok(Ok(params))
     }
 }
 

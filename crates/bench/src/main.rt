@@ -25,7 +25,7 @@ mod speaking;
 mod texts;
 mod threads;
 
-use anyhow::{Context, Result, bail};
+use anyhow::{Context, Error, Result};
 use lsp_server::keep_freed_memory;
 use serde_json::Value;
 use std::alloc::Global;
@@ -57,24 +57,57 @@ fn main(rt: HostRuntime) -> Result<()> {
     let alloc = rt.alloc();
     keep_freed_memory(alloc);
     let words: Vec<String> = env::args(&rt)?.skip(1).collect(alloc)?;
-    let mut reader = BufReader::with_capacity(alloc, READ_AHEAD, rt.reader())?;
-    match words.as_slice() {
-        [word, counts @ ..] if word.as_str() == "queues" => queues::measure(&rt, alloc, counts),
-        [word, counts @ ..] if word.as_str() == "texts" => texts::measure(&rt, alloc, counts),
-        [word, workers] if word.as_str() == "jobs" => {
+    let reader = BufReader::with_capacity(alloc, READ_AHEAD, rt.reader())?;
+    measure(&rt, alloc, words.as_slice(), reader)
+}
+
+/// The measure that these words ask for.
+fn measure<T, R>(rt: &T, alloc: Global, words: &[String], reader: R) -> Result<()>
+where
+    T: Threads + Wait + Print + Clock + AllocGlobal + Copy + Drop + Send + 'static,
+    R: BufRead + Drop + Send + 'static,
+{
+    match words {
+        [word, rest @ ..] => named(rt, alloc, word.as_str(), words, rest, reader),
+        [] => Err(Error::msg(USAGE)),
+    }
+}
+
+/// The same, where this is the first word, and those are the rest.
+fn named<T, R>(
+    rt: &T,
+    alloc: Global,
+    word: &str,
+    words: &[String],
+    rest: &[String],
+    reader: R,
+) -> Result<()>
+where
+    T: Threads + Wait + Print + Clock + AllocGlobal + Copy + Drop + Send + 'static,
+    R: BufRead + Drop + Send + 'static,
+{
+    match word {
+        "queues" => queues::measure(rt, alloc, rest),
+        "texts" => texts::measure(rt, alloc, rest),
+        "jobs" => run_jobs(rt, alloc, rest, reader),
+        "drops" => run_drops(rt, alloc, rest, reader),
+        "all" => run_all(rt, alloc, rest, reader),
+        _ => run(rt, alloc, joined(alloc, words)?.as_str(), reader),
+    }
+}
+
+/// The session whose requests are jobs of so many workers.
+fn run_jobs<T, R>(rt: &T, alloc: Global, words: &[String], reader: R) -> Result<()>
+where
+    T: Threads + Wait + Print + Copy + Drop + Send + 'static,
+    R: BufRead + Drop + Send + 'static,
+{
+    match words {
+        [workers] => {
             let workers = workers.parse::<usize>().context("how many workers")?;
-            jobs::serve(&rt, alloc, reader, workers)
+            jobs::serve(rt, alloc, reader, workers)
         }
-        [word, way, count] if word.as_str() == "drops" => {
-            let reply = drops::places(alloc, count.parse::<u64>().context("how many places")?)?;
-            run_drops(&rt, alloc, way.as_str(), reader, reply)
-        }
-        [word] if word.as_str() == "all" => {
-            let mut text = Vec::new(alloc);
-            reader.read_to_end(&mut text)?;
-            run_all(&rt, alloc, text.as_slice())
-        }
-        words => run(&rt, alloc, joined(alloc, words)?.as_str(), reader),
+        _ => Err(Error::msg(USAGE)),
     }
 }
 
@@ -90,8 +123,29 @@ fn joined(alloc: Global, words: &[String]) -> Result<String> {
     Ok(text)
 }
 
-/// The session of this name of a server that drops its params.
-fn run_drops<T, R>(rt: &T, alloc: Global, way: &str, reader: R, reply: Value) -> Result<()>
+/// The session of a server that drops its params.
+fn run_drops<T, R>(rt: &T, alloc: Global, words: &[String], reader: R) -> Result<()>
+where
+    T: Threads + Wait + Print + Clock + AllocGlobal + Copy + Drop + Send + 'static,
+    R: BufRead + Drop + Send + 'static,
+{
+    match words {
+        [way, count] => {
+            let count = count.parse::<u64>().context("how many places")?;
+            run_way(
+                rt,
+                alloc,
+                way.as_str(),
+                reader,
+                drops::places(alloc, count)?,
+            )
+        }
+        _ => Err(Error::msg(USAGE)),
+    }
+}
+
+/// The session of this name of that server.
+fn run_way<T, R>(rt: &T, alloc: Global, way: &str, reader: R, reply: Value) -> Result<()>
 where
     T: Threads + Wait + Print + Clock + AllocGlobal + Copy + Drop + Send + 'static,
     R: BufRead + Drop + Send + 'static,
@@ -101,27 +155,53 @@ where
         "session" => drops::serve(alloc, &mut reader, &mut io::writer(rt), reply),
         "run_threads" => drops::serve_in_threads(rt, alloc, reader, reply),
         "connection" => drops::serve_connection(rt, reader, reply),
-        _ => bail!("{USAGE}"),
+        _ => {
+            drop(reply);
+            Err(Error::msg(USAGE))
+        }
     }
 }
 
 /// Each measure over these bytes, and after them those of the queues and of texts.
-fn run_all<T>(rt: &T, alloc: Global, text: &[u8]) -> Result<()>
+fn run_all<T, R>(rt: &T, alloc: Global, words: &[String], reader: R) -> Result<()>
+where
+    T: Threads + Wait + Print + Clock + Copy + Drop + Send + 'static,
+    R: BufRead + Drop,
+{
+    if !words.is_empty() {
+        return Err(Error::msg(USAGE));
+    }
+    let mut reader = reader;
+    let mut text = Vec::new(alloc);
+    reader.read_to_end(&mut text)?;
+    run_over(rt, alloc, text.as_slice())
+}
+
+fn run_over<T>(rt: &T, alloc: Global, text: &[u8]) -> Result<()>
 where
     T: Threads + Wait + Print + Clock + Copy + Drop + Send + 'static,
 {
     for measure in OVER_FRAMES {
-        println!(rt; "{measure}")?;
-        let mut bytes = Vec::new(alloc);
-        bytes.extend_from_slice(text)?;
-        run(rt, alloc, measure, Cursor::new(bytes))?;
-        println!(rt; "")?;
+        run_again(rt, alloc, measure, text)?;
     }
     println!(rt; "queues")?;
     queues::measure(rt, alloc, &[])?;
     println!(rt; "")?;
     println!(rt; "texts")?;
     texts::measure(rt, alloc, &[])
+}
+
+/// The measure of this name over these bytes, under its name.
+fn run_again<T>(rt: &T, alloc: Global, measure: &str, text: &[u8]) -> Result<()>
+where
+    T: Threads + Wait + Print + Copy + Drop + Send + 'static,
+{
+    println!(rt; "{measure}")?;
+    let mut bytes = Vec::new(alloc);
+    bytes.extend_from_slice(text)?;
+    run(rt, alloc, measure, Cursor::new(bytes))?;
+    println!(rt; "")?;
+    Ok(())
 }
 
 /// The measure of this name.
@@ -142,6 +222,6 @@ where
         "threads pump" => threads::pump_on(rt, alloc, reader, writer),
         "threads run_threads" => threads::serve(rt, alloc, reader),
         "threads run_threads_with" => threads::serve_speaking(rt, alloc, reader),
-        _ => bail!("{USAGE}"),
+        _ => Err(Error::msg(USAGE)),
     }
 }

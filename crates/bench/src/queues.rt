@@ -12,11 +12,7 @@ const FEW: u32 = 1000;
 /// many of a thousand were given back.
 pub fn measure<R: Clock + Print>(rt: &R, alloc: Global, words: &[String]) -> Result<()> {
     if words.is_empty() {
-        let mut queue: ReqQueue<u64, u64> = ReqQueue::default(alloc);
-        register_all(alloc, &mut queue.outgoing, FEW)?;
-        let found = complete_all(&mut queue.outgoing, FEW);
-        println!(rt; "{FEW} registered, {found} given back")?;
-        return Ok(());
+        return tell_found(rt, alloc);
     }
     for word in words {
         let count = word.parse::<u32>().context("how many requests")?;
@@ -25,25 +21,51 @@ pub fn measure<R: Clock + Print>(rt: &R, alloc: Global, words: &[String]) -> Res
     Ok(())
 }
 
+fn tell_found<R: Print>(rt: &R, alloc: Global) -> Result<()> {
+    let mut queue: ReqQueue<u64, u64> = ReqQueue::default(alloc);
+    let registered = register_all(alloc, &mut queue.outgoing, FEW);
+    let found = complete_all(&mut queue.outgoing, FEW);
+    drop(queue);
+    registered?;
+    println!(rt; "{FEW} registered, {found} given back")?;
+    Ok(())
+}
+
 fn time_calls<R: Clock + Print>(rt: &R, alloc: Global, count: u32) -> Result<()> {
     let mut queue: ReqQueue<u64, u64> = ReqQueue::default(alloc);
+    let timed = time_queue(rt, alloc, &mut queue.outgoing, count);
+    drop(queue);
+    timed
+}
+
+fn time_queue<R: Clock + Print>(
+    rt: &R,
+    alloc: Global,
+    queue: &mut Outgoing<u64>,
+    count: u32,
+) -> Result<()> {
     let start = Instant::now(rt)?;
-    register_all(alloc, &mut queue.outgoing, count)?;
-    let registered = start.elapsed(rt)?.as_nanos();
-    let start = Instant::now(rt)?;
-    let found = complete_all(&mut queue.outgoing, count);
-    let completed = start.elapsed(rt)?.as_nanos();
-    let each = per_call(registered, count);
-    let last = per_call(completed, count);
+    register_all(alloc, queue, count)?;
+    let each = per_call(start.elapsed(rt)?.as_nanos(), count);
+    let (found, last) = time_completing(rt, queue, count)?;
     println!(rt; "{count} pending: register {each} ns, complete {last} ns, {found} given back")?;
     Ok(())
+}
+
+/// How many are given back, and the nanoseconds of a call.
+fn time_completing<R: Clock>(rt: &R, queue: &mut Outgoing<u64>, count: u32) -> Result<(u32, u128)> {
+    let start = Instant::now(rt)?;
+    let found = complete_all(queue, count);
+    Ok((found, per_call(start.elapsed(rt)?.as_nanos(), count)))
 }
 
 /// Registers so many requests. The data of each is its number.
 fn register_all(alloc: Global, queue: &mut Outgoing<u64>, count: u32) -> Result<()> {
     for number in 0..count {
         let registered = queue.register_value(String::new(alloc), Value::Null, u64::from(number));
-        if registered.is_err() {
+        let is_refused = registered.is_err();
+        drop(registered);
+        if is_refused {
             return Err(anyhow::Error::msg("a registration was refused"));
         }
     }

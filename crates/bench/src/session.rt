@@ -1,7 +1,9 @@
 //! A session on one thread, of a server that answers each request with its params, or with null: what it costs beside `pump`, and how
 //! it answers a recorded client.
-use anyhow::{Result, bail};
-use lsp_server::{Handler, Notification, Request, Response, ResponseError, session};
+use anyhow::{Result, anyhow};
+use lsp_server::{
+    Handler, Notification, Request, Response, ResponseError, SessionEnd, SessionFault, session,
+};
 use serde_json::{Map, Value};
 use std::alloc::{AllocError, Global};
 use std::io::{BufRead, Write};
@@ -33,8 +35,14 @@ impl Handler for Echo {
     }
 
     fn respond(&mut self, request: Request) -> Result<Response, AllocError> {
-        let Request { id, params, .. } = request;
-        let value = if self.is_null { Value::Null } else { params };
+        let Request { id, method, params } = request;
+        drop(method);
+        let value = if self.is_null {
+            drop(params);
+            Value::Null
+        } else {
+            params
+        };
         Ok(Response {
             id,
             response_result: Ok(value),
@@ -50,8 +58,17 @@ pub fn serve<R: BufRead, W: Write>(
     is_null: bool,
 ) -> Result<()> {
     let capabilities = Value::Object(Map::new(alloc));
-    match session(alloc, reader, writer, capabilities, &mut Echo { is_null }) {
+    ended(session(alloc, reader, writer, capabilities, &mut Echo { is_null }))
+}
+
+/// How a session ended.
+pub fn ended(answer: Result<SessionEnd, SessionFault>) -> Result<()> {
+    match answer {
         Ok(_) => Ok(()),
-        Err(fault) => bail!("{fault}"),
+        Err(fault) => {
+            let error = anyhow!("{fault}");
+            drop(fault);
+            Err(error)
+        }
     }
 }

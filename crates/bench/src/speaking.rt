@@ -1,5 +1,6 @@
 //! The same session of a server that speaks, though it says nothing of its own.
-use anyhow::{Result, bail};
+use crate::session::ended;
+use anyhow::Result;
 use lsp_server::{Act, EndSession, Notification, Request, ResponseError, Server, session_with};
 use serde_json::{Map, Value, put};
 use std::alloc::{AllocError, Global};
@@ -35,7 +36,8 @@ impl Server for Speaking {
 
     ghost takes_back = { λ old _ new. new ≡ old };
 
-    fn initialize(&mut self, _params: Value) -> Result<Result<Value, ResponseError>, AllocError> {
+    fn initialize(&mut self, params: Value) -> Result<Result<Value, ResponseError>, AllocError> {
+        drop(params);
         let mut result = Map::new(self.alloc);
         let none = Value::Object(Map::new(self.alloc));
         put(&mut result, self.alloc, "capabilities", none)?;
@@ -47,28 +49,35 @@ impl Server for Speaking {
     }
 
     fn request(&mut self, request: Request) -> Result<Acts, AllocError> {
-        let Request {
-            id,
-            method: _,
-            params,
-        } = request;
-        let result = if self.is_null { Value::Null } else { params };
+        let Request { id, method, params } = request;
+        drop(method);
+        let result = if self.is_null {
+            drop(params);
+            Value::Null
+        } else {
+            params
+        };
         let mut acts = Vec::new(self.alloc);
         match acts.push(Act::Reply(id, Ok(result))) {
             Ok(()) => Ok(acts),
-            Err(_) => Err(AllocError),
+            Err(failed) => {
+                drop(failed);
+                Err(AllocError)
+            }
         }
     }
 
-    fn notification(&mut self, _notification: Notification) -> Result<Acts, AllocError> {
+    fn notification(&mut self, notification: Notification) -> Result<Acts, AllocError> {
+        drop(notification);
         Ok(Vec::new(self.alloc))
     }
 
     fn response(
         &mut self,
         _payload: (),
-        _outcome: Result<Value, ResponseError>,
+        outcome: Result<Value, ResponseError>,
     ) -> Result<Acts, AllocError> {
+        drop(outcome);
         Ok(Vec::new(self.alloc))
     }
 
@@ -86,8 +95,5 @@ pub fn serve<R: BufRead, W: Write>(
 ) -> Result<()> {
     let server = Speaking { alloc, is_null };
     let (_, answer) = session_with(alloc, reader, writer, server, &mut EndSession, u64::MAX);
-    match answer {
-        Ok(_) => Ok(()),
-        Err(fault) => bail!("{fault}"),
-    }
+    ended(answer)
 }

@@ -19,19 +19,28 @@ const LONG: [u32; 2] = [1_000_000, 10_000_000];
 /// microseconds of each. Without words it says how long the text is after a few keystrokes at its start.
 pub fn measure<R: Clock + Print>(rt: &R, alloc: Global, words: &[String]) -> Result<()> {
     if words.is_empty() {
-        let mut text = large(alloc)?;
-        typed(alloc, &mut text, 0, 0, "x", FEW)?;
-        let bytes = text.as_str().len();
-        println!(rt; "{bytes} bytes")?;
-        return Ok(());
+        return tell_length(rt, alloc);
     }
     for word in words {
         let count = word.parse::<u32>().context("how many keystrokes")?;
-        time_edits(rt, alloc, count)?;
-        time_carets(rt, alloc, count)?;
-        for length in LONG {
-            time_long_line(rt, alloc, length, count / 10)?;
-        }
+        time_all(rt, alloc, count)?;
+    }
+    Ok(())
+}
+
+fn tell_length<R: Print>(rt: &R, alloc: Global) -> Result<()> {
+    let mut text = large(alloc)?;
+    typed(alloc, &mut text, 0, 0, "x", FEW)?;
+    let bytes = text.as_str().len();
+    println!(rt; "{bytes} bytes")?;
+    Ok(())
+}
+
+fn time_all<R: Clock + Print>(rt: &R, alloc: Global, count: u32) -> Result<()> {
+    time_edits(rt, alloc, count)?;
+    time_carets(rt, alloc, count)?;
+    for length in LONG {
+        time_long_line(rt, alloc, length, count / 10)?;
     }
     Ok(())
 }
@@ -41,18 +50,42 @@ fn time_edits<R: Clock + Print>(rt: &R, alloc: Global, count: u32) -> Result<()>
     let mut text = large(alloc)?;
     let took = start.elapsed(rt)?.as_micros();
     println!(rt; "made and indexed: {took} us")?;
+    time_edits_of(rt, alloc, &mut text, count)
+}
+
+fn time_edits_of<R: Clock + Print>(
+    rt: &R,
+    alloc: Global,
+    text: &mut Text,
+    count: u32,
+) -> Result<()> {
     for line in [0u32, 12_500, LINES] {
-        let start = Instant::now(rt)?;
-        typed(alloc, &mut text, line, 0, "x", count)?;
-        let took = start.elapsed(rt)?.as_micros();
+        let took = time_typing(rt, alloc, text, line, 0, "x", count)?;
         println!(rt; "{count} keystrokes at line {line}: {took} us")?;
     }
-    let start = Instant::now(rt)?;
-    typed(alloc, &mut text, 12_500, 0, "y\n", count)?;
-    let took = start.elapsed(rt)?.as_micros();
+    let took = time_typing(rt, alloc, text, 12_500, 0, "y\n", count)?;
     println!(rt; "{count} new lines at line 12500: {took} us")?;
+    time_asking(rt, text, count)
+}
+
+/// The microseconds of `typed`.
+fn time_typing<R: Clock>(
+    rt: &R,
+    alloc: Global,
+    text: &mut Text,
+    line: u32,
+    behind: u32,
+    new: &str,
+    count: u32,
+) -> Result<u128> {
     let start = Instant::now(rt)?;
-    let sum = asked(&text, count);
+    typed(alloc, text, line, behind, new, count)?;
+    Ok(start.elapsed(rt)?.as_micros())
+}
+
+fn time_asking<R: Clock + Print>(rt: &R, text: &Text, count: u32) -> Result<()> {
+    let start = Instant::now(rt)?;
+    let sum = asked(text, count);
     let took = start.elapsed(rt)?.as_micros();
     println!(rt; "{count} positions of offsets and back: {took} us, sum {sum}")?;
     Ok(())
@@ -83,9 +116,7 @@ fn time_long_line<R: Clock + Print>(rt: &R, alloc: Global, length: u32, count: u
         text.push('x')?;
     }
     let mut text = Text::new(alloc, text.as_str())?;
-    let start = Instant::now(rt)?;
-    typed(alloc, &mut text, 0, length, "x", count)?;
-    let took = start.elapsed(rt)?.as_micros();
+    let took = time_typing(rt, alloc, &mut text, 0, length, "x", count)?;
     println!(rt; "{count} keystrokes at the end of a line of {length} bytes: {took} us")?;
     Ok(())
 }

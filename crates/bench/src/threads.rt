@@ -1,4 +1,5 @@
 //! What threads cost: the same work on one thread, and on two or three.
+use crate::session;
 use crate::session::Echo;
 use crate::speaking::Speaking;
 use anyhow::{Result, bail};
@@ -78,10 +79,7 @@ where
 /// How a session in threads ended.
 pub fn ended<W: Drop>(done: Result<Threaded<W>, StartFault>) -> Result<()> {
     match done {
-        Ok(Threaded { answer, .. }) => match answer {
-            Ok(_) => Ok(()),
-            Err(fault) => bail!("{fault}"),
-        },
+        Ok(Threaded { answer, .. }) => session::ended(answer),
         Err(fault) => bail!("{fault}"),
     }
 }

@@ -6,10 +6,10 @@ use crate::signals::{Signal, Signals};
 use either::Either;
 use lsp_jobs::{CancellationToken, Job, PartialResults, Progress, WorkDone};
 use lsp_message::{ErrorCode, Notification, RequestId, ResponseError};
-use serde_json::{Map, Value, json};
+use serde_json::{Map, Value, json, put};
 use std::alloc::{AllocError, Global};
 use std::sync::Arc;
-use std::thread;
+use std::{mem, thread};
 
 /// Does what its script says, and comes to its value. A script has words, `, ` between them:
 ///
@@ -23,11 +23,43 @@ use std::thread;
 #[derive(Drop)]
 pub struct Scripted {
     pub alloc: Global,
-    pub signals: Arc<Signals>,
-    pub script: String,
-    pub work: WorkDone,
-    pub parts: PartialResults,
+    pub means: Means,
     pub value: Value,
+}
+
+/// What a job has beside its value.
+#[derive(Drop)]
+pub struct Means {
+    signals: Arc<Signals>,
+    script: String,
+    work: WorkDone,
+    parts: PartialResults,
+}
+
+impl Means {
+    /// Those of a job with this script, whose client gave the tokens in these params.
+    pub fn of(
+        alloc: Global,
+        signals: &Arc<Signals>,
+        script: &str,
+        params: &Value,
+    ) -> Result<Means, AllocError> {
+        let signals = Arc::try_clone(signals)?;
+        let script = String::from_str(alloc, script)?;
+        let work = WorkDone::of(alloc, params)?;
+        match PartialResults::of(alloc, params) {
+            Ok(parts) => Ok(Means {
+                signals,
+                script,
+                work,
+                parts,
+            }),
+            Err(error) => {
+                drop(work);
+                Err(error)
+            }
+        }
+    }
 }
 
 /// What a job comes to.
@@ -116,10 +148,11 @@ impl Course {
         requires { (method : List ℕ) (params : Data) → P.may_ask method params }
     {
         let method = String::from_str(self.alloc, "demo/asked")?;
-        self.reply = progress.ask(method, self.value.clone()?)?;
-        if self.reply.is_none() {
+        let reply = progress.ask(method, self.value.clone()?)?;
+        if reply.is_none() {
             self.signals.tell(Signal::Stopped);
         }
+        drop(mem::replace(&mut self.reply, reply));
         Ok(())
     }
 
@@ -127,7 +160,8 @@ impl Course {
         requires { (method : List ℕ) (params : Data) → P.may_ask method params }
     {
         let token = Value::String(String::from_str(self.alloc, token)?);
-        self.work = Some(WorkDone::create(self.alloc, progress, token)?);
+        let work = WorkDone::create(self.alloc, progress, token)?;
+        drop(mem::replace(&mut self.work, Some(work)));
         Ok(())
     }
 
@@ -167,13 +201,13 @@ impl Course {
         let Some(work) = self.work.take() else {
             return Ok(());
         };
-        match name {
-            "begins" => work.begin(progress, "Working", None, Some(0))?,
-            "steps" => self.tell_steps(&work, number, progress)?,
+        let told = match name {
+            "begins" => work.begin(progress, "Working", None, Some(0)),
+            "steps" => self.tell_steps(&work, number, progress),
             _ => return work.end(progress, Some("done")),
-        }
-        self.work = Some(work);
-        Ok(())
+        };
+        drop(mem::replace(&mut self.work, Some(work)));
+        told
     }
 
     fn tell_steps<P: Progress>(
@@ -210,8 +244,8 @@ impl Course {
 fn progress_of(alloc: Global, number: u64) -> Result<Notification, AllocError> {
     let mut params = Map::new(alloc);
     let token = Value::String(String::from_str(alloc, "job")?);
-    params.insert(String::from_str(alloc, "token")?, token)?;
-    params.insert(String::from_str(alloc, "value")?, Value::from(number))?;
+    put(&mut params, alloc, "token", token)?;
+    put(&mut params, alloc, "value", Value::from(number))?;
     Ok(Notification {
         method: String::from_str(alloc, "$/progress")?,
         params: Value::Object(params),
@@ -226,12 +260,15 @@ impl Job for Scripted {
     ) -> Result<Result<Value, ResponseError>, AllocError> {
         let Scripted {
             alloc,
+            means,
+            value,
+        } = self;
+        let Means {
             signals,
             script,
             work,
             parts,
-            value,
-        } = self;
+        } = means;
         signals.tell(Signal::Begun);
         let mut course = Course {
             alloc,
@@ -245,32 +282,39 @@ impl Job for Scripted {
             value,
             reply: None,
         };
-        for word in script.as_str().split(", ") {
-            course.act(word, token, progress)?;
-        }
-        course.signals.tell(Signal::Ended);
-        course.outcome()
+        let outcome = course.go(script.as_str(), token, progress);
+        drop(course);
+        outcome
     }
 }
 
 impl Course {
-    fn outcome(self) -> Result<Result<Value, ResponseError>, AllocError> {
-        let Course {
-            alloc,
-            taken,
-            ending,
-            value,
-            reply,
-            ..
-        } = self;
-        if let Some(reply) = reply {
-            return Ok(reply);
+    /// What the script comes to.
+    fn go<P: Progress>(
+        &mut self,
+        script: &str,
+        token: &CancellationToken,
+        progress: &mut P,
+    ) -> Result<Result<Value, ResponseError>, AllocError>
+        requires reporting { (method : List ℕ) (params : Data) → P.may method params }
+        requires asking { (method : List ℕ) (params : Data) → P.may_ask method params }
+    {
+        for word in script.split(", ") {
+            self.act(word, token, progress)?;
         }
-        match ending {
-            Ending::Value => Ok(Ok(value)),
-            Ending::Count => Ok(Ok(Value::from(taken))),
+        self.signals.tell(Signal::Ended);
+        match self.reply.take() {
+            Some(reply) => Ok(reply),
+            None => self.outcome(),
+        }
+    }
+
+    fn outcome(&mut self) -> Result<Result<Value, ResponseError>, AllocError> {
+        match self.ending {
+            Ending::Value => Ok(Ok(mem::replace(&mut self.value, Value::Null))),
+            Ending::Count => Ok(Ok(Value::from(self.taken))),
             Ending::Error => Ok(Err(ResponseError::new(
-                alloc,
+                self.alloc,
                 ErrorCode::RequestFailed,
                 "it failed",
             )?)),

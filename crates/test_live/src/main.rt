@@ -67,23 +67,62 @@ where
 {
     let alloc = rt.alloc();
     let table = io::read_to_string(alloc, rt.reader())?;
-    let mut given = Given::new(alloc, "")?;
     let silent = silent_client(rt, table.as_str())?;
-    for line in table.as_str().lines() {
-        rt.println(line)?;
-        let (word, rest) = line.split_once(" ").unwrap_or((line, ""));
-        match word {
-            "#" | "exit" => {}
-            "=" => given = Given::new(alloc, rest)?,
-            "+" => given.repeat(alloc, rest)?,
-            "pauses" => given.pause(rest)?,
-            _ => run_row(rt, alloc, word, rest, &given)?,
-        }
+    if let Err(stop) = run_lines(rt, alloc, table.as_str()) {
+        drop(silent);
+        return Err(stop);
     }
-    if let Some(thread) = silent {
-        print_below(rt, alloc, "", thread.join(rt)?.as_str())?;
+    match silent {
+        Some(thread) => print_below(rt, alloc, "", thread.join(rt)?.as_str()),
+        None => Ok(()),
+    }
+}
+
+fn run_lines<R>(rt: &R, alloc: Global, table: &str) -> Result<(), Stop>
+where
+    R: Net<Listener = TcpListener, Stream = TcpStream>
+        + Threads
+        + Wait
+        + Clock
+        + Print
+        + AllocGlobal
+        + Copy
+        + Drop
+        + Send
+        + 'static,
+{
+    let mut given = Given::new(alloc, "")?;
+    for line in table.lines() {
+        run_line(rt, alloc, line, &mut given)?;
     }
     Ok(())
+}
+
+fn run_line<R>(rt: &R, alloc: Global, line: &str, given: &mut Given) -> Result<(), Stop>
+where
+    R: Net<Listener = TcpListener, Stream = TcpStream>
+        + Threads
+        + Wait
+        + Clock
+        + Print
+        + AllocGlobal
+        + Copy
+        + Drop
+        + Send
+        + 'static,
+{
+    rt.println(line)?;
+    let (word, rest) = line.split_once(" ").unwrap_or((line, ""));
+    match word {
+        "#" | "exit" => Ok(()),
+        "=" => {
+            *given = Given::new(alloc, rest)?;
+            Ok(())
+        }
+        "+" => given.repeat(alloc, rest),
+        "pauses" => given.pause(rest),
+        _ => run_row(rt, alloc, word, rest, given),
+    }
 }
 
 /// A thread whose server waits for an `exit`, if the last row of the table is about it.

@@ -55,7 +55,7 @@ fn passed_back<R: Wait>(
     };
     if matches!(run.call, Call::Over | Call::Held) {
         for message in receiver.iter(rt) {
-            let _ = sender.send(rt, message);
+            drop(sender.send(rt, message));
         }
     }
     most
@@ -92,7 +92,7 @@ fn stick<R: Wait>(
     let Ok(message) = receiver.recv(rt) else {
         return;
     };
-    let _ = sender.send(rt, message);
+    drop(sender.send(rt, message));
     for _ in 0..LOOKS {
         if signals.count(Signal::Writes) > 0 || Arc::strong_count(signals) < HOLDERS {
             return;

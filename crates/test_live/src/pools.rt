@@ -13,12 +13,12 @@
 //
 // The client of such a job gave the tokens `w` and 7. At the end the pool is ended, nothing more may be heard then, and it is told how many jobs began and how many saw their cancellation.
 use crate::attempt::{Attempt, Stop};
-use crate::jobs::{AnyJob, Fixed, Scripted};
+use crate::jobs::{AnyJob, Fixed, Means, Scripted};
 use crate::signals::{Signal, Signals};
 use crate::table::pool_of;
 use crossbeam_channel::Receiver;
 use either::Either;
-use lsp_jobs::{JobMessage, JobPool, PartialResults, SubmitFault, WorkDone};
+use lsp_jobs::{JobMessage, JobPool, SubmitFault};
 use lsp_message::RequestId;
 use serde_json::{Value, json};
 use std::alloc::{AllocError, Global};
@@ -44,35 +44,26 @@ where
 {
     let (size, steps) = row.split_once(" ").ok_or(Stop::Table)?;
     let size = pool_of(size).ok_or(Stop::Table)?;
-    let Ok((pool, woken)) = JobPool::start(rt, alloc, size) else {
-        return Ok(Attempt::refused(alloc, "start")?);
+    let signals = Arc::new(alloc, Signals::new())?;
+    let (pool, woken) = match JobPool::start(rt, alloc, size) {
+        Ok(started) => started,
+        Err(_) => return Ok(Attempt::refused(alloc, "start")?),
     };
     let mut bench = Bench {
         rt: *rt,
         alloc,
-        signals: Arc::new(alloc, Signals::new())?,
+        signals,
         pool,
         woken,
         told: String::new(alloc),
     };
-    for step in steps.split("; ") {
-        bench.go(step)?;
+    match bench.go_on(steps) {
+        Ok(()) => Ok(Attempt::Came(bench.end()?)),
+        Err(stop) => {
+            drop(bench);
+            Err(stop)
+        }
     }
-    let Bench {
-        signals,
-        pool,
-        woken,
-        mut told,
-        ..
-    } = bench;
-    pool.end();
-    // This would wait for ever if the pool still held its end.
-    for signal in woken.iter(rt) {
-        drop(signal);
-    }
-    let (begun, stopped) = (signals.count(Signal::Begun), signals.count(Signal::Stopped));
-    write!(told, "{begun} begun, {stopped} stopped")?;
-    Ok(Attempt::Came(told))
 }
 
 /// The number of an id or a key. What is no such number is 0.
@@ -90,7 +81,39 @@ fn count_of(text: &str) -> u64 {
     text.parse::<u64>().unwrap_or(0)
 }
 
+impl<R> Bench<R>
+where
+    R: Threads + Wait + Copy + Drop + Send + 'static,
+{
+    /// Ends the pool: what was told, and what its jobs did.
+    fn end(self) -> Result<String, AllocError> {
+        let Bench {
+            rt,
+            signals,
+            pool,
+            woken,
+            mut told,
+            ..
+        } = self;
+        pool.end();
+        // This would wait for ever if the pool still held its end.
+        for signal in woken.iter(&rt) {
+            drop(signal);
+        }
+        let (begun, stopped) = (signals.count(Signal::Begun), signals.count(Signal::Stopped));
+        write!(told, "{begun} begun, {stopped} stopped")?;
+        Ok(told)
+    }
+}
+
 impl<R: Wait + Drop> Bench<R> {
+    fn go_on(&mut self, steps: &str) -> Result<(), Stop> {
+        for step in steps.split("; ") {
+            self.go(step)?;
+        }
+        Ok(())
+    }
+
     fn go(&mut self, step: &str) -> Result<(), Stop> {
         let (name, rest) = step.split_once(" ").unwrap_or((step, ""));
         match name {
@@ -103,7 +126,7 @@ impl<R: Wait + Drop> Bench<R> {
             "message" => {
                 let _ = self.take_message(true)?;
             }
-            "waits" => self.tell_waiting(&id_of(rest))?,
+            "waits" => self.tell_waiting(id_of(rest))?,
             "forget" => self.pool.forget(&id_of(rest)),
             "reply" => self.pool.reply(count_of(rest), Ok(Value::Bool(true))),
             "give_up" => self.pool.give_up(count_of(rest)),
@@ -116,8 +139,11 @@ impl<R: Wait + Drop> Bench<R> {
         let (id, words) = words.split_once(" ").unwrap_or(("", words));
         let (key, script) = words.split_once(" ").unwrap_or(("", words));
         let key = small_of(key);
-        let job = job_of(self.alloc, &self.signals, script, key)?;
-        match self.pool.submit(id_of(id), job, key) {
+        let submitted = match job_of(self.alloc, &self.signals, script, key) {
+            Ok(job) => self.pool.submit(id_of(id), job, key),
+            Err(error) => return Err(error),
+        };
+        match submitted {
             Ok(()) => self.told.push_str("taken, "),
             Err(SubmitFault::Full(key)) => write!(self.told, "full {key}, "),
             Err(SubmitFault::Memory) => self.told.push_str("no memory, "),
@@ -156,22 +182,34 @@ impl<R: Wait + Drop> Bench<R> {
         let found = match self.pool.take_message() {
             Ok(found) => found,
             Err(id) => {
-                write!(self.told, "{id} no memory, ")?;
+                let told = write!(self.told, "{id} no memory, ");
+                drop(id);
+                told?;
                 return Ok(true);
             }
         };
-        let Some(said) = found else {
-            if tells {
-                self.told.push_str("nothing, ")?;
+        match found {
+            Some((id, message)) => {
+                let told = self.tell_message(&id, &message);
+                drop(message);
+                drop(id);
+                told?;
+                Ok(true)
             }
-            return Ok(false);
-        };
-        let (id, message) = said;
-        self.tell_message(&id, message)?;
-        Ok(true)
+            None => {
+                if tells {
+                    self.told.push_str("nothing, ")?;
+                }
+                Ok(false)
+            }
+        }
     }
 
-    fn tell_message(&mut self, id: &RequestId, message: JobMessage<i32>) -> Result<(), AllocError> {
+    fn tell_message(
+        &mut self,
+        id: &RequestId,
+        message: &JobMessage<i32>,
+    ) -> Result<(), AllocError> {
         match message {
             JobMessage::Report(report) => write!(self.told, "{id} report {}, ", report.params),
             JobMessage::Ask(method, params, number) => {
@@ -184,8 +222,10 @@ impl<R: Wait + Drop> Bench<R> {
         }
     }
 
-    fn tell_waiting(&mut self, id: &RequestId) -> Result<(), AllocError> {
-        if self.pool.is_waiting(id) {
+    fn tell_waiting(&mut self, id: RequestId) -> Result<(), AllocError> {
+        let is_waiting = self.pool.is_waiting(&id);
+        drop(id);
+        if is_waiting {
             self.told.push_str("waits, ")
         } else {
             self.told.push_str("free, ")
@@ -203,13 +243,22 @@ fn job_of(
     if script == "fixed" {
         return Ok(Either::Right(Fixed { value }));
     }
+    match means_of(alloc, signals, script) {
+        Ok(means) => Ok(Either::Left(Scripted {
+            alloc,
+            means,
+            value,
+        })),
+        Err(error) => {
+            drop(value);
+            Err(error)
+        }
+    }
+}
+
+fn means_of(alloc: Global, signals: &Arc<Signals>, script: &str) -> Result<Means, AllocError> {
     let params = json!(in alloc; { "workDoneToken": "w", "partialResultToken": 7 })?;
-    Ok(Either::Left(Scripted {
-        alloc,
-        signals: Arc::try_clone(signals)?,
-        script: String::from_str(alloc, script)?,
-        work: WorkDone::of(alloc, &params)?,
-        parts: PartialResults::of(alloc, &params)?,
-        value,
-    }))
+    let means = Means::of(alloc, signals, script, &params);
+    drop(params);
+    means
 }

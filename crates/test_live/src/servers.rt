@@ -1,7 +1,7 @@
 // The handler of all rows, and their server: it speaks, asks, and starts jobs.
-use crate::jobs::{Scripted, own_id};
+use crate::jobs::{Means, Scripted, own_id};
 use crate::signals::{Signal, Signals};
-use lsp_jobs::{AnsweredBy, JobEnd, JobServer, NewJob, PartialResults, WorkDone};
+use lsp_jobs::{AnsweredBy, JobEnd, JobServer, NewJob};
 use lsp_message::{Notification, Request, RequestId, ResponseError};
 use lsp_service::{Act, Server};
 use lsp_session::Handler;
@@ -97,58 +97,111 @@ impl Talker {
         Ok(acts)
     }
 
-    fn tell(&self, method: &str, params: Value) -> Result<Act<Asked>, AllocError> {
-        let method = String::from_str(self.alloc, method)?;
-        Ok(Act::Tell(Notification { method, params }))
+    fn tell(&self, method: &str, params: Value) -> Result<Acts, AllocError> {
+        match String::from_str(self.alloc, method) {
+            Ok(method) => self.one(Act::Tell(Notification { method, params })),
+            Err(error) => {
+                drop(params);
+                Err(error)
+            }
+        }
     }
 
-    fn configuration(&mut self) -> Result<Act<Asked>, AllocError> {
+    /// Asks for the configuration behind these acts.
+    fn ask_configuration(&mut self, acts: &mut Acts) -> Result<(), AllocError> {
         self.questions = self.questions.saturating_add(1);
         let method = String::from_str(self.alloc, "workspace/configuration")?;
-        Ok(Act::Ask(method, Value::Null, Asked::Configuration(self.questions)))
+        acts.push(Act::Ask(method, Value::Null, Asked::Configuration(self.questions)))?;
+        Ok(())
+    }
+
+    /// Asks its client, to answer this request with the reply.
+    fn ask(&self, id: RequestId, params: Value) -> Result<Acts, AllocError> {
+        match String::from_str(self.alloc, "demo/asked") {
+            Ok(method) => self.one(Act::Ask(method, params, Asked::For(id))),
+            Err(error) => {
+                drop(params);
+                drop(id);
+                Err(error)
+            }
+        }
+    }
+
+    fn refuse(&self, id: RequestId) -> Result<Acts, AllocError> {
+        match Act::method_not_found(self.alloc, id) {
+            Ok(act) => self.one(act),
+            Err(error) => Err(error),
+        }
     }
 
     /// A job with this script, and its number.
     fn job_of(&mut self, script: &str, value: Value) -> Result<(Scripted, u64), AllocError> {
         self.numbered = self.numbered.saturating_add(1);
-        let job = Scripted {
-            alloc: self.alloc,
-            signals: Arc::try_clone(&self.signals)?,
-            script: String::from_str(self.alloc, script)?,
-            work: WorkDone::of(self.alloc, &value)?,
-            parts: PartialResults::of(self.alloc, &value)?,
-            value,
-        };
-        Ok((job, self.numbered))
+        match Means::of(self.alloc, &self.signals, script, &value) {
+            Ok(means) => {
+                let alloc = self.alloc;
+                let job = Scripted {
+                    alloc,
+                    means,
+                    value,
+                };
+                Ok((job, self.numbered))
+            }
+            Err(error) => {
+                drop(value);
+                Err(error)
+            }
+        }
     }
 
-    /// Keeps the job of a request `later SCRIPT`. Other requests come back.
-    fn keep_job(&mut self, request: Request) -> Result<Option<Request>, AllocError> {
-        let Request { id, method, params } = request;
-        let Some(script) = method.as_str().strip_prefix("later ") else {
-            return Ok(Some(Request { id, method, params }));
-        };
-        let (job, key) = self.job_of(script, params)?;
-        self.later.push(NewJob { id, job, key })?;
-        Ok(None)
+    /// A job with this script, and its number, for the request of this id.
+    fn new_job(
+        &mut self,
+        id: RequestId,
+        script: &str,
+        params: Value,
+    ) -> Result<Numbered, AllocError> {
+        match self.job_of(script, params) {
+            Ok((job, key)) => Ok(NewJob { id, job, key }),
+            Err(error) => {
+                drop(id);
+                Err(error)
+            }
+        }
+    }
+
+    /// Keeps the job of a request `later SCRIPT`.
+    fn keep_job(&mut self, id: RequestId, script: &str, params: Value) -> Result<Acts, AllocError> {
+        match self.new_job(id, script, params) {
+            Ok(job) => self.later.push(job)?,
+            Err(error) => return Err(error),
+        }
+        Ok(Vec::new(self.alloc))
+    }
+
+    /// Starts a job under an id of its own.
+    fn start_job(&mut self, script: &str, params: &Value) -> Result<Acts, AllocError> {
+        let id = own_id(self.alloc)?;
+        let params = params.clone()?;
+        match self.new_job(id, script, params) {
+            Ok(job) => self.starts.push(job)?,
+            Err(error) => return Err(error),
+        }
+        Ok(Vec::new(self.alloc))
     }
 
     /// What it does at a notification that is no push: nothing comes back if it is one.
-    fn note(&mut self, notification: &Notification) -> Result<Option<Acts>, AllocError> {
-        let method = notification.method.as_str();
+    fn note(&mut self, method: &str, params: &Value) -> Result<Option<Acts>, AllocError> {
         let acts = Vec::new(self.alloc);
         if method == "start" {
             self.starts = mem::replace(&mut self.later, Vec::new(self.alloc));
             return Ok(Some(acts));
         }
         if let Some(script) = method.strip_prefix("job ") {
-            let (job, key) = self.job_of(script, notification.params.clone()?)?;
-            let id = own_id(self.alloc)?;
-            self.starts.push(NewJob { id, job, key })?;
-            return Ok(Some(acts));
+            return Ok(Some(self.start_job(script, params)?));
         }
         if method == "answer" {
-            return Ok(Some(self.answer_first(&notification.params)?));
+            return Ok(Some(self.answer_first(params)?));
         }
         if method.starts_with("$/") {
             return Ok(Some(acts));
@@ -169,50 +222,65 @@ impl Talker {
             None => Ok(Vec::new(self.alloc)),
         }
     }
+
+    /// Pushes these params, asks for the configuration and answers what it keeps.
+    fn push(&mut self, params: Value) -> Result<Acts, AllocError> {
+        let mut acts = self.tell("demo/pushed", params)?;
+        self.ask_configuration(&mut acts)?;
+        for id in mem::replace(&mut self.held, Vec::new(self.alloc)) {
+            acts.push(Act::Reply(id, Ok(Value::Null)))?;
+        }
+        Ok(acts)
+    }
 }
 
 impl Server for Talker {
     type Payload = Asked;
 
-    fn initialize(&mut self, _params: Value) -> Result<Result<Value, ResponseError>, AllocError> {
+    fn initialize(&mut self, params: Value) -> Result<Result<Value, ResponseError>, AllocError> {
+        drop(params);
         Ok(Ok(json!(in self.alloc; { "capabilities": {} })?))
     }
 
     fn initialized(&mut self) -> Result<Acts, AllocError> {
-        let mut acts = self.one(self.tell("demo/hello", Value::Object(Map::new(self.alloc)))?)?;
-        acts.push(self.configuration()?)?;
+        let mut acts = self.tell("demo/hello", Value::Object(Map::new(self.alloc)))?;
+        self.ask_configuration(&mut acts)?;
         Ok(acts)
     }
 
     fn request(&mut self, request: Request) -> Result<Acts, AllocError> {
-        let Some(request) = self.keep_job(request)? else {
-            return Ok(Vec::new(self.alloc));
-        };
         let Request { id, method, params } = request;
+        if let Some(script) = method.as_str().strip_prefix("later ") {
+            return self.keep_job(id, script, params);
+        }
         match method.as_str() {
             "demo/echo" => self.one(Act::Reply(id, Ok(params))),
-            "demo/ask" => {
-                let method = String::from_str(self.alloc, "demo/asked")?;
-                self.one(Act::Ask(method, params, Asked::For(id)))
-            }
+            "demo/ask" => self.ask(id, params),
             "demo/hold" => {
+                drop(params);
                 self.held.push(id)?;
                 Ok(Vec::new(self.alloc))
             }
-            _ => self.one(Act::Reply(id, Err(ResponseError::method_not_found(self.alloc)?))),
+            _ => {
+                drop(params);
+                self.refuse(id)
+            }
         }
     }
 
     fn notification(&mut self, notification: Notification) -> Result<Acts, AllocError> {
-        if let Some(acts) = self.note(&notification)? {
-            return Ok(acts);
+        let Notification { method, params } = notification;
+        match self.note(method.as_str(), &params) {
+            Ok(Some(acts)) => {
+                drop(params);
+                Ok(acts)
+            }
+            Ok(None) => self.push(params),
+            Err(error) => {
+                drop(params);
+                Err(error)
+            }
         }
-        let mut acts = self.one(self.tell("demo/pushed", notification.params)?)?;
-        acts.push(self.configuration()?)?;
-        for id in mem::replace(&mut self.held, Vec::new(self.alloc)) {
-            acts.push(Act::Reply(id, Ok(Value::Null)))?;
-        }
-        Ok(acts)
     }
 
     fn response(
@@ -223,12 +291,14 @@ impl Server for Talker {
         match asked {
             Asked::For(id) => self.one(Act::Reply(id, outcome)),
             Asked::Configuration(number) => {
-                self.one(self.tell("demo/pushed", Value::from(number))?)
+                drop(outcome);
+                self.tell("demo/pushed", Value::from(number))
             }
         }
     }
 
-    fn unsent(&mut self, _asked: Asked) -> Result<(), AllocError> {
+    fn unsent(&mut self, asked: Asked) -> Result<(), AllocError> {
+        drop(asked);
         Ok(())
     }
 }
@@ -243,12 +313,15 @@ impl JobServer<Scripted> for Talker {
     ghost finishes = { λ _ _ _ _ _ _. ⊤ };
 
     fn job(&mut self, request: Request) -> Result<AnsweredBy<Scripted, u64>, AllocError> {
-        let Some(script) = request.method.as_str().strip_prefix("job ") else {
-            return Ok(AnsweredBy::Server(request));
+        let Request { id, method, params } = request;
+        let Some(script) = method.as_str().strip_prefix("job ") else {
+            return Ok(AnsweredBy::Server(Request { id, method, params }));
         };
-        let script = String::from_str(self.alloc, script)?;
-        let (job, number) = self.job_of(script.as_str(), request.params)?;
-        Ok(AnsweredBy::Job(job, number))
+        drop(id);
+        match self.job_of(script, params) {
+            Ok((job, number)) => Ok(AnsweredBy::Job(job, number)),
+            Err(error) => Err(error),
+        }
     }
 
     fn take_jobs(&mut self, alloc: Global) -> Result<Vec<Numbered>, AllocError> {
@@ -267,14 +340,14 @@ impl JobServer<Scripted> for Talker {
             JobEnd::Outcome(outcome) => outcome,
             JobEnd::Refused => {
                 self.finished.push_str(" refused")?;
-                return self.one(self.tell("refused", json!(in alloc; [key])?)?);
+                return self.tell("refused", json!(in alloc; [key])?);
             }
         };
         if *id != own_id(alloc)? {
             return Ok(Vec::new(alloc));
         }
         match outcome {
-            Ok(value) => self.one(self.tell("published", value.clone()?)?),
+            Ok(value) => self.tell("published", value.clone()?),
             Err(_) => Ok(Vec::new(alloc)),
         }
     }

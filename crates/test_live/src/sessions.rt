@@ -61,20 +61,27 @@ where
     let signals = Arc::new(alloc, Signals::new())?;
     let reader = source(alloc, run, given, &signals)?;
     let writer = sink(alloc, run, &signals)?;
-    let came = match run.call {
-        Call::Session => handled(rt, alloc, run, reader, writer, &signals)?,
-        Call::Speaks => spoken(rt, alloc, run, reader, writer, &signals)?,
-        Call::Jobs | Call::Many => worked(rt, alloc, run, reader, writer, &signals)?,
-        Call::Pump | Call::Burst => pumped(rt, alloc, run, reader, writer, &signals)?,
-        _ => connected(rt, alloc, run, reader, writer, &signals)?,
+    let answer = match run.call {
+        Call::Session => handled(rt, alloc, run, reader, writer, &signals),
+        Call::Speaks => spoken(rt, alloc, run, reader, writer, &signals),
+        Call::Jobs | Call::Many => worked(rt, alloc, run, reader, writer, &signals),
+        Call::Pump | Call::Burst => pumped(rt, alloc, run, reader, writer, &signals),
+        _ => connected(rt, alloc, run, reader, writer, &signals),
     };
+    let came = answer?;
+    all_ended(&signals)?;
+    Ok(came)
+}
+
+/// No wait was given up, and no thread is left.
+fn all_ended(signals: &Arc<Signals>) -> Result<(), Stop> {
     if signals.is_late() {
         return Err(Stop::Broken("a wait was given up"));
     }
-    if !is_alone(&signals) {
+    if !is_alone(signals) {
         return Err(Stop::Broken("a thread is left"));
     }
-    Ok(came)
+    Ok(())
 }
 
 fn source(
@@ -155,12 +162,12 @@ fn handled<R>(
 where
     R: Threads + Wait + Copy + Drop + Send + 'static,
 {
-    let mut none = Value::Object(Map::new(alloc));
     let mut echo = Echo {
         alloc,
         signals: Arc::try_clone(signals)?,
         is_gated: matches!(run.device, Device::Gated),
     };
+    let mut none = Value::Object(Map::new(alloc));
     let mut service = HandlerService::new(alloc, &mut none, &mut echo);
     let mut listening = Listening::new(matches!(run.device, Device::Passes));
     let ran = run_threads_of_service(
@@ -172,8 +179,9 @@ where
         &mut listening,
         options(run),
     );
-    let came = threads_answer(alloc, ran, run, signals)?;
-    with_passed(alloc, run, came, &listening)
+    drop(service);
+    drop(none);
+    listened(alloc, ran, run, signals, &listening)
 }
 
 /// How a session of the server that speaks ends, and what it wrote.
@@ -200,8 +208,20 @@ where
         &mut listening,
         options(run),
     );
+    drop(queued);
+    listened(alloc, ran, run, signals, &listening)
+}
+
+/// What came of a session in threads, and what its listener heard.
+fn listened(
+    alloc: Global,
+    ran: Result<Threaded<Sink>, StartFault>,
+    run: Run,
+    signals: &Arc<Signals>,
+    listening: &Listening,
+) -> Result<Attempt, AllocError> {
     let came = threads_answer(alloc, ran, run, signals)?;
-    with_passed(alloc, run, came, &listening)
+    with_passed(alloc, run, came, listening)
 }
 
 /// What came of a run and, if it passes over content parts, how many of each kind it passed over.
@@ -238,17 +258,30 @@ where
     let talker = Talker::new(alloc, Arc::try_clone(signals)?);
     let mut listening = Listening::new(matches!(run.device, Device::Passes));
     let (talker, ran) = run_talker(rt, alloc, reader, writer, run, talker, &mut listening);
-    let came = threads_answer(alloc, ran, run, signals)?;
-    let Attempt::Came(came) = came else {
-        return Ok(came);
+    let answer = threads_answer(alloc, ran, run, signals);
+    let told = with_jobs(alloc, run, answer, signals, talker.finished.as_str());
+    drop(talker);
+    with_passed(alloc, run, told?, &listening)
+}
+
+/// What came of a session and of its jobs.
+fn with_jobs(
+    alloc: Global,
+    run: Run,
+    answer: Result<Attempt, AllocError>,
+    signals: &Arc<Signals>,
+    finished: &str,
+) -> Result<Attempt, AllocError> {
+    let came = match answer {
+        Ok(Attempt::Came(came)) => came,
+        refused => return refused,
     };
     let (begun, stopped) = (signals.count(Signal::Begun), signals.count(Signal::Stopped));
-    let finished = talker.finished.as_str();
     let told = match run.call {
-        Call::Many => format!(in alloc; "{came}; {begun} begun")?,
-        _ => format!(in alloc; "{came}; {begun} begun, {stopped} stopped; finished{finished}")?,
+        Call::Many => format!(in alloc; "{came}; {begun} begun"),
+        _ => format!(in alloc; "{came}; {begun} begun, {stopped} stopped; finished{finished}"),
     };
-    with_passed(alloc, run, Attempt::Came(told), &listening)
+    Ok(Attempt::Came(told?))
 }
 
 /// A session of the server with its jobs, over any reader and writer: so it is proved in one place that threads may own a job, and in
@@ -319,7 +352,11 @@ fn session_end(
                 SessionEnd::Closed => "closed",
             },
         ),
-        Err(fault) => format!(in alloc; "{fault}"),
+        Err(fault) => {
+            let text = format!(in alloc; "{fault}");
+            drop(fault);
+            text
+        }
     }
 }
 
