@@ -1,8 +1,8 @@
 //! A small test client: it holds a session with a server, in which it asks one thing. The server runs in a thread of the same program, or
 //! listens at an address.
 use crate::{send, serve};
-use anyhow::{Result, bail};
-use lsp_server::{Connection, Message, Notification, Request, RequestId, Response, spawn};
+use anyhow::{Result, anyhow, bail};
+use lsp_server::{Connection, Message, Notification, Request, RequestId, ResponseError, spawn};
 use serde_json::{Value, json};
 use std::net::Net;
 use std::sync::Wait;
@@ -53,13 +53,22 @@ where
 /// The messages of the session (LSP 3.17, "Server lifecycle").
 fn hold_session<R: Wait + AllocGlobal>(rt: &R, connection: &Connection) -> Result<Value> {
     let about = json!(in rt.alloc(); { "processId": null, "rootUri": null, "capabilities": {} })?;
-    ask(rt, connection, 1, "initialize", about)?;
+    drop(ask(rt, connection, 1, "initialize", about)?);
     tell(rt, connection, "initialized")?;
     let place = json!(in rt.alloc(); { "textDocument": { "uri": "file:///a.rs" } })?;
     let answer = ask(rt, connection, 2, "textDocument/hover", place)?;
-    ask(rt, connection, 3, "shutdown", Value::Null)?;
-    tell(rt, connection, "exit")?;
-    Ok(answer)
+    match end_session(rt, connection) {
+        Ok(()) => Ok(answer),
+        Err(error) => {
+            drop(answer);
+            Err(error)
+        }
+    }
+}
+
+fn end_session<R: Wait + AllocGlobal>(rt: &R, connection: &Connection) -> Result<()> {
+    drop(ask(rt, connection, 3, "shutdown", Value::Null)?);
+    tell(rt, connection, "exit")
 }
 
 /// Sends a request under a new id, and waits for its result. What else the server sends is passed over.
@@ -70,30 +79,42 @@ fn ask<R: Wait + AllocGlobal>(
     method: &str,
     params: Value,
 ) -> Result<Value> {
-    let method = String::from_str(rt.alloc(), method)?;
     let id = RequestId::from(id);
     let request = Request {
         id: id.clone()?,
-        method,
+        method: String::from_str(rt.alloc(), method)?,
         params,
     };
     send(rt, connection, Message::from(request))?;
     for message in connection.receiver.iter(rt) {
-        let Message::Response(reply) = message else {
-            continue;
-        };
-        let Response {
-            id: theirs,
-            response_result: outcome,
-        } = reply;
-        if theirs == id {
-            return match outcome {
-                Ok(result) => Ok(result),
-                Err(error) => bail!("error {}: {}", error.code, error.message),
-            };
+        if let Some(outcome) = outcome_in(message, &id) {
+            return result_of(outcome);
         }
     }
     bail!("the server is gone")
+}
+
+/// The outcome of the request with this id, if the message is its reply.
+fn outcome_in(message: Message, id: &RequestId) -> Option<Result<Value, ResponseError>> {
+    match message {
+        Message::Response(reply) if reply.id == *id => Some(reply.response_result),
+        other => {
+            drop(other);
+            None
+        }
+    }
+}
+
+/// The result, or an error that has the code and the text of the server's.
+fn result_of(outcome: Result<Value, ResponseError>) -> Result<Value> {
+    match outcome {
+        Ok(result) => Ok(result),
+        Err(error) => {
+            let told = anyhow!("error {}: {}", error.code, error.message);
+            drop(error);
+            Err(told)
+        }
+    }
 }
 
 /// Sends a notification without params.

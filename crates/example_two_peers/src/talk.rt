@@ -38,7 +38,10 @@ pub fn talk(alloc: Global) -> Result<(World, bool), WorldFault>
 {
     let params = json!(in alloc; { "capabilities": {} })?;
     let mut world = begin(alloc, params)?;
-    take_turns(alloc, &mut world)?;
+    if let Err(fault) = take_turns(alloc, &mut world) {
+        drop(world);
+        return Err(fault);
+    }
     let ended = has_come_to_end(&world);
     Ok((world, ended))
 }
@@ -96,8 +99,16 @@ fn begin(alloc: Global, params: Value) -> Result<World, WorldFault>
         payload: INITIALIZE,
     };
     let mut world = World::new(alloc);
-    world.step(step)?;
-    Ok(world)
+    match world.step(step) {
+        Ok(outcome) => {
+            drop(outcome);
+            Ok(world)
+        }
+        Err(fault) => {
+            drop(world);
+            Err(fault)
+        }
+    }
 }
 
 /// Whether the last of these messages is the notification `exit`.
@@ -209,7 +220,10 @@ fn step_for(alloc: Global, outcome: Outcome, taken: &[Message]) -> Result<Option
             Some(id) => Ok(Some(Step::Cancel { side, id })),
             None => Ok(None),
         },
-        _ => Ok(None),
+        other => {
+            drop(other);
+            Ok(None)
+        }
     }
 }
 
