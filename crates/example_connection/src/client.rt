@@ -1,7 +1,7 @@
 //! A small test client: it holds a session with a server, in which it asks one thing. The server runs in a thread of the same program, or
 //! listens at an address.
 use crate::{send, serve};
-use anyhow::{Result, anyhow, bail};
+use anyhow::{Error, Result, anyhow, bail};
 use lsp_server::{Connection, Message, Notification, Request, RequestId, ResponseError, spawn};
 use serde_json::{Value, json};
 use std::net::Net;
@@ -29,11 +29,14 @@ where
     R::Stream: Send + 'static,
 {
     let (connection, threads) = Connection::connect(rt, address)?;
-    let answer = hold_session(rt, &connection)?;
+    let answer = hold_session(rt, &connection);
     // The threads end once the connection is dropped.
     drop(connection);
-    threads.join(rt)?;
-    Ok(answer)
+    if answer.is_err() {
+        drop(threads);
+        return answer;
+    }
+    threads.join(rt).map_err(Error::from).and(answer)
 }
 
 /// What the server of this program answers. It runs in a thread, and needs no socket.
@@ -46,8 +49,7 @@ where
     let answer = hold_session(rt, &client);
     // The server would wait for more.
     drop(client);
-    thread.join(rt)?;
-    answer
+    thread.join(rt).and(answer)
 }
 
 /// The messages of the session (LSP 3.17, "Server lifecycle").
@@ -57,13 +59,7 @@ fn hold_session<R: Wait + AllocGlobal>(rt: &R, connection: &Connection) -> Resul
     tell(rt, connection, "initialized")?;
     let place = json!(in rt.alloc(); { "textDocument": { "uri": "file:///a.rs" } })?;
     let answer = ask(rt, connection, 2, "textDocument/hover", place)?;
-    match end_session(rt, connection) {
-        Ok(()) => Ok(answer),
-        Err(error) => {
-            drop(answer);
-            Err(error)
-        }
-    }
+    end_session(rt, connection).and(Ok(answer))
 }
 
 fn end_session<R: Wait + AllocGlobal>(rt: &R, connection: &Connection) -> Result<()> {

@@ -2,7 +2,7 @@
 use crate::line::Way;
 use anyhow::Result;
 use crossbeam_channel::{Receiver, Sender, bounded};
-use lsp_server::{CHANNEL_ROOM, Connection, IoThreads, spawn};
+use lsp_server::{CHANNEL_ROOM, Connection, IoThreads, Message, spawn};
 use std::alloc::AllocError;
 use std::io::Write;
 use std::sync::Wait;
@@ -111,7 +111,7 @@ fn pass<R: Wait + AllocGlobal + Drop>(
     log: Sender<Entry>,
 ) -> Result<(), AllocError> {
     let passed = pass_messages(&rt, way, &between, &log);
-    let _ = log.send(&rt, Entry::End(way));
+    drop(log.send(&rt, Entry::End(way)));
     passed
 }
 
@@ -123,11 +123,37 @@ fn pass_messages<R: Wait + AllocGlobal>(
     log: &Sender<Entry>,
 ) -> Result<(), AllocError> {
     for message in between.receiver.iter(rt) {
-        let body = message.body_text(rt.alloc())?;
-        if log.send(rt, Entry::Message { way, body }).is_err() {
+        if !pass_on(rt, way, &between.sender, log, message)? {
             return Ok(());
         }
-        let _ = between.sender.send(rt, message);
     }
     Ok(())
+}
+
+/// Logs a message, and sends it on if somebody keeps the log. Gives whether somebody does.
+fn pass_on<R: Wait + AllocGlobal>(
+    rt: &R,
+    way: Way,
+    sender: &Sender<Message>,
+    log: &Sender<Entry>,
+    message: Message,
+) -> Result<bool, AllocError> {
+    let logged = log_message(rt, way, &message, log);
+    if let Ok(true) = logged {
+        drop(sender.send(rt, message));
+    } else {
+        drop(message);
+    }
+    logged
+}
+
+/// Tells the log of a message, and gives whether somebody keeps the log.
+fn log_message<R: Wait + AllocGlobal>(
+    rt: &R,
+    way: Way,
+    message: &Message,
+    log: &Sender<Entry>,
+) -> Result<bool, AllocError> {
+    let body = message.body_text(rt.alloc())?;
+    Ok(log.send(rt, Entry::Message { way, body }).ok().is_some())
 }
