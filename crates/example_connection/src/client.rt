@@ -2,15 +2,28 @@
 //! listens at an address.
 use crate::{send, serve};
 use anyhow::{Error, Result, anyhow, bail};
-use lsp_server::{Connection, Message, Notification, Request, RequestId, ResponseError, spawn};
+use lsp_server::{
+    Connection, Message, Notification, Request, RequestId, Response, ResponseError, spawn,
+};
 use serde_json::{Value, json};
 use std::net::Net;
 use std::sync::Wait;
 use std::thread::Threads;
 use std::time::Clock;
 
-/// What a server answers: that of this program at the word `client`, and another one at `client ADDRESS`.
-pub fn answer_to<R>(rt: &R, words: &[String]) -> Result<Value>
+/// Prints what a server answers: that of this program at the word `client`, and another one at `client ADDRESS`.
+pub fn print_answer<R>(rt: &R, words: &[String]) -> Result<()>
+where
+    R: Net + Threads + Wait + Clock + AllocGlobal + Print + Copy + Drop + Send + 'static,
+    R::Stream: Send + 'static,
+{
+    let answer = answer_to(rt, words)?;
+    let printed = println!(rt; "{answer}");
+    drop(answer);
+    Ok(printed?)
+}
+
+fn answer_to<R>(rt: &R, words: &[String]) -> Result<Value>
 where
     R: Net + Threads + Wait + Clock + AllocGlobal + Copy + Drop + Send + 'static,
     R::Stream: Send + 'static,
@@ -54,12 +67,20 @@ where
 
 /// The messages of the session (LSP 3.17, "Server lifecycle").
 fn hold_session<R: Wait + AllocGlobal>(rt: &R, connection: &Connection) -> Result<Value> {
+    begin_session(rt, connection)?;
+    let answer = ask_hover(rt, connection)?;
+    end_session(rt, connection).and(Ok(answer))
+}
+
+fn begin_session<R: Wait + AllocGlobal>(rt: &R, connection: &Connection) -> Result<()> {
     let about = json!(in rt.alloc(); { "processId": null, "rootUri": null, "capabilities": {} })?;
     drop(ask(rt, connection, 1, "initialize", about)?);
-    tell(rt, connection, "initialized")?;
+    tell(rt, connection, "initialized")
+}
+
+fn ask_hover<R: Wait + AllocGlobal>(rt: &R, connection: &Connection) -> Result<Value> {
     let place = json!(in rt.alloc(); { "textDocument": { "uri": "file:///a.rs" } })?;
-    let answer = ask(rt, connection, 2, "textDocument/hover", place)?;
-    end_session(rt, connection).and(Ok(answer))
+    ask(rt, connection, 2, "textDocument/hover", place)
 }
 
 fn end_session<R: Wait + AllocGlobal>(rt: &R, connection: &Connection) -> Result<()> {
@@ -71,29 +92,45 @@ fn end_session<R: Wait + AllocGlobal>(rt: &R, connection: &Connection) -> Result
 fn ask<R: Wait + AllocGlobal>(
     rt: &R,
     connection: &Connection,
-    id: i32,
+    number: i32,
     method: &str,
     params: Value,
 ) -> Result<Value> {
-    let id = RequestId::from(id);
-    let request = Request {
-        id: id.clone()?,
-        method: String::from_str(rt.alloc(), method)?,
-        params,
-    };
-    send(rt, connection, Message::from(request))?;
+    let method = String::from_str(rt.alloc(), method)?;
+    let id = RequestId::from(number);
+    send(
+        rt,
+        connection,
+        Message::from(Request { id, method, params }),
+    )?;
+    result_of(rt, connection, number)
+}
+
+/// Waits for the result of the request with this id.
+fn result_of<R: Wait>(rt: &R, connection: &Connection, number: i32) -> Result<Value> {
     for message in connection.receiver.iter(rt) {
-        if let Some(outcome) = outcome_in(message, &id) {
-            return result_of(outcome);
+        if let Some(outcome) = outcome_in(message, number) {
+            return result_in(outcome);
         }
     }
     bail!("the server is gone")
 }
 
 /// The outcome of the request with this id, if the message is its reply.
-fn outcome_in(message: Message, id: &RequestId) -> Option<Result<Value, ResponseError>> {
+fn outcome_in(message: Message, number: i32) -> Option<Result<Value, ResponseError>> {
     match message {
-        Message::Response(reply) if reply.id == *id => Some(reply.response_result),
+        Message::Response(
+            Response {
+                id,
+                response_result: outcome,
+            },
+        ) => {
+            if id == RequestId::from(number) {
+                return Some(outcome);
+            }
+            drop(outcome);
+            None
+        }
         other => {
             drop(other);
             None
@@ -102,7 +139,7 @@ fn outcome_in(message: Message, id: &RequestId) -> Option<Result<Value, Response
 }
 
 /// The result, or an error that has the code and the text of the server's.
-fn result_of(outcome: Result<Value, ResponseError>) -> Result<Value> {
+fn result_in(outcome: Result<Value, ResponseError>) -> Result<Value> {
     match outcome {
         Ok(result) => Ok(result),
         Err(error) => {

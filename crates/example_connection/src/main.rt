@@ -35,8 +35,7 @@ enum Asked {
 fn main(rt: HostRuntime) -> Result<()> {
     let words: Vec<String> = env::args(&rt)?.skip(1).collect(rt.alloc())?;
     if !words.is_empty() {
-        let answer = client::answer_to(&rt, words.as_slice())?;
-        return Ok(println!(rt; "{answer}")?);
+        return client::print_answer(&rt, words.as_slice());
     }
     let (connection, threads) = Connection::stdio(&rt)?;
     let served = serve(&rt, connection);
@@ -54,28 +53,32 @@ fn serve<R: Wait + Clock + AllocGlobal>(rt: &R, connection: Connection) -> Resul
 }
 
 fn serve_session<R: Wait + Clock + AllocGlobal>(rt: &R, connection: &Connection) -> Result<()> {
-    let params = initialize(rt, connection)?;
-    let can_be_asked = can_be_asked(&params);
-    drop(params);
+    let can_be_asked = initialize(rt, connection)?;
     let mut paths = Paths::new(rt.alloc())?;
-    let served = serve_messages(rt, connection, &mut paths, can_be_asked);
+    let served = serve_client(rt, connection, &mut paths, can_be_asked);
     drop(paths);
     served
 }
 
-/// The handshake. It gives the params of `initialize`.
-fn initialize<R: Wait + Clock + AllocGlobal>(rt: &R, connection: &Connection) -> Result<Value> {
+/// The handshake. It gives whether the client can be asked what to call a path.
+fn initialize<R: Wait + Clock + AllocGlobal>(rt: &R, connection: &Connection) -> Result<bool> {
     let (id, params) = connection.initialize_start(rt)?;
-    let result = json!(in rt.alloc(); {
-        "capabilities": { "hoverProvider": true },
-        "serverInfo": { "name": "my_server", "version": "0.1" }
-    })?;
-    connection.initialize_finish(rt, id, result)?;
-    Ok(params)
+    let can_be_asked = can_be_asked(&params);
+    drop(params);
+    connection.initialize_finish(rt, id, about(rt.alloc())?)?;
+    Ok(can_be_asked)
 }
 
-/// The messages after the handshake.
-fn serve_messages<R: Wait + Clock + AllocGlobal>(
+/// What the server says of itself (LSP 3.17, `InitializeResult`).
+fn about(alloc: Global) -> Result<Value, AllocError> {
+    json!(in alloc; {
+        "capabilities": { "hoverProvider": true },
+        "serverInfo": { "name": "my_server", "version": "0.1" }
+    })
+}
+
+/// The session after the handshake.
+fn serve_client<R: Wait + Clock + AllocGlobal>(
     rt: &R,
     connection: &Connection,
     paths: &mut Paths,
@@ -84,6 +87,14 @@ fn serve_messages<R: Wait + Clock + AllocGlobal>(
     if can_be_asked {
         send(rt, connection, Message::from(paths.ask()?))?;
     }
+    serve_messages(rt, connection, paths)
+}
+
+fn serve_messages<R: Wait + Clock + AllocGlobal>(
+    rt: &R,
+    connection: &Connection,
+    paths: &mut Paths,
+) -> Result<()> {
     for message in connection.receiver.iter(rt) {
         match message {
             Message::Request(request) => {

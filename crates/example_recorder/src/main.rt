@@ -49,17 +49,7 @@ fn main(rt: HostRuntime) -> Result<()> {
 /// Records the session of a client and a server.
 fn record_session<R, W: Write>(rt: &R, listen: &str, server: &str, log: &mut W) -> Result<()>
 where
-    R: Net
-        + Threads
-        + Wait
-        + Clock
-        + AllocGlobal
-        + Input
-        + Print
-        + Copy
-        + Drop
-        + Send
-        + 'static,
+    R: Net + Threads + Wait + Clock + AllocGlobal + Input + Print + Copy + Drop + Send + 'static,
     R::Reader: Send + 'static,
     R::Stream: Send + 'static,
 {

@@ -6,7 +6,7 @@ use lsp_server::{CHANNEL_ROOM, Connection, IoThreads, Message, spawn};
 use std::alloc::AllocError;
 use std::io::Write;
 use std::sync::Wait;
-use std::thread::Threads;
+use std::thread::{JoinHandle, Threads};
 
 /// When a recording is over.
 #[derive(Clone, Copy)]
@@ -42,6 +42,58 @@ pub fn record<R, W: Write>(
 where
     R: Threads + Wait + AllocGlobal + Copy + Drop + Send + 'static,
 {
+    let (upward, entries) = match pass_both(rt, client, server, log, until) {
+        Ok(passed) => passed,
+        Err(error) => {
+            drop(client_threads);
+            drop(server_threads);
+            return Err(error);
+        }
+    };
+    let client_threads = client_threads.flush(rt);
+    let ended = match until {
+        Until::BothClose => join_all(rt, upward, client_threads, server_threads),
+        Until::ServerCloses => {
+            drop(upward);
+            drop(client_threads);
+            drop(server_threads);
+            Ok(())
+        }
+    };
+    drop(entries);
+    ended
+}
+
+/// A thread that passes one side's messages on.
+type Passing = JoinHandle<Result<(), AllocError>>;
+
+/// Passes messages on and writes their lines, until the recording is over. Gives the thread to the server, which may run on, and what it
+/// tells.
+fn pass_both<R, W: Write>(
+    rt: &R,
+    client: Connection,
+    server: Connection,
+    log: &mut W,
+    until: Until,
+) -> Result<(Passing, Receiver<Entry>)>
+where
+    R: Threads + Wait + AllocGlobal + Copy + Drop + Send + 'static,
+{
+    let (upward, downward, entries) = start_both(rt, client, server)?;
+    write_lines(rt, &entries, log, until)?;
+    downward.join(rt)?;
+    Ok((upward, entries))
+}
+
+/// Starts the threads to the server and to the client, which tell the entries.
+fn start_both<R>(
+    rt: &R,
+    client: Connection,
+    server: Connection,
+) -> Result<(Passing, Passing, Receiver<Entry>)>
+where
+    R: Threads + Wait + AllocGlobal + Copy + Drop + Send + 'static,
+{
     let (told, entries) = bounded(rt.alloc(), CHANNEL_ROOM)?;
     let also_told = told.clone()?;
     let (upward, downward) = crossed(client, server);
@@ -55,14 +107,19 @@ where
         downward,
         move |rt, between| pass(rt, Way::ToClient, between, told),
     )?;
-    write_lines(rt, &entries, log, until)?;
-    downward.join(rt)?;
-    let client_threads = client_threads.flush(rt);
-    if matches!(until, Until::BothClose) {
-        upward.join(rt)?;
-        client_threads.join(rt)?;
-        server_threads.join(rt)?;
-    }
+    Ok((upward, downward, entries))
+}
+
+/// Waits for all threads to end.
+fn join_all<R: Threads>(
+    rt: &R,
+    upward: Passing,
+    client_threads: IoThreads,
+    server_threads: IoThreads,
+) -> Result<()> {
+    upward.join(rt)?;
+    client_threads.join(rt)?;
+    server_threads.join(rt)?;
     Ok(())
 }
 
