@@ -187,12 +187,16 @@ fn ask_and_cancel(alloc: Global, world: &mut World) -> Result<(), WorldFault>
 {
     tell(alloc, world, "initialized", json!(in alloc; {})?)?;
     ask(alloc, world, "test/slow", SLOW)?;
-    tell(
-        alloc,
-        world,
-        "$/cancelRequest",
-        json!(in alloc; { "id": 1 })?,
-    )
+    cancel(alloc, world)
+}
+
+/// The client cancels its second request.
+fn cancel(alloc: Global, world: &mut World) -> Result<(), WorldFault>
+    requires { IsTalk world.old }
+    ensures { OnOk result (IsTalk world.new) }
+{
+    let params = json!(in alloc; { "id": 1 })?;
+    tell(alloc, world, "$/cancelRequest", params)
 }
 
 /// What the server does with a request or a notification. The message is the last that it took.
@@ -231,29 +235,45 @@ fn step_for(alloc: Global, outcome: Outcome, taken: &[Message]) -> Result<Option
 fn reply_to(alloc: Global, id: RequestId, taken: &[Message]) -> Result<Option<Step>, AllocError>
     ensures { IfOk result (λ reply. IfSome reply IsShallow) }
 {
-    let side = Side::B;
     let Some(Message::Request(request)) = taken.last() else {
+        drop(id);
         return Ok(None);
     };
     match request.method.as_str() {
-        "initialize" => Ok(Some(Step::Answer {
-            side,
-            id,
-            result: json!(in alloc; { "capabilities": {} })?,
-        })),
+        "initialize" => answer(alloc, id),
         "shutdown" => Ok(Some(Step::Answer {
-            side,
+            side: Side::B,
             id,
             result: Value::Null,
         })),
-        "test/slow" => Ok(None),
-        _ => Ok(Some(Step::Refuse {
-            side,
-            id,
-            code: ErrorCode::MethodNotFound.number(),
-            message: String::from_str(alloc, "method not found")?,
-        })),
+        "test/slow" => {
+            drop(id);
+            Ok(None)
+        }
+        _ => refuse(alloc, id),
     }
+}
+
+/// The server's answer to `initialize`.
+fn answer(alloc: Global, id: RequestId) -> Result<Option<Step>, AllocError>
+    ensures { IfOk result (λ reply. IfSome reply IsShallow) }
+{
+    let side = Side::B;
+    let result = json!(in alloc; { "capabilities": {} })?;
+    Ok(Some(Step::Answer { side, id, result }))
+}
+
+/// The server's reply to a request that it doesn't know.
+fn refuse(alloc: Global, id: RequestId) -> Result<Option<Step>, AllocError>
+    ensures { IfOk result (λ reply. IfSome reply IsShallow) }
+{
+    let message = String::from_str(alloc, "method not found")?;
+    Ok(Some(Step::Refuse {
+        side: Side::B,
+        id,
+        code: ErrorCode::MethodNotFound.number(),
+        message,
+    }))
 }
 
 /// The id of the request that the last notification cancels, if it cancels one.
