@@ -8,7 +8,7 @@
 
 mod client;
 
-use anyhow::{Result, bail};
+use anyhow::{Context, Result, bail};
 use lsp_server::{Connection, Message, ReqQueue, Request, Response};
 use serde_json::{Value, json};
 use std::alloc::{AllocError, Global};
@@ -35,8 +35,7 @@ enum Asked {
 fn main(rt: HostRuntime) -> Result<()> {
     let words: Vec<String> = env::args(&rt)?.skip(1).collect(rt.alloc())?;
     if !words.is_empty() {
-        let answer = client::answer_to(&rt, words.as_slice())?;
-        return Ok(println!(rt; "{answer}")?);
+        return client::print_answer(&rt, words.as_slice());
     }
     let (connection, threads) = Connection::stdio(&rt)?;
     let served = serve(&rt, connection);
@@ -48,36 +47,72 @@ fn main(rt: HostRuntime) -> Result<()> {
 
 /// From `initialize` to `exit`. The connection is dropped at the end, so that its threads end too.
 fn serve<R: Wait + Clock + AllocGlobal>(rt: &R, connection: Connection) -> Result<()> {
+    let served = serve_session(rt, &connection);
+    drop(connection);
+    served
+}
+
+fn serve_session<R: Wait + Clock + AllocGlobal>(rt: &R, connection: &Connection) -> Result<()> {
+    let can_be_asked = initialize(rt, connection)?;
+    let mut paths = Paths::new(rt.alloc())?;
+    let served = serve_client(rt, connection, &mut paths, can_be_asked);
+    drop(paths);
+    served
+}
+
+/// The handshake. It gives whether the client can be asked what to call a path.
+fn initialize<R: Wait + Clock + AllocGlobal>(rt: &R, connection: &Connection) -> Result<bool> {
     let (id, params) = connection.initialize_start(rt)?;
-    let result = json!(in rt.alloc(); {
+    let can_be_asked = can_be_asked(&params);
+    drop(params);
+    connection.initialize_finish(rt, id, about(rt.alloc())?)?;
+    Ok(can_be_asked)
+}
+
+/// What the server says of itself (LSP 3.17, `InitializeResult`).
+fn about(alloc: Global) -> Result<Value, AllocError> {
+    json!(in alloc; {
         "capabilities": { "hoverProvider": true },
         "serverInfo": { "name": "my_server", "version": "0.1" }
-    })?;
-    connection.initialize_finish(rt, id, result)?;
-    let mut paths = Paths::new(rt.alloc())?;
-    if can_be_asked(&params) {
-        send(rt, &connection, Message::from(paths.ask()?))?;
+    })
+}
+
+/// The session after the handshake.
+fn serve_client<R: Wait + Clock + AllocGlobal>(
+    rt: &R,
+    connection: &Connection,
+    paths: &mut Paths,
+    can_be_asked: bool,
+) -> Result<()> {
+    if can_be_asked {
+        send(rt, connection, Message::from(paths.ask()?))?;
     }
+    serve_messages(rt, connection, paths)
+}
+
+fn serve_messages<R: Wait + Clock + AllocGlobal>(
+    rt: &R,
+    connection: &Connection,
+    paths: &mut Paths,
+) -> Result<()> {
     for message in connection.receiver.iter(rt) {
         match message {
             Message::Request(request) => {
                 if connection.handle_shutdown(rt, &request)? {
                     return Ok(());
                 }
-                send(rt, &connection, Message::from(paths.answer(request)?))?;
+                send(rt, connection, Message::from(paths.answer(request)?))?;
             }
             Message::Response(response) => paths.take(response)?,
-            Message::Notification(_note) => {}
+            Message::Notification(note) => drop(note),
         }
     }
     bail!("the client left without a shutdown")
 }
 
 fn send<R: Wait>(rt: &R, connection: &Connection, message: Message) -> Result<()> {
-    if connection.sender.send(rt, message).is_err() {
-        bail!("the other side is gone");
-    }
-    Ok(())
+    let sent = connection.sender.send(rt, message).ok();
+    sent.context("the other side is gone")
 }
 
 /// Whether the client takes `workspace/configuration` (LSP 3.17, "Configuration Request").
@@ -101,14 +136,9 @@ impl Paths {
     fn ask(&mut self) -> Result<Request> {
         let method = String::from_str(self.alloc, "workspace/configuration")?;
         let params = json!(in self.alloc; { "items": [{ "section": "paths" }] })?;
-        match self
-            .queue
-            .outgoing
-            .register_value(method, params, Asked::Name)
-        {
-            Ok(request) => Ok(request),
-            Err(_) => bail!("a registration was refused"),
-        }
+        let queue = &mut self.queue.outgoing;
+        let registered = queue.register_value(method, params, Asked::Name).ok();
+        registered.context("a registration was refused")
     }
 
     /// Takes the response to a request of the server's own.
@@ -117,29 +147,43 @@ impl Paths {
             id,
             response_result: outcome,
         } = response;
-        let Some(Asked::Name) = self.queue.outgoing.complete(id) else {
-            return Ok(());
+        let taken = match (self.queue.outgoing.complete(id), &outcome) {
+            (Some(Asked::Name), Ok(values)) => self.rename(values),
+            _ => Ok(()),
         };
-        if let Ok(values) = outcome
-            && let Some(name) = values.pointer("/0").and_then(|value| value.as_str())
-        {
+        drop(outcome);
+        taken
+    }
+
+    /// Takes the values of the configuration: a list with the name, if the user set one.
+    fn rename(&mut self, values: &Value) -> Result<(), AllocError> {
+        if let Some(name) = values.pointer("/0").and_then(|value| value.as_str()) {
             self.name = String::from_str(self.alloc, name)?;
         }
         Ok(())
     }
 
     fn answer(&self, request: Request) -> Result<Response, AllocError> {
-        let alloc = self.alloc;
-        if request.method.as_str() != "textDocument/hover" {
-            return Response::method_not_found(alloc, request.id);
+        let Request { id, method, params } = request;
+        if method.as_str() != "textDocument/hover" {
+            drop(params);
+            return Response::method_not_found(self.alloc, id);
         }
-        let name = self.name.as_str();
-        let length = uri_of(&request.params).map_or(0, |uri| uri.len() as u64);
-        let contents = format!(in alloc; "{name} of {length} bytes")?;
+        let hover = self.hover(&params);
+        drop(params);
+        let response_result = Ok(hover?);
         Ok(Response {
-            id: request.id,
-            response_result: Ok(json!(in alloc; { "contents": contents })?),
+            id,
+            response_result,
         })
+    }
+
+    /// What a hover shows.
+    fn hover(&self, params: &Value) -> Result<Value, AllocError> {
+        let name = self.name.as_str();
+        let length = uri_of(params).map_or(0, |uri| uri.len() as u64);
+        let contents = format!(in self.alloc; "{name} of {length} bytes")?;
+        json!(in self.alloc; { "contents": contents })
     }
 }
 

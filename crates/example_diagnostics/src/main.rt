@@ -75,27 +75,25 @@ impl Server for Checker {
         };
         let configuration = params.capabilities.pointer("/workspace/configuration");
         self.configures = configuration.and_then(|can| can.as_bool()) == Some(true);
-        let capabilities = ServerCapabilities {
-            text_document_sync: Some(TextDocumentSyncOptions::new(TextDocumentSyncKind::FULL)),
-            hover_provider: Some(true),
-            definition_provider: Some(true),
-            ..ServerCapabilities::default()
-        };
-        let result = InitializeResult::new(self.alloc, capabilities, "lines")?;
-        write_as(self.alloc, &result)
+        drop(params);
+        let result = InitializeResult::new(self.alloc, capabilities(), "lines")?;
+        let written = write_as(self.alloc, &result);
+        drop(result);
+        written
     }
 
     fn initialized(&mut self) -> Result<Acts, AllocError> {
-        let mut acts = Vec::new(self.alloc);
-        if self.configures {
-            let params = ConfigurationParams::section(self.alloc, "lines")?;
-            let method = methods::CONFIGURATION;
-            if let Ok(asks) = Act::ask(self.alloc, method, &params, Asked::Configuration)? {
-                acts.push(asks)?;
-                self.is_asking = true;
-            }
+        if !self.configures {
+            return Ok(Vec::new(self.alloc));
         }
-        Ok(acts)
+        match self.ask_configuration()?.ok() {
+            Some(asks) => {
+                let acts = Act::one(self.alloc, asks)?;
+                self.is_asking = true;
+                Ok(acts)
+            }
+            None => Ok(Vec::new(self.alloc)),
+        }
     }
 
     fn request(&mut self, request: Request) -> Result<Acts, AllocError> {
@@ -123,7 +121,10 @@ impl Server for Checker {
             methods::DID_CLOSE => {
                 Act::of_notification(alloc, notification, |params| self.did_close(params))
             }
-            _ => Ok(Vec::new(alloc)),
+            _ => {
+                drop(notification);
+                Ok(Vec::new(alloc))
+            }
         }
     }
 
@@ -134,16 +135,13 @@ impl Server for Checker {
     ) -> Result<Acts, AllocError> {
         let Asked::Configuration = asked;
         self.is_asking = false;
-        if let Ok(values) = outcome {
-            self.configure(values)?;
+        match outcome.ok() {
+            Some(values) => self.configure(values)?,
+            None => {}
         }
         let mut acts = Vec::new(self.alloc);
-        for document in self.documents.iter() {
-            self.mark(&mut acts, document)?;
-        }
-        for request in mem::replace(&mut self.waiting, Vec::new(self.alloc)) {
-            acts.append(&mut self.answer_hover(request)?)?;
-        }
+        self.mark_all(&mut acts)?;
+        self.answer_waiting(&mut acts)?;
         Ok(acts)
     }
 
@@ -165,12 +163,37 @@ impl Checker {
         }
     }
 
+    /// Asks for the client's configuration.
+    fn ask_configuration(&self) -> Result<Result<Act<Asked>, ResponseError>, AllocError> {
+        let params = ConfigurationParams::section(self.alloc, "lines")?;
+        let method = methods::CONFIGURATION;
+        let asks = Act::ask(self.alloc, method, &params, Asked::Configuration);
+        drop(params);
+        asks
+    }
+
     /// Takes the client's configuration: a list with one value, which is null if the user set none.
     fn configure(&mut self, values: Value) -> Result<(), AllocError> {
-        if let Ok(values) = read_as::<Vec<Option<u32>>>(self.alloc, values)?
+        let read = read_as::<Vec<Option<u32>>>(self.alloc, values)?;
+        if let Ok(values) = &read
             && let Some(Some(longest)) = values.first()
         {
             self.longest = *longest;
+        }
+        drop(read);
+        Ok(())
+    }
+
+    fn mark_all(&self, acts: &mut Acts) -> Result<(), AllocError> {
+        for document in self.documents.iter() {
+            self.mark(acts, document)?;
+        }
+        Ok(())
+    }
+
+    fn answer_waiting(&mut self, acts: &mut Acts) -> Result<(), AllocError> {
+        for request in mem::replace(&mut self.waiting, Vec::new(self.alloc)) {
+            acts.append(&mut self.answer_hover(request)?)?;
         }
         Ok(())
     }
@@ -210,11 +233,14 @@ impl Checker {
             version: None,
             diagnostics: Vec::new(self.alloc),
         };
-        let alloc = self.alloc;
-        Act::one(
-            alloc,
-            Act::tell(alloc, methods::PUBLISH_DIAGNOSTICS, &params)?,
-        )
+        Act::one(self.alloc, self.publish(params)?)
+    }
+
+    /// The notification that shows these marks.
+    fn publish(&self, params: PublishDiagnosticsParams) -> Result<Act<Asked>, AllocError> {
+        let told = Act::tell(self.alloc, methods::PUBLISH_DIAGNOSTICS, &params);
+        drop(params);
+        told
     }
 
     /// Keeps a document in the place of its older text, and marks it.
@@ -244,7 +270,7 @@ impl Checker {
             version: Some(document.version),
             diagnostics: long_lines(self.alloc, document.text.as_str(), self.longest)?,
         };
-        acts.push(Act::tell(self.alloc, methods::PUBLISH_DIAGNOSTICS, &params)?)?;
+        acts.push(self.publish(params)?)?;
         Ok(())
     }
 
@@ -277,6 +303,16 @@ impl Checker {
             uri: document.uri.clone()?,
             range: Range::new(start, start),
         }))
+    }
+}
+
+/// What the server can do.
+fn capabilities() -> ServerCapabilities {
+    ServerCapabilities {
+        text_document_sync: Some(TextDocumentSyncOptions::new(TextDocumentSyncKind::FULL)),
+        hover_provider: Some(true),
+        definition_provider: Some(true),
+        ..ServerCapabilities::default()
     }
 }
 

@@ -36,10 +36,9 @@ pub fn split(line: &str) -> Result<(Way, &str)> {
 
 /// The message of a body.
 pub fn message_of(alloc: Global, body: &str) -> Result<Message> {
-    if let Ok(tree) = Value::from_str(alloc, body)
-        && let Some(message) = Message::from_tree(tree)
-    {
-        return Ok(message);
+    let tree = Value::from_str(alloc, body).ok();
+    match tree.and_then(Message::from_tree) {
+        Some(message) => Ok(message),
+        None => bail!("no message: {body}"),
     }
-    bail!("no message: {body}")
 }

@@ -13,11 +13,15 @@ mod line;
 mod record;
 mod replay;
 
-use anyhow::{Result, bail};
+use anyhow::{Error, Result, bail};
 use lsp_server::Connection;
 use record::{Until, record};
 use replay::{compare, write_frames};
-use std::io::BufWriter;
+use std::io::{BufWriter, Write};
+use std::net::Net;
+use std::sync::Wait;
+use std::thread::Threads;
+use std::time::Clock;
 use std::{fs, io};
 
 fn main(rt: HostRuntime) -> Result<()> {
@@ -25,12 +29,9 @@ fn main(rt: HostRuntime) -> Result<()> {
     match words.as_slice() {
         [word, listen, server, file] if word.as_str() == "record" => {
             let mut log = BufWriter::new(rt.alloc(), fs::create(&rt, file.as_str())?)?;
-            let (client, until) = match listen.as_str() {
-                "-" => (Connection::stdio(&rt)?, Until::ServerCloses),
-                addr => (Connection::listen(&rt, addr)?, Until::BothClose),
-            };
-            let server = Connection::connect(&rt, server.as_str())?;
-            record(&rt, client, server, &mut log, until)
+            let recorded = record_session(&rt, listen.as_str(), server.as_str(), &mut log);
+            drop(log);
+            recorded
         }
         [word, file] if word.as_str() == "replay" => {
             let recording = fs::read_to_string(&rt, file.as_str())?;
@@ -38,11 +39,44 @@ fn main(rt: HostRuntime) -> Result<()> {
         }
         [word, file, server] if word.as_str() == "replay" => {
             let recording = fs::read_to_string(&rt, file.as_str())?;
-            let (connection, threads) = Connection::connect(&rt, server.as_str())?;
-            let count = compare(&rt, recording.as_str(), connection, &mut io::writer(&rt))?;
-            threads.join(&rt)?;
+            let count = replay_to(&rt, recording.as_str(), server.as_str())?;
             Ok(println!(rt; "{count} answers, each as recorded")?)
         }
         _ => bail!("usage: example_recorder record LISTEN|- SERVER FILE | replay FILE [SERVER]"),
     }
+}
+
+/// Records the session of a client and a server.
+fn record_session<R, W: Write>(rt: &R, listen: &str, server: &str, log: &mut W) -> Result<()>
+where
+    R: Net + Threads + Wait + Clock + AllocGlobal + Input + Print + Copy + Drop + Send + 'static,
+    R::Reader: Send + 'static,
+    R::Stream: Send + 'static,
+{
+    let (client, until) = match listen {
+        "-" => (Connection::stdio(rt)?, Until::ServerCloses),
+        addr => (Connection::listen(rt, addr)?, Until::BothClose),
+    };
+    match Connection::connect(rt, server) {
+        Ok(server) => record(rt, client, server, log, until),
+        Err(fault) => {
+            drop(client);
+            Err(Error::from(fault))
+        }
+    }
+}
+
+/// Plays a recording to a server, and gives how many answers were compared.
+fn replay_to<R>(rt: &R, recording: &str, server: &str) -> Result<u64>
+where
+    R: Net + Threads + Wait + Clock + AllocGlobal + Print + Copy + Drop + Send + 'static,
+    R::Stream: Send + 'static,
+{
+    let (connection, threads) = Connection::connect(rt, server)?;
+    let compared = compare(rt, recording, connection, &mut io::writer(rt));
+    if compared.is_err() {
+        drop(threads);
+        return compared;
+    }
+    threads.join(rt).map_err(Error::from).and(compared)
 }

@@ -2,11 +2,11 @@
 use crate::line::Way;
 use anyhow::Result;
 use crossbeam_channel::{Receiver, Sender, bounded};
-use lsp_server::{CHANNEL_ROOM, Connection, IoThreads, spawn};
+use lsp_server::{CHANNEL_ROOM, Connection, IoThreads, Message, spawn};
 use std::alloc::AllocError;
 use std::io::Write;
 use std::sync::Wait;
-use std::thread::Threads;
+use std::thread::{JoinHandle, Threads};
 
 /// When a recording is over.
 #[derive(Clone, Copy)]
@@ -42,6 +42,58 @@ pub fn record<R, W: Write>(
 where
     R: Threads + Wait + AllocGlobal + Copy + Drop + Send + 'static,
 {
+    let (upward, entries) = match pass_both(rt, client, server, log, until) {
+        Ok(passed) => passed,
+        Err(error) => {
+            drop(client_threads);
+            drop(server_threads);
+            return Err(error);
+        }
+    };
+    let client_threads = client_threads.flush(rt);
+    let ended = match until {
+        Until::BothClose => join_all(rt, upward, client_threads, server_threads),
+        Until::ServerCloses => {
+            drop(upward);
+            drop(client_threads);
+            drop(server_threads);
+            Ok(())
+        }
+    };
+    drop(entries);
+    ended
+}
+
+/// A thread that passes one side's messages on.
+type Passing = JoinHandle<Result<(), AllocError>>;
+
+/// Passes messages on and writes their lines, until the recording is over. Gives the thread to the server, which may run on, and what it
+/// tells.
+fn pass_both<R, W: Write>(
+    rt: &R,
+    client: Connection,
+    server: Connection,
+    log: &mut W,
+    until: Until,
+) -> Result<(Passing, Receiver<Entry>)>
+where
+    R: Threads + Wait + AllocGlobal + Copy + Drop + Send + 'static,
+{
+    let (upward, downward, entries) = start_both(rt, client, server)?;
+    write_lines(rt, &entries, log, until)?;
+    downward.join(rt)?;
+    Ok((upward, entries))
+}
+
+/// Starts the threads to the server and to the client, which tell the entries.
+fn start_both<R>(
+    rt: &R,
+    client: Connection,
+    server: Connection,
+) -> Result<(Passing, Passing, Receiver<Entry>)>
+where
+    R: Threads + Wait + AllocGlobal + Copy + Drop + Send + 'static,
+{
     let (told, entries) = bounded(rt.alloc(), CHANNEL_ROOM)?;
     let also_told = told.clone()?;
     let (upward, downward) = crossed(client, server);
@@ -55,14 +107,19 @@ where
         downward,
         move |rt, between| pass(rt, Way::ToClient, between, told),
     )?;
-    write_lines(rt, &entries, log, until)?;
-    downward.join(rt)?;
-    let client_threads = client_threads.flush(rt);
-    if matches!(until, Until::BothClose) {
-        upward.join(rt)?;
-        client_threads.join(rt)?;
-        server_threads.join(rt)?;
-    }
+    Ok((upward, downward, entries))
+}
+
+/// Waits for all threads to end.
+fn join_all<R: Threads>(
+    rt: &R,
+    upward: Passing,
+    client_threads: IoThreads,
+    server_threads: IoThreads,
+) -> Result<()> {
+    upward.join(rt)?;
+    client_threads.join(rt)?;
+    server_threads.join(rt)?;
     Ok(())
 }
 
@@ -111,7 +168,7 @@ fn pass<R: Wait + AllocGlobal + Drop>(
     log: Sender<Entry>,
 ) -> Result<(), AllocError> {
     let passed = pass_messages(&rt, way, &between, &log);
-    let _ = log.send(&rt, Entry::End(way));
+    drop(log.send(&rt, Entry::End(way)));
     passed
 }
 
@@ -123,11 +180,37 @@ fn pass_messages<R: Wait + AllocGlobal>(
     log: &Sender<Entry>,
 ) -> Result<(), AllocError> {
     for message in between.receiver.iter(rt) {
-        let body = message.body_text(rt.alloc())?;
-        if log.send(rt, Entry::Message { way, body }).is_err() {
+        if !pass_on(rt, way, &between.sender, log, message)? {
             return Ok(());
         }
-        let _ = between.sender.send(rt, message);
     }
     Ok(())
+}
+
+/// Logs a message, and sends it on if somebody keeps the log. Gives whether somebody does.
+fn pass_on<R: Wait + AllocGlobal>(
+    rt: &R,
+    way: Way,
+    sender: &Sender<Message>,
+    log: &Sender<Entry>,
+    message: Message,
+) -> Result<bool, AllocError> {
+    let logged = log_message(rt, way, &message, log);
+    if let Ok(true) = logged {
+        drop(sender.send(rt, message));
+    } else {
+        drop(message);
+    }
+    logged
+}
+
+/// Tells the log of a message, and gives whether somebody keeps the log.
+fn log_message<R: Wait + AllocGlobal>(
+    rt: &R,
+    way: Way,
+    message: &Message,
+    log: &Sender<Entry>,
+) -> Result<bool, AllocError> {
+    let body = message.body_text(rt.alloc())?;
+    Ok(log.send(rt, Entry::Message { way, body }).ok().is_some())
 }

@@ -1,7 +1,7 @@
 // What is done with a recording.
 use crate::line::{Way, message_of, split};
-use anyhow::{Result, bail};
-use crossbeam_channel::Receiver;
+use anyhow::{Context, Error, Result, bail};
+use crossbeam_channel::{Receiver, Sender};
 use lsp_server::{Connection, ErrorCode, Message, RequestId, Response};
 use serde_json::Value;
 use std::alloc::{AllocError, Global};
@@ -17,11 +17,18 @@ pub fn write_frames<W: Write>(alloc: Global, recording: &str, writer: &mut W) ->
     for line in recording.lines() {
         let (way, body) = split(line)?;
         match way {
-            Way::ToServer => message_of(alloc, body)?.write(alloc, writer)?,
+            Way::ToServer => write_frame(alloc, body, writer)?,
             Way::ToClient => {}
         }
     }
     Ok(())
+}
+
+fn write_frame<W: Write>(alloc: Global, body: &str, writer: &mut W) -> Result<()> {
+    let message = message_of(alloc, body)?;
+    let written = message.write(alloc, writer);
+    drop(message);
+    Ok(written?)
 }
 
 /// Sends the client's messages of a recording, compares what the server says with what it said then, and counts that.
@@ -37,34 +44,127 @@ pub fn compare<R: Wait + Clock + AllocGlobal, W: Write>(
     connection: Connection,
     report: &mut W,
 ) -> Result<u64> {
+    let mut replay = Replay::new(rt.alloc());
+    let played = replay.play(rt, recording, &connection, report);
     let Connection { sender, receiver } = connection;
-    let mut early = Vec::new(rt.alloc());
-    let mut cancelled = Vec::new(rt.alloc());
-    let mut count: u64 = 0;
-    for line in recording.lines() {
+    drop(sender);
+    let counted = match played {
+        Ok(()) => replay.end(rt, &receiver, report),
+        Err(error) => Err(error),
+    };
+    drop(replay);
+    counted
+}
+
+/// What a replay keeps between two lines.
+#[derive(Drop)]
+struct Replay {
+    /// The server's messages that came before their places.
+    early: Vec<Message>,
+    /// The requests that the client cancelled.
+    cancelled: Vec<RequestId>,
+    /// How many messages of the server were compared.
+    count: u64,
+}
+
+impl Replay {
+    fn new(alloc: Global) -> Replay {
+        Replay {
+            early: Vec::new(alloc),
+            cancelled: Vec::new(alloc),
+            count: 0,
+        }
+    }
+
+    /// Plays all lines.
+    fn play<R: Wait + Clock + AllocGlobal, W: Write>(
+        &mut self,
+        rt: &R,
+        recording: &str,
+        connection: &Connection,
+        report: &mut W,
+    ) -> Result<()> {
+        for line in recording.lines() {
+            self.play_line(rt, line, connection, report)?;
+        }
+        Ok(())
+    }
+
+    fn play_line<R: Wait + Clock + AllocGlobal, W: Write>(
+        &mut self,
+        rt: &R,
+        line: &str,
+        connection: &Connection,
+        report: &mut W,
+    ) -> Result<()> {
         let (way, body) = split(line)?;
         let message = message_of(rt.alloc(), body)?;
         match way {
-            Way::ToServer => {
-                cancelled.extend(cancelled_by(&message)?)?;
-                if sender.send(rt, message).is_err() {
-                    bail!("the server is gone");
-                }
-            }
-            Way::ToClient if is_of_work_done(&message) => {}
+            Way::ToServer => self.send(rt, &connection.sender, message),
             Way::ToClient => {
-                let found = find(rt, &receiver, &mut early, &message)?;
-                if !is_by_cancellation(found.as_ref(), &message, cancelled.as_slice()) {
-                    expect(rt.alloc(), found.as_ref(), Some(body), report)?;
-                }
-                count = count.saturating_add(1);
+                let met = self.meet(rt, &connection.receiver, &message, body, report);
+                drop(message);
+                met
             }
         }
     }
-    drop(sender);
-    let more = receive(rt, &receiver);
-    expect(rt.alloc(), early.first().or(more.as_ref()), None, report)?;
-    Ok(count)
+
+    /// Sends a message of the client's.
+    fn send<R: Wait>(&mut self, rt: &R, sender: &Sender<Message>, message: Message) -> Result<()> {
+        match self.keep_cancelled(&message) {
+            Ok(()) => sender.send(rt, message).ok().context("the server is gone"),
+            Err(fault) => {
+                drop(message);
+                Err(Error::from(fault))
+            }
+        }
+    }
+
+    fn keep_cancelled(&mut self, message: &Message) -> Result<(), AllocError> {
+        if let Some(id) = cancelled_by(message)? {
+            self.cancelled.push(id)?;
+        }
+        Ok(())
+    }
+
+    /// Awaits what the server says in the place of a recorded message, and compares it.
+    fn meet<R: Wait + Clock + AllocGlobal, W: Write>(
+        &mut self,
+        rt: &R,
+        receiver: &Receiver<Message>,
+        recorded: &Message,
+        body: &str,
+        report: &mut W,
+    ) -> Result<()> {
+        if is_of_work_done(recorded) {
+            return Ok(());
+        }
+        let found = find(rt, receiver, &mut self.early, recorded)?;
+        let is_cancelled = is_by_cancellation(found.as_ref(), recorded, self.cancelled.as_slice());
+        let compared = if is_cancelled {
+            Ok(())
+        } else {
+            expect(rt.alloc(), found.as_ref(), Some(body), report)
+        };
+        drop(found);
+        self.count = self.count.saturating_add(1);
+        compared
+    }
+
+    /// Sees that the server says nothing more, and gives how many messages were compared.
+    fn end<R: Wait + Clock + AllocGlobal, W: Write>(
+        &self,
+        rt: &R,
+        receiver: &Receiver<Message>,
+        report: &mut W,
+    ) -> Result<u64> {
+        let more = receive(rt, receiver);
+        let first = self.early.first().or(more.as_ref());
+        let compared = expect(rt.alloc(), first, None, report);
+        drop(more);
+        compared?;
+        Ok(self.count)
+    }
 }
 
 /// The server's message that takes the place of a recorded one. Those that come before it are kept in `early`, for their own places.
@@ -78,11 +178,13 @@ fn find<R: Wait + Clock>(
         return Ok(Some(early.remove(at)));
     }
     for _ in rt.forever() {
-        match receive(rt, receiver) {
-            Some(message) if is_in_place_of(&message, recorded) => return Ok(Some(message)),
-            Some(message) => early.push(message)?,
-            None => break,
+        let Some(message) = receive(rt, receiver) else {
+            break;
+        };
+        if is_in_place_of(&message, recorded) {
+            return Ok(Some(message));
         }
+        early.push(message)?;
     }
     Ok(None)
 }
@@ -90,11 +192,12 @@ fn find<R: Wait + Clock>(
 /// The server's next message that is compared.
 fn receive<R: Wait + Clock>(rt: &R, receiver: &Receiver<Message>) -> Option<Message> {
     for _ in rt.forever() {
-        match receiver.recv_timeout(rt, Duration::from_secs(PATIENCE)) {
-            Ok(message) if is_of_work_done(&message) => {}
-            Ok(message) => return Some(message),
-            Err(_) => break,
+        let patience = Duration::from_secs(PATIENCE);
+        let message = receiver.recv_timeout(rt, patience).ok()?;
+        if !is_of_work_done(&message) {
+            return Some(message);
         }
+        drop(message);
     }
     None
 }

@@ -33,11 +33,13 @@ pub struct Search {
 pub struct Silence;
 
 impl Progress for Silence {
-    fn report(&mut self, _notification: Notification) -> bool {
+    fn report(&mut self, notification: Notification) -> bool {
+        drop(notification);
         false
     }
 
-    fn send(&mut self, _notification: Notification) -> bool {
+    fn send(&mut self, notification: Notification) -> bool {
+        drop(notification);
         false
     }
 }

@@ -5,8 +5,8 @@ ghost use Rattle.serde_json.specs.View.{view};
 ghost use Rattle.std.specs.Prelude.{◌≡◌, Some, IfNone, IfOk, IfSome, codes, string_bytes};
 
 use crate::search::{Search, Silence};
-use crate::shared::SharedTexts;
-use crate::sums::{Named, Span, sheet_of, value_of, words_of};
+use crate::shared::{SharedTexts, Source};
+use crate::sums::{Named, Problem, Span, Word, sheet_of, value_of, word_at, words_of};
 use lsp_documents::{DocumentFault, Made, NotMade, TextDocuments, position_encoding, position_in};
 use lsp_jobs::{AnsweredBy, CancellationToken, Job, JobEnd, JobServer, NewJob, WorkDone};
 use lsp_server::{Act, ErrorCode, Notification, Request, RequestId, ResponseError, Server};
@@ -14,6 +14,7 @@ use lsp_text::{Position, PositionEncoding, Text, TextDocument};
 use serde_json::{Value, json};
 use std::alloc::{AllocError, Global};
 use std::mem;
+use std::sync::Arc;
 
 /// A server for texts of sums.
 #[derive(Drop)]
@@ -51,8 +52,10 @@ impl Server for Sums {
     fn initialize(&mut self, params: Value) -> Result<Result<Value, ResponseError>, AllocError> {
         let path = "/capabilities/workspace/configuration";
         self.configures = matches!(params.pointer(path), Some(Value::Bool(true)));
-        self.documents = TextDocuments::new(self.alloc, position_encoding(&params));
-        let capabilities = capabilities(self.alloc, self.documents.encoding())?;
+        let encoding = position_encoding(&params);
+        drop(params);
+        self.documents = TextDocuments::new(self.alloc, encoding);
+        let capabilities = capabilities(self.alloc, encoding)?;
         Ok(Ok(
             json!(in self.alloc; { "capabilities": capabilities, "serverInfo": { "name": "sums" } })?,
         ))
@@ -63,48 +66,28 @@ impl Server for Sums {
     }
 
     fn request(&mut self, request: Request) -> Result<Acts, AllocError> {
-        let mut acts = Vec::new(self.alloc);
         match request.method.as_str() {
             "textDocument/hover" => {
-                let shown = self.hover(&request.params)?;
-                acts.push(Act::Reply(request.id, Ok(shown)))?;
+                let shown = self.hover(&request.params);
+                self.reply(request, shown)
             }
             "sums/text" => {
-                let text = self.text(&request.params)?;
-                acts.push(Act::Reply(request.id, Ok(text)))?;
+                let text = self.text(&request.params);
+                self.reply(request, text)
             }
-            "sums/solved" => {
-                let Some(uri) = uri_in(&request.params) else {
-                    let code = ErrorCode::InvalidParams;
-                    acts.push(Act::refuse(self.alloc, request.id, code, "which text?")?)?;
-                    return Ok(acts);
-                };
-                let uri = String::from_str(self.alloc, uri)?;
-                self.waiting.push(Waiting {
-                    id: request.id,
-                    uri,
-                })?;
+            "sums/solved" => self.wait(request),
+            "workspace/symbol" => self.search(request),
+            _ => {
+                let id = id_of(request);
+                Act::one(self.alloc, Act::method_not_found(self.alloc, id)?)
             }
-            "workspace/symbol" => return self.search(request),
-            _ => acts.push(Act::method_not_found(self.alloc, request.id)?)?,
         }
-        Ok(acts)
     }
 
     fn notification(&mut self, notification: Notification) -> Result<Acts, AllocError> {
-        let params = &notification.params;
-        let heard = match notification.method.as_str() {
-            "textDocument/didOpen" => self.documents.did_open(params),
-            "textDocument/didChange" => self.documents.did_change(params),
-            "textDocument/didSave" => self.documents.did_save(params),
-            "textDocument/didClose" => self.documents.did_close(params),
-            "workspace/didChangeConfiguration" => return self.ask_configuration(),
-            _ => return Ok(Vec::new(self.alloc)),
-        };
-        match heard {
-            Ok(made) => self.hear(made),
-            Err(missed) => self.complain(missed),
-        }
+        let acts = self.notified(notification.method.as_str(), &notification.params);
+        drop(notification);
+        acts
     }
 
     fn response(
@@ -112,13 +95,13 @@ impl Server for Sums {
         asked: Asked,
         outcome: Result<Value, ResponseError>,
     ) -> Result<Acts, AllocError> {
-        let mut acts = Vec::new(self.alloc);
         let Asked::Configuration = asked;
-        let Ok(values) = outcome else {
-            return Ok(acts);
-        };
-        self.largest = largest_in(&values).unwrap_or(i64::MAX);
-        self.mark_all(&mut acts)?;
+        let is_configured = self.configure(&outcome);
+        drop(outcome);
+        let mut acts = Vec::new(self.alloc);
+        if is_configured {
+            self.mark_all(&mut acts)?;
+        }
         Ok(acts)
     }
 
@@ -135,9 +118,16 @@ impl JobServer<Search> for Sums {
         if request.method.as_str() != "workspace/symbol" {
             return Ok(AnsweredBy::Server(request));
         }
-        match self.search_in(&request.params)? {
-            Some(search) => Ok(AnsweredBy::Job(search, ())),
-            None => Ok(AnsweredBy::Server(request)),
+        match self.search_in(&request.params) {
+            Ok(None) => Ok(AnsweredBy::Server(request)),
+            Ok(Some(search)) => {
+                drop(request);
+                Ok(AnsweredBy::Job(search, ()))
+            }
+            Err(fault) => {
+                drop(request);
+                Err(fault)
+            }
         }
     }
 
@@ -169,17 +159,76 @@ impl Sums {
         }
     }
 
+    /// The reply to a request, unless an allocation failed.
+    fn reply(
+        &self,
+        request: Request,
+        found: Result<Value, AllocError>,
+    ) -> Result<Acts, AllocError> {
+        let id = id_of(request);
+        match found {
+            Ok(found) => Act::one(self.alloc, Act::Reply(id, Ok(found))),
+            Err(fault) => Err(fault),
+        }
+    }
+
+    /// The error for a request whose params lack something.
+    fn refuse(&self, id: RequestId, why: &str) -> Result<Acts, AllocError> {
+        let refusal = Act::refuse(self.alloc, id, ErrorCode::InvalidParams, why)?;
+        Act::one(self.alloc, refusal)
+    }
+
+    /// Keeps a request until nothing is wrong with its text.
+    fn wait(&mut self, request: Request) -> Result<Acts, AllocError> {
+        let uri = owned_uri_in(self.alloc, &request.params);
+        let id = id_of(request);
+        match uri? {
+            Some(uri) => {
+                self.waiting.push(Waiting { id, uri })?;
+                Ok(Vec::new(self.alloc))
+            }
+            None => self.refuse(id, "which text?"),
+        }
+    }
+
+    /// What the client is told after a notification.
+    fn notified(&mut self, method: &str, params: &Value) -> Result<Acts, AllocError> {
+        let heard = match method {
+            "textDocument/didOpen" => self.documents.did_open(params),
+            "textDocument/didChange" => self.documents.did_change(params),
+            "textDocument/didSave" => self.documents.did_save(params),
+            "textDocument/didClose" => self.documents.did_close(params),
+            "workspace/didChangeConfiguration" => return self.ask_configuration(),
+            _ => return Ok(Vec::new(self.alloc)),
+        };
+        match heard {
+            Ok(made) => self.hear(made),
+            Err(missed) => self.complain(missed),
+        }
+    }
+
+    /// Takes the client's configuration, and gives whether there is one.
+    fn configure(&mut self, outcome: &Result<Value, ResponseError>) -> bool {
+        match outcome {
+            Ok(values) => {
+                self.largest = largest_in(values).unwrap_or(i64::MAX);
+                true
+            }
+            Err(_error) => false,
+        }
+    }
+
     /// Finds the headings of all texts that contain a word, at once (LSP 3.17, "Workspace Symbols Request").
     fn search(&mut self, request: Request) -> Result<Acts, AllocError> {
-        let mut acts = Vec::new(self.alloc);
-        let Some(search) = self.search_in(&request.params)? else {
-            let code = ErrorCode::InvalidParams;
-            acts.push(Act::refuse(self.alloc, request.id, code, "which word?")?)?;
-            return Ok(acts);
-        };
-        let outcome = search.run(&CancellationToken::new(self.alloc)?, &mut Silence)?;
-        acts.push(Act::Reply(request.id, outcome))?;
-        Ok(acts)
+        let search = self.search_in(&request.params);
+        let id = id_of(request);
+        match search? {
+            Some(search) => {
+                let outcome = outcome_of(self.alloc, search)?;
+                Act::one(self.alloc, Act::Reply(id, outcome))
+            }
+            None => self.refuse(id, "which word?"),
+        }
     }
 
     /// The search that a client asks for, over the texts as they are now. Without a word there is none, and nothing changes.
@@ -191,12 +240,7 @@ impl Sums {
         let Some(query) = query_in(params) else {
             return Ok(None);
         };
-        let mut sources = Vec::new(self.alloc);
-        for (uri, kept) in self.documents.iter() {
-            if let Some(document) = kept.document() {
-                sources.push(self.texts.share(uri.as_str(), document.text().as_str())?)?;
-            }
-        }
+        let sources = self.sources()?;
         Ok(Some(Search {
             alloc: self.alloc,
             query: String::from_str(self.alloc, query)?,
@@ -205,30 +249,46 @@ impl Sums {
         }))
     }
 
+    /// The texts that are open, as they are now.
+    fn sources(&mut self) -> Result<Vec<Arc<Source>>, AllocError> {
+        let mut sources = Vec::new(self.alloc);
+        for (uri, kept) in self.documents.iter() {
+            if let Some(document) = kept.document() {
+                sources.push(self.texts.share(uri.as_str(), document.text().as_str())?)?;
+            }
+        }
+        Ok(sources)
+    }
+
     /// Asks for the configuration, if the client can be asked.
     fn ask_configuration(&self) -> Result<Acts, AllocError> {
-        let mut acts = Vec::new(self.alloc);
-        if self.configures {
-            let params = json!(in self.alloc; { "items": [{ "section": "sums" }] })?;
-            let method = String::from_str(self.alloc, "workspace/configuration")?;
-            acts.push(Act::Ask(method, params, Asked::Configuration))?;
+        if !self.configures {
+            return Ok(Vec::new(self.alloc));
         }
-        Ok(acts)
+        let method = String::from_str(self.alloc, "workspace/configuration")?;
+        let params = json!(in self.alloc; { "items": [{ "section": "sums" }] })?;
+        Act::one(self.alloc, Act::Ask(method, params, Asked::Configuration))
     }
 
     /// What the client is told of a text that is open, or was: what is wrong with it, and the replies that waited for it to be
     /// right.
     fn check(&mut self, uri: &str) -> Result<Acts, AllocError> {
-        let mut acts = Vec::new(self.alloc);
         let Some(document) = self.documents.get(uri) else {
-            acts.push(diagnostics(self.alloc, uri, Vec::new(self.alloc))?)?;
-            return Ok(acts);
+            return Act::one(
+                self.alloc,
+                diagnostics(self.alloc, uri, Vec::new(self.alloc))?,
+            );
         };
         let (told, right) = self.marks(uri, document.text())?;
-        acts.push(told)?;
-        if !right {
-            return Ok(acts);
+        let mut acts = Act::one(self.alloc, told)?;
+        if right {
+            self.reply_solved(uri, &mut acts)?;
         }
+        Ok(acts)
+    }
+
+    /// The replies to the requests that waited for this text.
+    fn reply_solved(&mut self, uri: &str, acts: &mut Acts) -> Result<(), AllocError> {
         for waiting in mem::replace(&mut self.waiting, Vec::new(self.alloc)) {
             if waiting.uri.as_str() == uri {
                 acts.push(Act::Reply(waiting.id, Ok(Value::Bool(true))))?;
@@ -236,20 +296,18 @@ impl Sums {
                 self.waiting.push(waiting)?;
             }
         }
-        Ok(acts)
+        Ok(())
     }
 
     /// What the client is told after a notification that was made: what there is to say of it, and what is wrong with the text.
     fn hear(&mut self, made: Made<'_>) -> Result<Acts, AllocError> {
-        self.texts.forget(made.uri);
-        let mut acts = Vec::new(self.alloc);
-        if let Some(remark) = made.remark {
-            let uri = made.uri;
-            acts.push(self.log(2, format!(in self.alloc; "{uri}: {remark}")?)?)?;
-        }
-        for act in self.check(made.uri)? {
-            acts.push(act)?;
-        }
+        let uri = made.uri;
+        self.texts.forget(uri);
+        let Some(remark) = made.remark else {
+            return self.check(uri);
+        };
+        let mut acts = self.log(2, format!(in self.alloc; "{uri}: {remark}")?)?;
+        acts.append(&mut self.check(uri)?)?;
         Ok(acts)
     }
 
@@ -268,18 +326,14 @@ impl Sums {
     /// What the client is told after a notification that was not made: why, and no marks of a text that was lost by it. Each may
     /// be, if no URI is named.
     fn complain(&mut self, missed: NotMade<'_>) -> Result<Acts, AllocError> {
-        let mut acts = Vec::new(self.alloc);
         let fault = missed.fault;
         if matches!(fault, DocumentFault::Memory) {
             return Err(AllocError);
         }
         let Some(uri) = missed.uri else {
-            self.texts.forget_all();
-            acts.push(self.log(1, format!(in self.alloc; "{fault}")?)?)?;
-            self.mark_all(&mut acts)?;
-            return Ok(acts);
+            return self.complain_of_all(fault);
         };
-        acts.push(self.log(1, format!(in self.alloc; "{uri}: {fault}")?)?)?;
+        let mut acts = self.log(1, format!(in self.alloc; "{uri}: {fault}")?)?;
         if missed.lost {
             self.texts.forget(uri);
             acts.push(diagnostics(self.alloc, uri, Vec::new(self.alloc))?)?;
@@ -287,28 +341,43 @@ impl Sums {
         Ok(acts)
     }
 
+    fn complain_of_all(&mut self, fault: DocumentFault) -> Result<Acts, AllocError> {
+        self.texts.forget_all();
+        let mut acts = self.log(1, format!(in self.alloc; "{fault}")?)?;
+        self.mark_all(&mut acts)?;
+        Ok(acts)
+    }
+
     /// Has the client log a message (LSP 3.17, "LogMessage Notification").
-    fn log(&self, kind: i64, message: String) -> Result<Act<Asked>, AllocError> {
-        Ok(Act::Tell(Notification {
-            method: String::from_str(self.alloc, "window/logMessage")?,
-            params: json!(in self.alloc; { "type": kind, "message": message })?,
-        }))
+    fn log(&self, kind: i64, message: String) -> Result<Acts, AllocError> {
+        let method = String::from_str(self.alloc, "window/logMessage")?;
+        let params = json!(in self.alloc; { "type": kind, "message": message })?;
+        Act::one(self.alloc, Act::Tell(Notification { method, params }))
     }
 
     /// The notification that shows what is wrong with a text, and whether nothing is.
     fn marks(&self, uri: &str, text: &Text) -> Result<(Act<Asked>, bool), AllocError> {
-        let lines = words_of(self.alloc, text)?;
-        let sheet = sheet_of(self.alloc, lines.as_slice(), self.largest)?;
-        let right = sheet.problems.is_empty();
         let mut marks = Vec::new(self.alloc);
-        for problem in sheet.problems {
-            let range = self.range_value(text, problem.span)?;
-            let message = problem.message;
-            marks.push(
-                json!(in self.alloc; { "range": range, "severity": 1, "source": "sums", "message": message })?,
-            )?;
+        for problem in self.problems_in(text)? {
+            marks.push(self.mark(text, problem)?)?;
         }
+        let right = marks.is_empty();
         Ok((diagnostics(self.alloc, uri, marks)?, right))
+    }
+
+    /// What is wrong with a text.
+    fn problems_in(&self, text: &Text) -> Result<Vec<Problem>, AllocError> {
+        let lines = words_of(self.alloc, text)?;
+        let sheet = sheet_of(self.alloc, lines.as_slice(), self.largest);
+        drop(lines);
+        Ok(sheet?.problems)
+    }
+
+    /// A problem, as the client shows it.
+    fn mark(&self, text: &Text, problem: Problem) -> Result<Value, AllocError> {
+        let range = self.range_value(text, problem.span)?;
+        let message = problem.message;
+        json!(in self.alloc; { "range": range, "severity": 1, "source": "sums", "message": message })
     }
 
     /// A text as the server holds it, or null.
@@ -340,21 +409,35 @@ impl Sums {
     fn hover_in(&self, text: &Text, position: Position) -> Result<Value, AllocError> {
         let offset = text.offset_at(position, self.documents.encoding());
         let lines = words_of(self.alloc, text)?;
-        let sheet = sheet_of(self.alloc, lines.as_slice(), i64::MAX)?;
-        for line in lines.iter() {
-            for word in line.iter() {
-                if word.span.start <= offset && offset < word.span.end {
-                    let range = self.range_value(text, word.span)?;
-                    return shown(
-                        self.alloc,
-                        sheet.names.as_slice(),
-                        word.text.as_str(),
-                        range,
-                    );
-                }
-            }
-        }
-        Ok(Value::Null)
+        let shown = self.shown_in(text, lines.as_slice(), offset);
+        drop(lines);
+        shown
+    }
+
+    fn shown_in(
+        &self,
+        text: &Text,
+        lines: &[Vec<Word>],
+        offset: usize,
+    ) -> Result<Value, AllocError> {
+        let sheet = sheet_of(self.alloc, lines, i64::MAX)?;
+        let shown = match word_at(lines, offset) {
+            Some(word) => self.shown(text, sheet.names.as_slice(), word),
+            None => Ok(Value::Null),
+        };
+        drop(sheet);
+        shown
+    }
+
+    /// What is shown of a word.
+    fn shown(&self, text: &Text, names: &[Named], word: &Word) -> Result<Value, AllocError> {
+        let name = word.text.as_str();
+        let Some(value) = value_of(names, name) else {
+            return Ok(Value::Null);
+        };
+        let contents = format!(in self.alloc; "{name} = {value}")?;
+        let range = self.range_value(text, word.span)?;
+        json!(in self.alloc; { "contents": contents, "range": range })
     }
 
     /// A part of a text, as the client counts it.
@@ -362,10 +445,10 @@ impl Sums {
         let encoding = self.documents.encoding();
         let start = text.position_at(span.start, encoding);
         let end = text.position_at(span.end, encoding);
-        Ok(json!(in self.alloc; {
+        json!(in self.alloc; {
             "start": { "line": start.line, "character": start.character },
             "end": { "line": end.line, "character": end.character }
-        })?)
+        })
     }
 }
 
@@ -376,34 +459,53 @@ fn capabilities(alloc: Global, encoding: PositionEncoding) -> Result<Value, Allo
         "hoverProvider": true,
         "workspaceSymbolProvider": { "workDoneProgress": true }
     })?;
+    announce(alloc, &mut can, encoding).and(Ok(can))
+}
+
+/// Names the encoding, if it is not UTF-16.
+fn announce(alloc: Global, can: &mut Value, encoding: PositionEncoding) -> Result<(), AllocError> {
     if encoding == PositionEncoding::Utf16 {
-        return Ok(can);
+        return Ok(());
     }
     if let Some(members) = can.as_object_mut() {
         let name = String::from_str(alloc, encoding.name())?;
-        members.insert(
-            String::from_str(alloc, "positionEncoding")?,
-            Value::from(name),
-        )?;
+        let key = String::from_str(alloc, "positionEncoding")?;
+        drop(members.insert(key, Value::from(name))?);
     }
-    Ok(can)
+    Ok(())
 }
 
 /// The notification that shows what is wrong with a text (LSP 3.17, "PublishDiagnostics Notification").
 fn diagnostics(alloc: Global, uri: &str, marks: Vec<Value>) -> Result<Act<Asked>, AllocError> {
+    let method = String::from_str(alloc, "textDocument/publishDiagnostics")?;
     let marks = Value::Array(marks);
-    Ok(Act::Tell(Notification {
-        method: String::from_str(alloc, "textDocument/publishDiagnostics")?,
-        params: json!(in alloc; { "uri": uri, "diagnostics": marks })?,
-    }))
+    let params = json!(in alloc; { "uri": uri, "diagnostics": marks })?;
+    Ok(Act::Tell(Notification { method, params }))
 }
 
-fn shown(alloc: Global, names: &[Named], name: &str, range: Value) -> Result<Value, AllocError> {
-    let Some(value) = value_of(names, name) else {
-        return Ok(Value::Null);
-    };
-    let contents = format!(in alloc; "{name} = {value}")?;
-    Ok(json!(in alloc; { "contents": contents, "range": range })?)
+/// What comes of a search that nobody cancels.
+fn outcome_of(alloc: Global, search: Search) -> Result<Result<Value, ResponseError>, AllocError> {
+    match CancellationToken::new(alloc) {
+        Ok(token) => search.run(&token, &mut Silence),
+        Err(fault) => {
+            drop(search);
+            Err(fault)
+        }
+    }
+}
+
+fn id_of(request: Request) -> RequestId {
+    let Request { id, method, params } = request;
+    drop(method);
+    drop(params);
+    id
+}
+
+fn owned_uri_in(alloc: Global, params: &Value) -> Result<Option<String>, AllocError> {
+    match uri_in(params) {
+        Some(uri) => Ok(Some(String::from_str(alloc, uri)?)),
+        None => Ok(None),
+    }
 }
 
 fn uri_in(params: &Value) -> Option<&str> {

@@ -43,14 +43,14 @@ impl SharedTexts {
             },
         )?;
         let shared = Arc::try_clone(&source)?;
-        self.sources
-            .insert(String::from_str(self.alloc, uri)?, source)?;
+        let uri = String::from_str(self.alloc, uri)?;
+        drop(self.sources.insert(uri, source)?);
         Ok(shared)
     }
 
     /// The document was edited, opened, closed or lost: its copy is not its text any more.
     pub fn forget(&mut self, uri: &str) {
-        self.sources.remove(uri);
+        drop(self.sources.remove(uri));
     }
 
     /// Each document may have been lost.

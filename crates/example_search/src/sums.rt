@@ -142,21 +142,59 @@ pub fn sheet_of(alloc: Global, lines: &[Vec<Word>], largest: i64) -> Result<Shee
         names: Vec::new(alloc),
         problems: Vec::new(alloc),
     };
-    for line in lines {
-        let [word, rest @ ..] = line.as_slice() else {
-            continue;
-        };
-        match read_line(alloc, sheet.names.as_slice(), word, rest)? {
-            Ok(name) => {
-                if name.value > largest {
-                    sheet.problems.push(blame(alloc, word, "is too large")?)?;
-                }
-                sheet.names.push(name)?;
-            }
-            Err(problem) => sheet.problems.push(problem)?,
+    match sheet.read(alloc, lines, largest) {
+        Ok(()) => Ok(sheet),
+        Err(fault) => {
+            drop(sheet);
+            Err(fault)
         }
     }
-    Ok(sheet)
+}
+
+impl Sheet {
+    /// Reads the lines, one after another.
+    fn read(&mut self, alloc: Global, lines: &[Vec<Word>], largest: i64) -> Result<(), AllocError> {
+        for line in lines {
+            if let [word, rest @ ..] = line.as_slice() {
+                self.read_line(alloc, word, rest, largest)?;
+            }
+        }
+        Ok(())
+    }
+
+    fn read_line(
+        &mut self,
+        alloc: Global,
+        word: &Word,
+        rest: &[Word],
+        largest: i64,
+    ) -> Result<(), AllocError> {
+        match value_in(self.names.as_slice(), word, rest) {
+            Ok(value) => {
+                let name = word.text.clone()?;
+                if value > largest {
+                    self.problems
+                        .push(word.blamed("is too large").problem(alloc)?)?;
+                }
+                self.names.push(Named { name, value })?;
+            }
+            Err(blame) => self.problems.push(blame.problem(alloc)?)?,
+        }
+        Ok(())
+    }
+}
+
+/// The word at a place of a text, in bytes.
+pub fn word_at(lines: &[Vec<Word>], offset: usize) -> Option<&Word> {
+    for line in lines {
+        let found = line
+            .iter()
+            .find(|word| word.span.start <= offset && offset < word.span.end);
+        if found.is_some() {
+            return found;
+        }
+    }
+    None
 }
 
 /// The value of a name, or of a number.
@@ -169,41 +207,49 @@ pub fn value_of(names: &[Named], text: &str) -> Option<i64> {
     text.parse::<i64>().ok()
 }
 
-/// The name that a line begins with, and the value that the rest of the line gives it.
-fn read_line(
-    alloc: Global,
-    names: &[Named],
-    name: &Word,
-    rest: &[Word],
-) -> Result<Result<Named, Problem>, AllocError> {
-    if !name.is_name {
-        return Ok(Err(blame(alloc, name, "is no name")?));
-    }
-    if value_of(names, name.text.as_str()).is_some() {
-        return Ok(Err(blame(alloc, name, "has a value already")?));
-    }
-    let [equals, terms @ ..] = rest else {
-        return Ok(Err(blame(alloc, name, "no `=` follows")?));
-    };
-    if equals.text.as_str() != "=" {
-        return Ok(Err(blame(alloc, equals, "is not `=`")?));
-    }
-    match sum_of(alloc, names, equals, terms)? {
-        Ok(value) => {
-            let name = name.text.clone()?;
-            Ok(Ok(Named { name, value }))
-        }
-        Err(problem) => Ok(Err(problem)),
+/// A word that shows what is wrong, and what to say of it.
+#[derive(Clone, Copy)]
+struct Blame<'a> {
+    word: &'a Word,
+    what: &'static str,
+}
+
+impl Word {
+    fn blamed(&self, what: &'static str) -> Blame<'_> {
+        Blame { word: self, what }
     }
 }
 
+impl Blame<'_> {
+    fn problem(self, alloc: Global) -> Result<Problem, AllocError> {
+        let text = self.word.text.as_str();
+        let what = self.what;
+        Ok(Problem {
+            span: self.word.span,
+            message: format!(in alloc; "`{text}`: {what}")?,
+        })
+    }
+}
+
+/// The value that the rest of a line gives the name that it begins with.
+fn value_in<'a>(names: &[Named], name: &'a Word, rest: &'a [Word]) -> Result<i64, Blame<'a>> {
+    if !name.is_name {
+        return Err(name.blamed("is no name"));
+    }
+    if value_of(names, name.text.as_str()).is_some() {
+        return Err(name.blamed("has a value already"));
+    }
+    let [equals, terms @ ..] = rest else {
+        return Err(name.blamed("no `=` follows"));
+    };
+    if equals.text.as_str() != "=" {
+        return Err(equals.blamed("is not `=`"));
+    }
+    sum_of(names, equals, terms)
+}
+
 /// The sum behind an equals sign.
-fn sum_of(
-    alloc: Global,
-    names: &[Named],
-    equals: &Word,
-    terms: &[Word],
-) -> Result<Result<i64, Problem>, AllocError> {
+fn sum_of<'a>(names: &[Named], equals: &'a Word, terms: &'a [Word]) -> Result<i64, Blame<'a>> {
     let mut sum: i64 = 0;
     // The sign of the number that comes next. There is none if a sign is to come.
     let mut sign: Option<i64> = Some(1);
@@ -214,23 +260,23 @@ fn sum_of(
         let Some(factor) = sign else {
             sign = sign_of(text);
             if sign.is_none() {
-                return Ok(Err(blame(alloc, term, "is not `+` or `-`")?));
+                return Err(term.blamed("is not `+` or `-`"));
             }
             continue;
         };
         let Some(value) = value_of(names, text) else {
-            return Ok(Err(blame(alloc, term, "has no value")?));
+            return Err(term.blamed("has no value"));
         };
         let Some(next) = added(sum, factor, value) else {
-            return Ok(Err(blame(alloc, term, "makes the sum too large")?));
+            return Err(term.blamed("makes the sum too large"));
         };
         sum = next;
         sign = None;
     }
     if sign.is_some() {
-        return Ok(Err(blame(alloc, last, "no number follows")?));
+        return Err(last.blamed("no number follows"));
     }
-    Ok(Ok(sum))
+    Ok(sum)
 }
 
 fn sign_of(text: &str) -> Option<i64> {
@@ -243,12 +289,4 @@ fn sign_of(text: &str) -> Option<i64> {
 
 fn added(sum: i64, factor: i64, value: i64) -> Option<i64> {
     sum.checked_add(factor.checked_mul(value)?)
-}
-
-fn blame(alloc: Global, word: &Word, what: &str) -> Result<Problem, AllocError> {
-    let text = word.text.as_str();
-    Ok(Problem {
-        span: word.span,
-        message: format!(in alloc; "`{text}`: {what}")?,
-    })
 }

@@ -42,9 +42,13 @@ fn ask_once(alloc: Global, world: &mut World, payload: u64) -> Result<bool, Worl
     let Some(id) = ask(alloc, world, payload)? else {
         return Ok(false);
     };
-    carry(world, Side::B, payload)?;
+    if let Err(fault) = carry(world, Side::B, payload) {
+        drop(id);
+        return Err(fault);
+    }
     answer(world, id)?;
-    Ok(carry(world, Side::A, payload)? == Some(payload))
+    let back = carry(world, Side::A, payload)?;
+    Ok(back == Some(payload))
 }
 
 /// A sends a request, whose id this is.
@@ -58,7 +62,10 @@ fn ask(alloc: Global, world: &mut World, payload: u64) -> Result<Option<RequestI
     })?;
     match outcome {
         Outcome::Registered(id) => Ok(Some(id)),
-        _ => Ok(None),
+        other => {
+            drop(other);
+            Ok(None)
+        }
     }
 }
 

@@ -50,18 +50,46 @@ pub fn serve_on<R: Threads + Wait + Clock + AllocGlobal, E: Write>(
             Ok(()) => report(errors, "ended without shutdown"),
             Err(fault) => report(errors, fault),
         },
-        ServeEnd::Refused(error) => {
-            if error.channel_is_disconnected() {
-                if let Err(fault) = close(rt, connection, threads) {
-                    return report(errors, fault);
-                }
-            } else {
-                let _ = flush(rt, connection, threads);
-            }
-            report(errors, error)
+        ServeEnd::Refused(error) => report_refusal(rt, connection, threads, errors, error),
+        ServeEnd::Failed(fault) => {
+            let status = report_failure(errors, fault);
+            drop(threads);
+            drop(connection);
+            status
         }
-        ServeEnd::Failed(WorkFault::Dispatch(fault)) => report(errors, fault),
-        ServeEnd::Failed(WorkFault::Memory) => report(errors, "out of memory"),
+    }
+}
+
+/// Says why the other side was refused, or which fault the threads had if it is gone. All that was sent is written first.
+fn report_refusal<R: Threads, E: Write>(
+    rt: &R,
+    connection: Connection,
+    threads: Option<IoThreads>,
+    errors: &mut E,
+    error: ProtocolError,
+) -> u8
+    ensures { result ≡ 1 }
+{
+    if !error.channel_is_disconnected() {
+        drop(flush(rt, connection, threads));
+        return report(errors, error);
+    }
+    match close(rt, connection, threads) {
+        Ok(()) => report(errors, error),
+        Err(fault) => {
+            drop(error);
+            report(errors, fault)
+        }
+    }
+}
+
+/// Says why a message was not taken.
+fn report_failure<E: Write>(errors: &mut E, fault: WorkFault) -> u8
+    ensures { result ≡ 1 }
+{
+    match fault {
+        WorkFault::Dispatch(fault) => report(errors, fault),
+        WorkFault::Memory => report(errors, "out of memory"),
     }
 }
 
@@ -108,8 +136,18 @@ fn serve_messages<'a, R: Wait + Clock + AllocGlobal>(
     connection: &'a Connection,
 ) -> ServeEnd {
     let mut work = Work::new(rt.alloc());
+    let end = serve_each(rt, connection, &mut work);
+    drop(work);
+    end
+}
+
+fn serve_each<R: Wait + Clock + AllocGlobal>(
+    rt: &R,
+    connection: &Connection,
+    work: &mut Work,
+) -> ServeEnd {
     for message in connection.receiver.iter(rt) {
-        if let Some(end) = serve_message(rt, connection, &mut work, message) {
+        if let Some(end) = serve_message(rt, connection, work, message) {
             return end;
         }
     }
@@ -123,16 +161,43 @@ fn serve_message<R: Wait + Clock + AllocGlobal>(
     work: &mut Work,
     message: Message,
 ) -> Option<ServeEnd> {
-    if let Message::Request(request) = &message {
-        match connection.handle_shutdown(rt, request) {
-            Ok(true) => return Some(ServeEnd::ShutDown),
-            Ok(false) => {}
-            Err(error) => return Some(ServeEnd::Refused(error)),
+    match shutdown(rt, connection, &message) {
+        Some(end) => {
+            drop(message);
+            Some(end)
         }
+        None => take(rt, connection, work, message),
     }
+}
+
+/// How the session ends, if the message asks for the shutdown.
+fn shutdown<R: Wait + Clock + AllocGlobal>(
+    rt: &R,
+    connection: &Connection,
+    message: &Message,
+) -> Option<ServeEnd> {
+    let Message::Request(request) = message else {
+        return None;
+    };
+    match connection.handle_shutdown(rt, request) {
+        Ok(true) => Some(ServeEnd::ShutDown),
+        Ok(false) => None,
+        Err(error) => Some(ServeEnd::Refused(error)),
+    }
+}
+
+/// Takes any other message.
+fn take<R: Wait>(
+    rt: &R,
+    connection: &Connection,
+    work: &mut Work,
+    message: Message,
+) -> Option<ServeEnd> {
     match work.take(message) {
         Ok(Answer::Note(notification)) => {
-            serve_notification(rt, connection, work, notification.method.as_str())
+            let end = serve_notification(rt, connection, work, notification.method.as_str());
+            drop(notification);
+            end
         }
         Ok(answer) => reply(rt, connection, answer),
         Err(fault) => Some(ServeEnd::Failed(fault)),
@@ -166,9 +231,9 @@ fn release_all<R: Wait>(rt: &R, connection: &Connection, work: &mut Work) -> Opt
 
 /// Sends the reply that an answer has, if it has one.
 fn reply<R: Wait>(rt: &R, connection: &Connection, answer: Answer) -> Option<ServeEnd> {
-    match connection.sender.send(rt, answer.into_reply()?) {
-        Ok(()) => None,
-        Err(_) => Some(ServeEnd::Ended),
+    match connection.sender.send(rt, answer.into_reply()?).ok() {
+        Some(()) => None,
+        None => Some(ServeEnd::Ended),
     }
 }
 

@@ -58,12 +58,12 @@ impl Work {
         match answer {
             Answer::Work { request, ticket } => {
                 if let Some(replaced) = pending {
-                    self.held.remove(&replaced);
+                    drop(self.held.remove(&replaced));
                 }
                 self.start(request, ticket)
             }
             Answer::Cancelled { reply, ticket } => {
-                self.held.remove(&ticket);
+                drop(self.held.remove(&ticket));
                 Ok(Answer::Cancelled { reply, ticket })
             }
             answer => Ok(answer),
@@ -79,7 +79,10 @@ impl Work {
     {
         if request.method.as_str() == "demo/hold" {
             return match self.held.insert(ticket, request) {
-                Ok(_) => Ok(Answer::Nothing),
+                Ok(replaced) => {
+                    drop(replaced);
+                    Ok(Answer::Nothing)
+                }
                 Err(refused) => {
                     let message = Message::Request(refused.value.1);
                     Err(WorkFault::Dispatch(DispatchFault::Memory(message)))
@@ -123,5 +126,6 @@ fn outcome_of(
     if method == "demo/echo" {
         return Ok(Ok(params));
     }
+    drop(params);
     Ok(Err(ResponseError::method_not_found(alloc)?))
 }
