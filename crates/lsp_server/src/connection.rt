@@ -121,11 +121,9 @@ impl Connection {
     /// <!-- from crates/example_connection/src/main.rt -->
     /// ```rust
     /// let (id, params) = connection.initialize_start(rt)?;
-    /// let result = json!(in rt.alloc(); {
-    ///     "capabilities": { "hoverProvider": true },
-    ///     "serverInfo": { "name": "my_server", "version": "0.1" }
-    /// })?;
-    /// connection.initialize_finish(rt, id, result)?;
+    /// let can_be_asked = can_be_asked(&params);
+    /// drop(params);
+    /// connection.initialize_finish(rt, id, about(rt.alloc())?)?;
     /// ```
     ///
     /// An earlier request is answered with code -32002, an earlier notification is dropped. It is an error if `exit` or a response
@@ -259,10 +257,10 @@ impl Connection {
     ///             if connection.handle_shutdown(rt, &request)? {
     ///                 return Ok(());
     ///             }
-    ///             send(rt, &connection, Message::from(paths.answer(request)?))?;
+    ///             send(rt, connection, Message::from(paths.answer(request)?))?;
     ///         }
     ///         Message::Response(response) => paths.take(response)?,
-    ///         Message::Notification(_note) => {}
+    ///         Message::Notification(note) => drop(note),
     ///     }
     /// }
     /// ```
