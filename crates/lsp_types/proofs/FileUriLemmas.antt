@@ -1,16 +1,16 @@
 -- Of names that are of no path, and of paths that come back from their URIs.
-use Rattle.std.proofs.Common.{◌≡◌, ◌≢◌, ℕ, ◌+◌, ◌*◌, ◌/◌, ◌%◌, ◌<◌, ◌≤◌, true, false, Bool, ltb, eqb, not, ◌||◌, ◌&&◌, ◌⊎◌, List, [], ◌∷◌, ◌++◌, All, sym, refl, ap, ◌∙◌, subst, inl, inr, ⊎_elim, arith}
+use Rattle.std.proofs.Common.{◌≡◌, ◌≢◌, ℕ, ◌+◌, ◌/◌, ◌%◌, ◌<◌, ◌≤◌, true, false, ltb, eqb, not, ◌||◌, ◌&&◌, List, [], ◌∷◌, All, sym, refl, ap, ◌∙◌, subst, inl, ⊎_elim, arith}
 use Rattle.std.specs.List.{flat_map}
 use Rattle.std.specs.Char.{is_ascii_hexdigit}
 use Rattle.std.specs.Fmt.{digit_glyph}
-use Rattle.std.proofs.lemmas.Bool.{cond_both, cases_Bool, both_ways, eqb-false, ne_eqb}
+use Rattle.std.proofs.lemmas.Bool.{cond_both, cases_Bool, both_ways, ne_eqb}
 use Rattle.std.proofs.lemmas.Bool.Decides.{nat_tests}
 use Rattle.std.proofs.lemmas.List.Elements.{All-nil, All-cons, All-head, All-tail, All-append, All-weaker}
 use Rattle.percent_encoding.specs.Percent.{percent_encode_byte, percent_decode}
 use Rattle.percent_encoding.proofs.PercentLemmas.{IsByte, IsEscapeByte, All-percent_encode_byte, percent_decode-nil, percent_decode_not_percent, percent_decode-percent_encode_byte}
 use Rattle.lsp_types.specs.declared.file_uri.FileUriFault.{FileUriFault}
 use Rattle.lsp_types.specs.declared.file_uri.FileUriFault.TheVariants.{Memory, NotFile, Host, Query, Escape, Relative, Nul, NotUtf8}
-use Rattle.lsp_types.specs.FileUris.{stays, written, uri_of, IsPath, IsPathOf, Names, IsPlain, begins_digits, is_escaped, Lacks, IsFileUri, AreNoPath, Refuses}
+use Rattle.lsp_types.specs.FileUris.{stays, written, uri_of, IsPath, Names, begins_digits, is_escaped, Lacks, IsFileUri, AreNoPath, Refuses}
 
 -- a text whose names are of no path names none
 pub refuses_names : (uri names : List ℕ) → IsFileUri uri names → (fault : FileUriFault) → AreNoPath fault names → Refuses fault uri

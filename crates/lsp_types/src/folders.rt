@@ -53,14 +53,10 @@ fn push_paths(
     ensures { OnOk result (WithPaths (uris_of folders.now)
         (map string_bytes paths.old.items) (map string_bytes paths.new.items)) }
 {
-    match folders {
-        [] => Ok(()),
-        [folder, rest @ ..] => {
-            push_path(alloc, folder.uri.as_str(), paths)?;
-            push_paths(alloc, rest, paths)?;
-            Ok(())
-        }
+    for folder in folders {
+        push_path(alloc, folder.uri.as_str(), paths)?;
     }
+    Ok(())
 }
 
 /// Adds the path that a URI names, if it names one.
