@@ -4,7 +4,8 @@ use crate::stop::{Stop, cut, made};
 use crate::types::written;
 use lsp_text::{PositionEncoding, Text};
 use lsp_types::{
-    FileUriFault, InitializeParams, Position, SemanticToken, SemanticTokens, path_of_uri, uri_of_path,
+    FileUriFault, InitializeParams, Position, SemanticToken, SemanticTokens, path_of_uri,
+    uri_of_path,
 };
 use serde::DeserializeOwned;
 use serde_json::{Value, from_value};
