@@ -135,10 +135,7 @@ impl Server for Checker {
     ) -> Result<Acts, AllocError> {
         let Asked::Configuration = asked;
         self.is_asking = false;
-        match outcome.ok() {
-            Some(values) => self.configure(values)?,
-            None => {}
-        }
+        self.hear_configuration(outcome)?;
         let mut acts = Vec::new(self.alloc);
         self.mark_all(&mut acts)?;
         self.answer_waiting(&mut acts)?;
@@ -170,6 +167,19 @@ impl Checker {
         let asks = Act::ask(self.alloc, method, &params, Asked::Configuration);
         drop(params);
         asks
+    }
+
+    fn hear_configuration(
+        &mut self,
+        outcome: Result<Value, ResponseError>,
+    ) -> Result<(), AllocError> {
+        match outcome {
+            Ok(values) => self.configure(values),
+            Err(error) => {
+                drop(error);
+                Ok(())
+            }
+        }
     }
 
     /// Takes the client's configuration: a list with one value, which is null if the user set none.
