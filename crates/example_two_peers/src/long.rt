@@ -42,13 +42,9 @@ fn ask_once(alloc: Global, world: &mut World, payload: u64) -> Result<bool, Worl
     let Some(id) = ask(alloc, world, payload)? else {
         return Ok(false);
     };
-    if let Err(fault) = carry(world, Side::B, payload) {
-        drop(id);
-        return Err(fault);
-    }
+    carry(world, Side::B, payload)?;
     answer(world, id)?;
-    let back = carry(world, Side::A, payload)?;
-    Ok(back == Some(payload))
+    Ok(carry(world, Side::A, payload)? == Some(payload))
 }
 
 /// A sends a request, whose id this is.
@@ -62,10 +58,7 @@ fn ask(alloc: Global, world: &mut World, payload: u64) -> Result<Option<RequestI
     })?;
     match outcome {
         Outcome::Registered(id) => Ok(Some(id)),
-        other => {
-            drop(other);
-            Ok(None)
-        }
+        _ => Ok(None),
     }
 }
 

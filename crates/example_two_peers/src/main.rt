@@ -12,7 +12,7 @@ mod talk;
 use anyhow::Result;
 use exchange::run_through;
 use long::{Long, ask_often};
-use lsp_message::{Message, RequestId};
+use lsp_message::Message;
 use lsp_peers::{Outcome, Side, Step, World, WorldFault};
 use script::{side_of, step_of};
 use std::alloc::{AllocError, Global};
@@ -37,22 +37,18 @@ fn take_line<'a, R: Print>(
     line: &'a str,
 ) -> Result<()> {
     if line.starts_with("#") {
-        show_line(rt, line)
+        println!(rt; "{line}")?;
     } else if line.is_empty() {
-        let ran = run_lines(rt, alloc, lines.as_slice());
+        run_lines(rt, alloc, lines.as_slice())?;
         lines.clear();
-        ran
     } else if line == "talk" {
-        show_talk(rt, alloc)
+        show_talk(rt, alloc)?;
     } else if let Some((_, requests)) = line.split_once("requests ") {
-        show_long(rt, alloc, requests)
+        show_long(rt, alloc, requests.parse()?)?;
     } else {
-        Ok(lines.push(line)?)
+        lines.push(line)?;
     }
-}
-
-fn show_line<R: Print>(rt: &R, line: &str) -> Result<()> {
-    Ok(println!(rt; "{line}")?)
+    Ok(())
 }
 
 /// Runs two new peers through the steps of these lines, and says what came of it.
@@ -84,24 +80,13 @@ fn show_run<R: Print>(
     outcomes: &[Outcome],
     all: bool,
 ) -> Result<()> {
-    show_outcomes(rt, alloc, lines, outcomes)?;
-    show_both(rt, alloc, world)?;
-    show_pending(rt, lines, outcomes, world)?;
-    show_end(rt, all)
-}
-
-/// Shows what came of each line.
-fn show_outcomes<R: Print>(
-    rt: &R,
-    alloc: Global,
-    lines: &[&str],
-    outcomes: &[Outcome],
-) -> Result<()> {
     for (line, outcome) in lines.iter().zip(outcomes.iter()) {
         let came = text_of(alloc, outcome)?;
         println!(rt; "{line}: {came}")?;
     }
-    Ok(())
+    show_both(rt, alloc, world)?;
+    show_pending(rt, lines, outcomes, world)?;
+    show_end(rt, all)
 }
 
 /// Lets a client and a server talk, and shows what each of them took.
@@ -118,68 +103,60 @@ fn show_talk<R: Print>(rt: &R, alloc: Global) -> Result<()> {
 fn show_talked<R: Print>(rt: &R, alloc: Global, world: &World, ended: bool) -> Result<()> {
     show_both(rt, alloc, world)?;
     let end = if ended { "came" } else { "did not come" };
-    Ok(println!(rt; "The talk {end} to its end.\n")?)
+    println!(rt; "The talk {end} to its end.\n")?;
+    Ok(())
 }
 
 /// Lets A ask so often, and shows how many replies came back to their own request, and how many messages were handed out.
-fn show_long<R: Print>(rt: &R, alloc: Global, requests: &str) -> Result<()> {
-    let requests: u64 = requests.parse()?;
+fn show_long<R: Print>(rt: &R, alloc: Global, requests: u64) -> Result<()> {
     match ask_often(alloc, requests) {
-        Ok(long) => show_replies(rt, requests, long),
+        Ok(
+            Long {
+                returned,
+                handed_out,
+            },
+        ) => {
+            println!(rt;
+                "{returned} of {requests} replies gave back the payload of their request."
+            )?;
+            println!(rt; "{handed_out} messages were handed out.\n")?;
+            Ok(())
+        }
         Err(fault) => show_fault(rt, fault),
     }
 }
 
-fn show_replies<R: Print>(rt: &R, requests: u64, long: Long) -> Result<()> {
-    let Long {
-        returned,
-        handed_out,
-    } = long;
-    println!(rt; "{returned} of {requests} replies gave back the payload of their request.")?;
-    Ok(println!(rt; "{handed_out} messages were handed out.\n")?)
-}
-
 /// Says whether the links are empty.
 fn show_end<R: Print>(rt: &R, all: bool) -> Result<()> {
-    let end = if all {
-        "Each took all that the other wrote."
+    if all {
+        println!(rt; "Each took all that the other wrote.\n")?;
     } else {
-        "Some bytes are still in the links."
-    };
-    Ok(println!(rt; "{end}\n")?)
+        println!(rt; "Some bytes are still in the links.\n")?;
+    }
+    Ok(())
 }
 
 fn show_fault<R: Print>(rt: &R, fault: WorldFault) -> Result<()> {
     let number = fault.number();
-    Ok(println!(rt; "fault {number}: {fault}\n")?)
+    println!(rt; "fault {number}: {fault}\n")?;
+    Ok(())
 }
 
 fn text_of(alloc: Global, outcome: &Outcome) -> std::result::Result<String, AllocError> {
-    let text = match outcome {
-        Outcome::Registered(id) => return format!(in alloc; "registered {id}"),
-        Outcome::Passed(count) => return format!(in alloc; "passed {count}"),
-        Outcome::Arrived(id) => return format!(in alloc; "request {id} arrived"),
-        Outcome::Returned(id, back) => return text_of_reply(alloc, id, *back),
-        Outcome::Answered(label) => return format!(in alloc; "answered, held as {label}"),
-        Outcome::GaveUp(label) => return format!(in alloc; "gave up, held as {label}"),
-        Outcome::Spent => "no id is left",
-        Outcome::Told => "told",
-        Outcome::Notified => "a notification arrived",
-        Outcome::Waiting => "waiting",
-        Outcome::Cancelled => "cancelled",
-        Outcome::Absent => "absent",
-    };
-    String::from_str(alloc, text)
-}
-
-fn text_of_reply(
-    alloc: Global,
-    id: &RequestId,
-    back: Option<u64>,
-) -> std::result::Result<String, AllocError> {
-    match back {
-        Some(payload) => format!(in alloc; "reply {id} gave back {payload}"),
-        None => format!(in alloc; "reply {id} gave back nothing"),
+    match outcome {
+        Outcome::Registered(id) => format!(in alloc; "registered {id}"),
+        Outcome::Spent => String::from_str(alloc, "no id is left"),
+        Outcome::Told => String::from_str(alloc, "told"),
+        Outcome::Passed(count) => format!(in alloc; "passed {count}"),
+        Outcome::Arrived(id) => format!(in alloc; "request {id} arrived"),
+        Outcome::Returned(id, Some(payload)) => format!(in alloc; "reply {id} gave back {payload}"),
+        Outcome::Returned(id, None) => format!(in alloc; "reply {id} gave back nothing"),
+        Outcome::Notified => String::from_str(alloc, "a notification arrived"),
+        Outcome::Waiting => String::from_str(alloc, "waiting"),
+        Outcome::Answered(label) => format!(in alloc; "answered, held as {label}"),
+        Outcome::Cancelled => String::from_str(alloc, "cancelled"),
+        Outcome::GaveUp(label) => format!(in alloc; "gave up, held as {label}"),
+        Outcome::Absent => String::from_str(alloc, "absent"),
     }
 }
 

@@ -111,7 +111,5 @@ fn give_up(alloc: Global, side: Side, word: &str) -> Result<Step> {
 /// The id that is written so in JSON: a number or a text.
 fn id_of(alloc: Global, word: &str) -> Result<RequestId> {
     let value = Value::from_str(alloc, word)?;
-    let id = RequestId::from_value(&value);
-    drop(value);
-    id?.context("no id")
+    RequestId::from_value(&value)?.context("no id")
 }

@@ -38,10 +38,7 @@ pub fn talk(alloc: Global) -> Result<(World, bool), WorldFault>
 {
     let params = json!(in alloc; { "capabilities": {} })?;
     let mut world = begin(alloc, params)?;
-    if let Err(fault) = take_turns(alloc, &mut world) {
-        drop(world);
-        return Err(fault);
-    }
+    take_turns(alloc, &mut world)?;
     let ended = has_come_to_end(&world);
     Ok((world, ended))
 }
@@ -99,16 +96,8 @@ fn begin(alloc: Global, params: Value) -> Result<World, WorldFault>
         payload: INITIALIZE,
     };
     let mut world = World::new(alloc);
-    match world.step(step) {
-        Ok(outcome) => {
-            drop(outcome);
-            Ok(world)
-        }
-        Err(fault) => {
-            drop(world);
-            Err(fault)
-        }
-    }
+    world.step(step)?;
+    Ok(world)
 }
 
 /// Whether the last of these messages is the notification `exit`.
@@ -187,16 +176,12 @@ fn ask_and_cancel(alloc: Global, world: &mut World) -> Result<(), WorldFault>
 {
     tell(alloc, world, "initialized", json!(in alloc; {})?)?;
     ask(alloc, world, "test/slow", SLOW)?;
-    cancel(alloc, world)
-}
-
-/// The client cancels its second request.
-fn cancel(alloc: Global, world: &mut World) -> Result<(), WorldFault>
-    requires { IsTalk world.old }
-    ensures { OnOk result (IsTalk world.new) }
-{
-    let params = json!(in alloc; { "id": 1 })?;
-    tell(alloc, world, "$/cancelRequest", params)
+    tell(
+        alloc,
+        world,
+        "$/cancelRequest",
+        json!(in alloc; { "id": 1 })?,
+    )
 }
 
 /// What the server does with a request or a notification. The message is the last that it took.
@@ -224,10 +209,7 @@ fn step_for(alloc: Global, outcome: Outcome, taken: &[Message]) -> Result<Option
             Some(id) => Ok(Some(Step::Cancel { side, id })),
             None => Ok(None),
         },
-        other => {
-            drop(other);
-            Ok(None)
-        }
+        _ => Ok(None),
     }
 }
 
@@ -235,45 +217,29 @@ fn step_for(alloc: Global, outcome: Outcome, taken: &[Message]) -> Result<Option
 fn reply_to(alloc: Global, id: RequestId, taken: &[Message]) -> Result<Option<Step>, AllocError>
     ensures { IfOk result (λ reply. IfSome reply IsShallow) }
 {
+    let side = Side::B;
     let Some(Message::Request(request)) = taken.last() else {
-        drop(id);
         return Ok(None);
     };
     match request.method.as_str() {
-        "initialize" => answer(alloc, id),
+        "initialize" => Ok(Some(Step::Answer {
+            side,
+            id,
+            result: json!(in alloc; { "capabilities": {} })?,
+        })),
         "shutdown" => Ok(Some(Step::Answer {
-            side: Side::B,
+            side,
             id,
             result: Value::Null,
         })),
-        "test/slow" => {
-            drop(id);
-            Ok(None)
-        }
-        _ => refuse(alloc, id),
+        "test/slow" => Ok(None),
+        _ => Ok(Some(Step::Refuse {
+            side,
+            id,
+            code: ErrorCode::MethodNotFound.number(),
+            message: String::from_str(alloc, "method not found")?,
+        })),
     }
-}
-
-/// The server's answer to `initialize`.
-fn answer(alloc: Global, id: RequestId) -> Result<Option<Step>, AllocError>
-    ensures { IfOk result (λ reply. IfSome reply IsShallow) }
-{
-    let side = Side::B;
-    let result = json!(in alloc; { "capabilities": {} })?;
-    Ok(Some(Step::Answer { side, id, result }))
-}
-
-/// The server's reply to a request that it doesn't know.
-fn refuse(alloc: Global, id: RequestId) -> Result<Option<Step>, AllocError>
-    ensures { IfOk result (λ reply. IfSome reply IsShallow) }
-{
-    let message = String::from_str(alloc, "method not found")?;
-    Ok(Some(Step::Refuse {
-        side: Side::B,
-        id,
-        code: ErrorCode::MethodNotFound.number(),
-        message,
-    }))
 }
 
 /// The id of the request that the last notification cancels, if it cancels one.
