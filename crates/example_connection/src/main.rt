@@ -53,41 +53,15 @@ fn serve<R: Wait + Clock + AllocGlobal>(rt: &R, connection: Connection) -> Resul
 }
 
 fn serve_session<R: Wait + Clock + AllocGlobal>(rt: &R, connection: &Connection) -> Result<()> {
-    let can_be_asked = initialize(rt, connection)?;
-    let mut paths = Paths::new(rt.alloc())?;
-    let served = serve_client(rt, connection, &mut paths, can_be_asked);
-    drop(paths);
-    served
-}
-
-/// The handshake. It gives whether the client can be asked what to call a path.
-fn initialize<R: Wait + Clock + AllocGlobal>(rt: &R, connection: &Connection) -> Result<bool> {
     let (id, params) = connection.initialize_start(rt)?;
     let can_be_asked = can_be_asked(&params);
     drop(params);
     connection.initialize_finish(rt, id, about(rt.alloc())?)?;
-    Ok(can_be_asked)
-}
-
-/// What the server says of itself (LSP 3.17, `InitializeResult`).
-fn about(alloc: Global) -> Result<Value, AllocError> {
-    json!(in alloc; {
-        "capabilities": { "hoverProvider": true },
-        "serverInfo": { "name": "my_server", "version": "0.1" }
-    })
-}
-
-/// The session after the handshake.
-fn serve_client<R: Wait + Clock + AllocGlobal>(
-    rt: &R,
-    connection: &Connection,
-    paths: &mut Paths,
-    can_be_asked: bool,
-) -> Result<()> {
+    let mut paths = Paths::new(rt.alloc())?;
     if can_be_asked {
         send(rt, connection, Message::from(paths.ask()?))?;
     }
-    serve_messages(rt, connection, paths)
+    serve_messages(rt, connection, &mut paths)
 }
 
 fn serve_messages<R: Wait + Clock + AllocGlobal>(
@@ -108,6 +82,14 @@ fn serve_messages<R: Wait + Clock + AllocGlobal>(
         }
     }
     bail!("the client left without a shutdown")
+}
+
+/// What the server says of itself (LSP 3.17, `InitializeResult`).
+fn about(alloc: Global) -> Result<Value, AllocError> {
+    json!(in alloc; {
+        "capabilities": { "hoverProvider": true },
+        "serverInfo": { "name": "my_server", "version": "0.1" }
+    })
 }
 
 fn send<R: Wait>(rt: &R, connection: &Connection, message: Message) -> Result<()> {
