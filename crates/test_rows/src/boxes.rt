@@ -83,8 +83,10 @@ impl Outbox for Sent<'_> {
     ghost sends = { λ _ _ _ _. ⊤ };
 
     fn send(&mut self, message: Message) -> Result<(), SendFault> {
-        self.list.send(message)?;
-        self.is_some.set(true);
-        Ok(())
+        let sent = self.list.send(message);
+        if sent.is_ok() {
+            self.is_some.set(true);
+        }
+        sent
     }
 }

@@ -1,16 +1,16 @@
 // The calls over a reader and a writer.
 use crate::devices::{Sink, Source};
 use crate::escapes::escape;
-use crate::messages::text_or;
+use crate::messages::{text_of, text_or};
 use crate::servers::{Echo, Talker};
-use crate::stop::Stop;
+use crate::stop::{Stop, add_text, made};
 use crate::table::{Case, Given};
 use lsp_message::{Front, Message, ReadFault, WriteFault, front, write_frames};
 use lsp_service::{QueuedServer, WokenQueuedServer, session_with};
 use lsp_session::{
-    EndSession, Event, FaultCounts, FrameOutbox, Ignore, Inbox, ListOutbox, Outbox, ReadEnd,
-    SendFault, SessionEnd, SessionFault, StreamInbox, StreamLine, read_loop, read_loop_within,
-    serve_line, session, session_of_service, session_within,
+    EndSession, Event, FaultCounts, FrameOutbox, Ignore, Inbox, ListOutbox, Listener, Outbox,
+    ReadEnd, SendFault, SessionEnd, SessionFault, StreamInbox, StreamLine, read_loop,
+    read_loop_within, serve_line, session, session_of_service, session_within,
 };
 use serde_json::{Map, Value};
 use std::alloc::{AllocError, Global};
@@ -70,6 +70,7 @@ pub fn attempt_of(alloc: Global, run: Run<'_>, given: &Given) -> Result<Attempt,
     let bytes = given.bytes.as_slice();
     let end = run.at("ends").unwrap_or(usize::MAX).min(bytes.len());
     let written = Cell::new(0);
+    let taken = Vec::with_capacity(alloc, ROOM)?;
     let mut reader = Source {
         bytes: &bytes[..end],
         pauses: given.pauses.as_slice(),
@@ -80,7 +81,7 @@ pub fn attempt_of(alloc: Global, run: Run<'_>, given: &Given) -> Result<Attempt,
         kind: run.case.kind,
     };
     let mut writer = Sink {
-        taken: Vec::with_capacity(alloc, ROOM)?,
+        taken,
         written: &written,
         step: run.step,
         room: run.at("fills").unwrap_or(usize::MAX),
@@ -88,18 +89,30 @@ pub fn attempt_of(alloc: Global, run: Run<'_>, given: &Given) -> Result<Attempt,
         bad_flush: run.at("flushes").unwrap_or(0),
         flushes: 0,
     };
+    let attempt = call(alloc, run, &mut reader, &mut writer);
+    drop(writer);
+    drop(reader);
+    attempt
+}
+
+fn call(
+    alloc: Global,
+    run: Run<'_>,
+    reader: &mut Source<'_>,
+    writer: &mut Sink<'_>,
+) -> Result<Attempt, Stop> {
     match run.case.call {
         "front" => front_answer(alloc, reader.left()),
-        "read" => read_answer(alloc, run, &mut reader),
-        "inbox" => inbox_answer(alloc, &mut reader),
-        "loop" => loop_answer(alloc, run, &mut reader),
-        "write" => write_answer(alloc, run, &mut reader, &mut writer),
-        "frames" => frames_answer(alloc, run, &reader, &mut writer),
-        "outbox" => outbox_answer(alloc, &mut reader, &mut writer),
-        "session" => session_answer(alloc, run, &mut reader, &mut writer),
-        "speaks" => speaks_answer(alloc, run, &mut reader, &mut writer),
-        "line" => line_answer(alloc, run, &mut reader, &mut writer),
-        _ => tolerant_answer(alloc, run, &mut reader, &mut writer),
+        "read" => read_answer(alloc, run, reader),
+        "inbox" => inbox_answer(alloc, reader),
+        "loop" => loop_answer(alloc, run, reader),
+        "write" => write_answer(alloc, run, reader, writer),
+        "frames" => frames_answer(alloc, run, reader, writer),
+        "outbox" => outbox_answer(alloc, reader, writer),
+        "session" => session_answer(alloc, run, reader, writer),
+        "speaks" => speaks_answer(alloc, run, reader, writer),
+        "line" => line_answer(alloc, run, reader, writer),
+        _ => tolerant_answer(alloc, run, reader, writer),
     }
 }
 
@@ -119,12 +132,19 @@ fn read_answer(alloc: Global, run: Run<'_>, reader: &mut Source<'_>) -> Result<A
         None => Message::read(alloc, reader),
     };
     let is_refused = matches!(&read, Err(ReadFault::Memory));
-    let came = match read {
-        Ok(message) => text_or(alloc, message, "the end")?,
-        Err(fault) => fault_text(alloc, fault)?,
-    };
+    let came = read_text(alloc, read)?;
     let left = escape(alloc, reader.left())?;
     Ok(run.answer(format!(in alloc; "{came}; left {left}")?, is_refused))
+}
+
+fn read_text(
+    alloc: Global,
+    read: Result<Option<Message>, ReadFault>,
+) -> Result<String, AllocError> {
+    match read {
+        Ok(message) => text_or(alloc, message, "the end"),
+        Err(fault) => fault_text(alloc, fault),
+    }
 }
 
 /// A fault, with the kind of the reader's error.
@@ -141,16 +161,38 @@ const MOST: usize = 20;
 /// What an inbox over the reader gives, how it ended, and whether it is closed then.
 fn inbox_answer(alloc: Global, reader: &mut Source<'_>) -> Result<Attempt, Stop> {
     let mut inbox = StreamInbox::new(alloc, reader);
+    let texts = texts_in(alloc, &mut inbox)?;
+    let end = inbox.end();
+    let event = inbox.receive();
+    let is_closed = matches!(&event, Event::Closed);
+    drop(event);
+    Ok(Attempt::Came(format!(in alloc; "{texts} {end:?}, closed {is_closed}")?))
+}
+
+fn texts_in<I: Inbox>(alloc: Global, inbox: &mut I) -> Result<String, AllocError> {
     let mut texts = String::new(alloc);
     for _ in 0..MOST {
-        let Event::Message(message) = inbox.receive_for(1) else {
-            break;
-        };
-        texts.push_str(message.member_text(alloc)?.as_str())?;
+        match next_text(alloc, inbox)? {
+            Some(text) => texts.push_str(text.as_str())?,
+            None => break,
+        }
     }
-    let end = inbox.end();
-    let is_closed = matches!(inbox.receive(), Event::Closed);
-    Ok(Attempt::Came(format!(in alloc; "{texts} {end:?}, closed {is_closed}")?))
+    Ok(texts)
+}
+
+fn next_text<I: Inbox>(alloc: Global, inbox: &mut I) -> Result<Option<String>, AllocError> {
+    let event = inbox.receive_for(1);
+    let text = event_text(alloc, &event);
+    drop(event);
+    text
+}
+
+/// The member text of an event that is a message.
+fn event_text(alloc: Global, event: &Event) -> Result<Option<String>, AllocError> {
+    match event {
+        Event::Message(message) => Ok(Some(message.member_text(alloc)?)),
+        Event::Timeout | Event::Closed => Ok(None),
+    }
 }
 
 /// What a loop hands on, how it ends, and how many bytes it leaves.
@@ -161,17 +203,21 @@ fn loop_answer(alloc: Global, run: Run<'_>, reader: &mut Source<'_>) -> Result<A
         None => read_loop(alloc, reader, &mut outbox),
     };
     let is_refused = matches!(end, ReadEnd::Memory | ReadEnd::Fault(ReadFault::Memory));
-    let texts = member_texts(alloc, outbox.sent.as_slice())?;
-    let left = reader.left().len();
-    let text = format!(in alloc; "{end:?}; sent {texts}; left {left}")?;
-    Ok(run.answer(text, is_refused))
+    let text = loop_text(alloc, end, outbox.sent.as_slice(), reader.left().len());
+    drop(outbox);
+    Ok(run.answer(text?, is_refused))
+}
+
+fn loop_text(alloc: Global, end: ReadEnd, sent: &[Message], left: usize) -> Result<String, Stop> {
+    let texts = member_texts(alloc, sent)?;
+    made(format!(in alloc; "{end:?}; sent {texts}; left {left}"))
 }
 
 /// The member texts of messages, one after another.
-pub fn member_texts(alloc: Global, messages: &[Message]) -> Result<String, AllocError> {
+pub fn member_texts(alloc: Global, messages: &[Message]) -> Result<String, Stop> {
     let mut texts = String::new(alloc);
     for message in messages {
-        texts.push_str(message.member_text(alloc)?.as_str())?;
+        add_text(&mut texts, made(message.member_text(alloc)))?;
     }
     Ok(texts)
 }
@@ -183,16 +229,21 @@ fn write_answer(
     reader: &mut Source<'_>,
     writer: &mut Sink<'_>,
 ) -> Result<Attempt, Stop> {
-    let message = next_message(alloc, reader)?.ok_or(Stop::Table)?;
-    let written = message.write(alloc, writer);
-    written_answer(alloc, run, written, writer)
+    match next_message(alloc, reader) {
+        Some(message) => {
+            let written = message.write(alloc, writer);
+            drop(message);
+            written_answer(alloc, run, written, writer)
+        }
+        None => Err(Stop::Table),
+    }
 }
 
 /// The next message. There is none at the end, and after a fault.
-fn next_message(alloc: Global, reader: &mut Source<'_>) -> Result<Option<Message>, Stop> {
+fn next_message(alloc: Global, reader: &mut Source<'_>) -> Option<Message> {
     match Message::read(alloc, reader) {
-        Ok(message) => Ok(message),
-        Err(_) => Ok(None),
+        Ok(message) => message,
+        Err(_) => None,
     }
 }
 
@@ -230,30 +281,47 @@ fn outbox_answer(
     writer: &mut Sink<'_>,
 ) -> Result<Attempt, Stop> {
     let mut outbox = FrameOutbox::new(alloc, writer);
-    let mut texts = String::new(alloc);
-    for _ in 0..MOST {
-        let Some(message) = next_message(alloc, reader)? else {
-            break;
-        };
-        match outbox.send(message) {
-            Ok(()) => texts.push_str("taken, ")?,
-            Err(fault) => texts.push_str(back_text(alloc, fault)?.as_str())?,
-        }
-    }
+    let texts = sent_texts(alloc, reader, &mut outbox)?;
     let fault = outbox.fault();
     let got = escape(alloc, writer.taken.as_slice())?;
     let flushes = writer.flushes;
     Ok(Attempt::Came(format!(in alloc; "{texts}{fault:?}; wrote {got}, {flushes} flushes")?))
 }
 
+fn sent_texts<O: Outbox>(
+    alloc: Global,
+    reader: &mut Source<'_>,
+    outbox: &mut O,
+) -> Result<String, Stop> {
+    let mut texts = String::new(alloc);
+    for _ in 0..MOST {
+        let text = match next_message(alloc, reader) {
+            Some(message) => sent_text(alloc, outbox.send(message)),
+            None => break,
+        };
+        texts.push_str(text?.as_str())?;
+    }
+    Ok(texts)
+}
+
+fn sent_text(alloc: Global, sent: Result<(), SendFault>) -> Result<String, Stop> {
+    match sent {
+        Ok(()) => made(String::from_str(alloc, "taken, ")),
+        Err(fault) => back_text(alloc, fault),
+    }
+}
+
 /// The message that came back.
 fn back_text(alloc: Global, fault: SendFault) -> Result<String, Stop> {
     match fault {
         SendFault::Closed(message) => {
-            let text = message.member_text(alloc)?;
-            Ok(format!(in alloc; "{text} back, ")?)
+            let text = text_of(alloc, message)?;
+            made(format!(in alloc; "{text} back, "))
         }
-        SendFault::Memory(_) => Err(Stop::Memory),
+        SendFault::Memory(message) => {
+            drop(message);
+            Err(Stop::Memory)
+        }
     }
 }
 
@@ -266,12 +334,11 @@ fn session_answer(
 ) -> Result<Attempt, Stop> {
     let none = Value::Object(Map::new(alloc));
     let mut echo = Echo::new(alloc);
-    if let Some(limit) = run.limit() {
-        let end = session_within(alloc, reader, writer, none, &mut echo, limit);
-        return ended_answer(alloc, run, end, writer, "");
-    }
-    let end = session(alloc, reader, writer, none, &mut echo);
-    ended_answer(alloc, run, end, writer, "")
+    let end = match run.limit() {
+        Some(limit) => session_within(alloc, reader, writer, none, &mut echo, limit),
+        None => session(alloc, reader, writer, none, &mut echo),
+    };
+    ended_answer(alloc, run, end, writer, None)
 }
 
 /// How a session of the server that speaks ends, and what it wrote.
@@ -281,12 +348,32 @@ fn speaks_answer(
     reader: &mut Source<'_>,
     writer: &mut Sink<'_>,
 ) -> Result<Attempt, Stop> {
+    let end = match run.limit() {
+        Some(limit) => limited_end(alloc, reader, writer, &mut EndSession, limit),
+        None => speaks_end(alloc, reader, writer),
+    };
+    ended_answer(alloc, run, end, writer, None)
+}
+
+fn limited_end<L: Listener>(
+    alloc: Global,
+    reader: &mut Source<'_>,
+    writer: &mut Sink<'_>,
+    listener: &mut L,
+    limit: u64,
+) -> Result<SessionEnd, SessionFault> {
     let talker = Talker::new(alloc);
-    if let Some(limit) = run.limit() {
-        let (_, end) = session_with(alloc, reader, writer, talker, &mut EndSession, limit);
-        return ended_answer(alloc, run, end, writer, "");
-    }
-    let mut queued = QueuedServer::new(alloc, talker);
+    let (talker, end) = session_with(alloc, reader, writer, talker, listener, limit);
+    drop(talker);
+    end
+}
+
+fn speaks_end(
+    alloc: Global,
+    reader: &mut Source<'_>,
+    writer: &mut Sink<'_>,
+) -> Result<SessionEnd, SessionFault> {
+    let mut queued = QueuedServer::new(alloc, Talker::new(alloc));
     let end = session_of_service(
         alloc,
         reader,
@@ -295,7 +382,8 @@ fn speaks_answer(
         &mut EndSession,
         u64::MAX,
     );
-    ended_answer(alloc, run, end, writer, "")
+    drop(queued);
+    end
 }
 
 /// The same over one value that holds the reader and the writer.
@@ -311,7 +399,8 @@ fn line_answer(
     let served = serve_line(alloc, &mut line, &mut service);
     let end = line.answer(served);
     drop(line);
-    ended_answer(alloc, run, end, writer, "")
+    drop(service);
+    ended_answer(alloc, run, end, writer, None)
 }
 
 /// The same if content parts are passed over, and how many of each kind: not UTF-8, no JSON, no message, lists. With a limit the server is
@@ -322,22 +411,25 @@ fn tolerant_answer(
     reader: &mut Source<'_>,
     writer: &mut Sink<'_>,
 ) -> Result<Attempt, Stop> {
-    let server = Talker::new(alloc);
     if let Some(limit) = run.limit() {
-        let (_, end) = session_with(alloc, reader, writer, server, &mut Ignore, limit);
-        return ended_answer(alloc, run, end, writer, "");
+        let end = limited_end(alloc, reader, writer, &mut Ignore, limit);
+        return ended_answer(alloc, run, end, writer, None);
     }
     let mut counts = FaultCounts::new();
-    let mut woken = WokenQueuedServer::new(alloc, server);
-    let end = session_of_service(alloc, reader, writer, &mut woken, &mut counts, u64::MAX);
-    let FaultCounts {
-        not_text,
-        no_json,
-        no_message,
-        batches,
-    } = counts;
-    let counted = format!(in alloc; "; passed {not_text} {no_json} {no_message} {batches}")?;
-    ended_answer(alloc, run, end, writer, counted.as_str())
+    let end = tolerant_end(alloc, reader, writer, &mut counts);
+    ended_answer(alloc, run, end, writer, Some(counts))
+}
+
+fn tolerant_end(
+    alloc: Global,
+    reader: &mut Source<'_>,
+    writer: &mut Sink<'_>,
+    counts: &mut FaultCounts,
+) -> Result<SessionEnd, SessionFault> {
+    let mut woken = WokenQueuedServer::new(alloc, Talker::new(alloc));
+    let end = session_of_service(alloc, reader, writer, &mut woken, counts, u64::MAX);
+    drop(woken);
+    end
 }
 
 fn ended_answer(
@@ -345,21 +437,45 @@ fn ended_answer(
     run: Run<'_>,
     ended: Result<SessionEnd, SessionFault>,
     writer: &Sink<'_>,
-    counted: &str,
+    passed: Option<FaultCounts>,
 ) -> Result<Attempt, Stop> {
     let is_refused = matches!(&ended, Err(SessionFault::Memory));
+    let text = ended_line(alloc, &ended, writer, passed);
+    drop(ended);
+    Ok(run.answer(text?, is_refused))
+}
+
+fn ended_line(
+    alloc: Global,
+    ended: &Result<SessionEnd, SessionFault>,
+    writer: &Sink<'_>,
+    passed: Option<FaultCounts>,
+) -> Result<String, AllocError> {
     let end = ended_text(alloc, ended)?;
     let written = escape(alloc, writer.taken.as_slice())?;
-    let text = format!(in alloc; "{end}; wrote {written}{counted}")?;
-    Ok(run.answer(text, is_refused))
+    let passed = passed_text(alloc, passed)?;
+    format!(in alloc; "{end}; wrote {written}{passed}")
+}
+
+fn passed_text(alloc: Global, passed: Option<FaultCounts>) -> Result<String, AllocError> {
+    let Some(counts) = passed else {
+        return Ok(String::new(alloc));
+    };
+    let FaultCounts {
+        not_text,
+        no_json,
+        no_message,
+        batches,
+    } = counts;
+    format!(in alloc; "; passed {not_text} {no_json} {no_message} {batches}")
 }
 
 fn ended_text(
     alloc: Global,
-    ended: Result<SessionEnd, SessionFault>,
+    ended: &Result<SessionEnd, SessionFault>,
 ) -> Result<String, AllocError> {
     match ended {
-        Ok(end) => String::from_str(alloc, end_name(end)),
+        Ok(end) => String::from_str(alloc, end_name(*end)),
         Err(fault) => format!(in alloc; "{fault}"),
     }
 }

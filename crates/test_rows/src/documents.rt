@@ -4,7 +4,8 @@
 // of it, or what is wrong, and whether a text is lost by it, and then each document that was open once: its URI, its version, its
 // language, its text, and how many lines it has and the position of each place where a character begins. One that is closed shows
 // `-`, and one whose text is lost `?`. A body that is no message has `unread`: it may have told of any document, so each text is lost.
-use crate::stop::Stop;
+use crate::messages::{quoted, text_in};
+use crate::stop::{Stop, add_text, made};
 use lsp_documents::{DocumentFault, Made, NotMade, TextDocuments, position_encoding};
 use lsp_text::{PositionEncoding, Text, TextDocument};
 use serde_json::Value;
@@ -40,18 +41,34 @@ impl Documents {
     }
 
     fn heard(&mut self, text: &str) -> Result<String, Stop> {
-        let Some(message) = read(self.alloc, text)? else {
-            self.documents.lose_all();
-            return self.kept(text, "unread");
-        };
+        match read(self.alloc, text) {
+            Ok(Some(message)) => {
+                let came = self.heard_message(text, &message);
+                drop(message);
+                came
+            }
+            Ok(None) => {
+                self.documents.lose_all();
+                self.kept(text, "unread")
+            }
+            Err(stop) => Err(stop),
+        }
+    }
+
+    fn heard_message(&mut self, text: &str, message: &Value) -> Result<String, Stop> {
         let none = Value::Null;
         let params = message.get("params").unwrap_or(&none);
-        let method = method_of(&message);
+        let came = self.heard_params(text, method_of(message), params);
+        drop(none);
+        came
+    }
+
+    fn heard_params(&mut self, text: &str, method: &str, params: &Value) -> Result<String, Stop> {
         if method == "initialize" {
             self.documents = TextDocuments::new(self.alloc, position_encoding(params));
             self.seen = Vec::new(self.alloc);
             self.told = Vec::new(self.alloc);
-            return Ok(String::from_str(self.alloc, self.documents.encoding().name())?);
+            return made(String::from_str(self.alloc, self.documents.encoding().name()));
         }
         match hear(&mut self.documents, method, params) {
             Ok(made) => {
@@ -111,37 +128,43 @@ impl Documents {
         Ok(row)
     }
 
-    fn shown(&self, answer: &str) -> Result<String, AllocError> {
+    fn shown(&self, answer: &str) -> Result<String, Stop> {
         let mut row = String::from_str(self.alloc, answer)?;
         for uri in self.seen.iter() {
-            let uri = uri.as_str();
-            let shown = match self.documents.get(uri) {
-                Some(document) => self.open_text(uri, document)?,
-                None if self.documents.is_open(uri) => format!(in self.alloc; "\t{uri} ?")?,
-                None => format!(in self.alloc; "\t{uri} -")?,
-            };
-            row.push_str(shown.as_str())?;
+            add_text(&mut row, self.document_shown(uri.as_str()))?;
         }
         Ok(row)
     }
 
-    fn open_text(&self, uri: &str, document: &TextDocument) -> Result<String, AllocError> {
-        let version = document.version();
-        let language = document.language_id();
-        let text = String::from_str(self.alloc, document.text().as_str())?;
-        let text = Value::from(text).to_string(self.alloc)?;
-        let lines = document.text().line_count();
-        let places = self.places_text(document.text())?;
-        format!(in self.alloc; "\t{uri} {version:?} {language} {text} {lines}{places}")
+    fn document_shown(&self, uri: &str) -> Result<String, Stop> {
+        match self.documents.get(uri) {
+            Some(document) => self.open_text(uri, document),
+            None if self.documents.is_open(uri) => made(format!(in self.alloc; "\t{uri} ?")),
+            None => made(format!(in self.alloc; "\t{uri} -")),
+        }
     }
 
-    fn places_text(&self, text: &Text) -> Result<String, AllocError> {
+    fn open_text(&self, uri: &str, document: &TextDocument) -> Result<String, Stop> {
+        let version = document.version();
+        let language = document.language_id();
+        let text = self.text_shown(document.text())?;
+        made(format!(in self.alloc; "\t{uri} {version:?} {language} {text}"))
+    }
+
+    fn text_shown(&self, text: &Text) -> Result<String, Stop> {
+        let quoted = quoted(self.alloc, String::from_str(self.alloc, text.as_str())?)?;
+        let lines = text.line_count();
+        let places = self.places_text(text)?;
+        made(format!(in self.alloc; "{quoted} {lines}{places}"))
+    }
+
+    fn places_text(&self, text: &Text) -> Result<String, Stop> {
         let mut places = String::new(self.alloc);
         for offset in 0..=text.as_str().len() {
             if text.as_str().is_char_boundary(offset) {
                 let place = text.position_at(offset, self.documents.encoding());
-                let shown = format!(in self.alloc; " {}:{}", place.line, place.character)?;
-                places.push_str(shown.as_str())?;
+                let shown = format!(in self.alloc; " {}:{}", place.line, place.character);
+                add_text(&mut places, made(shown))?;
             }
         }
         Ok(places)
@@ -150,16 +173,30 @@ impl Documents {
 
 /// Tells documents a message once more.
 fn tell(alloc: Global, documents: &mut TextDocuments, text: &str) -> Result<(), Stop> {
-    let Some(message) = read(alloc, text)? else {
-        documents.lose_all();
-        return Ok(());
-    };
+    match read(alloc, text) {
+        Ok(Some(message)) => {
+            let told = tell_message(documents, &message);
+            drop(message);
+            told
+        }
+        Ok(None) => {
+            documents.lose_all();
+            Ok(())
+        }
+        Err(stop) => Err(stop),
+    }
+}
+
+fn tell_message(documents: &mut TextDocuments, message: &Value) -> Result<(), Stop> {
     let none = Value::Null;
     let params = message.get("params").unwrap_or(&none);
-    match hear(documents, method_of(&message), params) {
-        Err(missed) if missed.fault == DocumentFault::Memory => Err(Stop::Memory),
-        _ => Ok(()),
+    let heard = hear(documents, method_of(message), params);
+    let is_missed = matches!(&heard, Err(missed) if missed.fault == DocumentFault::Memory);
+    drop(none);
+    if is_missed {
+        return Err(Stop::Memory);
     }
+    Ok(())
 }
 
 /// The message of a body, if it is one.
@@ -172,7 +209,7 @@ fn read(alloc: Global, text: &str) -> Result<Option<Value>, Stop> {
 }
 
 fn method_of(message: &Value) -> &str {
-    message.get("method").and_then(Value::as_str).unwrap_or("")
+    text_in(message.get("method"))
 }
 
 fn hear<'v>(

@@ -11,25 +11,42 @@ pub fn unescape(alloc: Global, text: &str) -> Result<Vec<u8>, Stop> {
         if is_first {
             bytes.extend_from_slice(part.as_bytes())?;
         } else {
-            let (byte, others) = escaped_byte(part).ok_or(Stop::Table)?;
-            bytes.push(byte)?;
-            bytes.extend_from_slice(others.as_bytes())?;
+            add_escaped(&mut bytes, part)?;
         }
         is_first = false;
     }
     Ok(bytes)
 }
 
+/// Adds the bytes of a text whose first character stands behind a backslash.
+fn add_escaped(bytes: &mut Vec<u8>, part: &str) -> Result<(), Stop> {
+    match escaped_byte(part) {
+        Some((byte, others)) => {
+            bytes.push(byte)?;
+            Ok(bytes.extend_from_slice(others.as_bytes())?)
+        }
+        None => Err(Stop::Table),
+    }
+}
+
 /// The byte of the escape that a text begins with, whose backslash is gone, and the text behind it.
 fn escaped_byte(text: &str) -> Option<(u8, &str)> {
-    if let Some(others) = text.strip_prefix('r') {
-        return Some((b'\r', others));
+    let (letter, others) = text.split_at_checked(1)?;
+    match letter {
+        "r" => Some((b'\r', others)),
+        "n" => Some((b'\n', others)),
+        "x" => digits_byte(others),
+        _ => None,
     }
-    if let Some(others) = text.strip_prefix('n') {
-        return Some((b'\n', others));
+}
+
+/// The byte whose two digits a text begins with, and the text behind them.
+fn digits_byte(text: &str) -> Option<(u8, &str)> {
+    let (digits, others) = text.split_at_checked(2)?;
+    match u8::from_str_radix(digits, 16) {
+        Ok(byte) => Some((byte, others)),
+        Err(_) => None,
     }
-    let (digits, others) = text.strip_prefix('x')?.split_at_checked(2)?;
-    Some((u8::from_str_radix(digits, 16).ok()?, others))
 }
 
 /// How many bytes are shown at most.

@@ -7,7 +7,7 @@
 // | `pass COUNT` | `pass` |
 // | `take`, `skip` | the same |
 use crate::messages::{message_in, nested, text_or};
-use crate::stop::{Stop, add_step, count_in};
+use crate::stop::{Stop, add_step, count_in, made};
 use lsp_message::{Message, Notification};
 use lsp_peers::{Link, WorldFault};
 use std::alloc::Global;
@@ -15,9 +15,15 @@ use std::alloc::Global;
 /// What comes of these steps on a link without bytes.
 pub fn answers(alloc: Global, steps: &str) -> Result<String, Stop> {
     let mut link = Link::default(alloc);
+    let said = called(alloc, &mut link, steps);
+    drop(link);
+    said
+}
+
+fn called(alloc: Global, link: &mut Link, steps: &str) -> Result<String, Stop> {
     let mut said = String::new(alloc);
     for step in steps.split("; ") {
-        add_step(&mut said, call(alloc, &mut link, step)?.as_str())?;
+        add_step(&mut said, call(alloc, link, step))?;
     }
     Ok(said)
 }
@@ -28,30 +34,41 @@ fn call(alloc: Global, link: &mut Link, step: &str) -> Result<String, Stop> {
         "pass" => {
             let count = link.pass(count_in(word)?);
             let there = link.arrived().len();
-            Ok(format!(in alloc; "passed {count}, {there} there")?)
+            made(format!(in alloc; "passed {count}, {there} there"))
         }
         "take" => take(alloc, link),
-        "skip" => Ok(format!(in alloc; "skipped {}", link.skip())?),
-        "deep" => {
-            let params = nested(alloc, count_in(word)?)?;
-            let method = String::from_str(alloc, "deep")?;
-            write(alloc, link, &Message::from(Notification { method, params }))
-        }
-        _ => write(alloc, link, &message_in(alloc, step)?),
+        "skip" => made(format!(in alloc; "skipped {}", link.skip())),
+        "deep" => write(alloc, link, deep_message(alloc, count_in(word)?)),
+        _ => write(alloc, link, message_in(alloc, step)),
     }
 }
 
-fn write(alloc: Global, link: &mut Link, message: &Message) -> Result<String, Stop> {
-    if link.write(message).is_err() {
-        return Err(Stop::Memory);
+fn deep_message(alloc: Global, levels: usize) -> Result<Message, Stop> {
+    let method = String::from_str(alloc, "deep")?;
+    match nested(alloc, levels) {
+        Ok(params) => Ok(Message::from(Notification { method, params })),
+        Err(error) => Err(Stop::from(error)),
     }
-    Ok(format!(in alloc; "{} on the way", link.on_way().len())?)
+}
+
+fn write(alloc: Global, link: &mut Link, message: Result<Message, Stop>) -> Result<String, Stop> {
+    match message {
+        Ok(message) => {
+            let written = link.write(&message);
+            drop(message);
+            if written.is_err() {
+                return Err(Stop::Memory);
+            }
+            made(format!(in alloc; "{} on the way", link.on_way().len()))
+        }
+        Err(stop) => Err(stop),
+    }
 }
 
 fn take(alloc: Global, link: &mut Link) -> Result<String, Stop> {
     match link.take() {
-        Ok(message) => Ok(text_or(alloc, message, "nothing")?),
+        Ok(message) => made(text_or(alloc, message, "nothing")),
         Err(WorldFault::Memory) => Err(Stop::Memory),
-        Err(WorldFault::NotReadBack) => Ok(String::from_str(alloc, "body not read back")?),
+        Err(WorldFault::NotReadBack) => made(String::from_str(alloc, "body not read back")),
     }
 }

@@ -17,7 +17,7 @@ use crate::devices::Sink;
 use crate::escapes::escape;
 use crate::messages::message_in;
 use crate::servers::{Echo, Talker};
-use crate::stop::{Stop, count_in, cut};
+use crate::stop::{Stop, add_text, count_in, cut, made};
 use lsp_message::{Request, RequestId, WriteFault};
 use lsp_service::{QueuedServer, WokenQueuedServer};
 use lsp_session::{
@@ -25,33 +25,28 @@ use lsp_session::{
     finish_within, serve, serve_service, shutdown, start_within, wait_within, write_loop,
 };
 use serde_json::{Map, Value};
-use std::alloc::Global;
+use std::alloc::{AllocError, Global};
 use std::cell::Cell;
 use std::io::ErrorKind;
+use std::mem;
 
-fn inbox<'a>(
-    alloc: Global,
-    events: &str,
-    habit: Habit,
-    sent: &'a Cell<bool>,
-) -> Result<Events<'a>, Stop> {
-    let mut list = ListInbox::new(alloc);
+/// Adds the events of a row.
+fn add_events(alloc: Global, list: &mut ListInbox, events: &str) -> Result<(), Stop> {
     for event in events.split("; ") {
         match event {
             "" => {}
             "timeout" => list.events.push_back(Event::Timeout)?,
-            text => list
-                .events
-                .push_back(Event::Message(message_in(alloc, text)?))?,
+            text => add_message(alloc, list, text)?,
         }
     }
-    Ok(Events {
-        list,
-        habit,
-        sent,
-        is_ready: true,
-        seconds: 0,
-    })
+    Ok(())
+}
+
+fn add_message(alloc: Global, list: &mut ListInbox, text: &str) -> Result<(), Stop> {
+    match message_in(alloc, text) {
+        Ok(message) => Ok(list.events.push_back(Event::Message(message))?),
+        Err(stop) => Err(stop),
+    }
 }
 
 /// How many messages an outbox takes, and how many bytes a writer, without a new allocation. If that fails in a call, the reply to `shutdown` of
@@ -60,14 +55,7 @@ const MESSAGES: usize = 32;
 
 const BYTES: usize = 4096;
 
-/// An empty outbox that takes its messages without a new allocation.
-fn outbox<'a>(alloc: Global, room: &str, is_some: &'a Cell<bool>) -> Result<Sent<'a>, Stop> {
-    let mut list = ListOutbox::new(alloc, count_in(room)?);
-    list.sent = Vec::with_capacity(alloc, MESSAGES)?;
-    Ok(Sent { list, is_some })
-}
-
-/// The boxes of a row of calls, and the id that the last start gave.
+/// The boxes of a row, and the id that the last start gave.
 #[derive(Drop)]
 struct Boxes<'a> {
     inbox: Events<'a>,
@@ -76,36 +64,84 @@ struct Boxes<'a> {
     id: RequestId,
 }
 
+impl<'a> Boxes<'a> {
+    /// Empty boxes. The outbox takes its messages without a new allocation.
+    fn new(
+        alloc: Global,
+        room: usize,
+        habit: Habit,
+        is_some: &'a Cell<bool>,
+    ) -> Result<Boxes<'a>, AllocError> {
+        let sent = Vec::with_capacity(alloc, MESSAGES)?;
+        Ok(Boxes {
+            inbox: Events {
+                list: ListInbox::new(alloc),
+                habit,
+                sent: is_some,
+                is_ready: true,
+                seconds: 0,
+            },
+            outbox: Sent {
+                list: ListOutbox { sent, room },
+                is_some,
+            },
+            gate: ListGate::new(alloc),
+            id: RequestId::from(1),
+        })
+    }
+}
+
 /// What the calls give; what was sent, what is left of the events and the answers, and for how long the last wait was.
 pub fn called(alloc: Global, row: &str) -> Result<String, Stop> {
     let (names, row) = cut(row, " | ")?;
     let (answers, row) = cut(row, " | ")?;
     let (room, events) = cut(row, " | ")?;
     let sent = Cell::new(false);
-    let mut gate = ListGate::new(alloc);
+    let mut boxes = Boxes::new(alloc, count_in(room)?, Habit::Gives, &sent)?;
+    let said = called_row(alloc, &mut boxes, names, answers, events);
+    drop(boxes);
+    said
+}
+
+fn add_answers(gate: &mut ListGate, answers: &str) -> Result<(), AllocError> {
     for answer in answers.chars() {
         gate.answers.push_back(answer == 'y')?;
     }
-    let mut boxes = Boxes {
-        inbox: inbox(alloc, events, Habit::Gives, &sent)?,
-        outbox: outbox(alloc, room, &sent)?,
-        gate,
-        id: RequestId::from(1),
-    };
-    let texts = called_texts(alloc, &mut boxes, names)?;
+    Ok(())
+}
+
+fn called_row(
+    alloc: Global,
+    boxes: &mut Boxes<'_>,
+    names: &str,
+    answers: &str,
+    events: &str,
+) -> Result<String, Stop> {
+    add_answers(&mut boxes.gate, answers)?;
+    add_events(alloc, &mut boxes.inbox.list, events)?;
+    let texts = called_texts(alloc, boxes, names)?;
+    boxes_text(alloc, boxes, texts.as_str())
+}
+
+fn boxes_text(alloc: Global, boxes: &Boxes<'_>, texts: &str) -> Result<String, Stop> {
     let sent = member_texts(alloc, boxes.outbox.list.sent.as_slice())?;
-    let (events, answers) = (boxes.inbox.list.events.len(), boxes.gate.answers.len());
+    let events = boxes.inbox.list.events.len();
+    let answers = boxes.gate.answers.len();
     let seconds = boxes.inbox.seconds;
-    Ok(format!(in alloc; "{texts}sent {sent}; left {events} and {answers}; {seconds} seconds")?)
+    made(format!(in alloc; "{texts}sent {sent}; left {events} and {answers}; {seconds} seconds"))
 }
 
 fn called_texts(alloc: Global, boxes: &mut Boxes<'_>, names: &str) -> Result<String, Stop> {
     let mut texts = String::new(alloc);
     for name in names.split(' ') {
-        let said = call(alloc, boxes, name)?;
-        texts.push_str(format!(in alloc; "{name} {said}; ")?.as_str())?;
+        add_text(&mut texts, called_text(alloc, boxes, name))?;
     }
     Ok(texts)
+}
+
+fn called_text(alloc: Global, boxes: &mut Boxes<'_>, name: &str) -> Result<String, Stop> {
+    let said = call(alloc, boxes, name)?;
+    made(format!(in alloc; "{name} {said}; "))
 }
 
 fn call(alloc: Global, boxes: &mut Boxes<'_>, name: &str) -> Result<String, Stop> {
@@ -117,12 +153,21 @@ fn call(alloc: Global, boxes: &mut Boxes<'_>, name: &str) -> Result<String, Stop
         None => (Habit::Gives, name),
     };
     boxes.inbox.habit = habit;
+    call_named(alloc, boxes, name, turns)
+}
+
+fn call_named(
+    alloc: Global,
+    boxes: &mut Boxes<'_>,
+    name: &str,
+    turns: u64,
+) -> Result<String, Stop> {
     match name {
         "start" => started(alloc, boxes, turns),
-        "wait" => done(
-            alloc,
-            wait_within(alloc, &mut boxes.inbox, &mut boxes.gate, turns),
-        ),
+        "wait" => {
+            let answer = wait_within(alloc, &mut boxes.inbox, &mut boxes.gate, turns);
+            done(alloc, answer)
+        }
         "finish" => finished(alloc, boxes, turns),
         method => shut(alloc, boxes, method),
     }
@@ -131,17 +176,27 @@ fn call(alloc: Global, boxes: &mut Boxes<'_>, name: &str) -> Result<String, Stop
 fn done(alloc: Global, answer: Option<Result<(), ProtocolError>>) -> Result<String, Stop> {
     match answer {
         Some(answer) => said(alloc, answer, "done"),
-        None => Ok(String::from_str(alloc, "undecided")?),
+        None => made(String::from_str(alloc, "undecided")),
     }
 }
 
-/// These words, or why not. An allocation that failed is no answer.
+/// These words, or why not.
 fn said(alloc: Global, answer: Result<(), ProtocolError>, words: &str) -> Result<String, Stop> {
     match answer {
-        Ok(()) => Ok(String::from_str(alloc, words)?),
-        Err(error) if error.is_out_of_memory() => Err(Stop::Memory),
-        Err(error) => Ok(format!(in alloc; "{error}")?),
+        Ok(()) => made(String::from_str(alloc, words)),
+        Err(error) => error_text(alloc, error),
     }
+}
+
+/// What the error says. An allocation that failed is no answer.
+fn error_text(alloc: Global, error: ProtocolError) -> Result<String, Stop> {
+    let is_memory = error.is_out_of_memory();
+    let text = format!(in alloc; "{error}");
+    drop(error);
+    if is_memory {
+        return Err(Stop::Memory);
+    }
+    made(text)
 }
 
 /// The id and the params of a start.
@@ -152,16 +207,25 @@ fn started(alloc: Global, boxes: &mut Boxes<'_>, turns: u64) -> Result<String, S
         gate,
         id,
     } = boxes;
-    let Some(answer) = start_within(alloc, inbox, outbox, gate, turns) else {
-        return Ok(String::from_str(alloc, "undecided")?);
-    };
+    match start_within(alloc, inbox, outbox, gate, turns) {
+        Some(answer) => started_text(alloc, id, answer),
+        None => made(String::from_str(alloc, "undecided")),
+    }
+}
+
+fn started_text(
+    alloc: Global,
+    id: &mut RequestId,
+    answer: Result<(RequestId, Value), ProtocolError>,
+) -> Result<String, Stop> {
     match answer {
         Ok((came, params)) => {
-            let words = format!(in alloc; "{came} {params}")?;
-            *id = came;
-            Ok(words)
+            let words = format!(in alloc; "{came} {params}");
+            drop(params);
+            drop(mem::replace(id, came));
+            made(words)
         }
-        Err(error) => said(alloc, Err(error), ""),
+        Err(error) => error_text(alloc, error),
     }
 }
 
@@ -182,15 +246,18 @@ fn finished(alloc: Global, boxes: &mut Boxes<'_>, turns: u64) -> Result<String, 
 
 /// What `shutdown` answers to a request of this method.
 fn shut(alloc: Global, boxes: &mut Boxes<'_>, method: &str) -> Result<String, Stop> {
+    let last = String::from_str(alloc, "last")?;
+    let method = String::from_str(alloc, method)?;
     let request = Request {
-        id: RequestId::from(String::from_str(alloc, "last")?),
-        method: String::from_str(alloc, method)?,
+        id: RequestId::from(last),
+        method,
         params: Value::Null,
     };
-    match shutdown(alloc, &mut boxes.inbox, &mut boxes.outbox, &request) {
-        Ok(true) => Ok(String::from_str(alloc, "true")?),
-        Ok(false) => Ok(String::from_str(alloc, "false")?),
-        Err(error) => said(alloc, Err(error), ""),
+    let answer = shutdown(alloc, &mut boxes.inbox, &mut boxes.outbox, &request);
+    drop(request);
+    match answer {
+        Ok(is_last) => made(format!(in alloc; "{is_last}")),
+        Err(error) => error_text(alloc, error),
     }
 }
 
@@ -202,59 +269,112 @@ pub fn session(alloc: Global, word: &str, row: &str) -> Result<String, Stop> {
         "woken" => Habit::Wakes,
         _ => Habit::Gives,
     };
-    let mut inbox = inbox(alloc, events, habit, &sent)?;
-    let mut outbox = outbox(alloc, room, &sent)?;
-    let mut echo = Echo::new(alloc);
-    let ended = match word {
-        "serve" => {
-            let none = Value::Object(Map::new(alloc));
-            serve(alloc, &mut inbox, &mut outbox, none, &mut echo)
-        }
-        "woken" => {
-            let mut service = WokenQueuedServer::new(alloc, Talker::new(alloc));
-            serve_service(alloc, &mut inbox, &mut outbox, &mut service).answer
-        }
-        "served" => {
-            let mut service = QueuedServer::new(alloc, Talker::new(alloc));
-            serve_service(alloc, &mut inbox, &mut outbox, &mut service).answer
-        }
-        _ => return Err(Stop::Table),
-    };
-    let end = ended_text(alloc, ended)?;
-    let texts = member_texts(alloc, outbox.list.sent.as_slice())?;
-    let (asked, told) = (echo.asked, echo.told);
-    Ok(format!(in alloc; "{end}; sent {texts}; {asked} asked, {told} told")?)
+    let mut boxes = Boxes::new(alloc, count_in(room)?, habit, &sent)?;
+    let said = session_text(alloc, word, &mut boxes, events);
+    drop(boxes);
+    said
 }
 
-fn ended_text(alloc: Global, ended: Result<SessionEnd, ProtocolError>) -> Result<String, Stop> {
+fn session_text(
+    alloc: Global,
+    word: &str,
+    boxes: &mut Boxes<'_>,
+    events: &str,
+) -> Result<String, Stop> {
+    add_events(alloc, &mut boxes.inbox.list, events)?;
+    let mut echo = Echo::new(alloc);
+    let end = end_text(alloc, word, &mut boxes.inbox, &mut boxes.outbox, &mut echo)?;
+    let texts = member_texts(alloc, boxes.outbox.list.sent.as_slice())?;
+    let (asked, told) = (echo.asked, echo.told);
+    made(format!(in alloc; "{end}; sent {texts}; {asked} asked, {told} told"))
+}
+
+fn end_text(
+    alloc: Global,
+    word: &str,
+    inbox: &mut Events<'_>,
+    outbox: &mut Sent<'_>,
+    echo: &mut Echo,
+) -> Result<String, Stop> {
+    let ended = match word {
+        "serve" => serve(alloc, inbox, outbox, Value::Object(Map::new(alloc)), echo),
+        "woken" => woken(alloc, inbox, outbox),
+        "served" => served(alloc, inbox, outbox),
+        _ => return Err(Stop::Table),
+    };
     match ended {
-        Ok(end) => Ok(String::from_str(alloc, end_name(end))?),
-        Err(error) => said(alloc, Err(error), ""),
+        Ok(end) => made(String::from_str(alloc, end_name(end))),
+        Err(error) => error_text(alloc, error),
     }
+}
+
+fn woken(
+    alloc: Global,
+    inbox: &mut Events<'_>,
+    outbox: &mut Sent<'_>,
+) -> Result<SessionEnd, ProtocolError> {
+    let mut service = WokenQueuedServer::new(alloc, Talker::new(alloc));
+    let served = serve_service(alloc, inbox, outbox, &mut service);
+    drop(service);
+    served.answer
+}
+
+fn served(
+    alloc: Global,
+    inbox: &mut Events<'_>,
+    outbox: &mut Sent<'_>,
+) -> Result<SessionEnd, ProtocolError> {
+    let mut service = QueuedServer::new(alloc, Talker::new(alloc));
+    let served = serve_service(alloc, inbox, outbox, &mut service);
+    drop(service);
+    served.answer
 }
 
 /// What is written of the events, and what is handed on afterwards.
 pub fn written(alloc: Global, row: &str) -> Result<String, Stop> {
     let (counts, events) = cut(row, " | ")?;
     let (fills, room) = cut(counts, " ")?;
-    let (sent, flushed) = (Cell::new(false), Cell::new(0));
-    let mut inbox = inbox(alloc, events, Habit::Gives, &sent)?;
-    let mut spent = outbox(alloc, room, &sent)?;
+    let fills = count_in(fills)?;
+    let sent = Cell::new(false);
+    let mut boxes = Boxes::new(alloc, count_in(room)?, Habit::Gives, &sent)?;
+    let said = written_row(alloc, &mut boxes, events, fills);
+    drop(boxes);
+    said
+}
+
+fn written_row(
+    alloc: Global,
+    boxes: &mut Boxes<'_>,
+    events: &str,
+    fills: usize,
+) -> Result<String, Stop> {
+    add_events(alloc, &mut boxes.inbox.list, events)?;
+    let text = written_text(alloc, &mut boxes.inbox, &mut boxes.outbox, fills)?;
+    let on = member_texts(alloc, boxes.outbox.list.sent.as_slice())?;
+    let left = boxes.inbox.list.events.len();
+    made(format!(in alloc; "{text}; on {on}; left {left}"))
+}
+
+fn written_text(
+    alloc: Global,
+    inbox: &mut Events<'_>,
+    spent: &mut Sent<'_>,
+    fills: usize,
+) -> Result<String, Stop> {
+    let flushed = Cell::new(0);
     let mut writer = Sink {
         taken: Vec::with_capacity(alloc, BYTES)?,
         written: &flushed,
         step: usize::MAX,
-        room: count_in(fills)?,
+        room: fills,
         kind: ErrorKind::BrokenPipe,
         bad_flush: 0,
         flushes: 0,
     };
-    let end = write_loop(alloc, &mut inbox, &mut writer, &mut spent);
+    let end = write_loop(alloc, inbox, &mut writer, spent);
     if end == WriteEnd::Fault(WriteFault::Memory) {
         return Err(Stop::Memory);
     }
     let taken = escape(alloc, writer.taken.as_slice())?;
-    let on = member_texts(alloc, spent.list.sent.as_slice())?;
-    let left = inbox.list.events.len();
-    Ok(format!(in alloc; "{end:?}; wrote {taken}; on {on}; left {left}")?)
+    made(format!(in alloc; "{end:?}; wrote {taken}"))
 }

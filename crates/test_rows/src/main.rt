@@ -9,8 +9,7 @@
 //! - `body`: what a content part means. `id`: how an id prints. `values`: a message that is cloned, converted and written. `extract`:
 //!   params that are taken out.
 //! - `queues`, `dispatch`, `link`: calls on a state, as steps. `replay`: all steps of a dispatcher at once.
-//! - `typed`: a value that is read and written by a type of `lsp_types`. `uri`, `path`: a path and its URI. `folders`: the paths of the
-//!   folders in the params of `initialize`. `tokens`: the numbers of
+//! - `typed`: a value that is read and written by a type of `lsp_types`. `uri`, `path`: a path and its URI. `tokens`: the numbers of
 //!   semantic tokens. `offset`: the place of a position that was read.
 //! - `document`: a notification of an open document.
 //!
@@ -56,9 +55,20 @@ fn run<R: Input + Print + AllocGlobal>(rt: &R) -> Result<(), Stop> {
     let alloc = rt.alloc();
     let table = io::read_to_string(alloc, rt.reader())?;
     let mut rows = Rows::new(alloc)?;
-    for line in table.as_str().lines() {
-        rt.println(line)?;
-        rt.print(rows.run(line)?.as_str())?;
+    let printed = print_rows(rt, &mut rows, table.as_str());
+    drop(rows);
+    printed
+}
+
+fn print_rows<R: Print>(rt: &R, rows: &mut Rows, table: &str) -> Result<(), Stop> {
+    for line in table.lines() {
+        print_row(rt, rows, line)?;
     }
     Ok(())
+}
+
+fn print_row<R: Print>(rt: &R, rows: &mut Rows, line: &str) -> Result<(), Stop> {
+    rt.println(line)?;
+    let said = rows.run(line)?;
+    Ok(rt.print(said.as_str())?)
 }

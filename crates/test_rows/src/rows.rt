@@ -5,6 +5,7 @@ use crate::stop::{Stop, count_in};
 use crate::table::{Case, Given, case_in};
 use crate::{dispatching, links, lists, messages, queues, types, uris};
 use std::alloc::{AllocError, Global};
+use std::fmt::Write;
 
 /// What the next row is about.
 #[derive(Drop)]
@@ -90,11 +91,7 @@ impl Rows {
         for count in case.from..=case.to {
             let came = self.run_at(said, case, count)?;
             if came != last {
-                add_line(
-                    said,
-                    "",
-                    format!(in self.alloc; "{count}: {came}")?.as_str(),
-                )?;
+                write!(said, "  {count}: {came}\n")?;
             }
             last = came;
         }
@@ -130,8 +127,5 @@ impl Rows {
 }
 
 fn add_line(said: &mut String, before: &str, text: &str) -> Result<(), AllocError> {
-    said.push_str("  ")?;
-    said.push_str(before)?;
-    said.push_str(text)?;
-    said.push_str("\n")
+    write!(said, "  {before}{text}\n")
 }

@@ -2,8 +2,8 @@
 use crate::typed;
 use lsp_message::{Notification, Request, RequestId, ResponseError};
 use lsp_service::{Act, Server, WokenServer};
-use lsp_session::Handler;
-use serde_json::{Map, Value, json};
+use lsp_session::{Handler, initialize_result};
+use serde_json::{Map, Value};
 use std::alloc::{AllocError, Global};
 use std::mem;
 
@@ -32,14 +32,26 @@ impl Handler for Echo {
     fn answer(&mut self, request: &Request) -> Result<Result<Value, ResponseError>, AllocError> {
         self.asked = self.asked.saturating_add(1);
         if request.method.as_str() == "demo/echo" {
-            return Ok(Ok(request.params.clone()?));
+            let params: Result<Value, AllocError> = request.params.clone();
+            return found(params);
         }
-        Ok(Err(ResponseError::method_not_found(self.alloc)?))
+        match ResponseError::method_not_found(self.alloc) {
+            Ok(error) => Ok(Err(error)),
+            Err(error) => Err(error),
+        }
     }
 
     fn note(&mut self, _notification: &Notification) -> Result<(), AllocError> {
         self.told = self.told.saturating_add(1);
         Ok(())
+    }
+}
+
+/// The outcome that this was made for.
+fn found(made: Result<Value, AllocError>) -> Result<Result<Value, ResponseError>, AllocError> {
+    match made {
+        Ok(value) => Ok(Ok(value)),
+        Err(error) => Err(error),
     }
 }
 
@@ -50,6 +62,13 @@ pub enum Asked {
     For(RequestId),
     /// For the configuration, the number of this question, from 1.
     Configuration(u64),
+}
+
+/// The answer to a request with its params.
+fn echoed(alloc: Global, request: Request) -> Result<Acts, AllocError> {
+    let Request { id, method, params } = request;
+    drop(method);
+    Act::one(alloc, Act::Reply(id, Ok(params)))
 }
 
 /// Pushes, asks, and answers late.
@@ -79,21 +98,25 @@ impl Talker {
         }
     }
 
-    fn one(&self, act: Act<Asked>) -> Result<Acts, AllocError> {
-        let mut acts = Vec::new(self.alloc);
-        acts.push(act)?;
-        Ok(acts)
+    /// A notification alone.
+    fn told(&self, method: &str, params: Value) -> Result<Acts, AllocError> {
+        match String::from_str(self.alloc, method) {
+            Ok(method) => Act::one(self.alloc, Act::Tell(Notification { method, params })),
+            Err(error) => {
+                drop(params);
+                Err(error)
+            }
+        }
     }
 
-    fn tell(&self, method: &str, params: Value) -> Result<Act<Asked>, AllocError> {
-        let method = String::from_str(self.alloc, method)?;
-        Ok(Act::Tell(Notification { method, params }))
-    }
-
-    fn configuration(&mut self) -> Result<Act<Asked>, AllocError> {
+    /// A notification, and the question for the configuration.
+    fn asking(&mut self, method: &str, params: Value) -> Result<Acts, AllocError> {
+        let mut acts = self.told(method, params)?;
         self.questions = self.questions.saturating_add(1);
         let method = String::from_str(self.alloc, "workspace/configuration")?;
-        Ok(Act::Ask(method, Value::Null, Asked::Configuration(self.questions)))
+        let asked = Asked::Configuration(self.questions);
+        acts.push(Act::Ask(method, Value::Null, asked))?;
+        Ok(acts)
     }
 
     /// Adds the answers to what it keeps.
@@ -103,37 +126,46 @@ impl Talker {
         }
         Ok(acts)
     }
+
+    /// Asks the client, whose reply is the answer to this request.
+    fn ask(&self, request: Request) -> Result<Acts, AllocError> {
+        let Request { id, method, params } = request;
+        drop(method);
+        match String::from_str(self.alloc, "demo/asked") {
+            Ok(method) => Act::one(self.alloc, Act::Ask(method, params, Asked::For(id))),
+            Err(error) => {
+                drop(params);
+                drop(id);
+                Err(error)
+            }
+        }
+    }
+
+    /// Keeps a request.
+    fn hold(&mut self, id: RequestId) -> Result<Acts, AllocError> {
+        self.held.push(id)?;
+        Ok(Vec::new(self.alloc))
+    }
 }
 
 impl Server for Talker {
     type Payload = Asked;
 
-    fn initialize(&mut self, _params: Value) -> Result<Result<Value, ResponseError>, AllocError> {
-        Ok(Ok(json!(in self.alloc; { "capabilities": {} })?))
+    fn initialize(&mut self, params: Value) -> Result<Result<Value, ResponseError>, AllocError> {
+        drop(params);
+        found(initialize_result(self.alloc, Value::Object(Map::new(self.alloc))))
     }
 
     fn initialized(&mut self) -> Result<Acts, AllocError> {
-        let mut acts = self.one(self.tell("demo/hello", Value::Object(Map::new(self.alloc)))?)?;
-        acts.push(self.configuration()?)?;
-        Ok(acts)
+        self.asking("demo/hello", Value::Object(Map::new(self.alloc)))
     }
 
     fn request(&mut self, request: Request) -> Result<Acts, AllocError> {
-        if request.method.as_str().starts_with("typed/") {
-            return typed::asked(self.alloc, request);
-        }
-        let Request { id, method, params } = request;
-        match method.as_str() {
-            "demo/echo" => self.one(Act::Reply(id, Ok(params))),
-            "demo/ask" => {
-                let method = String::from_str(self.alloc, "demo/asked")?;
-                self.one(Act::Ask(method, params, Asked::For(id)))
-            }
-            "demo/hold" => {
-                self.held.push(id)?;
-                Ok(Vec::new(self.alloc))
-            }
-            _ => self.one(Act::method_not_found(self.alloc, id)?),
+        match request.method.as_str() {
+            "demo/echo" => echoed(self.alloc, request),
+            "demo/ask" => self.ask(request),
+            "demo/hold" => self.hold(typed::taken_id(request)),
+            _ => typed::asked(self.alloc, request),
         }
     }
 
@@ -141,8 +173,7 @@ impl Server for Talker {
         if notification.method.as_str().starts_with("typed/") {
             return typed::noticed(self.alloc, notification);
         }
-        let mut acts = self.one(self.tell("demo/pushed", notification.params)?)?;
-        acts.push(self.configuration()?)?;
+        let acts = self.asking("demo/pushed", notification.params)?;
         self.release(acts)
     }
 
@@ -152,14 +183,16 @@ impl Server for Talker {
         outcome: Result<Value, ResponseError>,
     ) -> Result<Acts, AllocError> {
         match asked {
-            Asked::For(id) => self.one(Act::Reply(id, outcome)),
+            Asked::For(id) => Act::one(self.alloc, Act::Reply(id, outcome)),
             Asked::Configuration(number) => {
-                self.one(self.tell("demo/pushed", Value::from(number))?)
+                drop(outcome);
+                self.told("demo/pushed", Value::from(number))
             }
         }
     }
 
-    fn unsent(&mut self, _asked: Asked) -> Result<(), AllocError> {
+    fn unsent(&mut self, asked: Asked) -> Result<(), AllocError> {
+        drop(asked);
         Ok(())
     }
 }
@@ -170,7 +203,7 @@ impl WokenServer for Talker {
     ghost wakes = { λ _ _ _. ⊤ };
 
     fn woken(&mut self, _alloc: Global) -> Result<Acts, AllocError> {
-        let acts = self.one(self.tell("demo/woken", Value::Null)?)?;
+        let acts = self.told("demo/woken", Value::Null)?;
         self.release(acts)
     }
 }

@@ -32,7 +32,8 @@ impl From<AllocError> for Stop {
 }
 
 impl<T: Drop> From<AllocFailed<T>> for Stop {
-    fn from(_: AllocFailed<T>) -> Stop {
+    fn from(refused: AllocFailed<T>) -> Stop {
+        drop(refused);
         Stop::Memory
     }
 }
@@ -46,10 +47,20 @@ impl From<serde_json::Error> for Stop {
 
 impl From<io::Error> for Stop {
     fn from(error: io::Error) -> Stop {
-        match error.kind() {
+        let kind = error.kind();
+        drop(error);
+        match kind {
             ErrorKind::OutOfMemory => Stop::Memory,
             _ => Stop::Stream,
         }
+    }
+}
+
+/// A text that only an allocation can have refused.
+pub fn made(text: Result<String, AllocError>) -> Result<String, Stop> {
+    match text {
+        Ok(text) => Ok(text),
+        Err(_) => Err(Stop::Memory),
     }
 }
 
@@ -69,10 +80,18 @@ pub fn count_in(word: &str) -> Result<usize, Stop> {
     }
 }
 
-/// Adds the answer to a step of a row. Each has a line of its own.
-pub fn add_step(said: &mut String, came: &str) -> Result<(), AllocError> {
+/// Adds the answer to a step of a row, if there is one. Each has a line of its own.
+pub fn add_step(said: &mut String, came: Result<String, Stop>) -> Result<(), Stop> {
     if !said.is_empty() {
         said.push_str("\n  ")?;
     }
-    said.push_str(came)
+    add_text(said, came)
+}
+
+/// Adds a text, if there is one.
+pub fn add_text(said: &mut String, text: Result<String, Stop>) -> Result<(), Stop> {
+    match text {
+        Ok(text) => Ok(said.push_str(text.as_str())?),
+        Err(stop) => Err(stop),
+    }
 }

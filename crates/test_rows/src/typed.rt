@@ -22,7 +22,42 @@ pub fn asked<P: Drop>(alloc: Global, request: Request) -> Result<Vec<Act<P>>, Al
                 |id, _place: TextDocumentPositionParams| shown(alloc, id),
             )
         }
-        _ => Act::one(alloc, Act::method_not_found(alloc, request.id)?),
+        _ => unknown(alloc, taken_id(request)),
+    }
+}
+
+/// The answer to a request whose method nobody knows.
+pub fn unknown<P: Drop>(alloc: Global, id: RequestId) -> Result<Vec<Act<P>>, AllocError> {
+    one(alloc, Act::method_not_found(alloc, id))
+}
+
+/// The id of a request, without the rest.
+pub fn taken_id(request: Request) -> RequestId {
+    let Request { id, method, params } = request;
+    drop(method);
+    drop(params);
+    id
+}
+
+/// A list of this act.
+fn one<P: Drop>(alloc: Global, act: Result<Act<P>, AllocError>) -> Result<Vec<Act<P>>, AllocError> {
+    match act {
+        Ok(act) => Act::one(alloc, act),
+        Err(error) => Err(error),
+    }
+}
+
+/// These acts, and behind them this one.
+fn and<P: Drop>(
+    mut acts: Vec<Act<P>>,
+    act: Result<Act<P>, AllocError>,
+) -> Result<Vec<Act<P>>, AllocError> {
+    match act {
+        Ok(act) => {
+            acts.push(act)?;
+            Ok(acts)
+        }
+        Err(error) => Err(error),
     }
 }
 
@@ -39,21 +74,26 @@ pub fn noticed<P: Drop>(
 fn above(alloc: Global, at: Position) -> Result<Result<Position, ResponseError>, AllocError> {
     match at.line.checked_sub(1) {
         Some(line) => Ok(Ok(Position::new(line, at.character))),
-        None => {
-            let error = ResponseError::new(alloc, ErrorCode::RequestFailed, "no line above")?;
-            Ok(Err(error))
-        }
+        None => match ResponseError::new(alloc, ErrorCode::RequestFailed, "no line above") {
+            Ok(error) => Ok(Err(error)),
+            Err(error) => Err(error),
+        },
     }
 }
 
 fn shown<P: Drop>(alloc: Global, id: RequestId) -> Result<Vec<Act<P>>, AllocError> {
-    let mut acts = Act::one(alloc, Act::show(alloc, MessageType::INFO, "here")?)?;
-    acts.push(Act::reply(alloc, id, &())?)?;
-    Ok(acts)
+    match one(alloc, Act::show(alloc, MessageType::INFO, "here")) {
+        Ok(acts) => and(acts, Act::reply(alloc, id, &())),
+        Err(error) => {
+            drop(id);
+            Err(error)
+        }
+    }
 }
 
 fn told<P: Drop>(alloc: Global, at: Position) -> Result<Vec<Act<P>>, AllocError> {
-    let mut acts = Act::one(alloc, Act::tell(alloc, "typed/told", &at)?)?;
-    acts.push(Act::log(alloc, MessageType::WARNING, "told")?)?;
-    Ok(acts)
+    match one(alloc, Act::tell(alloc, "typed/told", &at)) {
+        Ok(acts) => and(acts, Act::log(alloc, MessageType::WARNING, "told")),
+        Err(error) => Err(error),
+    }
 }
