@@ -52,13 +52,14 @@ impl Waiters {
     /// Adds a job, and gives the number of its request.
     fn add(&mut self, waiter: Waiter) -> Result<u64, AllocError> {
         let number = self.next;
-        match self.waiting.insert(number, waiter) {
-            Ok(_) => {
-                self.next = number.wrapping_add(1);
-                Ok(number)
-            }
-            Err(_) => Err(AllocError),
+        let added = self.waiting.insert(number, waiter);
+        let is_added = added.is_ok();
+        drop(added);
+        if !is_added {
+            return Err(AllocError);
         }
+        self.next = number.wrapping_add(1);
+        Ok(number)
     }
 }
 
@@ -71,7 +72,10 @@ impl Replies {
         };
         match Arc::new(alloc, Mutex::new(none)) {
             Ok(waiters) => Ok(Replies { alloc, waiters }),
-            Err(_) => Err(AllocError),
+            Err(fault) => {
+                drop(fault);
+                Err(AllocError)
+            }
         }
     }
 
@@ -90,7 +94,11 @@ impl Replies {
     /// Hands a reply to the job that waits under this number. If none does, the reply is dropped.
     pub fn hand<T: Wait>(&self, rt: &T, number: u64, reply: Reply) {
         if let Some(waiter) = self.remove(rt, number) {
-            let _ = waiter.reply.send(rt, reply);
+            let sent = waiter.reply.send(rt, reply);
+            drop(sent);
+            drop(waiter);
+        } else {
+            drop(reply);
         }
     }
 
@@ -120,16 +128,35 @@ impl Asker {
     /// The token is looked at under the lock. So whoever cancels it and then calls `let_cancelled_go` finds the job, or the job sees that.
     pub fn begin<T: Wait>(&self, rt: &T) -> Result<Option<(u64, Receiver<Reply>)>, AllocError> {
         let (sender, receiver) = bounded(self.replies.alloc, 1)?;
-        let waiter = Waiter {
-            token: self.token.share()?,
-            reply: sender,
+        match self.wait_with(rt, sender) {
+            Ok(Some(number)) => Ok(Some((number, receiver))),
+            Ok(None) => {
+                drop(receiver);
+                Ok(None)
+            }
+            Err(_) => {
+                drop(receiver);
+                Err(AllocError)
+            }
+        }
+    }
+
+    /// Adds the job to those that wait, with its end of the channel, unless its token is cancelled.
+    fn wait_with<T: Wait>(&self, rt: &T, reply: Sender<Reply>) -> Result<Option<u64>, AllocError> {
+        let Ok(token) = self.token.share() else {
+            drop(reply);
+            return Err(AllocError);
         };
+        let waiter = Waiter { token, reply };
         let mut waiters = self.replies.waiters.lock(rt);
         if self.token.is_cancelled() {
+            drop(waiters);
+            drop(waiter);
             return Ok(None);
         }
-        let number = waiters.add(waiter)?;
-        Ok(Some((number, receiver)))
+        let added = waiters.add(waiter);
+        drop(waiters);
+        Ok(Some(added?))
     }
 
     /// The request was not sent: the job waits no more.

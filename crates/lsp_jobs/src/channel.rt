@@ -14,7 +14,7 @@ use crate::job::Progress;
 use crate::notifier::Notifier;
 use crate::unread::Unread;
 use crossbeam_channel::protocol::{Lesson, Outcome, Protocol, Split};
-use crossbeam_channel::{Pass, RuledReceiver, RuledSender, bounded_with};
+use crossbeam_channel::{Pass, Receiver, RuledReceiver, RuledSender, bounded_with};
 use lsp_message::{Notification, RequestId};
 use serde_json::Value;
 use std::alloc::{AllocError, Global};
@@ -188,6 +188,23 @@ fn ticket_for<W: Picked<J>, J: AnyJob<R>, R: Drop>(
     sender.another::<NextTicket<W>>(pass)
 }
 
+/// Two more ends at which items are sent. The error means that an allocation failed.
+fn two_ends<J: AnyJob<R>, R: Drop>(
+    sender: &ItemSender<J, R>,
+) -> Result<(ItemSender<J, R>, ItemSender<J, R>), AllocError>
+    ensures { IfOk result (λ ends. (sends_on ends.0 ≡ sends_on sender.now)
+        × (sends_on ends.1 ≡ sends_on sender.now)) }
+{
+    let first = sender.try_clone()?;
+    match sender.try_clone() {
+        Ok(second) => Ok((first, second)),
+        Err(_) => {
+            drop(first);
+            Err(AllocError)
+        }
+    }
+}
+
 /// A job with its ticket, the request that it answers, and two ends of the channel: one for its outcome, and one for its reports.
 #[derive(Drop)]
 pub(crate) struct JobSender<J: AnyJob<R>, R: Drop> {
@@ -218,8 +235,12 @@ pub(crate) fn sender_for<J: AnyJob<R>, R: Drop>(
     ensures ok { OnOk result (knows pass.new ≡ All (all_jobs (knows pass.old) ++ «job» ∷ [])) }
     ensures err { OnErr result (knows pass.new ≡ knows pass.old) }
 {
-    let for_outcome = sender.try_clone()?;
-    let report_sender = sender.try_clone()?;
+    let Ok((for_outcome, report_sender)) = two_ends(sender) else {
+        drop(unread);
+        drop(job);
+        drop(id);
+        return Err(AllocError);
+    };
     let mut job_pass = ticket_for::<Brand, J, R>(sender, pass, &job);
     let report_pass = sender.another::<Both>(&mut job_pass);
     Ok(JobSender {
@@ -264,10 +285,19 @@ impl<J: AnyJob<R>, R: Drop> JobSender<J, R> {
                 id,
                 message: WorkerMessage::Outcome(outcome),
             };
-            if sender.send_as::<Further, T>(&rt, &mut pass, item).is_ok() {
+            let sent = sender.send_as::<Further, T>(&rt, &mut pass, item);
+            let is_sent = sent.is_ok();
+            drop(sent);
+            if is_sent {
                 notifier.notify(&rt);
             }
+        } else {
+            drop(id);
+            drop(outcome);
         }
+        drop(unread);
+        drop(pass);
+        drop(sender);
         notifier
     }
 }
@@ -330,11 +360,16 @@ fn perform_telling<W: Reportable, T: Wait + Drop, J: AnyJob<R>, R: Drop, M: Drop
     };
     let outcome = job.perform(token, &mut reporter);
     let Reporter {
+        rt,
         id,
         unread,
+        asker,
         notifier,
-        ..
+        reports,
     } = reporter;
+    drop(rt);
+    drop(asker);
+    drop(reports);
     (outcome, id, unread, notifier)
 }
 
@@ -377,9 +412,10 @@ impl<W: Reportable, J: AnyJob<R>, R: Drop> Reports<W, J, R> {
             id,
             message: WorkerMessage::Report(notification),
         };
-        self.sender
-            .try_send_as::<Further, T>(rt, &mut self.pass, item)
-            .is_ok()
+        let sent = self.sender.try_send_as::<Further, T>(rt, &mut self.pass, item);
+        let is_sent = sent.is_ok();
+        drop(sent);
+        is_sent
     }
 
     /// Sends a notification, and waits for room. False if nobody takes it any more.
@@ -391,9 +427,10 @@ impl<W: Reportable, J: AnyJob<R>, R: Drop> Reports<W, J, R> {
             id,
             message: WorkerMessage::Report(notification),
         };
-        self.sender
-            .send_as::<Further, T>(rt, &mut self.pass, item)
-            .is_ok()
+        let sent = self.sender.send_as::<Further, T>(rt, &mut self.pass, item);
+        let is_sent = sent.is_ok();
+        drop(sent);
+        is_sent
     }
 }
 
@@ -414,9 +451,10 @@ impl<W: Reportable, J: AnyJob<R>, R: Drop> Reports<W, J, R> {
             id,
             message: WorkerMessage::Ask(method, params, number),
         };
-        self.sender
-            .send_as::<Further, T>(rt, &mut self.pass, item)
-            .is_ok()
+        let sent = self.sender.send_as::<Further, T>(rt, &mut self.pass, item);
+        let is_sent = sent.is_ok();
+        drop(sent);
+        is_sent
     }
 }
 
@@ -441,6 +479,42 @@ impl<W: Reportable, T: Wait + Drop, J: AnyJob<R>, R: Drop, M: Drop> Reporter<W, 
         }
         is_sent
     }
+
+    /// What a request to the client needs: the id of the job's request, and the number and the channel of the reply. `None` means that
+    /// nobody waits for the job any more. The error means that an allocation failed.
+    fn begin_to_ask(&mut self) -> Result<Option<(RequestId, u64, Receiver<Reply>)>, AllocError> {
+        let id = self.id.clone()?;
+        let (number, replies) = match self.asker.begin(&self.rt) {
+            Ok(Some(begun)) => begun,
+            Ok(None) => {
+                drop(id);
+                return Ok(None);
+            }
+            Err(_) => {
+                drop(id);
+                return Err(AllocError);
+            }
+        };
+        if self.unread.add(&self.rt) {
+            return Ok(Some((id, number, replies)));
+        }
+        self.asker.end(&self.rt, number);
+        drop(replies);
+        drop(id);
+        Ok(None)
+    }
+
+    /// Waits for the reply to a request that was sent, or ends the wait for one that was not.
+    fn replied(&mut self, is_sent: bool, number: u64, replies: Receiver<Reply>) -> Option<Reply> {
+        let reply = if self.counted(is_sent) {
+            replies.recv(&self.rt).ok()
+        } else {
+            self.asker.end(&self.rt, number);
+            None
+        };
+        drop(replies);
+        reply
+    }
 }
 
 impl<W: Reportable, T: Wait + Drop, J: AnyJob<R>, R: Drop, M: Drop> Progress
@@ -451,9 +525,12 @@ impl<W: Reportable, T: Wait + Drop, J: AnyJob<R>, R: Drop, M: Drop> Progress
 
     fn report(&mut self, notification: Notification) -> bool {
         let Ok(id) = self.id.clone() else {
+            drop(notification);
             return false;
         };
         if !self.unread.try_add() {
+            drop(id);
+            drop(notification);
             return false;
         }
         let is_sent = self.reports.try_send(&self.rt, id, notification);
@@ -462,9 +539,12 @@ impl<W: Reportable, T: Wait + Drop, J: AnyJob<R>, R: Drop, M: Drop> Progress
 
     fn send(&mut self, notification: Notification) -> bool {
         let Some(id) = self.unread.copy_of(&self.rt, &self.id) else {
+            drop(notification);
             return false;
         };
         if !self.unread.add(&self.rt) {
+            drop(id);
+            drop(notification);
             return false;
         }
         let is_sent = self.reports.send(&self.rt, id, notification);
@@ -472,19 +552,21 @@ impl<W: Reportable, T: Wait + Drop, J: AnyJob<R>, R: Drop, M: Drop> Progress
     }
 
     fn ask(&mut self, method: String, params: Value) -> Result<Option<Reply>, AllocError> {
-        let id = self.id.clone()?;
-        let Some((number, replies)) = self.asker.begin(&self.rt)? else {
-            return Ok(None);
-        };
-        if !self.unread.add(&self.rt) {
-            self.asker.end(&self.rt, number);
-            return Ok(None);
+        match self.begin_to_ask() {
+            Ok(Some((id, number, replies))) => {
+                let is_sent = self.reports.ask(&self.rt, id, method, params, number);
+                Ok(self.replied(is_sent, number, replies))
+            }
+            Ok(None) => {
+                drop(params);
+                drop(method);
+                Ok(None)
+            }
+            Err(_) => {
+                drop(params);
+                drop(method);
+                Err(AllocError)
+            }
         }
-        let is_sent = self.reports.ask(&self.rt, id, method, params, number);
-        if !self.counted(is_sent) {
-            self.asker.end(&self.rt, number);
-            return Ok(None);
-        }
-        Ok(replies.recv(&self.rt).ok())
     }
 }

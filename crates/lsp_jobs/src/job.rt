@@ -82,7 +82,8 @@ pub trait Progress {
     ) -> Result<Option<Result<Value, ResponseError>>, AllocError>
         requires { may_ask (string_bytes method) (view params) }
     {
-        let _ = (method, params);
+        drop(params);
+        drop(method);
         Ok(None)
     }
 }

@@ -5,13 +5,13 @@ ghost use Rattle.lsp_message.specs.View.{outcome_view};
 ghost use Rattle.lsp_jobs.specs.PendingJobs.{no_jobs, without, with_job, Tells};
 ghost use Rattle.lsp_jobs.specs.PoolView.{CameTo, GivesBack, job_message_view, pending_jobs};
 
-use crate::asking::Replies;
+use crate::asking::{Asker, Replies};
 use crate::cancellation::CancellationToken;
 use crate::channel::{AnyJob, WorkerMessage};
 use crate::job::{Job, Ran};
 use crate::notifier::Notifier;
 use crate::table::JobTable;
-use crate::waiting_jobs::{WaitingJobs, queue_of_jobs};
+use crate::waiting_jobs::{JobSource, WaitingJobs, queue_of_jobs};
 use crate::workers::{QueuedJob, join_all, start_job_workers};
 use crossbeam_channel::{Receiver, bounded};
 use lsp_message::{ErrorCode, Notification, RequestId, ResponseError};
@@ -103,7 +103,10 @@ where
         let notifier: Notifier<()> = Notifier::Signals(signals);
         match start_pool::<T, J, K, ()>(rt, alloc, size, notifier) {
             Ok(pool) => Ok((pool, signalled)),
-            Err(fault) => Err(fault),
+            Err(fault) => {
+                drop(signalled);
+                Err(fault)
+            }
         }
     }
 
@@ -126,6 +129,9 @@ where
         drop(table);
         drop(waiting);
         join_all(&rt, workers);
+        drop(replies);
+        drop(tokens);
+        drop(rt);
     }
 }
 
@@ -144,20 +150,71 @@ where
     ensures { IfOk result (λ pool. pending_jobs pool ≡ no_jobs) }
 {
     let mut notifier = notifier;
-    let Ok(tokens) = CancellationToken::new(alloc) else {
-        return Err(StartFault::Memory);
+    let started = match new_pool(rt, alloc, size) {
+        Ok((pool, taken)) => start_in(rt, size, pool, taken, &mut notifier),
+        Err(_) => Err(StartFault::Memory),
     };
+    drop(notifier);
+    started
+}
+
+/// Starts the threads of a pool that has none. After a fault it is ended.
+fn start_in<T, J, K, M>(
+    rt: &T,
+    size: PoolSize,
+    pool: JobPool<T, J, K>,
+    taken: JobSource<QueuedJob<J, Ran>>,
+    notifier: &mut Notifier<M>,
+) -> Result<JobPool<T, J, K>, StartFault>
+where
+    T: Threads + Wait + Copy + Drop + Send + 'static,
+    J: Job + Send + 'static,
+    K: Drop,
+    M: Drop + Send + 'static,
+    ensures { IfOk result (λ started. pending_jobs started ≡ pending_jobs pool) }
+{
+    let mut pool = pool;
+    let count = size.workers.max(1);
+    match start_job_workers(rt, count, taken, notifier, &mut pool.workers) {
+        Ok(()) => Ok(pool),
+        Err(fault) => {
+            pool.end();
+            Err(fault)
+        }
+    }
+}
+
+/// A pool with no thread and no job, and the end at which its threads will take jobs. The error means that an allocation failed.
+fn new_pool<T, J, K>(
+    rt: &T,
+    alloc: Global,
+    size: PoolSize,
+) -> Result<(JobPool<T, J, K>, JobSource<QueuedJob<J, Ran>>), AllocError>
+where
+    T: Wait + Copy + Drop,
+    J: Job,
+    K: Drop,
+    ensures { IfOk result (λ made. pending_jobs made.0 ≡ no_jobs) }
+{
+    let tokens = CancellationToken::new(alloc)?;
     let Ok(table) = JobTable::new(alloc) else {
-        return Err(StartFault::Memory);
+        drop(tokens);
+        return Err(AllocError);
     };
     let room = size.waiting.map(|waiting| waiting.max(1));
     let Ok((waiting, taken)) = queue_of_jobs(alloc, room) else {
-        return Err(StartFault::Memory);
+        drop(table);
+        drop(tokens);
+        return Err(AllocError);
     };
     let Ok(replies) = Replies::new(alloc) else {
-        return Err(StartFault::Memory);
+        drop(taken);
+        drop(waiting);
+        drop(table);
+        drop(tokens);
+        return Err(AllocError);
     };
-    let mut pool = JobPool {
+    let pool = JobPool {
         rt: *rt,
         alloc,
         tokens,
@@ -166,19 +223,7 @@ where
         replies,
         workers: Vec::new(alloc),
     };
-    match start_job_workers(
-        rt,
-        size.workers.max(1),
-        taken,
-        &mut notifier,
-        &mut pool.workers,
-    ) {
-        Ok(()) => Ok(pool),
-        Err(fault) => {
-            pool.end();
-            Err(fault)
-        }
-    }
+    Ok((pool, taken))
 }
 
 impl<T: Wait + Drop, J: Job, K: Drop> JobPool<T, J, K> {
@@ -192,12 +237,18 @@ impl<T: Wait + Drop, J: Job, K: Drop> JobPool<T, J, K> {
     {
         self.forget(&id);
         if !self.waiting.has_room(&self.rt) {
+            drop(job);
+            drop(id);
             return Err(SubmitFault::Full(kept));
         }
         match self.hand_over(&id, job, kept) {
-            Ok(()) => Ok(()),
+            Ok(()) => {
+                drop(id);
+                Ok(())
+            }
             Err(_) => {
                 self.forget(&id);
+                drop(id);
                 Err(SubmitFault::Memory)
             }
         }
@@ -210,16 +261,52 @@ impl<T: Wait + Drop, J: Job, K: Drop> JobPool<T, J, K> {
         ensures err { without id.now (pending_jobs self.new)
             ≡ without id.now (pending_jobs self.old) }
     {
-        let token = self.tokens.of_pool(self.alloc)?;
-        let theirs = token.share()?;
-        let asker = self.replies.asker(&token)?;
-        let (ticket, job_sender) = self.table.enter(id.clone()?, job, kept, token)?;
-        let queued = QueuedJob {
-            job_sender,
-            token: theirs,
-            asker,
+        let Ok((same, token, theirs, asker)) = self.parts_for(id) else {
+            drop(kept);
+            drop(job);
+            return Err(AllocError);
         };
-        self.waiting.add(&self.rt, ticket, queued)
+        match self.table.enter(same, job, kept, token) {
+            Ok((ticket, job_sender)) => {
+                let queued = QueuedJob {
+                    job_sender,
+                    token: theirs,
+                    asker,
+                };
+                self.waiting.add(&self.rt, ticket, queued)
+            }
+            Err(_) => {
+                drop(asker);
+                drop(theirs);
+                Err(AllocError)
+            }
+        }
+    }
+
+    /// What goes with a job: the id of its request, its token twice, and what it needs to ask the client.
+    fn parts_for(
+        &self,
+        id: &RequestId,
+    ) -> Result<(RequestId, CancellationToken, CancellationToken, Asker), AllocError>
+        ensures { IfOk result (λ parts. parts.0 ≡ id.now) }
+    {
+        let token = self.tokens.of_pool(self.alloc)?;
+        let Ok(theirs) = token.share() else {
+            drop(token);
+            return Err(AllocError);
+        };
+        let Ok(asker) = self.replies.asker(&token) else {
+            drop(theirs);
+            drop(token);
+            return Err(AllocError);
+        };
+        let Ok(same) = id.clone() else {
+            drop(asker);
+            drop(theirs);
+            drop(token);
+            return Err(AllocError);
+        };
+        Ok((same, token, theirs, asker))
     }
 
     /// Whether the request with this id waits for its job.
@@ -295,11 +382,16 @@ impl<T: Wait + Drop, J: Job, K: Drop> JobPool<T, J, K> {
         ensures err { IfErr result (λ id. pending_jobs self.new ≡ without id (pending_jobs self.old)) }
     {
         let Some(entry) = self.table.complete(&id) else {
+            drop(ran);
+            drop(id);
             return Ok(None);
         };
         match outcome_of(self.alloc, ran) {
-            Ok(outcome) => Ok(Some((id, JobMessage::Outcome(outcome, entry.kept)))),
-            Err(_) => Err(id),
+            Ok(outcome) => Ok(Some((id, JobMessage::Outcome(outcome, entry.into_kept())))),
+            Err(_) => {
+                drop(entry);
+                Err(id)
+            }
         }
     }
 }
@@ -310,6 +402,9 @@ fn outcome_of(alloc: Global, ran: Ran) -> Result<Result<Value, ResponseError>, A
 {
     match ran {
         Ok(outcome) => Ok(outcome),
-        Err(_) => Ok(Err(ResponseError::new(alloc, ErrorCode::InternalError, "out of memory")?)),
+        Err(_) => match ResponseError::new(alloc, ErrorCode::InternalError, "out of memory") {
+            Ok(error) => Ok(Err(error)),
+            Err(_) => Err(AllocError),
+        },
     }
 }

@@ -63,6 +63,7 @@ impl<T: Wait + Drop, S: Drop, J: Job, K: Drop> PooledServer<T, S, J, K> {
     {
         if let Some(id) = cancelled_id(notification)? {
             self.pool.forget(&id);
+            drop(id);
         }
         Ok(())
     }
@@ -97,14 +98,25 @@ where
             Ends S.JobServer.own id «key» (end_view «end») (seen self.old) (map act_view acts.items)
             (seen self.new)) }
     {
-        let mut acts = self.server.finished(&id, key, &end, self.alloc)?;
-        let outcome = reply_to(self.alloc, end)?;
+        let Ok(mut acts) = self.server.finished(&id, key, &end, self.alloc) else {
+            drop(end);
+            drop(id);
+            return Err(AllocError);
+        };
+        let Ok(outcome) = reply_to(self.alloc, end) else {
+            drop(acts);
+            drop(id);
+            return Err(AllocError);
+        };
         match acts.push(Act::Reply(id, outcome)) {
             Ok(()) => {
                 self.forget_answered(&acts);
                 Ok(acts)
             }
-            Err(_) => Err(AllocError),
+            Err(fault) => {
+                drop(fault);
+                Err(AllocError)
+            }
         }
     }
 
@@ -178,13 +190,25 @@ where
             (self.new.server, pending_jobs self.new.pool, map act_view acts.new.items)) }
     {
         let NewJob { id, job, key } = start;
-        match self.pool.submit(id.clone()?, job, key) {
-            Ok(()) => Ok(()),
+        let Ok(same) = id.clone() else {
+            drop(key);
+            drop(job);
+            drop(id);
+            return Err(AllocError);
+        };
+        match self.pool.submit(same, job, key) {
+            Ok(()) => {
+                drop(id);
+                Ok(())
+            }
             Err(SubmitFault::Full(key)) => {
                 let mut more = self.end_job(id, key, JobEnd::Refused)?;
                 acts.append(&mut more)
             }
-            Err(SubmitFault::Memory) => Err(AllocError),
+            Err(SubmitFault::Memory) => {
+                drop(id);
+                Err(AllocError)
+            }
         }
     }
 }
@@ -195,7 +219,10 @@ fn reply_to(alloc: Global, end: JobEnd) -> Result<Result<Value, ResponseError>, 
 {
     match end {
         JobEnd::Outcome(outcome) => Ok(outcome),
-        JobEnd::Refused => Ok(Err(refusal(alloc)?)),
+        JobEnd::Refused => match refusal(alloc) {
+            Ok(error) => Ok(Err(error)),
+            Err(_) => Err(AllocError),
+        },
     }
 }
 
@@ -232,7 +259,10 @@ fn push_by_server<P: Drop>(all: &mut Vec<Act<Asked<P>>>, act: Act<P>) -> Result<
 {
     match all.push(act_by_server(act)) {
         Ok(()) => Ok(()),
-        Err(_) => Err(AllocError),
+        Err(fault) => {
+            drop(fault);
+            Err(AllocError)
+        }
     }
 }
 
@@ -255,7 +285,10 @@ fn one_act<P: Drop>(alloc: Global, act: Act<P>) -> Result<Vec<Act<P>>, AllocErro
     let mut acts = Vec::new(alloc);
     match acts.push(act) {
         Ok(()) => Ok(acts),
-        Err(_) => Err(AllocError),
+        Err(fault) => {
+            drop(fault);
+            Err(AllocError)
+        }
     }
 }
 
@@ -292,12 +325,20 @@ where
 
     fn request(&mut self, request: Request) -> Result<Vec<Act<Asked<S::Payload>>>, AllocError> {
         self.pool.forget(&request.id);
-        let id = request.id.clone()?;
-        match self.server.job(request)? {
-            AnsweredBy::Job(job, key) => self.begin_job(NewJob { id, job, key }),
-            AnsweredBy::Server(request) => {
+        let Ok(id) = request.id.clone() else {
+            drop(request);
+            return Err(AllocError);
+        };
+        match self.server.job(request) {
+            Ok(AnsweredBy::Job(job, key)) => self.begin_job(NewJob { id, job, key }),
+            Ok(AnsweredBy::Server(request)) => {
+                drop(id);
                 let acts = self.server.request(request)?;
                 self.acts_with_jobs(acts)
+            }
+            Err(_) => {
+                drop(id);
+                Err(AllocError)
             }
         }
     }
@@ -306,7 +347,10 @@ where
         &mut self,
         notification: Notification,
     ) -> Result<Vec<Act<Asked<S::Payload>>>, AllocError> {
-        self.forget_cancelled(&notification)?;
+        if self.forget_cancelled(&notification).is_err() {
+            drop(notification);
+            return Err(AllocError);
+        }
         let acts = self.server.notification(notification)?;
         self.acts_with_jobs(acts)
     }
@@ -350,16 +394,21 @@ where
     ghost wakes = { (seen_with_jobs T S.Server S.JobServer.own J.Job).wakes };
 
     fn woken(&mut self, alloc: Global) -> Result<Vec<Act<Asked<S::Payload>>>, AllocError> {
-        let Ok(found) = self.pool.take_message() else {
-            return Err(AllocError);
+        let (id, message) = match self.pool.take_message() {
+            Ok(Some(said)) => said,
+            Ok(None) => return Ok(Vec::new(alloc)),
+            Err(id) => {
+                drop(id);
+                return Err(AllocError);
+            }
         };
-        let Some(said) = found else {
-            return Ok(Vec::new(alloc));
-        };
-        let (id, message) = said;
         match message {
-            JobMessage::Report(notification) => one_act(alloc, Act::Tell(notification)),
+            JobMessage::Report(notification) => {
+                drop(id);
+                one_act(alloc, Act::Tell(notification))
+            }
             JobMessage::Ask(method, params, number) => {
+                drop(id);
                 one_act(alloc, Act::Ask(method, params, Asked::ByJob(number)))
             }
             JobMessage::Outcome(outcome, key) => {

@@ -7,7 +7,7 @@ ghost use Rattle.lsp_message.specs.View.{notification_view};
 ghost use Rattle.lsp_jobs.specs.Progress.{create_method, create_params, progress_method, progress_params};
 
 use crate::job::Progress;
-use lsp_message::Notification;
+use lsp_message::{Notification, ResponseError};
 use serde_json::{Value, json, put};
 use std::alloc::{AllocError, Global};
 use std::marker::Model;
@@ -57,12 +57,18 @@ impl WorkDone {
         requires { P.may_ask create_method (create_params (view token)) }
         ensures { IfOk result (λ work. IfSome work (λ given. view given ≡ view token)) }
     {
-        let (method, params) = creation_of(alloc, &token)?;
-        let token = match progress.ask(method, params)? {
-            Some(Ok(_)) => Some(token),
-            _ => None,
+        let Ok(replied) = ask_to_create(alloc, progress, &token) else {
+            drop(token);
+            return Err(AllocError);
         };
-        Ok(WorkDone { alloc, token })
+        let is_agreed = matches!(&replied, Some(Ok(_)));
+        drop(replied);
+        if is_agreed {
+            let token = Some(token);
+            return Ok(WorkDone { alloc, token });
+        }
+        drop(token);
+        Ok(WorkDone { alloc, token: None })
     }
 
     /// Begins, with a title. `percentage` is from 0 to 100; without it here, leave it out in reports too. It waits while there is no room
@@ -78,7 +84,10 @@ impl WorkDone {
             → P.may progress_method (progress_params token value)) }
     {
         let mut value = json!(in self.alloc; { "kind": "begin", "title": title })?;
-        put_both(self.alloc, &mut value, message, percentage)?;
+        if put_both(self.alloc, &mut value, message, percentage).is_err() {
+            drop(value);
+            return Err(AllocError);
+        }
         send(self.alloc, &self.token, progress, value)
     }
 
@@ -94,7 +103,10 @@ impl WorkDone {
             → P.may progress_method (progress_params token value)) }
     {
         let mut value = json!(in self.alloc; { "kind": "report" })?;
-        put_both(self.alloc, &mut value, message, percentage)?;
+        if put_both(self.alloc, &mut value, message, percentage).is_err() {
+            drop(value);
+            return Err(AllocError);
+        }
         if let Some(report) = notification_of(self.alloc, &self.token, value)? {
             progress.report(report);
         }
@@ -107,9 +119,9 @@ impl WorkDone {
         requires { IfSome (option_map view «self») (λ token. (value : Data)
             → P.may progress_method (progress_params token value)) }
     {
-        let mut value = json!(in self.alloc; { "kind": "end" })?;
-        put_both(self.alloc, &mut value, message, None)?;
-        send(self.alloc, &self.token, progress, value)
+        let ended = send_end(self.alloc, &self.token, progress, message);
+        drop(self);
+        ended
     }
 }
 
@@ -208,13 +220,46 @@ fn send<P: Progress>(
     Ok(())
 }
 
+/// Sends the end for whoever gave the token, if there is one.
+fn send_end<P: Progress>(
+    alloc: Global,
+    token: &Option<Value>,
+    progress: &mut P,
+    message: Option<&str>,
+) -> Result<(), AllocError>
+    requires { IfSome (option_map view token.now) (λ token. (value : Data)
+        → P.may progress_method (progress_params token value)) }
+{
+    let mut value = json!(in alloc; { "kind": "end" })?;
+    if put_both(alloc, &mut value, message, None).is_err() {
+        drop(value);
+        return Err(AllocError);
+    }
+    send(alloc, token, progress, value)
+}
+
+/// Asks the client to create progress under this token, and waits for the reply.
+fn ask_to_create<P: Progress>(
+    alloc: Global,
+    progress: &mut P,
+    token: &Value,
+) -> Result<Option<Result<Value, ResponseError>>, AllocError>
+    requires { P.may_ask create_method (create_params (view token.now)) }
+{
+    let (method, params) = creation_of(alloc, token)?;
+    progress.ask(method, params)
+}
+
 /// The method and the params of the request that creates progress under this token.
 fn creation_of(alloc: Global, token: &Value) -> Result<(String, Value), AllocError>
     ensures { IfOk result (λ asked. (string_bytes asked.0 ≡ create_method)
         × (view asked.1 ≡ create_params (view token.now))) }
 {
     let token = token.clone()?;
-    let method = String::from_str(alloc, "window/workDoneProgress/create")?;
+    let Ok(method) = String::from_str(alloc, "window/workDoneProgress/create") else {
+        drop(token);
+        return Err(AllocError);
+    };
     Ok((method, json!(in alloc; { "token": token })?))
 }
 
@@ -229,11 +274,18 @@ fn notification_of(
         notification progress_method (progress_params (view given) (view value))) token.now) }
 {
     let Some(token) = token else {
+        drop(value);
         return Ok(None);
     };
-    let token = token.clone()?;
-    Ok(Some(Notification {
-        method: String::from_str(alloc, "$/progress")?,
-        params: json!(in alloc; { "token": token, "value": value })?,
-    }))
+    let Ok(token) = token.clone() else {
+        drop(value);
+        return Err(AllocError);
+    };
+    let Ok(method) = String::from_str(alloc, "$/progress") else {
+        drop(token);
+        drop(value);
+        return Err(AllocError);
+    };
+    let params = json!(in alloc; { "token": token, "value": value })?;
+    Ok(Some(Notification { method, params }))
 }

@@ -59,14 +59,23 @@ where
         bad_bodies.old bad_bodies.new (W.contents writer) (W.contents done.writer) done.answer)) }
 {
     let Ok((mut tx, rx)) = relay::<Contents>(alloc, ROOM) else {
+        drop(options);
         return (server, Err(StartFault::Memory));
     };
     let Ok(waker) = tx.waker() else {
+        drop(rx);
+        drop(tx);
+        drop(options);
         return (server, Err(StartFault::Memory));
     };
     let pool = match start_pool(rt, alloc, size, Notifier::Wakes(waker)) {
         Ok(pool) => pool,
-        Err(fault) => return (server, Err(fault)),
+        Err(fault) => {
+            drop(rx);
+            drop(tx);
+            drop(options);
+            return (server, Err(fault));
+        }
     };
     let pooled = PooledServer::new(alloc, server, pool);
     let mut queued = WokenQueuedServer::new(alloc, pooled);

@@ -14,6 +14,7 @@ use crate::channel::{
     channel_of_items, sender_for,
 };
 use crate::job::{Job, Ran};
+use crate::unread::Unread;
 use lsp_message::RequestId;
 use lsp_queue::{Incoming, ReqQueue};
 use std::alloc::{AllocError, Global};
@@ -55,6 +56,17 @@ pub(crate) struct JobTable<J: Job, K: Drop> {
         × HaveTickets (all_jobs (knows pass)) jobs },
 }
 
+impl<J: Job, K: Drop> Entry<J, K> {
+    /// What the caller keeps. The job's token is cancelled.
+    pub fn into_kept(self) -> K
+        ensures { result ≡ self.kept }
+    {
+        let Entry { wanted, kept, .. } = self;
+        drop(wanted);
+        kept
+    }
+}
+
 impl<J: Job, K: Drop> JobTable<J, K> {
     /// No request waits. The error means that an allocation failed.
     pub fn new(alloc: Global) -> Result<JobTable<J, K>, AllocError>
@@ -62,12 +74,14 @@ impl<J: Job, K: Drop> JobTable<J, K> {
     {
         let (sender, receiver, pass) = channel_of_items::<J, Ran>(alloc)?;
         let queue: ReqQueue<Entry<J, K>, ()> = ReqQueue::default(alloc);
+        let ReqQueue { incoming, outgoing } = queue;
+        drop(outgoing);
         Ok(JobTable {
             sender,
             receiver,
             pass,
             next: 0,
-            jobs: queue.incoming,
+            jobs: incoming,
         })
     }
 
@@ -84,22 +98,33 @@ impl<J: Job, K: Drop> JobTable<J, K> {
         ensures err { OnErr result (pending_of self.new.jobs ≡ pending_of self.old.jobs) }
     {
         let ticket = self.next;
-        let Some(next) = ticket.checked_add(1) else {
+        let Ok((next, same, unread)) = entry_parts(ticket, &id, &token) else {
+            drop(token);
+            drop(kept);
+            drop(job);
+            drop(id);
             return Err(AllocError);
         };
-        let same = id.clone()?;
-        let unread = token.unread()?;
         let entry = Entry {
             job: Snapshot::of(&job),
             ticket,
             wanted: Wanted { token },
             kept,
         };
-        let job_sender = sender_for(&self.sender, &mut self.pass, ticket, same, job, unread)?;
+        let sending = sender_for(&self.sender, &mut self.pass, ticket, same, job, unread);
+        let Ok(job_sender) = sending else {
+            drop(entry);
+            drop(id);
+            return Err(AllocError);
+        };
         self.next = next;
         match self.jobs.register(id, entry) {
             Ok(()) => Ok((ticket, job_sender)),
-            Err(_) => Err(AllocError),
+            Err(fault) => {
+                drop(job_sender);
+                drop(fault);
+                Err(AllocError)
+            }
         }
     }
 
@@ -155,7 +180,30 @@ impl<J: Job, K: Drop> JobTable<J, K> {
             if self.is_awaited(&item) {
                 return Some((item.id, item.message));
             }
+            drop(item);
         }
         unreachable!()
+    }
+}
+
+/// What an entry needs: the ticket after this one, a copy of the id, and the count of the job's messages. The error means that there is
+/// no such ticket, or an allocation failed.
+fn entry_parts(
+    ticket: u64,
+    id: &RequestId,
+    token: &CancellationToken,
+) -> Result<(u64, RequestId, Unread), AllocError>
+    ensures { IfOk result (λ parts. (parts.0 ≡ ticket + 1) × (parts.1 ≡ id.now)) }
+{
+    let Some(next) = ticket.checked_add(1) else {
+        return Err(AllocError);
+    };
+    let same = id.clone()?;
+    match token.unread() {
+        Ok(unread) => Ok((next, same, unread)),
+        Err(_) => {
+            drop(same);
+            Err(AllocError)
+        }
     }
 }

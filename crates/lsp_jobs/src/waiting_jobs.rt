@@ -57,7 +57,9 @@ impl<E: Drop> WaitingJobs<E> {
     /// Adds a job behind all others, whose tickets are smaller. After a failed allocation it is dropped, but if a worker took it.
     pub fn add<T: Wait>(&self, rt: &T, ticket: u64, job: E) -> Result<(), AllocError> {
         let mut jobs = self.jobs.lock(rt);
-        let is_added = jobs.insert(ticket, job).is_ok();
+        let added = jobs.insert(ticket, job);
+        let is_added = added.is_ok();
+        drop(added);
         drop(jobs);
         if is_added && self.signals.send(rt, ()).is_ok() {
             return Ok(());

@@ -38,7 +38,9 @@ impl<J: AnyJob<R>, R: Drop> Work for QueuedJob<J, R> {
             token,
             asker,
         } = self;
-        job_sender.perform(rt, &token, asker, notifier)
+        let notifier = job_sender.perform(rt, &token, asker, notifier);
+        drop(token);
+        notifier
     }
 }
 
@@ -74,12 +76,16 @@ where
         return Err(StartFault::Memory);
     };
     let Ok(notifier) = notifier.another() else {
+        drop(jobs);
         return Err(StartFault::Memory);
     };
     let theirs = *rt;
     match spawn(rt, move || run_queued(theirs, jobs, notifier)) {
         Ok(handle) => Ok(handle),
-        Err(_) => Err(StartFault::Thread),
+        Err(fault) => {
+            drop(fault);
+            Err(StartFault::Thread)
+        }
     }
 }
 
@@ -97,12 +103,31 @@ where
     E: Work + Send + 'static,
     M: Drop + Send + 'static,
 {
+    let started = start_each::<T, E, M>(rt, count, &jobs, notifier, workers);
+    drop(jobs);
+    started
+}
+
+/// Starts this many workers.
+fn start_each<T, E, M>(
+    rt: &T,
+    count: usize,
+    jobs: &JobSource<E>,
+    notifier: &mut Notifier<M>,
+    workers: &mut Vec<JoinHandle<()>>,
+) -> Result<(), StartFault>
+where
+    T: Threads + Wait + Copy + Drop + Send + 'static,
+    E: Work + Send + 'static,
+    M: Drop + Send + 'static,
+{
     if workers.try_reserve(count).is_err() {
         return Err(StartFault::Memory);
     }
     for _ in 0..count {
-        let worker = start_worker(rt, &jobs, notifier)?;
-        if workers.push(worker).is_err() {
+        let worker = start_worker(rt, jobs, notifier)?;
+        if let Err(fault) = workers.push(worker) {
+            drop(fault);
             return Err(StartFault::Memory);
         }
     }
