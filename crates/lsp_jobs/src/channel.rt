@@ -412,7 +412,9 @@ impl<W: Reportable, J: AnyJob<R>, R: Drop> Reports<W, J, R> {
             id,
             message: WorkerMessage::Report(notification),
         };
-        let sent = self.sender.try_send_as::<Further, T>(rt, &mut self.pass, item);
+        let sent = self
+            .sender
+            .try_send_as::<Further, T>(rt, &mut self.pass, item);
         let is_sent = sent.is_ok();
         drop(sent);
         is_sent

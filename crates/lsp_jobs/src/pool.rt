@@ -387,7 +387,7 @@ impl<T: Wait + Drop, J: Job, K: Drop> JobPool<T, J, K> {
             return Ok(None);
         };
         match outcome_of(self.alloc, ran) {
-            Ok(outcome) => Ok(Some((id, JobMessage::Outcome(outcome, entry.into_kept())))),
+            Ok(outcome) => Ok(Some((id, JobMessage::Outcome(outcome, entry.kept)))),
             Err(_) => {
                 drop(entry);
                 Err(id)

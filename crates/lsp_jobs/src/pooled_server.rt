@@ -347,10 +347,10 @@ where
         &mut self,
         notification: Notification,
     ) -> Result<Vec<Act<Asked<S::Payload>>>, AllocError> {
-        if self.forget_cancelled(&notification).is_err() {
+        let Ok(()) = self.forget_cancelled(&notification) else {
             drop(notification);
             return Err(AllocError);
-        }
+        };
         let acts = self.server.notification(notification)?;
         self.acts_with_jobs(acts)
     }
@@ -394,14 +394,17 @@ where
     ghost wakes = { (seen_with_jobs T S.Server S.JobServer.own J.Job).wakes };
 
     fn woken(&mut self, alloc: Global) -> Result<Vec<Act<Asked<S::Payload>>>, AllocError> {
-        let (id, message) = match self.pool.take_message() {
-            Ok(Some(said)) => said,
-            Ok(None) => return Ok(Vec::new(alloc)),
+        let found = match self.pool.take_message() {
+            Ok(found) => found,
             Err(id) => {
                 drop(id);
                 return Err(AllocError);
             }
         };
+        let Some(said) = found else {
+            return Ok(Vec::new(alloc));
+        };
+        let (id, message) = said;
         match message {
             JobMessage::Report(notification) => {
                 drop(id);

@@ -1,7 +1,7 @@
 // The requests that wait for their jobs, and the end of the channel at which what jobs say is taken.
 ghost use Rattle.std.specs.FinMap as map;
 ghost use Rattle.std.specs.Option.{is_some};
-ghost use Rattle.std.specs.Prelude.{◌≡◌, Some, length, IfOk, IfSome, IsTrue, OnErr, OnOk};
+ghost use Rattle.std.specs.Prelude.{◌≡◌, ◌+◌, Some, length, IfOk, IfSome, IsTrue, OnErr, OnOk};
 ghost use Rattle.crossbeam_channel.specs.Claims.{IsSeatAt, view as knows};
 ghost use Rattle.crossbeam_channel.specs.Ends.{receives_on, sends_on};
 ghost use Rattle.lsp_jobs.specs.Outcomes.{KnowsAll, IsSaidBy, all_jobs};
@@ -56,17 +56,6 @@ pub(crate) struct JobTable<J: Job, K: Drop> {
         × HaveTickets (all_jobs (knows pass)) jobs },
 }
 
-impl<J: Job, K: Drop> Entry<J, K> {
-    /// What the caller keeps. The job's token is cancelled.
-    pub fn into_kept(self) -> K
-        ensures { result ≡ self.kept }
-    {
-        let Entry { wanted, kept, .. } = self;
-        drop(wanted);
-        kept
-    }
-}
-
 impl<J: Job, K: Drop> JobTable<J, K> {
     /// No request waits. The error means that an allocation failed.
     pub fn new(alloc: Global) -> Result<JobTable<J, K>, AllocError>
@@ -111,11 +100,13 @@ impl<J: Job, K: Drop> JobTable<J, K> {
             wanted: Wanted { token },
             kept,
         };
-        let sending = sender_for(&self.sender, &mut self.pass, ticket, same, job, unread);
-        let Ok(job_sender) = sending else {
-            drop(entry);
-            drop(id);
-            return Err(AllocError);
+        let job_sender = match sender_for(&self.sender, &mut self.pass, ticket, same, job, unread) {
+            Ok(job_sender) => job_sender,
+            Err(_) => {
+                drop(entry);
+                drop(id);
+                return Err(AllocError);
+            }
         };
         self.next = next;
         match self.jobs.register(id, entry) {

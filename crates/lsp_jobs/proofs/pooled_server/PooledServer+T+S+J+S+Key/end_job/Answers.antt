@@ -8,15 +8,15 @@ use Rattle.lsp_jobs.specs.Pooled.{unanswered}
 use Rattle.lsp_jobs.specs.PendingJobs.{PendingJobs}
 use Rattle.lsp_jobs.proofs.pooled_server.«PooledServer+T+S+J+S+Key».end_job.Goals as goal
 
-pub returns-in-Ok : goal.returns-in-Ok
-returns-in-Ok g c =
+pub returns-in-Ok-push : goal.returns-in-Ok-push
+returns-in-Ok-push g c =
     let forgot = c.forget_answered.ensures in
     let server = ap (λ (x : _ × PendingJobs _). x.0) forgot in
-    let first = map (act_view {P = g.row.S-Payload.Denot}) c.in_ok-acts.acts.items in (
+    let first = map (act_view {P = g.row.S-Payload.Denot}) c.in-Ok.acts.items in (
       first,
-      subst (λ s. g.S.JobServer.finishes c.args.self.now.server c.args.id c.args.key (end_view c.args.end) first s) (sym server) c.in_ok-acts.ensures,
-      ap (λ l. map (act_view {P = g.row.S-Payload.Denot}) l) c.in-Ok.ensures.items
-          ∙ map-append (act_view {P = g.row.S-Payload.Denot}) c.in_ok-acts.acts.items (Reply c.args.id c.in_ok-outcome.outcome ∷ [])
-          ∙ ap (λ o. first ++ replies c.args.id o ∷ []) c.in_ok-outcome.ensures,
+      subst (λ s. g.S.JobServer.finishes c.args.self.now.server c.args.id c.args.key (end_view c.args.end) first s) (sym server) c.in-Ok.ensures,
+      ap (λ l. map (act_view {P = g.row.S-Payload.Denot}) l) c.in-Ok-push.ensures.items
+          ∙ map-append (act_view {P = g.row.S-Payload.Denot}) c.in-Ok.acts.items (Reply c.args.id c.in-Ok-reply_to.outcome ∷ [])
+          ∙ ap (λ o. first ++ replies c.args.id o ∷ []) c.in-Ok-reply_to.ensures,
       ap (λ (x : _ × PendingJobs _). x.1) forgot ∙ ap (λ l. unanswered (map (act_view {P = g.row.S-Payload.Denot}) l) (pending_jobs c.args.self.now.pool)) c.deref.ensures.value,
     )

@@ -13,7 +13,7 @@ returns-in_ok-more-in-Err-Full g c =
     let before = pending_jobs c.args.self.now.pool in
     let more = map (act_view {P = g.row.S-Payload.Denot}) c.in_ok-more-in-Err-Full.more.items in
     let key : c.in-Err-Full.key ≡ c.args.start.key = (rw c.in-Err-Full.field-0-is at c.in-Err-Full.ensures.back) in
-    let pending = c.in-Err-Full.ensures.err ∙ ap (λ i. without i before) c.in_ok-clone.ensures in
+    let pending = c.in-Err-Full.ensures.err ∙ ap (λ i. without i before) c.in-Ok.ensures in
     let ends = subst (λ (x : g.row.S-Key.Denot × PendingJobs (g.row.J.Denot × g.row.S-Key.Denot)).
     Ends g.S.JobServer c.args.start.id x.0 no_room (c.args.self.now.server, x.1) more (c.end_job.new.self.server, pending_jobs c.end_job.new.self.pool))
     (λ k. (key k, pending k)) c.in_ok-more-in-Err-Full.ensures in

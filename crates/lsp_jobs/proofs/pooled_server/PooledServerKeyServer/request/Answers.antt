@@ -9,29 +9,29 @@ use Rattle.lsp_jobs.specs.Pooled.{BeginsJob, StartsJobs}
 use Rattle.lsp_jobs.specs.Seen.{seen}
 use Rattle.lsp_jobs.proofs.pooled_server.PooledServerKeyServer.request.Goals as goal
 
-pub returns-in-Job : goal.returns-in-Job
-returns-in-Job g c =
-    let given = (rw c.in-Job.is at c.in_ok-job.ensures) in
+pub returns-in-Ok-Job : goal.returns-in-Ok-Job
+returns-in-Ok-Job g c =
+    let given = (rw (c.in-Ok-Job.is, c.in-Ok-Job.field-0-is) at c.job.ensures) in
     IfOk-weaker c.begin_job.result _ _ (λ all begins. (
       begins.0,
       begins.1,
       inl (record {
-        job = c.in-Job.job;
-        key = c.in-Job.key;
+        job = c.in-Ok-Job.job;
+        key = c.in-Ok-Job.key;
         mid = c.job.new.self;
         is_for = given.0;
         gives = given.1;
         begins = subst (λ (x : Id × PendingJobs (g.row.J.Denot × g.row.S-Key.Denot)).
-            BeginsJob g.S.JobServer (c.job.new.self, x.1) (x.0, c.in-Job.job, c.in-Job.key) begins.0 (seen c.begin_job.new.self))
-            (λ k. (c.in_ok-id.ensures k, c.forget.ensures k)) begins.2;
+            BeginsJob g.S.JobServer (c.job.new.self, x.1) (x.0, c.in-Ok-Job.job, c.in-Ok-Job.key) begins.0 (seen c.begin_job.new.self))
+            (λ k. (c.in-Ok.ensures k, c.forget.ensures k)) begins.2;
       }),
     )) c.begin_job.ensures
 
-pub returns-in_ok-acts-in-Server : goal.returns-in_ok-acts-in-Server
-returns-in_ok-acts-in-Server g c =
-    let back = (rw c.in-Server.is at c.in_ok-job.ensures) in
-    let acts = map (act_view {P = g.row.S-Payload.Denot}) c.in_ok-acts-in-Server.acts.items in
-    let did = c.request-in-Server.new.self in
+pub returns-in_ok-acts-in-Ok-Server : goal.returns-in_ok-acts-in-Ok-Server
+returns-in_ok-acts-in-Ok-Server g c =
+    let back = (rw (c.in-Ok-Server.is, c.in-Ok-Server.field-0-is) at c.job.ensures) in
+    let acts = map (act_view {P = g.row.S-Payload.Denot}) c.in_ok-acts-in-Ok-Server.acts.items in
+    let did = c.request-in-Ok-Server.new.self in
     IfOk-weaker c.acts_with_jobs.result _ _ (λ all others. (
       others.0,
       others.1,
@@ -39,7 +39,7 @@ returns-in_ok-acts-in-Server g c =
         acts,
         did,
         subst (λ (x : Request × g.row.S.Denot). g.S.Server.requested x.1 x.0.id (string_bytes x.0.method) (view x.0.params) acts did) (λ k. (back.0 k, back.1 k))
-            c.in_ok-acts-in-Server.ensures,
+            c.in_ok-acts-in-Ok-Server.ensures,
         subst (λ t. StartsJobs g.S.JobServer (did, t) acts others.0 (seen c.acts_with_jobs.new.self)) c.forget.ensures others.2,
       ),
     )) c.acts_with_jobs.ensures

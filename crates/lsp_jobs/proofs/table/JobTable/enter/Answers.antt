@@ -12,7 +12,7 @@ pub invariant_of-self : goal.invariant_of-self
 invariant_of-self g c =
     let known = c.args.self.now.known in
     let seat = c.sender_for.ensures.seat.0 in
-    let same : knows c.sender_for.new.pass ≡ knows c.args.self.now.pass = c.in_err-job_sender.ensures.err in
+    let same : knows c.sender_for.new.pass ≡ knows c.args.self.now.pass = c.in-Err.ensures.err in
     record {
       known = (
         seat,
@@ -28,17 +28,17 @@ invariant_of-self-2 g c =
     let known = c.args.self.now.known in
     let seat = c.sender_for.ensures.seat.0 in
     let jobs = all_jobs (knows c.args.self.now.pass) in
-    let grown = c.in_ok-job_sender.ensures.ok in
+    let grown = c.in-Ok-sender_for.ensures.ok in
     record {
       known = (
         seat,
         (seat.0 ∙ sym known.0.0 ∙ known.1.0, seat.1 ∙ sym known.0.1 ∙ known.1.1, seat.2, known.1.3),
         (known_all _ _ grown).0,
-        one_longer _ jobs c.args.job c.args.self.now.next grown known.3 ∙ sym c.in-Some.ensures.1,
+        one_longer _ jobs c.args.job c.args.self.now.next grown known.3 ∙ sym c.in-Ok.ensures.0,
         registered jobs c.args.job _ c.args.self.now.jobs c.register.new.self c.args.id _ c.register.result grown (sym known.3) c.of.ensures c.register.ensures.ok c.register.ensures.err known.4,
       );
     }
 
-pub returns-in-Ok-clause-ok : goal.returns-in-Ok-clause-ok
-returns-in-Ok-clause-ok g c =
-    pending_insert job_of _ _ c.args.id _ c.in-Ok.ensures.ok ∙ ap (λ job. with_job c.args.id (job, c.args.kept) (pending_of c.args.self.now.jobs)) c.of.ensures
+pub returns-in-Ok-register-clause-ok : goal.returns-in-Ok-register-clause-ok
+returns-in-Ok-register-clause-ok g c =
+    pending_insert job_of _ _ c.args.id _ c.in-Ok-register.ensures.ok ∙ ap (λ job. with_job c.args.id (job, c.args.kept) (pending_of c.args.self.now.jobs)) c.of.ensures
