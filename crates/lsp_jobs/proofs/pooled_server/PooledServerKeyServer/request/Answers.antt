@@ -31,7 +31,7 @@ pub returns-in_ok-acts-in-Ok-Server : goal.returns-in_ok-acts-in-Ok-Server
 returns-in_ok-acts-in-Ok-Server g c =
     let back = (rw (c.in-Ok-Server.is, c.in-Ok-Server.field-0-is) at c.job.ensures) in
     let acts = map (act_view {P = g.row.S-Payload.Denot}) c.in_ok-acts-in-Ok-Server.acts.items in
-    let did = c.request-in-Ok-Server.new.self in
+    let did = c.request.new.self in
     IfOk-weaker c.acts_with_jobs.result _ _ (λ all others. (
       others.0,
       others.1,
