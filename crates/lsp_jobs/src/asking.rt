@@ -72,10 +72,7 @@ impl Replies {
         };
         match Arc::new(alloc, Mutex::new(none)) {
             Ok(waiters) => Ok(Replies { alloc, waiters }),
-            Err(fault) => {
-                drop(fault);
-                Err(AllocError)
-            }
+            Err(_) => Err(AllocError),
         }
     }
 
@@ -128,35 +125,16 @@ impl Asker {
     /// The token is looked at under the lock. So whoever cancels it and then calls `let_cancelled_go` finds the job, or the job sees that.
     pub fn begin<T: Wait>(&self, rt: &T) -> Result<Option<(u64, Receiver<Reply>)>, AllocError> {
         let (sender, receiver) = bounded(self.replies.alloc, 1)?;
-        match self.wait_with(rt, sender) {
-            Ok(Some(number)) => Ok(Some((number, receiver))),
-            Ok(None) => {
-                drop(receiver);
-                Ok(None)
-            }
-            Err(_) => {
-                drop(receiver);
-                Err(AllocError)
-            }
-        }
-    }
-
-    /// Adds the job to those that wait, with its end of the channel, unless its token is cancelled.
-    fn wait_with<T: Wait>(&self, rt: &T, reply: Sender<Reply>) -> Result<Option<u64>, AllocError> {
-        let Ok(token) = self.token.share() else {
-            drop(reply);
-            return Err(AllocError);
+        let waiter = Waiter {
+            token: self.token.share()?,
+            reply: sender,
         };
-        let waiter = Waiter { token, reply };
         let mut waiters = self.replies.waiters.lock(rt);
         if self.token.is_cancelled() {
-            drop(waiters);
-            drop(waiter);
             return Ok(None);
         }
-        let added = waiters.add(waiter);
-        drop(waiters);
-        Ok(Some(added?))
+        let number = waiters.add(waiter)?;
+        Ok(Some((number, receiver)))
     }
 
     /// The request was not sent: the job waits no more.

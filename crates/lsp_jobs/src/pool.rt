@@ -131,7 +131,6 @@ where
         join_all(&rt, workers);
         drop(replies);
         drop(tokens);
-        drop(rt);
     }
 }
 

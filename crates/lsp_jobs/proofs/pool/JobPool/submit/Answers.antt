@@ -10,6 +10,6 @@ returns-in-Ok-clause-ok g c =
     let job : g.row.J.Denot × g.row.K.Denot = (c.args.job, c.args.kept) in
     c.in-Ok.ensures.ok ∙ ap (λ (p : PendingJobs _). with_job c.args.id job p) c.forget.ensures ∙ with_again before c.args.id job
 
-pub returns-in-Err-clause-err : goal.returns-clause-err
+pub returns-in-Err-clause-err : goal.returns-in-Err-clause-err
 returns-in-Err-clause-err g c =
     c.forget-in-Err.ensures ∙ c.in-Err.ensures.err ∙ ap (λ (p : PendingJobs _). without c.args.id p) c.forget.ensures ∙ without_again (pending_jobs c.args.self.now) c.args.id
