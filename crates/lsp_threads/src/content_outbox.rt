@@ -146,6 +146,7 @@ impl<R: Wait + Drop> ContentOutbox<R> {
         wait_for_room(&rt, &mut unread, &pending);
         deliver_contents(&rt, &mut tx, pending);
         deliver(&rt, &mut tx, Parcel::End);
+        drop(unread);
         tx
     }
 }

@@ -76,7 +76,9 @@ fn look_at(alloc: Global, content: &[u8]) -> Result<Seen, ReadFault>
     }
     match Message::from_content(alloc, content) {
         Ok(message) => {
-            if is_exit(&message) {
+            let is_last = is_exit(&message);
+            drop(message);
+            if is_last {
                 return Ok(Seen::Exit);
             }
             Ok(Seen::Message)
@@ -111,6 +113,8 @@ impl ReadsInto for Vec<Vec<u8>> {
         let mut reader = PeekingReader::new(reader);
         let mut outbox = ContentOutbox::new(rt, alloc, tx, unread);
         let end = read_contents(alloc, &mut reader, &mut outbox, limit);
-        (outbox.finish(), end)
+        let tx = outbox.finish();
+        drop(reader);
+        (tx, end)
     }
 }

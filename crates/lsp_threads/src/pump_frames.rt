@@ -33,7 +33,9 @@ fn read_frames<R: Wait + Drop, S: BufRead>(
             Err(fault) => return ReadEnd::Fault(fault),
         };
         let is_last = is_exit(&message);
-        match outbox.add(&message) {
+        let added = outbox.add(&message);
+        drop(message);
+        match added {
             Ok(()) => {}
             Err(_) => return ReadEnd::Memory,
         }
@@ -66,6 +68,9 @@ impl ReadsInto for String {
         let mut reader = PeekingReader::new(reader);
         let mut outbox = FramingOutbox::new(rt, alloc, tx);
         let end = read_frames(alloc, &mut reader, &mut outbox, limit);
-        (outbox.finish(), end)
+        let tx = outbox.finish();
+        drop(reader);
+        drop(_unread);
+        (tx, end)
     }
 }

@@ -109,7 +109,10 @@ where
     };
     let reading = match start_reader::<String, T, R>(rt, builder, alloc, reader, limit, tx, None) {
         Ok(reading) => reading,
-        Err(fault) => return Err(PumpFault::Start(fault)),
+        Err(fault) => {
+            drop(rx);
+            return Err(PumpFault::Start(fault));
+        }
     };
     let (rx, unwritten) = write_texts(rt, alloc, rx, writer);
     let (tx, read) = reading.join(rt);

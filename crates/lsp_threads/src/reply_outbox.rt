@@ -98,7 +98,10 @@ fn framed(alloc: Global, message: Message) -> Result<String, Message>
     ensures err { IfErr result (λ back. back ≡ message) }
 {
     match message.to_frame(alloc) {
-        Ok(frame) => Ok(frame),
+        Ok(frame) => {
+            drop(message);
+            Ok(frame)
+        }
         Err(_) => Err(message),
     }
 }

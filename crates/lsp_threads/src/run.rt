@@ -116,7 +116,7 @@ where
     let mut service = HandlerService::new(alloc, &mut capabilities, handler);
     let mut options = ThreadOptions::new();
     options.limit = limit;
-    run_threads_of_service(
+    let done = run_threads_of_service(
         rt,
         alloc,
         reader,
@@ -124,7 +124,9 @@ where
         &mut service,
         &mut EndSession,
         options,
-    )
+    );
+    drop(capabilities);
+    done
 }
 
 /// Runs a session of a service (LSP 3.17, "Server lifecycle") with a thread that reads, a thread that writes and the

@@ -55,9 +55,19 @@ where
         × (workers.writing.promise.writer.value ≡ writer)) }
 {
     let Ok((replies, replies_rx)) = relay::<String>(alloc, ROOM) else {
+        drop(writer);
+        drop(reader);
+        drop(ends);
+        drop(options);
         return Err(StartFault::Memory);
     };
     let Ok((unread, takes)) = bounded_unread(alloc, options.unread) else {
+        drop(replies_rx);
+        drop(replies);
+        drop(writer);
+        drop(reader);
+        drop(ends);
+        drop(options);
         return Err(StartFault::Memory);
     };
     let (tx, rx) = ends;
@@ -69,7 +79,14 @@ where
         writer,
     ) {
         Ok(writing) => writing,
-        Err(fault) => return Err(fault),
+        Err(fault) => {
+            drop(rx);
+            drop(tx);
+            drop(takes);
+            drop(unread);
+            drop(replies);
+            return Err(fault);
+        }
     };
     let unread = Some(unread);
     let limit = options.limit;
@@ -83,6 +100,8 @@ where
         }),
         Err(fault) => {
             end_writing(rt, replies, writing);
+            drop(rx);
+            drop(takes);
             Err(fault)
         }
     }
@@ -98,7 +117,9 @@ fn end_writing<T: Threads + Wait, W: Write + Drop>(
 {
     let mut replies = replies;
     deliver(rt, &mut replies, Parcel::End);
-    let _ = writing.join(rt);
+    let ended = writing.join(rt);
+    drop(ended);
+    drop(replies);
 }
 
 /// The session between the two threads.

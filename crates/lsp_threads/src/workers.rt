@@ -155,7 +155,10 @@ where
         move || M::read_into(theirs, alloc, reader, limit, tx, unread),
     ) {
         Ok(handle) => Ok(handle),
-        Err(_) => Err(StartFault::Thread),
+        Err(fault) => {
+            drop(fault);
+            Err(StartFault::Thread)
+        }
     }
 }
 
@@ -182,7 +185,10 @@ where
     let theirs = *rt;
     match builder.spawn_with(rt, promise, move || M::write_out(theirs, alloc, rx, writer)) {
         Ok(handle) => Ok(handle),
-        Err(_) => Err(StartFault::Thread),
+        Err(fault) => {
+            drop(fault);
+            Err(StartFault::Thread)
+        }
     }
 }
 
