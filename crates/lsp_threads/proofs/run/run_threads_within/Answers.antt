@@ -13,10 +13,10 @@ returns g c =
     let answers = g.H.Handler.answers in
     let notes = g.H.Handler.notes in
     let old = c.new-service.result in
-    let new = c.run_threads_of_service.new.service in
+    let new = c.run_threads_of_service-done.new.service in
     started_as (SessionOut (lent_handler answers notes) old new) (SessionOut (of_handler answers notes (view c.args.capabilities)) c.args.handler.now _)
     (session_as answers notes (view c.args.capabilities) old new _ (λ names. c.handler-1.given.1 (sym c.new-service.ensures.same_handler ∙ sym names))
     c.args.handler.now c.new-service.ensures.unchanged (ap view c.new-service.ensures.capabilities)) false c.args.limit
     (λ (done : Threaded _). g.W.Write.contents done.writer) (λ (done : Threaded _). done.answer) _ _ _
     (started_untold false _ c.args.limit _ _ (λ first fault last told. told) _
-    (λ (done : Threaded _). g.W.Write.contents done.writer) (λ (done : Threaded _). done.answer) _ _ _ c.run_threads_of_service.ensures)
+    (λ (done : Threaded _). g.W.Write.contents done.writer) (λ (done : Threaded _). done.answer) _ _ _ c.run_threads_of_service-done.ensures)
