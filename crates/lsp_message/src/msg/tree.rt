@@ -23,7 +23,10 @@ fn text_of(value: Value) -> Option<String>
 {
     match value {
         Value::String(text) => Some(text),
-        _ => None,
+        other => {
+            drop(other);
+            None
+        }
     }
 }
 
@@ -33,7 +36,10 @@ fn id_of(value: Value) -> Option<RequestId>
     match value {
         Value::String(text) => Some(RequestId::from(text)),
         Value::Number(number) => whole_number(&number).map(RequestId::from),
-        _ => None,
+        other => {
+            drop(other);
+            None
+        }
     }
 }
 
@@ -52,9 +58,19 @@ fn take_member(members: &mut Map<String, Value>, name: &str) -> Option<Value>
 fn object_error(mut members: Map<String, Value>) -> Option<ResponseError>
     ensures { option_map error_view result ≡ as_error (object (members_view members.entries)) }
 {
-    let code = take_member(&mut members, "code").and_then(code_of)?;
-    let message = take_member(&mut members, "message").and_then(text_of)?;
-    let data = take_member(&mut members, "data").filter(|value| !value.is_null());
+    let error = error_among(&mut members);
+    drop(members);
+    error
+}
+
+// The error that these members are. They are taken out.
+fn error_among(members: &mut Map<String, Value>) -> Option<ResponseError>
+    ensures { option_map error_view result
+        ≡ as_error (object (members_view members.old.entries)) }
+{
+    let code = take_member(members, "code").and_then(code_of)?;
+    let message = take_member(members, "message").and_then(text_of)?;
+    let data = take_member(members, "data").filter(|value| !value.is_null());
     Some(ResponseError {
         code,
         message,
@@ -67,7 +83,10 @@ fn code_of(value: Value) -> Option<i32>
 {
     match value {
         Value::Number(number) => whole_number(&number),
-        _ => None,
+        other => {
+            drop(other);
+            None
+        }
     }
 }
 
@@ -95,7 +114,13 @@ fn by_position(items: Vec<Value>) -> Listed
         return Listed::Two(first, second);
     };
     match items.next() {
-        Some(_) => Listed::Other,
+        Some(fourth) => {
+            drop(fourth);
+            drop(third);
+            drop(second);
+            drop(first);
+            Listed::Other
+        }
         None => Listed::Three(first, second, third),
     }
 }
@@ -107,15 +132,24 @@ fn listed_error(items: Vec<Value>) -> Option<ResponseError>
     let (code, message, data) = match by_position(items) {
         Listed::Two(code, message) => (code, message, None),
         Listed::Three(code, message, data) => (code, message, Some(data)),
-        Listed::One(_) | Listed::Other => return None,
+        Listed::One(only) => {
+            drop(only);
+            return None;
+        }
+        Listed::Other => return None,
     };
-    let code = code_of(code)?;
-    let message = text_of(message)?;
-    Some(ResponseError {
-        code,
-        message,
-        data: data.filter(|value| !value.is_null()),
-    })
+    match (code_of(code), text_of(message)) {
+        (Some(code), Some(message)) => Some(ResponseError {
+            code,
+            message,
+            data: data.filter(|value| !value.is_null()),
+        }),
+        (_, message) => {
+            drop(message);
+            drop(data);
+            None
+        }
+    }
 }
 
 fn error_of(value: Value) -> Option<ResponseError>
@@ -124,7 +158,10 @@ fn error_of(value: Value) -> Option<ResponseError>
     match value {
         Value::Object(members) => object_error(members),
         Value::Array(items) => listed_error(items),
-        _ => None,
+        other => {
+            drop(other);
+            None
+        }
     }
 }
 
@@ -137,7 +174,11 @@ fn outcome_of(value: Option<Value>, error: Option<Value>) -> Option<Result<Value
         None | Some(Value::Null) => value.map(Ok),
         Some(error) => match value {
             None | Some(Value::Null) => error_of(error).map(Err),
-            Some(_) => None,
+            Some(value) => {
+                drop(value);
+                drop(error);
+                None
+            }
         },
     }
 }
@@ -145,20 +186,30 @@ fn outcome_of(value: Option<Value>, error: Option<Value>) -> Option<Result<Value
 fn object_message(mut members: Map<String, Value>) -> Option<Message>
     ensures { option_map message_view result ≡ meaning (object (members_view members.entries)) }
 {
-    let method = take_member(&mut members, "method").and_then(text_of);
-    let id = take_member(&mut members, "id").and_then(id_of);
+    let message = message_among(&mut members);
+    drop(members);
+    message
+}
+
+// The message that these members are. They are taken out.
+fn message_among(members: &mut Map<String, Value>) -> Option<Message>
+    ensures { option_map message_view result
+        ≡ meaning (object (members_view members.old.entries)) }
+{
+    let method = take_member(members, "method").and_then(text_of);
+    let id = take_member(members, "id").and_then(id_of);
     match (method, id) {
         (Some(method), Some(id)) => {
-            let params = take_member(&mut members, "params").unwrap_or(Value::Null);
+            let params = take_member(members, "params").unwrap_or(Value::Null);
             Some(Message::Request(Request { id, method, params }))
         }
         (Some(method), None) => {
-            let params = take_member(&mut members, "params").unwrap_or(Value::Null);
+            let params = take_member(members, "params").unwrap_or(Value::Null);
             Some(Message::Notification(Notification { method, params }))
         }
         (None, Some(id)) => {
-            let result = take_member(&mut members, "result");
-            let error = take_member(&mut members, "error");
+            let result = take_member(members, "result");
+            let error = take_member(members, "error");
             let response_result = outcome_of(result, error)?;
             Some(Message::Response(Response {
                 id,
@@ -209,7 +260,10 @@ impl Message {
     {
         match tree {
             Value::Object(members) => object_message(members),
-            _ => None,
+            other => {
+                drop(other);
+                None
+            }
         }
     }
 
