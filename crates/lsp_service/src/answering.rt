@@ -126,7 +126,9 @@ impl<P: Drop> Act<P> {
             Ok(params) => act(params),
             Err(error) => {
                 let reason = error.message.as_str();
-                Act::one(alloc, Act::log_error(alloc, method.as_str(), ": ", reason)?)
+                let told = Act::log_error(alloc, method.as_str(), ": ", reason);
+                drop(error);
+                Act::one(alloc, told?)
             }
         }
     }

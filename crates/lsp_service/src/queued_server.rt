@@ -66,7 +66,10 @@ impl<P: Drop> Queues<P> {
                 Ok(None)
             }
             Err(RegisterFault::Spent(payload)) => Ok(Some(payload)),
-            Err(_) => Err(AllocError),
+            Err(fault) => {
+                drop(fault);
+                Err(AllocError)
+            }
         }
     }
 
@@ -80,6 +83,7 @@ impl<P: Drop> Queues<P> {
             queues_of self.new ≡ does (queues_of self.old) (replies id (outcome_view outcome))) }
     {
         if self.requests.incoming.is_completed(&id) {
+            drop(outcome);
             return Ok(());
         }
         self.requests.incoming.complete(&id);
@@ -118,7 +122,10 @@ impl<P: Drop> Queues<P> {
     {
         match self.sent.push(message) {
             Ok(()) => Ok(()),
-            Err(_) => Err(AllocError),
+            Err(refused) => {
+                drop(refused);
+                Err(AllocError)
+            }
         }
     }
 
@@ -268,7 +275,10 @@ impl<S: Server> QueuedServer<S, S::Payload> {
             Works (unwoken S.Server) (seen self.old) (Some (request_view request))
             (seen self.new)) }
     {
-        self.queues.hold(&request.id)?;
+        if self.queues.hold(&request.id).is_err() {
+            drop(request);
+            return Err(AllocError);
+        }
         let acts = self.server.request(request)?;
         self.perform_all(acts)
     }
@@ -278,7 +288,13 @@ impl<S: Server> QueuedServer<S, S::Payload> {
             Works (unwoken S.Server) (seen self.old) (Some (notification_view notification))
             (seen self.new)) }
     {
-        let cancelled = cancelled_id(&notification)?;
+        let cancelled = match cancelled_id(&notification) {
+            Ok(cancelled) => cancelled,
+            Err(error) => {
+                drop(notification);
+                return Err(error);
+            }
+        };
         let acts = self.server.notification(notification)?;
         self.perform_all(acts)?;
         self.queues.answer_cancelled(cancelled)
@@ -294,7 +310,10 @@ impl<S: Server> QueuedServer<S, S::Payload> {
                 let acts = self.server.response(payload, response.response_result)?;
                 self.perform_all(acts)
             }
-            None => Ok(()),
+            None => {
+                drop(response.response_result);
+                Ok(())
+            }
         }
     }
 }

@@ -24,10 +24,20 @@ impl<P: Drop> Act<P> {
     {
         match write_as(alloc, params)? {
             Ok(params) => {
-                let method = String::from_str(alloc, method)?;
-                Ok(Act::Tell(Notification { method, params }))
+                match String::from_str(alloc, method) {
+                    Ok(method) => Ok(Act::Tell(Notification { method, params })),
+                    Err(error) => {
+                        drop(params);
+                        Err(error)
+                    }
+                }
             }
-            Err(error) => Act::log_error(alloc, method, " was not sent: ", error.message.as_str()),
+            Err(error) => {
+                let reason = error.message.as_str();
+                let told = Act::log_error(alloc, method, " was not sent: ", reason);
+                drop(error);
+                told
+            }
         }
     }
 
@@ -46,8 +56,13 @@ impl<P: Drop> Act<P> {
     {
         match write_as(alloc, params)? {
             Ok(params) => {
-                let method = String::from_str(alloc, method)?;
-                Ok(Ok(Act::Ask(method, params, payload)))
+                match String::from_str(alloc, method) {
+                    Ok(method) => Ok(Ok(Act::Ask(method, params, payload))),
+                    Err(error) => {
+                        drop(params);
+                        Err(error)
+                    }
+                }
             }
             Err(error) => Ok(Err(error)),
         }
