@@ -88,13 +88,18 @@ fn start_on_message<O: Outbox>(
         Message::Notification(notification) => {
             if notification.method.as_str() == "exit" {
                 let message = Message::Notification(notification);
-                return Some(Err(ProtocolError::expected_initialize(alloc, &message)));
+                let fault = ProtocolError::expected_initialize(alloc, &message);
+                drop(message);
+                return Some(Err(fault));
             }
+            drop(notification);
             None
         }
         Message::Response(response) => {
             let message = Message::Response(response);
-            Some(Err(ProtocolError::expected_initialize(alloc, &message)))
+            let fault = ProtocolError::expected_initialize(alloc, &message);
+            drop(message);
+            Some(Err(fault))
         }
     }
 }
@@ -126,8 +131,12 @@ fn refuse_early<O: Outbox>(
 fn early_reply(alloc: Global, request: Request) -> Result<Message, AllocError>
     ensures { IfOk result (λ reply. IsEarlyReply request.id (message_view reply)) }
 {
-    let shown = format!(in alloc; "{request:?}")?;
+    let shown = format!(in alloc; "{request:?}");
+    let Request { id, method, params } = request;
+    drop(params);
+    drop(method);
+    let shown = shown?;
     let message = format!(in alloc; "expected initialize request, got {shown}")?;
     let code = ErrorCode::ServerNotInitialized.number();
-    Ok(Message::Response(Response::new_err(request.id, code, message)))
+    Ok(Message::Response(Response::new_err(id, code, message)))
 }

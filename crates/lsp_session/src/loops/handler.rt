@@ -60,11 +60,17 @@ pub trait Handler {
             answers self.old request.id (string_bytes request.method) (view request.params)
             (outcome_view response.response_result) self.new) }
     {
-        let response_result = self.answer(&request)?;
-        Ok(Response {
-            id: request.id,
-            response_result,
-        })
+        let answered = self.answer(&request);
+        let Request { id, method, params } = request;
+        drop(params);
+        drop(method);
+        match answered {
+            Ok(response_result) => Ok(Response {
+                id,
+                response_result,
+            }),
+            Err(error) => Err(error),
+        }
     }
 }
 
@@ -89,8 +95,12 @@ pub fn serve<I: Inbox, O: Outbox, H: Handler>(
         (inbox.old, outbox.old) result (inbox.new, outbox.new) }
 {
     let mut capabilities = capabilities;
-    let mut service = HandlerService::new(alloc, &mut capabilities, handler);
-    serve_service(alloc, inbox, outbox, &mut service).answer
+    let served = {
+        let mut service = HandlerService::new(alloc, &mut capabilities, handler);
+        serve_service(alloc, inbox, outbox, &mut service)
+    };
+    drop(capabilities);
+    served.answer
 }
 
 /// The result of `initialize`: `{"capabilities":<capabilities>}`. An `Err` is a failed allocation.
@@ -98,6 +108,11 @@ pub fn initialize_result(alloc: Global, capabilities: Value) -> Result<Value, Al
     ensures { IfOk result (λ value. view value ≡ initialize_result_spec (view capabilities)) }
 {
     let mut members = Map::new(alloc);
-    put(&mut members, alloc, "capabilities", capabilities)?;
-    Ok(Value::Object(members))
+    match put(&mut members, alloc, "capabilities", capabilities) {
+        Ok(()) => Ok(Value::Object(members)),
+        Err(error) => {
+            drop(members);
+            Err(error)
+        }
+    }
 }

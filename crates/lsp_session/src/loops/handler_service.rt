@@ -36,7 +36,8 @@ impl<'a, H: Handler> HandlerService<'a, H> {
 impl<'a, H: Handler> Service for HandlerService<'a, H> {
     ghost behavior = { lent_handler H.answers H.notes };
 
-    fn initialize(&mut self, _params: Value) -> Result<Result<Value, ResponseError>, AllocError> {
+    fn initialize(&mut self, params: Value) -> Result<Result<Value, ResponseError>, AllocError> {
+        drop(params);
         let capabilities = mem::replace(self.capabilities, Value::Null);
         Ok(Ok(initialize_result(self.alloc, capabilities)?))
     }
@@ -50,11 +51,14 @@ impl<'a, H: Handler> Service for HandlerService<'a, H> {
     }
 
     fn notification(&mut self, notification: Notification) -> Result<Output, AllocError> {
-        self.handler.note(&notification)?;
+        let noted = self.handler.note(&notification);
+        drop(notification);
+        noted?;
         Ok(Output::Nothing)
     }
 
-    fn response(&mut self, _response: Response) -> Result<Output, AllocError> {
+    fn response(&mut self, response: Response) -> Result<Output, AllocError> {
+        drop(response);
         Ok(Output::Nothing)
     }
 

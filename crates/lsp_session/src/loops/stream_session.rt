@@ -94,8 +94,12 @@ pub fn session_within<R: BufRead, W: Write, H: Handler>(
         text (R.remaining reader.new) (W.contents writer.old) (W.contents writer.new) result) }
 {
     let mut capabilities = capabilities;
-    let mut service = HandlerService::new(alloc, &mut capabilities, handler);
-    session_of_service(alloc, reader, writer, &mut service, &mut EndSession, limit)
+    let ended = {
+        let mut service = HandlerService::new(alloc, &mut capabilities, handler);
+        session_of_service(alloc, reader, writer, &mut service, &mut EndSession, limit)
+    };
+    drop(capabilities);
+    ended
 }
 
 /// `serve_service` from bytes to bytes (LSP 3.17, "Base Protocol" and "Server lifecycle"), as `session` is `serve`, over messages whose
