@@ -36,8 +36,8 @@ impl<'a, H: Handler> HandlerService<'a, H> {
 impl<'a, H: Handler> Service for HandlerService<'a, H> {
     ghost behavior = { lent_handler H.answers H.notes };
 
-    fn initialize(&mut self, params: Value) -> Result<Result<Value, ResponseError>, AllocError> {
-        drop(params);
+    fn initialize(&mut self, _params: Value) -> Result<Result<Value, ResponseError>, AllocError> {
+        drop(_params);
         let capabilities = mem::replace(self.capabilities, Value::Null);
         Ok(Ok(initialize_result(self.alloc, capabilities)?))
     }
@@ -57,8 +57,8 @@ impl<'a, H: Handler> Service for HandlerService<'a, H> {
         Ok(Output::Nothing)
     }
 
-    fn response(&mut self, response: Response) -> Result<Output, AllocError> {
-        drop(response);
+    fn response(&mut self, _response: Response) -> Result<Output, AllocError> {
+        drop(_response);
         Ok(Output::Nothing)
     }
 
