@@ -240,6 +240,7 @@ impl<O: Drop> Outgoing<O> {
         ensures spent { count_of self.old ≡ all_ids → result ≡ Err (RegisterFault.Spent «data») }
     {
         if self.is_spent() {
+            drop(params);
             return Err(RegisterFault::Spent(data));
         }
         let number = self.next;
@@ -249,7 +250,10 @@ impl<O: Drop> Outgoing<O> {
                 let id = id_of(number);
                 Ok(Request { id, method, params })
             }
-            Err(back) => Err(RegisterFault::Memory(back)),
+            Err(back) => {
+                drop(params);
+                Err(RegisterFault::Memory(back))
+            }
         }
     }
 
