@@ -72,7 +72,13 @@ fn frame_of<R: Wait>(
 ) -> Result<String, AllocError>
     ensures { IfOk result (λ frame. IsFrameOf (message_view message) (string_bytes frame)) }
 {
-    let frame = message.to_frame(alloc)?;
+    let frame = match message.to_frame(alloc) {
+        Ok(frame) => frame,
+        Err(error) => {
+            drop(message);
+            return Err(error);
+        }
+    };
     written.let_go(rt, message, frame.len());
     Ok(frame)
 }
