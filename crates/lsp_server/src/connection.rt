@@ -44,7 +44,11 @@ impl Connection {
     /// in between. The error means that an allocation failed.
     pub fn memory(alloc: Global) -> Result<(Connection, Connection), AllocError> {
         let (to_second, from_first) = unbounded(alloc)?;
-        let (to_first, from_second) = unbounded(alloc)?;
+        let Ok((to_first, from_second)) = unbounded(alloc) else {
+            drop(from_first);
+            drop(to_second);
+            return Err(AllocError);
+        };
         let first = Connection {
             sender: to_second,
             receiver: from_second,
@@ -153,7 +157,10 @@ impl Connection {
             &mut CallGate { running },
             u64::MAX,
         );
-        started.unwrap_or_else(|| Err(ProtocolError::disconnected()))
+        match started {
+            Some(answer) => answer,
+            None => Err(ProtocolError::disconnected()),
+        }
     }
 
     /// Sends the result of `initialize`, and waits for the notification `initialized`. The example stands at `initialize_start`.
@@ -194,7 +201,10 @@ impl Connection {
             initialize_result,
             u64::MAX,
         );
-        finished.unwrap_or_else(|| Err(ProtocolError::disconnected()))
+        match finished {
+            Some(answer) => answer,
+            None => Err(ProtocolError::disconnected()),
+        }
     }
 
     /// Does the whole handshake: sends `{"capabilities":<server_capabilities>}`, and gives the params of `initialize`.
@@ -214,12 +224,24 @@ impl Connection {
         rt: &R,
         server_capabilities: Value,
     ) -> Result<Value, ProtocolError> {
-        let (id, params) = self.initialize_start(rt)?;
+        let (id, params) = match self.initialize_start(rt) {
+            Ok(started) => started,
+            Err(error) => {
+                drop(server_capabilities);
+                return Err(error);
+            }
+        };
         let Ok(result) = initialize_result(rt.alloc(), server_capabilities) else {
+            drop(params);
             return Err(ProtocolError::out_of_memory());
         };
-        self.initialize_finish(rt, id, result)?;
-        Ok(params)
+        match self.initialize_finish(rt, id, result) {
+            Ok(()) => Ok(params),
+            Err(error) => {
+                drop(params);
+                Err(error)
+            }
+        }
     }
 
     /// As `initialize`, until `running` answers false, which is an error then. It may read a flag that another thread sets, as
@@ -240,12 +262,24 @@ impl Connection {
     ) -> Result<Value, ProtocolError>
         requires { C.IsAlwaysCallable running }
     {
-        let (id, params) = self.initialize_start_while(rt, &running)?;
+        let (id, params) = match self.initialize_start_while(rt, &running) {
+            Ok(started) => started,
+            Err(error) => {
+                drop(server_capabilities);
+                return Err(error);
+            }
+        };
         let Ok(result) = initialize_result(rt.alloc(), server_capabilities) else {
+            drop(params);
             return Err(ProtocolError::out_of_memory());
         };
-        self.initialize_finish_while(rt, id, result, running)?;
-        Ok(params)
+        match self.initialize_finish_while(rt, id, result, running) {
+            Ok(()) => Ok(params),
+            Err(error) => {
+                drop(params);
+                Err(error)
+            }
+        }
     }
 
     /// If the request is `shutdown`, answers it with null and waits up to 30 seconds for the notification `exit`: then `Ok(true)`,

@@ -78,7 +78,11 @@ impl IoThreads {
             writer,
             dropper,
         } = self;
-        reader.join(rt)?;
+        if let Err(fault) = reader.join(rt) {
+            drop(dropper);
+            drop(writer);
+            return Err(fault);
+        }
         dropper.join(rt);
         writer.join(rt)
     }

@@ -52,7 +52,12 @@ pub(crate) fn read_all<R: Wait + Clock + Drop, B: BufRead + Drop>(
     } = bounds;
     let mut reader = reader;
     let mut outlet = Outlet::new(&rt, alloc, &incoming, &given_back, unread, bound);
-    reader_end(read_messages(alloc, &mut reader, &mut outlet, limit))
+    let end = read_messages(alloc, &mut reader, &mut outlet, limit);
+    drop(outlet);
+    drop(reader);
+    drop(given_back);
+    drop(incoming);
+    reader_end(end)
 }
 
 /// Hands on a reader's messages, up to and with the first `exit`, as `read_loop_within` does.
@@ -114,7 +119,13 @@ fn end_at(fault: SendFault) -> ReadEnd
     ensures { result ≡ refused_end fault }
 {
     match fault {
-        SendFault::Closed(_) => ReadEnd::Closed,
-        SendFault::Memory(_) => ReadEnd::Memory,
+        SendFault::Closed(message) => {
+            drop(message);
+            ReadEnd::Closed
+        }
+        SendFault::Memory(message) => {
+            drop(message);
+            ReadEnd::Memory
+        }
     }
 }

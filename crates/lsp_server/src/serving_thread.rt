@@ -74,17 +74,22 @@ where
         ensures { F.post serve theirs (record { sender = sender; receiver = receiver }) result }
     { serve(theirs, Connection { sender, receiver }) };
     match start(rt, promise, sender, receiver, work) {
-        Some(thread) => Ok(thread),
+        Some(thread) => {
+            drop(connection);
+            Ok(thread)
+        }
         None => Err(SpawnError { value: connection }),
     }
 }
 
 /// A second pair of ends of the connection's channels.
 fn another(connection: &Connection) -> Result<Connection, AllocError> {
-    Ok(Connection {
-        sender: connection.sender.clone()?,
-        receiver: connection.receiver.clone()?,
-    })
+    let sender = connection.sender.clone()?;
+    let Ok(receiver) = connection.receiver.clone() else {
+        drop(sender);
+        return Err(AllocError);
+    };
+    Ok(Connection { sender, receiver })
 }
 
 /// Starts the thread, or gives nothing if the system refuses it.

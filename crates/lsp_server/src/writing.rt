@@ -24,7 +24,11 @@ pub(crate) fn write_all<R: Wait + Drop, W: Write + Drop>(
     mut writer: W,
     written: Written<Message>,
 ) -> Result<(), IoFault> {
-    write_messages(&rt, alloc, &outgoing, &mut writer, &written)
+    let answer = write_messages(&rt, alloc, &outgoing, &mut writer, &written);
+    drop(written);
+    drop(writer);
+    drop(outgoing);
+    answer
 }
 
 /// Writes what the channel gives as frames, in order, until the channel is closed or a write fails (LSP 3.17, "Base Protocol").
@@ -72,7 +76,13 @@ fn frame_of<R: Wait>(
 ) -> Result<String, AllocError>
     ensures { IfOk result (λ frame. IsFrameOf (message_view message) (string_bytes frame)) }
 {
-    let frame = message.to_frame(alloc)?;
+    let frame = match message.to_frame(alloc) {
+        Ok(frame) => frame,
+        Err(error) => {
+            drop(message);
+            return Err(error);
+        }
+    };
     written.let_go(rt, message, frame.len());
     Ok(frame)
 }
