@@ -50,7 +50,15 @@ impl Answer {
             Answer::Unknown(reply) => Some(Message::Response(reply)),
             Answer::Cancelled { reply, .. } => Some(Message::Response(reply)),
             Answer::Finished { reply, .. } => Some(Message::Response(reply)),
-            Answer::Work { .. } | Answer::Note(_) | Answer::Nothing => None,
+            Answer::Work { request, .. } => {
+                drop(request);
+                None
+            }
+            Answer::Note(notification) => {
+                drop(notification);
+                None
+            }
+            Answer::Nothing => None,
         }
     }
 }

@@ -51,7 +51,10 @@ pub fn replay(alloc: Global, calls: Vec<Call>) -> Result<Vec<Answer>, u8>
     let mut dispatcher = Dispatcher::default(alloc);
     for call in calls {
         let answer = step(&mut dispatcher, call)?;
-        if answers.push(answer).is_err() {
+        let pushed = answers.push(answer);
+        let is_refused = pushed.is_err();
+        drop(pushed);
+        if is_refused {
             return Err(1);
         }
     }
@@ -80,5 +83,7 @@ fn step(dispatcher: &mut Dispatcher, call: Call) -> Result<Answer, u8>
 fn number_of(fault: DispatchFault) -> u8
     ensures { result ≡ dispatch_fault_number fault }
 {
-    fault.number()
+    let number = fault.number();
+    drop(fault);
+    number
 }

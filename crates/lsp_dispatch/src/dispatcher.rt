@@ -97,7 +97,10 @@ impl Dispatcher {
         match message {
             Message::Request(request) => self.deliver_request(request),
             Message::Notification(notification) => self.deliver_notification(notification),
-            Message::Response(_) => Ok(Answer::Nothing),
+            Message::Response(response) => {
+                drop(response);
+                Ok(Answer::Nothing)
+            }
         }
     }
 
@@ -113,7 +116,10 @@ impl Dispatcher {
     {
         if is_own(request.method.as_str()) {
             return match not_found(self.alloc, &request.id) {
-                Ok(reply) => Ok(Answer::Unknown(reply)),
+                Ok(reply) => {
+                    drop(request);
+                    Ok(Answer::Unknown(reply))
+                }
                 Err(_) => Err(DispatchFault::Memory(Message::Request(request))),
             };
         }
@@ -152,11 +158,15 @@ impl Dispatcher {
     {
         if notification.method.as_str() == "$/cancelRequest" {
             return match self.cancel(&notification.params) {
-                Ok(answer) => Ok(answer),
+                Ok(answer) => {
+                    drop(notification);
+                    Ok(answer)
+                }
                 Err(_) => Err(DispatchFault::Memory(Message::Notification(notification))),
             };
         }
         if is_own(notification.method.as_str()) {
+            drop(notification);
             return Ok(Answer::Nothing);
         }
         Ok(Answer::Note(notification))
@@ -192,6 +202,7 @@ impl Dispatcher {
             ≡ finished self.old id ticket (outcome_view outcome) }
     {
         if !self.is_pending_with(&id, ticket) {
+            drop(outcome);
             return Answer::Nothing;
         }
         self.queue.incoming.complete(&id);

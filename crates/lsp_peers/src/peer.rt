@@ -111,8 +111,14 @@ impl Peer {
     {
         match self.queue.outgoing.register_value(method, params, payload) {
             Ok(request) => {
-                let id = request.id.clone()?;
-                far.link.write(&Message::Request(request))?;
+                let Ok(id) = request.id.clone() else {
+                    drop(request);
+                    return Err(WorldFault::Memory);
+                };
+                let message = Message::Request(request);
+                let written = far.link.write(&message);
+                drop(message);
+                written?;
                 Ok(Outcome::Registered(id))
             }
             Err(RegisterFault::Spent(_)) => Ok(Outcome::Spent),
@@ -129,7 +135,10 @@ impl Peer {
         ensures err { OnErr result (result ≡ Err WorldFault.Memory) }
     {
         let notification = Notification { method, params };
-        far.link.write(&Message::Notification(notification))?;
+        let message = Message::Notification(notification);
+        let written = far.link.write(&message);
+        drop(message);
+        written?;
         Ok(Outcome::Told)
     }
 
@@ -154,10 +163,16 @@ impl Peer {
     {
         match self.queue.incoming.complete(&reply.id) {
             Some(label) => {
-                far.link.write(&Message::Response(reply))?;
+                let message = Message::Response(reply);
+                let written = far.link.write(&message);
+                drop(message);
+                written?;
                 Ok(Outcome::Answered(label))
             }
-            None => Ok(Outcome::Absent),
+            None => {
+                drop(reply);
+                Ok(Outcome::Absent)
+            }
         }
     }
 
@@ -172,7 +187,10 @@ impl Peer {
     {
         match self.queue.incoming.cancel(id) {
             Ok(Some(reply)) => {
-                far.link.write(&Message::Response(reply))?;
+                let message = Message::Response(reply);
+                let written = far.link.write(&message);
+                drop(message);
+                written?;
                 Ok(Outcome::Cancelled)
             }
             Ok(None) => Ok(Outcome::Absent),
@@ -215,11 +233,16 @@ impl Peer {
             return Ok(Outcome::Waiting);
         };
         let Ok(outcome) = deliver(&mut self.queue, &message, label) else {
+            drop(message);
             return Err(WorldFault::Memory);
         };
         match self.taken.push(message) {
             Ok(()) => Ok(outcome),
-            Err(_) => Err(WorldFault::Memory),
+            Err(refused) => {
+                drop(refused);
+                drop(outcome);
+                Err(WorldFault::Memory)
+            }
         }
     }
 

@@ -114,7 +114,13 @@ fn end_at(fault: SendFault) -> ReadEnd
     ensures { result ≡ refused_end fault }
 {
     match fault {
-        SendFault::Closed(_) => ReadEnd::Closed,
-        SendFault::Memory(_) => ReadEnd::Memory,
+        SendFault::Closed(message) => {
+            drop(message);
+            ReadEnd::Closed
+        }
+        SendFault::Memory(message) => {
+            drop(message);
+            ReadEnd::Memory
+        }
     }
 }

@@ -65,8 +65,14 @@ impl From<SendFault> for ProtocolError {
     /// The fault of a session whose outbox refuses a message: `disconnected channel`, or `out of memory`.
     fn from(fault: SendFault) -> ProtocolError {
         match fault {
-            SendFault::Closed(_) => ProtocolError(ProtocolRepr::RefusedClosed),
-            SendFault::Memory(_) => ProtocolError(ProtocolRepr::RefusedMemory),
+            SendFault::Closed(message) => {
+                drop(message);
+                ProtocolError(ProtocolRepr::RefusedClosed)
+            }
+            SendFault::Memory(message) => {
+                drop(message);
+                ProtocolError(ProtocolRepr::RefusedMemory)
+            }
         }
     }
 }

@@ -76,7 +76,9 @@ fn look_at(alloc: Global, content: &[u8]) -> Result<Seen, ReadFault>
     }
     match Message::from_content(alloc, content) {
         Ok(message) => {
-            if is_exit(&message) {
+            let is_last = is_exit(&message);
+            drop(message);
+            if is_last {
                 return Ok(Seen::Exit);
             }
             Ok(Seen::Message)

@@ -33,7 +33,9 @@ fn read_frames<R: Wait + Drop, S: BufRead>(
             Err(fault) => return ReadEnd::Fault(fault),
         };
         let is_last = is_exit(&message);
-        match outbox.add(&message) {
+        let added = outbox.add(&message);
+        drop(message);
+        match added {
             Ok(()) => {}
             Err(_) => return ReadEnd::Memory,
         }

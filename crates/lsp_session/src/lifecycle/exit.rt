@@ -44,7 +44,7 @@ pub fn shutdown<I: Inbox, O: Outbox>(
 pub(crate) fn offer<O: Outbox>(outbox: &mut O, message: Message)
     ensures { Offers O.sends (message_view message) outbox.old outbox.new }
 {
-    let _ = outbox.send(message);
+    drop(outbox.send(message));
 }
 
 /// What an event gives in the place of `exit`.
@@ -56,9 +56,12 @@ pub(crate) fn shutdown_on(alloc: Global, event: Event) -> Result<bool, ProtocolE
         Event::Closed => Err(ProtocolError::shutdown_disconnected()),
         Event::Message(message) => {
             if is_exit(&message) {
+                drop(message);
                 return Ok(true);
             }
-            Err(ProtocolError::unexpected_in_shutdown(alloc, &message))
+            let fault = ProtocolError::unexpected_in_shutdown(alloc, &message);
+            drop(message);
+            Err(fault)
         }
     }
 }

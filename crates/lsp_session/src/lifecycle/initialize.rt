@@ -88,13 +88,18 @@ fn start_on_message<O: Outbox>(
         Message::Notification(notification) => {
             if notification.method.as_str() == "exit" {
                 let message = Message::Notification(notification);
-                return Some(Err(ProtocolError::expected_initialize(alloc, &message)));
+                let fault = ProtocolError::expected_initialize(alloc, &message);
+                drop(message);
+                return Some(Err(fault));
             }
+            drop(notification);
             None
         }
         Message::Response(response) => {
             let message = Message::Response(response);
-            Some(Err(ProtocolError::expected_initialize(alloc, &message)))
+            let fault = ProtocolError::expected_initialize(alloc, &message);
+            drop(message);
+            Some(Err(fault))
         }
     }
 }

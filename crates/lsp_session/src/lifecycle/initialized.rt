@@ -34,7 +34,11 @@ pub fn wait_within<I: Inbox, G: Gate>(
         match inbox.receive_for(TURN_SECONDS) {
             Event::Timeout => {}
             Event::Closed => return Some(Err(ProtocolError::disconnected())),
-            Event::Message(message) => return Some(finish_on(alloc, &message)),
+            Event::Message(message) => {
+                let finished = finish_on(alloc, &message);
+                drop(message);
+                return Some(finished);
+            }
         }
     }
     None
@@ -88,7 +92,11 @@ pub fn finish<I: Inbox, O: Outbox>(
         return Err(ProtocolError::from(fault));
     }
     match inbox.receive() {
-        Event::Message(message) => finish_on(alloc, &message),
+        Event::Message(message) => {
+            let finished = finish_on(alloc, &message);
+            drop(message);
+            finished
+        }
         Event::Timeout => unreachable!(),
         Event::Closed => Err(ProtocolError::disconnected()),
     }

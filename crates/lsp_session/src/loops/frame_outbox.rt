@@ -47,7 +47,10 @@ impl<'a, W: Write> Outbox for FrameOutbox<'a, W> {
             return Err(SendFault::Closed(message));
         }
         match message.write(self.alloc, self.writer) {
-            Ok(()) => Ok(()),
+            Ok(()) => {
+                drop(message);
+                Ok(())
+            }
             Err(fault) => {
                 self.fault = Some(fault);
                 match fault {

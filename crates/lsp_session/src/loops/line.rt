@@ -113,10 +113,19 @@ fn serve_messages<L: Inbox + Outbox, S: Service>(
             Arrival::Closed => return Ok(Served::closed(StopReason::NoMore)),
         };
         if is_exit(&message) {
+            drop(message);
             return Ok(Served::closed(StopReason::Decided));
         }
-        if shut_line(alloc, line, &message)? {
-            return Ok(Served::shut_down());
+        match shut_line(alloc, line, &message) {
+            Ok(false) => {}
+            Ok(true) => {
+                drop(message);
+                return Ok(Served::shut_down());
+            }
+            Err(error) => {
+                drop(message);
+                return Err(error);
+            }
         }
         let output = output_of(service, message)?;
         send_output(line, output)?;
@@ -145,7 +154,11 @@ fn finish_line<L: Inbox + Outbox>(
         return Err(ProtocolError::from(fault));
     }
     match line.receive() {
-        Event::Message(message) => finish_on(alloc, &message),
+        Event::Message(message) => {
+            let finished = finish_on(alloc, &message);
+            drop(message);
+            finished
+        }
         Event::Timeout => unreachable!(),
         Event::Closed => Err(ProtocolError::disconnected()),
     }

@@ -20,7 +20,7 @@ loop-call-preserved c =
     let rest : List Call = into_iter_items c.next.new.self in
     let turn : into_iter_items c.loop-call.call-iterator ≡ c.in-Some.call ∷ rest = c.in-Some.ensures.steps.0 in
     let whole : c.loop-call.yielded ++ c.in-Some.call ∷ rest ≡ c.args.calls.items = ap (λ (l : List Call). c.loop-call.yielded ++ l) (sym turn) ∙ before.2 in
-    let pushed = chosen _ _ _ _ c.push.ensures.items (c.is_err.ensures.negation ∙ ap not c.if-is_err.false) in (
+    let pushed = chosen _ _ _ _ c.push-pushed.ensures.items (c.is_err-is_refused.ensures.negation ∙ ap not c.if-is_refused.false) in (
       tt,
       tt,
       append_assoc c.loop-call.yielded (c.in-Some.call ∷ []) rest ∙ whole,

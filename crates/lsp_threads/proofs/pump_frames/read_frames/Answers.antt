@@ -15,10 +15,10 @@ pub returns-in-Err-clause-handed : goal.returns-in-Err-clause-handed
 returns-in-Err-clause-handed g c =
     hands_fault c.args.limit FramingSends message_view _ _ _ c.in-Err.fault _ _ c.loop.invariant.handed (rw c.in-Err.is at c.read_within.ensures.exact)
 
-pub returns-in-Err-add-clause-handed : goal.returns-in-Err-add-clause-handed
-returns-in-Err-add-clause-handed g c =
+pub returns-in-Err-added-clause-handed : goal.returns-in-Err-added-clause-handed
+returns-in-Err-added-clause-handed g c =
     let read = rw (c.in-Ok-Some.is, c.in-Ok-Some.field-0-is) at c.read_within.ensures.exact in
-    hands_refused c.args.limit FramingSends message_view _ _ _ _ _ _ c.in-Ok-Some.message c.loop.invariant.handed read (Memory c.in-Ok-Some.message) c.in-Err-add.ensures.err
+    hands_refused c.args.limit FramingSends message_view _ _ _ _ _ _ c.in-Ok-Some.message c.loop.invariant.handed read (Memory c.in-Ok-Some.message) c.in-Err-added.ensures.err
 
 pub returns-then-is_last-clause-handed : goal.returns-then-is_last-clause-handed
 returns-then-is_last-clause-handed g c =

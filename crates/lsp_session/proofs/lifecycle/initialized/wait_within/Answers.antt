@@ -17,7 +17,7 @@ returns-in-Closed-clause-awaits g c =
 pub returns-in-Message-clause-awaits : goal.returns-in-Message-clause-awaits
 returns-in-Message-clause-awaits g c =
     awaits_answered _ _ _ _ _ _ _ (got (message (message_view c.in-Message.message))) _ c.loop-turn.invariant.1 c.loop-turn-test.true
-    (c.if-not-ask.ensures.asks, c.in-Message.ensures) c.finish_on.ensures
+    (c.if-not-ask.ensures.asks, c.in-Message.ensures) c.finish_on-finished.ensures
 
 pub loop-turn-preserved : goal.loop-turn-preserved
 loop-turn-preserved g c =
