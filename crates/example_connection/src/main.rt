@@ -53,15 +53,21 @@ fn serve<R: Wait + Clock + AllocGlobal>(rt: &R, connection: Connection) -> Resul
 }
 
 fn serve_session<R: Wait + Clock + AllocGlobal>(rt: &R, connection: &Connection) -> Result<()> {
-    let (id, params) = connection.initialize_start(rt)?;
-    let can_be_asked = can_be_asked(&params);
-    drop(params);
-    connection.initialize_finish(rt, id, about(rt.alloc())?)?;
+    let can_be_asked = begin(rt, connection)?;
     let mut paths = Paths::new(rt.alloc())?;
     if can_be_asked {
         send(rt, connection, Message::from(paths.ask()?))?;
     }
     serve_messages(rt, connection, &mut paths)
+}
+
+/// The handshake. Gives whether the client can be asked for its configuration.
+fn begin<R: Wait + Clock + AllocGlobal>(rt: &R, connection: &Connection) -> Result<bool> {
+    let (id, params) = connection.initialize_start(rt)?;
+    let can_be_asked = can_be_asked(&params);
+    drop(params);
+    connection.initialize_finish(rt, id, about(rt.alloc())?)?;
+    Ok(can_be_asked)
 }
 
 fn serve_messages<R: Wait + Clock + AllocGlobal>(
@@ -85,24 +91,23 @@ fn serve_messages<R: Wait + Clock + AllocGlobal>(
 }
 
 /// What the server says of itself (LSP 3.17, `InitializeResult`).
-fn about(alloc: Global) -> Result<Value, AllocError> {
-    json!(in alloc; {
+fn about(alloc: Global) -> Result<Value, serde_json::Error> {
+    let about = r#"{
         "capabilities": { "hoverProvider": true },
         "serverInfo": { "name": "my_server", "version": "0.1" }
-    })
+    }"#;
+    Value::from_str(alloc, about)
+}
+
+/// Whether the client takes `workspace/configuration` (LSP 3.17, "Configuration Request").
+fn can_be_asked(params: &Value) -> bool {
+    let path = "/capabilities/workspace/configuration";
+    matches!(params.pointer(path), Some(Value::Bool(true)))
 }
 
 fn send<R: Wait>(rt: &R, connection: &Connection, message: Message) -> Result<()> {
     let sent = connection.sender.send(rt, message).ok();
     sent.context("the other side is gone")
-}
-
-/// Whether the client takes `workspace/configuration` (LSP 3.17, "Configuration Request").
-fn can_be_asked(params: &Value) -> bool {
-    params
-        .pointer("/capabilities/workspace/configuration")
-        .and_then(|value| value.as_bool())
-        .unwrap_or(false)
 }
 
 impl Paths {
@@ -117,7 +122,8 @@ impl Paths {
     /// The request that asks for the name. It is pending until its response comes.
     fn ask(&mut self) -> Result<Request> {
         let method = String::from_str(self.alloc, "workspace/configuration")?;
-        let params = json!(in self.alloc; { "items": [{ "section": "paths" }] })?;
+        let sections = r#"{ "items": [{ "section": "paths" }] }"#;
+        let params = Value::from_str(self.alloc, sections)?;
         let queue = &mut self.queue.outgoing;
         let registered = queue.register_value(method, params, Asked::Name).ok();
         registered.context("a registration was refused")

@@ -26,8 +26,8 @@ mod shared;
 mod sums;
 
 use anyhow::{Result, bail};
-use lsp_server::SessionEnd;
 use lsp_server::clients::serve_clients;
+use lsp_server::{SessionEnd, StartFault, Threaded};
 use server::Sums;
 use sessions::{serve, serve_in_threads, serve_with_jobs};
 use std::alloc::Global;
@@ -36,29 +36,32 @@ use std::env;
 fn main(rt: HostRuntime) -> Result<()> {
     let alloc: Global = rt.alloc();
     let words: Vec<String> = env::args(&rt)?.skip(1).collect(alloc)?;
-    match words.as_slice() {
+    let served = match words.as_slice() {
         [word, rest @ ..] if word.as_str() == "threads" => {
-            end_of(serve_clients(&rt, rest, |reader, writer| {
-                let (_, done) = serve_in_threads(&rt, alloc, reader, writer, Sums::new(alloc));
-                Ok(done?.answer?)
-            })?)
+            serve_clients(&rt, rest, |reader, writer| {
+                end_of(serve_in_threads(&rt, alloc, reader, writer, Sums::new(alloc)))
+            })
         }
         [word, rest @ ..] if word.as_str() == "jobs" => {
-            end_of(serve_clients(&rt, rest, |reader, writer| {
-                let (_, done) = serve_with_jobs(&rt, alloc, reader, writer, Sums::new(alloc));
-                Ok(done?.answer?)
-            })?)
+            serve_clients(&rt, rest, |reader, writer| {
+                end_of(serve_with_jobs(&rt, alloc, reader, writer, Sums::new(alloc)))
+            })
         }
-        words => end_of(serve_clients(&rt, words, |mut reader, mut writer| {
-            Ok(serve(alloc, &mut reader, &mut writer, Sums::new(alloc)).1?)
-        })?),
-    }
-}
-
-/// How the program ends whose session ended so (LSP 3.17, "Exit Notification").
-fn end_of(answer: Result<SessionEnd>) -> Result<()> {
-    match answer? {
+        words => serve_clients(&rt, words, |mut reader, mut writer| {
+            let (sums, answer) = serve(alloc, &mut reader, &mut writer, Sums::new(alloc));
+            drop(sums);
+            Ok(answer?)
+        }),
+    };
+    match served?? {
         SessionEnd::ShutDown => Ok(()),
         SessionEnd::Closed => bail!("the client left without a shutdown"),
     }
+}
+
+/// How a session in threads ended.
+fn end_of<W: Drop>(session: (Sums, Result<Threaded<W>, StartFault>)) -> Result<SessionEnd> {
+    let (sums, done) = session;
+    drop(sums);
+    Ok(done?.answer?)
 }

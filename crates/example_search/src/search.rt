@@ -61,21 +61,15 @@ impl Job for Search {
         token: &CancellationToken,
         progress: &mut P,
     ) -> Result<Result<Value, ResponseError>, AllocError> {
-        let Search {
-            alloc,
-            query,
-            sources,
-            work,
-        } = self;
         let found = find_all(
-            alloc,
-            sources.as_slice(),
-            query.as_str(),
-            &work,
+            self.alloc,
+            self.sources.as_slice(),
+            self.query.as_str(),
+            &self.work,
             token,
             progress,
         )?;
-        work.end(progress, Some("Searched"))?;
+        self.work.end(progress, Some("Searched"))?;
         Ok(Ok(Value::Array(found)))
     }
 }
@@ -168,8 +162,8 @@ fn symbol(alloc: Global, name: &str, uri: &str, line: u32) -> Result<Value, Allo
     let start = json!(in alloc; { "line": line, "character": 0 })?;
     let end = start.clone()?;
     json!(in alloc; {
+        "location": { "range": { "start": start, "end": end }, "uri": uri },
         "name": name,
-        "kind": 15,
-        "location": { "uri": uri, "range": { "start": start, "end": end } }
+        "kind": 15
     })
 }

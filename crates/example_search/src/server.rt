@@ -6,15 +6,29 @@ ghost use Rattle.std.specs.Prelude.{◌≡◌, Some, IfNone, IfOk, IfSome, codes
 
 use crate::search::{Search, Silence};
 use crate::shared::{SharedTexts, Source};
-use crate::sums::{Named, Problem, Span, Word, sheet_of, value_of, word_at, words_of};
+use crate::sums::{Problem, Word, sheet_of, value_of, words_of};
 use lsp_documents::{DocumentFault, Made, NotMade, TextDocuments, position_encoding, position_in};
 use lsp_jobs::{AnsweredBy, CancellationToken, Job, JobEnd, JobServer, NewJob, WorkDone};
 use lsp_server::{Act, ErrorCode, Notification, Request, RequestId, ResponseError, Server};
-use lsp_text::{Position, PositionEncoding, Text, TextDocument};
-use serde_json::{Value, json};
+use lsp_text::{Position, PositionEncoding, Range, Text, TextDocument};
+use serde_json::{Value, json, put, to_value};
 use std::alloc::{AllocError, Global};
+use std::fmt::Display;
 use std::mem;
 use std::sync::Arc;
+
+/// What the client is told of the server.
+const ABOUT: &str = r#"{
+    "capabilities": {
+        "textDocumentSync": { "openClose": true, "change": 2, "save": { "includeText": true } },
+        "hoverProvider": true,
+        "workspaceSymbolProvider": { "workDoneProgress": true }
+    },
+    "serverInfo": { "name": "sums" }
+}"#;
+
+/// What is asked for of the client's configuration.
+const SECTIONS: &str = r#"{ "items": [{ "section": "sums" }] }"#;
 
 /// A server for texts of sums.
 #[derive(Drop)]
@@ -27,27 +41,15 @@ pub struct Sums {
     documents: TextDocuments,
     /// Their texts, as searches have them.
     texts: SharedTexts,
-    waiting: Vec<Waiting>,
+    /// The requests that are answered when nothing is wrong with a text.
+    waiting: Vec<Request>,
 }
 
-/// A request that is answered when nothing is wrong with a text.
-#[derive(Drop)]
-struct Waiting {
-    id: RequestId,
-    uri: String,
-}
-
-/// What a request of the server's own was for.
-#[derive(Drop)]
-pub enum Asked {
-    /// The greatest value that is allowed.
-    Configuration,
-}
-
-type Acts = Vec<Act<Asked>>;
+type Acts = Vec<Act<()>>;
 
 impl Server for Sums {
-    type Payload = Asked;
+    // The configuration is all that the server asks for.
+    type Payload = ();
 
     fn initialize(&mut self, params: Value) -> Result<Result<Value, ResponseError>, AllocError> {
         let path = "/capabilities/workspace/configuration";
@@ -55,26 +57,18 @@ impl Server for Sums {
         let encoding = position_encoding(&params);
         drop(params);
         self.documents = TextDocuments::new(self.alloc, encoding);
-        let capabilities = capabilities(self.alloc, encoding)?;
-        Ok(Ok(
-            json!(in self.alloc; { "capabilities": capabilities, "serverInfo": { "name": "sums" } })?,
-        ))
+        Ok(Ok(about(self.alloc, encoding)?))
     }
 
     fn initialized(&mut self) -> Result<Acts, AllocError> {
-        self.ask_configuration()
+        let mut acts = Vec::new(self.alloc);
+        self.ask_configuration(&mut acts).and(Ok(acts))
     }
 
     fn request(&mut self, request: Request) -> Result<Acts, AllocError> {
         match request.method.as_str() {
-            "textDocument/hover" => {
-                let shown = self.hover(&request.params);
-                self.reply(request, shown)
-            }
-            "sums/text" => {
-                let text = self.text(&request.params);
-                self.reply(request, text)
-            }
+            "textDocument/hover" => self.reply(self.hover(&request.params), request),
+            "sums/text" => self.reply(self.text(&request.params), request),
             "sums/solved" => self.wait(request),
             "workspace/symbol" => self.search(request),
             _ => {
@@ -85,27 +79,31 @@ impl Server for Sums {
     }
 
     fn notification(&mut self, notification: Notification) -> Result<Acts, AllocError> {
-        let acts = self.notified(notification.method.as_str(), &notification.params);
+        let mut acts = Vec::new(self.alloc);
+        let method = notification.method.as_str();
+        let noted = self.note(method, &notification.params, &mut acts);
         drop(notification);
-        acts
+        noted.and(Ok(acts))
     }
 
     fn response(
         &mut self,
-        asked: Asked,
+        _asked: (),
         outcome: Result<Value, ResponseError>,
     ) -> Result<Acts, AllocError> {
-        let Asked::Configuration = asked;
-        let is_configured = self.configure(&outcome);
-        drop(outcome);
         let mut acts = Vec::new(self.alloc);
-        if is_configured {
-            self.mark_all(&mut acts)?;
-        }
-        Ok(acts)
+        let marked = match &outcome {
+            Ok(values) => {
+                self.largest = largest_in(values).unwrap_or(i64::MAX);
+                self.mark_all(&mut acts)
+            }
+            Err(_error) => Ok(()),
+        };
+        drop(outcome);
+        marked.and(Ok(acts))
     }
 
-    fn unsent(&mut self, _asked: Asked) -> Result<(), AllocError> {
+    fn unsent(&mut self, _asked: ()) -> Result<(), AllocError> {
         Ok(())
     }
 }
@@ -162,8 +160,8 @@ impl Sums {
     /// The reply to a request, unless an allocation failed.
     fn reply(
         &self,
-        request: Request,
         found: Result<Value, AllocError>,
+        request: Request,
     ) -> Result<Acts, AllocError> {
         let id = id_of(request);
         match found {
@@ -180,42 +178,11 @@ impl Sums {
 
     /// Keeps a request until nothing is wrong with its text.
     fn wait(&mut self, request: Request) -> Result<Acts, AllocError> {
-        let uri = owned_uri_in(self.alloc, &request.params);
-        let id = id_of(request);
-        match uri? {
-            Some(uri) => {
-                self.waiting.push(Waiting { id, uri })?;
-                Ok(Vec::new(self.alloc))
-            }
-            None => self.refuse(id, "which text?"),
+        if uri_in(&request.params).is_none() {
+            return self.refuse(id_of(request), "which text?");
         }
-    }
-
-    /// What the client is told after a notification.
-    fn notified(&mut self, method: &str, params: &Value) -> Result<Acts, AllocError> {
-        let heard = match method {
-            "textDocument/didOpen" => self.documents.did_open(params),
-            "textDocument/didChange" => self.documents.did_change(params),
-            "textDocument/didSave" => self.documents.did_save(params),
-            "textDocument/didClose" => self.documents.did_close(params),
-            "workspace/didChangeConfiguration" => return self.ask_configuration(),
-            _ => return Ok(Vec::new(self.alloc)),
-        };
-        match heard {
-            Ok(made) => self.hear(made),
-            Err(missed) => self.complain(missed),
-        }
-    }
-
-    /// Takes the client's configuration, and gives whether there is one.
-    fn configure(&mut self, outcome: &Result<Value, ResponseError>) -> bool {
-        match outcome {
-            Ok(values) => {
-                self.largest = largest_in(values).unwrap_or(i64::MAX);
-                true
-            }
-            Err(_error) => false,
-        }
+        self.waiting.push(request)?;
+        Ok(Vec::new(self.alloc))
     }
 
     /// Finds the headings of all texts that contain a word, at once (LSP 3.17, "Workspace Symbols Request").
@@ -261,132 +228,147 @@ impl Sums {
     }
 
     /// Asks for the configuration, if the client can be asked.
-    fn ask_configuration(&self) -> Result<Acts, AllocError> {
-        if !self.configures {
-            return Ok(Vec::new(self.alloc));
+    fn ask_configuration(&self, acts: &mut Acts) -> Result<(), AllocError> {
+        if self.configures {
+            let params = tree(Value::from_str(self.alloc, SECTIONS))?;
+            let method = String::from_str(self.alloc, "workspace/configuration")?;
+            acts.push(Act::Ask(method, params, ()))?;
         }
-        let method = String::from_str(self.alloc, "workspace/configuration")?;
-        let params = json!(in self.alloc; { "items": [{ "section": "sums" }] })?;
-        Act::one(self.alloc, Act::Ask(method, params, Asked::Configuration))
+        Ok(())
+    }
+
+    /// What the client is told after a notification.
+    fn note(&mut self, method: &str, params: &Value, acts: &mut Acts) -> Result<(), AllocError> {
+        let heard = match method {
+            "textDocument/didOpen" => self.documents.did_open(params),
+            "textDocument/didChange" => self.documents.did_change(params),
+            "textDocument/didSave" => self.documents.did_save(params),
+            "textDocument/didClose" => self.documents.did_close(params),
+            "workspace/didChangeConfiguration" => return self.ask_configuration(acts),
+            _ => return Ok(()),
+        };
+        match heard {
+            Ok(made) => self.hear(made, acts),
+            Err(missed) => self.complain(missed, acts),
+        }
+    }
+
+    /// What the client is told after a notification that was made: what there is to say of it, and what is wrong with the text.
+    fn hear(&mut self, made: Made<'_>, acts: &mut Acts) -> Result<(), AllocError> {
+        if let Some(remark) = made.remark {
+            self.log(2, Some(made.uri), &remark, acts)?;
+        }
+        self.texts.forget(made.uri);
+        self.check(made.uri, acts)
+    }
+
+    /// What the client is told after a notification that was not made: why, and no marks of a text that was lost by it. Each may
+    /// be, if no URI is named.
+    fn complain(&mut self, missed: NotMade<'_>, acts: &mut Acts) -> Result<(), AllocError> {
+        if matches!(missed.fault, DocumentFault::Memory) {
+            return Err(AllocError);
+        }
+        self.log(1, missed.uri, &missed.fault, acts)?;
+        match missed.uri {
+            None => {
+                self.texts.forget_all();
+                self.mark_all(acts)
+            }
+            Some(uri) if missed.lost => {
+                self.texts.forget(uri);
+                self.check(uri, acts)
+            }
+            Some(_) => Ok(()),
+        }
+    }
+
+    /// Has the client log what there is to say of a text, or of all.
+    fn log<D: Display>(
+        &self,
+        kind: u32,
+        uri: Option<&str>,
+        what: &D,
+        acts: &mut Acts,
+    ) -> Result<(), AllocError> {
+        let line = match uri {
+            Some(uri) => format!(in self.alloc; "{uri}: {what}")?,
+            None => format!(in self.alloc; "{what}")?,
+        };
+        acts.push(Act::log(self.alloc, kind, line.as_str())?)?;
+        Ok(())
     }
 
     /// What the client is told of a text that is open, or was: what is wrong with it, and the replies that waited for it to be
     /// right.
-    fn check(&mut self, uri: &str) -> Result<Acts, AllocError> {
-        let Some(document) = self.documents.get(uri) else {
-            return Act::one(
-                self.alloc,
-                diagnostics(self.alloc, uri, Vec::new(self.alloc))?,
-            );
-        };
-        let (told, right) = self.marks(uri, document.text())?;
-        let mut acts = Act::one(self.alloc, told)?;
-        if right {
-            self.reply_solved(uri, &mut acts)?;
+    fn check(&mut self, uri: &str, acts: &mut Acts) -> Result<(), AllocError> {
+        if !self.mark(uri, self.documents.get(uri), acts)? {
+            return Ok(());
         }
-        Ok(acts)
-    }
-
-    /// The replies to the requests that waited for this text.
-    fn reply_solved(&mut self, uri: &str, acts: &mut Acts) -> Result<(), AllocError> {
-        for waiting in mem::replace(&mut self.waiting, Vec::new(self.alloc)) {
-            if waiting.uri.as_str() == uri {
-                acts.push(Act::Reply(waiting.id, Ok(Value::Bool(true))))?;
+        for request in mem::replace(&mut self.waiting, Vec::new(self.alloc)) {
+            if uri_in(&request.params) == Some(uri) {
+                acts.push(Act::Reply(id_of(request), Ok(Value::Bool(true))))?;
             } else {
-                self.waiting.push(waiting)?;
+                self.waiting.push(request)?;
             }
         }
         Ok(())
     }
 
-    /// What the client is told after a notification that was made: what there is to say of it, and what is wrong with the text.
-    fn hear(&mut self, made: Made<'_>) -> Result<Acts, AllocError> {
-        let uri = made.uri;
-        self.texts.forget(uri);
-        let Some(remark) = made.remark else {
-            return self.check(uri);
-        };
-        let mut acts = self.log(2, format!(in self.alloc; "{uri}: {remark}")?)?;
-        acts.append(&mut self.check(uri)?)?;
-        Ok(acts)
-    }
-
-    /// Shows what is wrong with each text that is open: nothing, if the text is lost.
+    /// Shows what is wrong with each text that is open.
     fn mark_all(&self, acts: &mut Acts) -> Result<(), AllocError> {
         for (uri, kept) in self.documents.iter() {
-            let told = match kept.document() {
-                Some(document) => self.marks(uri.as_str(), document.text())?.0,
-                None => diagnostics(self.alloc, uri.as_str(), Vec::new(self.alloc))?,
-            };
-            acts.push(told)?;
+            self.mark(uri.as_str(), kept.document(), acts)?;
         }
         Ok(())
     }
 
-    /// What the client is told after a notification that was not made: why, and no marks of a text that was lost by it. Each may
-    /// be, if no URI is named.
-    fn complain(&mut self, missed: NotMade<'_>) -> Result<Acts, AllocError> {
-        let fault = missed.fault;
-        if matches!(fault, DocumentFault::Memory) {
-            return Err(AllocError);
-        }
-        let Some(uri) = missed.uri else {
-            return self.complain_of_all(fault);
+    /// Shows what is wrong with a text, and says whether it is right: no marks, if it is closed or lost (LSP 3.17,
+    /// "PublishDiagnostics Notification").
+    fn mark(
+        &self,
+        uri: &str,
+        document: Option<&TextDocument>,
+        acts: &mut Acts,
+    ) -> Result<bool, AllocError> {
+        let marks = match document {
+            Some(document) => self.marks_in(document.text())?,
+            None => Vec::new(self.alloc),
         };
-        let mut acts = self.log(1, format!(in self.alloc; "{uri}: {fault}")?)?;
-        if missed.lost {
-            self.texts.forget(uri);
-            acts.push(diagnostics(self.alloc, uri, Vec::new(self.alloc))?)?;
-        }
-        Ok(acts)
+        let right = document.is_some() && marks.is_empty();
+        let marks = Value::Array(marks);
+        let params = json!(in self.alloc; { "diagnostics": marks, "uri": uri })?;
+        let method = String::from_str(self.alloc, "textDocument/publishDiagnostics")?;
+        acts.push(Act::Tell(Notification { method, params }))?;
+        Ok(right)
     }
 
-    fn complain_of_all(&mut self, fault: DocumentFault) -> Result<Acts, AllocError> {
-        self.texts.forget_all();
-        let mut acts = self.log(1, format!(in self.alloc; "{fault}")?)?;
-        self.mark_all(&mut acts)?;
-        Ok(acts)
-    }
-
-    /// Has the client log a message (LSP 3.17, "LogMessage Notification").
-    fn log(&self, kind: i64, message: String) -> Result<Acts, AllocError> {
-        let method = String::from_str(self.alloc, "window/logMessage")?;
-        let params = json!(in self.alloc; { "type": kind, "message": message })?;
-        Act::one(self.alloc, Act::Tell(Notification { method, params }))
-    }
-
-    /// The notification that shows what is wrong with a text, and whether nothing is.
-    fn marks(&self, uri: &str, text: &Text) -> Result<(Act<Asked>, bool), AllocError> {
+    /// What is wrong with a text, as the client shows it.
+    fn marks_in(&self, text: &Text) -> Result<Vec<Value>, AllocError> {
+        let sheet = sheet_of(self.alloc, text, self.largest)?;
         let mut marks = Vec::new(self.alloc);
-        for problem in self.problems_in(text)? {
-            marks.push(self.mark(text, problem)?)?;
+        for problem in sheet.problems.iter() {
+            marks.push(self.mark_of(text, *problem)?)?;
         }
-        let right = marks.is_empty();
-        Ok((diagnostics(self.alloc, uri, marks)?, right))
+        Ok(marks)
     }
 
-    /// What is wrong with a text.
-    fn problems_in(&self, text: &Text) -> Result<Vec<Problem>, AllocError> {
-        let lines = words_of(self.alloc, text)?;
-        let sheet = sheet_of(self.alloc, lines.as_slice(), self.largest);
-        drop(lines);
-        Ok(sheet?.problems)
-    }
-
-    /// A problem, as the client shows it.
-    fn mark(&self, text: &Text, problem: Problem) -> Result<Value, AllocError> {
-        let range = self.range_value(text, problem.span)?;
-        let message = problem.message;
-        json!(in self.alloc; { "range": range, "severity": 1, "source": "sums", "message": message })
+    fn mark_of(&self, text: &Text, problem: Problem<'_>) -> Result<Value, AllocError> {
+        let Problem { word, what } = problem;
+        let message = format!(in self.alloc; "`{}`: {what}", word.text)?;
+        json!(in self.alloc; {
+            "message": message,
+            "range": self.range_of(text, word)?,
+            "severity": 1,
+            "source": "sums"
+        })
     }
 
     /// A text as the server holds it, or null.
     fn text(&self, params: &Value) -> Result<Value, AllocError> {
-        let Some(document) = self.document_in(params) else {
-            return Ok(Value::Null);
-        };
-        let text = String::from_str(self.alloc, document.text().as_str())?;
-        Ok(Value::String(text))
+        match self.document_in(params) {
+            Some(document) => Value::try_from_str(self.alloc, document.text().as_str()),
+            None => Ok(Value::Null),
+        }
     }
 
     /// The document that params name, if its text is known.
@@ -396,91 +378,66 @@ impl Sums {
 
     /// The name at a place of a text and its value, or null (LSP 3.17, "Hover Request").
     fn hover(&self, params: &Value) -> Result<Value, AllocError> {
-        let Some(document) = self.document_in(params) else {
-            return Ok(Value::Null);
-        };
-        match place_in(params) {
-            Some(position) => self.hover_in(document.text(), position),
+        match (self.document_in(params), place_in(params)) {
+            (Some(document), Some(place)) => self.hover_at(document.text(), place),
+            _ => Ok(Value::Null),
+        }
+    }
+
+    fn hover_at(&self, text: &Text, place: Position) -> Result<Value, AllocError> {
+        let offset = text.offset_at(place, self.documents.encoding());
+        let words = words_of(self.alloc, text, place.line)?;
+        for word in words.iter() {
+            if word.start <= offset && offset < word.end() {
+                return self.shown(text, *word);
+            }
+        }
+        Ok(Value::Null)
+    }
+
+    /// What is shown of a word, if it has a value.
+    fn shown(&self, text: &Text, word: Word<'_>) -> Result<Value, AllocError> {
+        let sheet = sheet_of(self.alloc, text, i64::MAX)?;
+        let value = value_of(sheet.names.as_slice(), word.text);
+        drop(sheet);
+        match value {
+            Some(value) => self.shown_as(text, word, value),
             None => Ok(Value::Null),
         }
     }
 
-    /// What is shown at a place of a text.
-    fn hover_in(&self, text: &Text, position: Position) -> Result<Value, AllocError> {
-        let offset = text.offset_at(position, self.documents.encoding());
-        let lines = words_of(self.alloc, text)?;
-        let shown = self.shown_in(text, lines.as_slice(), offset);
-        drop(lines);
-        shown
+    fn shown_as(&self, text: &Text, word: Word<'_>, value: i64) -> Result<Value, AllocError> {
+        let contents = format!(in self.alloc; "{} = {value}", word.text)?;
+        json!(in self.alloc; { "contents": contents, "range": self.range_of(text, word)? })
     }
 
-    fn shown_in(
-        &self,
-        text: &Text,
-        lines: &[Vec<Word>],
-        offset: usize,
-    ) -> Result<Value, AllocError> {
-        let sheet = sheet_of(self.alloc, lines, i64::MAX)?;
-        let shown = match word_at(lines, offset) {
-            Some(word) => self.shown(text, sheet.names.as_slice(), word),
-            None => Ok(Value::Null),
-        };
-        drop(sheet);
-        shown
-    }
-
-    /// What is shown of a word.
-    fn shown(&self, text: &Text, names: &[Named], word: &Word) -> Result<Value, AllocError> {
-        let name = word.text.as_str();
-        let Some(value) = value_of(names, name) else {
-            return Ok(Value::Null);
-        };
-        let contents = format!(in self.alloc; "{name} = {value}")?;
-        let range = self.range_value(text, word.span)?;
-        json!(in self.alloc; { "contents": contents, "range": range })
-    }
-
-    /// A part of a text, as the client counts it.
-    fn range_value(&self, text: &Text, span: Span) -> Result<Value, AllocError> {
+    /// Where a word stands, as the client counts it.
+    fn range_of(&self, text: &Text, word: Word<'_>) -> Result<Value, AllocError> {
         let encoding = self.documents.encoding();
-        let start = text.position_at(span.start, encoding);
-        let end = text.position_at(span.end, encoding);
-        json!(in self.alloc; {
-            "start": { "line": start.line, "character": start.character },
-            "end": { "line": end.line, "character": end.character }
-        })
+        let start = text.position_at(word.start, encoding);
+        let end = text.position_at(word.end(), encoding);
+        tree(to_value(self.alloc, &Range { start, end }))
     }
 }
 
-/// What the server can do. UTF-16 is what a client takes for granted.
-fn capabilities(alloc: Global, encoding: PositionEncoding) -> Result<Value, AllocError> {
-    let mut can = json!(in alloc; {
-        "textDocumentSync": { "openClose": true, "change": 2, "save": { "includeText": true } },
-        "hoverProvider": true,
-        "workspaceSymbolProvider": { "workDoneProgress": true }
-    })?;
-    announce(alloc, &mut can, encoding).and(Ok(can))
+/// The result of `initialize`. It names the encoding, if that is not UTF-16, which a client takes for granted.
+fn about(alloc: Global, encoding: PositionEncoding) -> Result<Value, AllocError> {
+    let mut about = tree(Value::from_str(alloc, ABOUT))?;
+    if encoding != PositionEncoding::Utf16 {
+        if let Some(Value::Object(can)) = about.get_mut("capabilities") {
+            let name = Value::try_from_str(alloc, encoding.name())?;
+            put(can, alloc, "positionEncoding", name)?;
+        }
+    }
+    Ok(about)
 }
 
-/// Names the encoding, if it is not UTF-16.
-fn announce(alloc: Global, can: &mut Value, encoding: PositionEncoding) -> Result<(), AllocError> {
-    if encoding == PositionEncoding::Utf16 {
-        return Ok(());
+/// A tree that only lack of memory can keep from being made.
+fn tree(made: Result<Value, serde_json::Error>) -> Result<Value, AllocError> {
+    match made {
+        Ok(tree) => Ok(tree),
+        Err(_fault) => Err(AllocError),
     }
-    if let Some(members) = can.as_object_mut() {
-        let name = String::from_str(alloc, encoding.name())?;
-        let key = String::from_str(alloc, "positionEncoding")?;
-        drop(members.insert(key, Value::from(name))?);
-    }
-    Ok(())
-}
-
-/// The notification that shows what is wrong with a text (LSP 3.17, "PublishDiagnostics Notification").
-fn diagnostics(alloc: Global, uri: &str, marks: Vec<Value>) -> Result<Act<Asked>, AllocError> {
-    let method = String::from_str(alloc, "textDocument/publishDiagnostics")?;
-    let marks = Value::Array(marks);
-    let params = json!(in alloc; { "uri": uri, "diagnostics": marks })?;
-    Ok(Act::Tell(Notification { method, params }))
 }
 
 /// What comes of a search that nobody cancels.
@@ -499,13 +456,6 @@ fn id_of(request: Request) -> RequestId {
     drop(method);
     drop(params);
     id
-}
-
-fn owned_uri_in(alloc: Global, params: &Value) -> Result<Option<String>, AllocError> {
-    match uri_in(params) {
-        Some(uri) => Ok(Some(String::from_str(alloc, uri)?)),
-        None => Ok(None),
-    }
 }
 
 fn uri_in(params: &Value) -> Option<&str> {

@@ -8,62 +8,38 @@ ghost use Rattle.example_search.specs.Found.{line_of as plain_line};
 use lsp_text::{Position, PositionEncoding, Text};
 use std::alloc::{AllocError, Global};
 
-/// A part of a text, in bytes.
+/// A name, a number or a sign of a text.
 #[derive(Clone, Copy)]
-pub struct Span {
-    /// Where it begins.
-    pub start: usize,
-    /// The place behind it.
-    pub end: usize,
-}
-
-/// A name, a number or a sign, and where it stands.
-#[derive(Drop)]
-pub struct Word {
+pub struct Word<'t> {
     /// As it is written.
-    pub text: String,
-    /// Where it stands.
-    pub span: Span,
-    /// Whether it has the characters of names and numbers. Else it is one other character.
-    is_name: bool,
+    pub text: &'t str,
+    /// Where it begins in the whole text, in bytes.
+    pub start: usize,
 }
 
 /// A name and its value.
-#[derive(Drop)]
-pub struct Named {
-    name: String,
+#[derive(Clone, Copy)]
+pub struct Named<'t> {
+    name: &'t str,
     value: i64,
 }
 
-/// What is wrong, and where.
-#[derive(Drop)]
-pub struct Problem {
-    /// The word that shows it.
-    pub span: Span,
+/// What is wrong, and the word that shows it.
+#[derive(Clone, Copy)]
+pub struct Problem<'t> {
+    /// The word.
+    pub word: Word<'t>,
     /// What to say of it.
-    pub message: String,
+    pub what: &'static str,
 }
 
 /// What a text says.
 #[derive(Drop)]
-pub struct Sheet {
+pub struct Sheet<'t> {
     /// The names that have a value.
-    pub names: Vec<Named>,
+    pub names: Vec<Named<'t>>,
     /// In the order of the lines, one for each line at most.
-    pub problems: Vec<Problem>,
-}
-
-/// The words of a text, line by line. Lines without words are left out.
-pub fn words_of(alloc: Global, text: &Text) -> Result<Vec<Vec<Word>>, AllocError> {
-    let mut lines = Vec::new(alloc);
-    for line in 0..line_count(text) {
-        let shown = line_of(text, line).unwrap_or("");
-        let words = words_in(alloc, shown, offset_of(text, line, 0))?;
-        if !words.is_empty() {
-            lines.push(words)?;
-        }
-    }
-    Ok(lines)
+    pub problems: Vec<Problem<'t>>,
 }
 
 /// How many lines a text has, as positions count them.
@@ -87,21 +63,31 @@ fn offset_of(text: &Text, line: u32, character: u32) -> usize
     text.offset_at(Position { line, character }, PositionEncoding::Utf8)
 }
 
-/// The words of a line that begins at a place.
-fn words_in(alloc: Global, line: &str, start: usize) -> Result<Vec<Word>, AllocError> {
+/// The words of a line, up to its comment.
+pub fn words_of(alloc: Global, text: &Text, line: u32) -> Result<Vec<Word<'_>>, AllocError> {
+    let place = offset_of(text, line, 0);
+    let line = line_of(text, line).unwrap_or("");
     let mut words = Vec::new(alloc);
+    let mut start = 0;
     let mut in_name = false;
     for (at, letter) in line.char_indices() {
         if letter == '#' {
             break;
         }
-        if !letter.is_whitespace() {
-            let start = start.saturating_add(at);
-            let end = start.saturating_add(letter.len_utf8());
-            let joins = in_name && of_name(letter);
-            add_letter(alloc, &mut words, letter, Span { start, end }, joins)?;
-        }
+        let goes_on = in_name && of_name(letter);
         in_name = of_name(letter);
+        if goes_on {
+            words.pop();
+        } else {
+            start = at;
+        }
+        if !letter.is_whitespace() {
+            let end = at.saturating_add(letter.len_utf8());
+            words.push(Word {
+                text: line.get(start..end).unwrap_or(""),
+                start: place.saturating_add(start),
+            })?;
+        }
     }
     Ok(words)
 }
@@ -111,170 +97,120 @@ fn of_name(letter: char) -> bool {
     letter.is_alphanumeric() || letter == '_'
 }
 
-/// Adds a character to the last word of a line, or begins a word with it.
-fn add_letter(
-    alloc: Global,
-    line: &mut Vec<Word>,
-    letter: char,
-    span: Span,
-    joins: bool,
-) -> Result<(), AllocError> {
-    if joins {
-        if let Some(word) = line.last_mut() {
-            word.span.end = span.end;
-            return word.text.push(letter);
-        }
-    }
-    let mut text = String::new(alloc);
-    text.push(letter)?;
-    let is_name = of_name(letter);
-    line.push(Word {
-        text,
-        span,
-        is_name,
-    })?;
-    Ok(())
-}
-
-/// What the lines say. A value above the largest is a problem, and the name has it all the same.
-pub fn sheet_of(alloc: Global, lines: &[Vec<Word>], largest: i64) -> Result<Sheet, AllocError> {
+/// What a text says. A value above the largest is a problem, and the name has it all the same.
+pub fn sheet_of(alloc: Global, text: &Text, largest: i64) -> Result<Sheet<'_>, AllocError> {
     let mut sheet = Sheet {
         names: Vec::new(alloc),
         problems: Vec::new(alloc),
     };
-    match sheet.read(alloc, lines, largest) {
-        Ok(()) => Ok(sheet),
-        Err(fault) => {
-            drop(sheet);
-            Err(fault)
+    for line in 0..line_count(text) {
+        let words = words_of(alloc, text, line)?;
+        if let [word, rest @ ..] = words.as_slice() {
+            sheet.read(*word, rest, largest)?;
         }
     }
+    Ok(sheet)
 }
 
-impl Sheet {
-    /// Reads the lines, one after another.
-    fn read(&mut self, alloc: Global, lines: &[Vec<Word>], largest: i64) -> Result<(), AllocError> {
-        for line in lines {
-            if let [word, rest @ ..] = line.as_slice() {
-                self.read_line(alloc, word, rest, largest)?;
-            }
-        }
-        Ok(())
-    }
-
-    fn read_line(
-        &mut self,
-        alloc: Global,
-        word: &Word,
-        rest: &[Word],
-        largest: i64,
-    ) -> Result<(), AllocError> {
-        match value_in(self.names.as_slice(), word, rest) {
+impl<'t> Sheet<'t> {
+    /// Reads a line: its first word, and the rest.
+    fn read(&mut self, word: Word<'t>, rest: &[Word<'t>], largest: i64) -> Result<(), AllocError> {
+        let problem = match value_in(self.names.as_slice(), word, rest) {
             Ok(value) => {
-                let name = word.text.clone()?;
-                if value > largest {
-                    self.problems
-                        .push(word.blamed("is too large").problem(alloc)?)?;
-                }
+                let name = word.text;
                 self.names.push(Named { name, value })?;
+                if value > largest {
+                    Some(word.shows("is too large"))
+                } else {
+                    None
+                }
             }
-            Err(blame) => self.problems.push(blame.problem(alloc)?)?,
+            Err(problem) => Some(problem),
+        };
+        if let Some(problem) = problem {
+            self.problems.push(problem)?;
         }
         Ok(())
     }
-}
-
-/// The word at a place of a text, in bytes.
-pub fn word_at(lines: &[Vec<Word>], offset: usize) -> Option<&Word> {
-    for line in lines {
-        let found = line
-            .iter()
-            .find(|word| word.span.start <= offset && offset < word.span.end);
-        if found.is_some() {
-            return found;
-        }
-    }
-    None
 }
 
 /// The value of a name, or of a number.
-pub fn value_of(names: &[Named], text: &str) -> Option<i64> {
+pub fn value_of(names: &[Named<'_>], text: &str) -> Option<i64> {
     for named in names {
-        if named.name.as_str() == text {
+        if named.name == text {
             return Some(named.value);
         }
     }
     text.parse::<i64>().ok()
 }
 
-/// A word that shows what is wrong, and what to say of it.
-#[derive(Clone, Copy)]
-struct Blame<'a> {
-    word: &'a Word,
-    what: &'static str,
-}
-
-impl Word {
-    fn blamed(&self, what: &'static str) -> Blame<'_> {
-        Blame { word: self, what }
+impl<'t> Word<'t> {
+    /// The place behind it.
+    pub fn end(self) -> usize {
+        self.start.saturating_add(self.text.len())
     }
-}
 
-impl Blame<'_> {
-    fn problem(self, alloc: Global) -> Result<Problem, AllocError> {
-        let text = self.word.text.as_str();
-        let what = self.what;
-        Ok(Problem {
-            span: self.word.span,
-            message: format!(in alloc; "`{text}`: {what}")?,
-        })
+    /// Whether it has the characters of names and numbers. Else it is one other character.
+    fn is_name(self) -> bool {
+        self.text.chars().next().is_some_and(of_name)
+    }
+
+    fn shows(self, what: &'static str) -> Problem<'t> {
+        Problem { word: self, what }
     }
 }
 
 /// The value that the rest of a line gives the name that it begins with.
-fn value_in<'a>(names: &[Named], name: &'a Word, rest: &'a [Word]) -> Result<i64, Blame<'a>> {
-    if !name.is_name {
-        return Err(name.blamed("is no name"));
+fn value_in<'t>(
+    names: &[Named<'t>],
+    name: Word<'t>,
+    rest: &[Word<'t>],
+) -> Result<i64, Problem<'t>> {
+    if !name.is_name() {
+        return Err(name.shows("is no name"));
     }
-    if value_of(names, name.text.as_str()).is_some() {
-        return Err(name.blamed("has a value already"));
+    if value_of(names, name.text).is_some() {
+        return Err(name.shows("has a value already"));
     }
     let [equals, terms @ ..] = rest else {
-        return Err(name.blamed("no `=` follows"));
+        return Err(name.shows("no `=` follows"));
     };
-    if equals.text.as_str() != "=" {
-        return Err(equals.blamed("is not `=`"));
+    if equals.text != "=" {
+        return Err(equals.shows("is not `=`"));
     }
-    sum_of(names, equals, terms)
+    sum_of(names, *equals, terms)
 }
 
 /// The sum behind an equals sign.
-fn sum_of<'a>(names: &[Named], equals: &'a Word, terms: &'a [Word]) -> Result<i64, Blame<'a>> {
+fn sum_of<'t>(
+    names: &[Named<'t>],
+    equals: Word<'t>,
+    terms: &[Word<'t>],
+) -> Result<i64, Problem<'t>> {
     let mut sum: i64 = 0;
     // The sign of the number that comes next. There is none if a sign is to come.
     let mut sign: Option<i64> = Some(1);
     let mut last = equals;
     for term in terms {
-        last = term;
-        let text = term.text.as_str();
+        last = *term;
         let Some(factor) = sign else {
-            sign = sign_of(text);
+            sign = sign_of(term.text);
             if sign.is_none() {
-                return Err(term.blamed("is not `+` or `-`"));
+                return Err(term.shows("is not `+` or `-`"));
             }
             continue;
         };
-        let Some(value) = value_of(names, text) else {
-            return Err(term.blamed("has no value"));
+        let Some(value) = value_of(names, term.text) else {
+            return Err(term.shows("has no value"));
         };
         let Some(next) = added(sum, factor, value) else {
-            return Err(term.blamed("makes the sum too large"));
+            return Err(term.shows("makes the sum too large"));
         };
         sum = next;
         sign = None;
     }
     if sign.is_some() {
-        return Err(last.blamed("no number follows"));
+        return Err(last.shows("no number follows"));
     }
     Ok(sum)
 }

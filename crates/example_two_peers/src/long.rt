@@ -58,7 +58,10 @@ fn ask(alloc: Global, world: &mut World, payload: u64) -> Result<Option<RequestI
     })?;
     match outcome {
         Outcome::Registered(id) => Ok(Some(id)),
-        _ => Ok(None),
+        other => {
+            drop(other);
+            Ok(None)
+        }
     }
 }
 

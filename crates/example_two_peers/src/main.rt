@@ -37,18 +37,18 @@ fn take_line<'a, R: Print>(
     line: &'a str,
 ) -> Result<()> {
     if line.starts_with("#") {
-        println!(rt; "{line}")?;
+        Ok(println!(rt; "{line}")?)
     } else if line.is_empty() {
-        run_lines(rt, alloc, lines.as_slice())?;
+        let ran = run_lines(rt, alloc, lines.as_slice());
         lines.clear();
+        ran
     } else if line == "talk" {
-        show_talk(rt, alloc)?;
-    } else if let Some((_, requests)) = line.split_once("requests ") {
-        show_long(rt, alloc, requests.parse()?)?;
+        show_talk(rt, alloc)
+    } else if let Some(requests) = line.strip_prefix("requests ") {
+        show_long(rt, alloc, requests)
     } else {
-        lines.push(line)?;
+        Ok(lines.push(line)?)
     }
-    Ok(())
 }
 
 /// Runs two new peers through the steps of these lines, and says what came of it.
@@ -80,13 +80,22 @@ fn show_run<R: Print>(
     outcomes: &[Outcome],
     all: bool,
 ) -> Result<()> {
+    let mut pending = String::new(alloc);
     for (line, outcome) in lines.iter().zip(outcomes.iter()) {
         let came = text_of(alloc, outcome)?;
         println!(rt; "{line}: {came}")?;
+        if let Some(payload) = pending_of(world, side_of(line), outcome) {
+            let text = format!(in alloc; "{line}: {payload} is still pending\n")?;
+            pending.push_str(text.as_str())?;
+        }
     }
     show_both(rt, alloc, world)?;
-    show_pending(rt, lines, outcomes, world)?;
-    show_end(rt, all)
+    let end = if all {
+        "Each took all that the other wrote."
+    } else {
+        "Some bytes are still in the links."
+    };
+    Ok(println!(rt; "{pending}{end}\n")?)
 }
 
 /// Lets a client and a server talk, and shows what each of them took.
@@ -103,45 +112,31 @@ fn show_talk<R: Print>(rt: &R, alloc: Global) -> Result<()> {
 fn show_talked<R: Print>(rt: &R, alloc: Global, world: &World, ended: bool) -> Result<()> {
     show_both(rt, alloc, world)?;
     let end = if ended { "came" } else { "did not come" };
-    println!(rt; "The talk {end} to its end.\n")?;
-    Ok(())
+    Ok(println!(rt; "The talk {end} to its end.\n")?)
 }
 
 /// Lets A ask so often, and shows how many replies came back to their own request, and how many messages were handed out.
-fn show_long<R: Print>(rt: &R, alloc: Global, requests: u64) -> Result<()> {
-    match ask_often(alloc, requests) {
+fn show_long<R: Print>(rt: &R, alloc: Global, requests: &str) -> Result<()> {
+    match ask_often(alloc, requests.parse()?) {
         Ok(
             Long {
                 returned,
                 handed_out,
             },
-        ) => {
-            println!(rt;
-                "{returned} of {requests} replies gave back the payload of their request."
-            )?;
-            println!(rt; "{handed_out} messages were handed out.\n")?;
-            Ok(())
-        }
+        ) => Ok(println!(rt;
+            "{returned} of {requests} replies gave back the payload of their request.\n\
+            {handed_out} messages were handed out.\n"
+        )?),
         Err(fault) => show_fault(rt, fault),
     }
 }
 
-/// Says whether the links are empty.
-fn show_end<R: Print>(rt: &R, all: bool) -> Result<()> {
-    if all {
-        println!(rt; "Each took all that the other wrote.\n")?;
-    } else {
-        println!(rt; "Some bytes are still in the links.\n")?;
-    }
-    Ok(())
-}
-
 fn show_fault<R: Print>(rt: &R, fault: WorldFault) -> Result<()> {
     let number = fault.number();
-    println!(rt; "fault {number}: {fault}\n")?;
-    Ok(())
+    Ok(println!(rt; "fault {number}: {fault}\n")?)
 }
 
+/// What came of a step.
 fn text_of(alloc: Global, outcome: &Outcome) -> std::result::Result<String, AllocError> {
     match outcome {
         Outcome::Registered(id) => format!(in alloc; "registered {id}"),
@@ -175,23 +170,8 @@ fn show_taken<R: Print>(rt: &R, alloc: Global, name: &str, taken: &[Message]) ->
     Ok(())
 }
 
-/// Shows each request whose reply its side still waits for.
-fn show_pending<R: Print>(
-    rt: &R,
-    lines: &[&str],
-    outcomes: &[Outcome],
-    world: &World,
-) -> Result<()> {
-    for (line, outcome) in lines.iter().zip(outcomes.iter()) {
-        if let Some(payload) = pending(world, side_of(line), outcome) {
-            println!(rt; "{line}: {payload} is still pending")?;
-        }
-    }
-    Ok(())
-}
-
 /// The payload of the request that this outcome registered, if its side still waits for the reply.
-fn pending(world: &World, side: Side, outcome: &Outcome) -> Option<u64> {
+fn pending_of(world: &World, side: Side, outcome: &Outcome) -> Option<u64> {
     let Outcome::Registered(id) = outcome else {
         return None;
     };

@@ -29,27 +29,44 @@ pub fn side_of(line: &str) -> Side {
 /// The step of a line.
 pub fn step_of(alloc: Global, line: &str) -> Result<Step> {
     let side = side_of(line);
-    let (_, words) = line.split_once(" ").context("no step")?;
-    let (verb, rest) = words.split_once(" ").context("no step")?;
+    let (_, rest) = cut(line);
+    let (verb, rest) = cut(rest);
+    let (word, rest) = cut(rest);
     match verb {
-        "registers" => register(alloc, side, rest),
-        "tells" => tell(alloc, side, rest),
-        "gets" => pass(side, rest),
-        "takes" => take(side, rest),
-        "answers" => answer(alloc, side, rest),
-        "refuses" => refuse(alloc, side, rest),
-        "cancels" => cancel(alloc, side, rest),
-        "gives-up" => give_up(alloc, side, rest),
+        "registers" => register(alloc, side, word, rest),
+        "tells" => tell(alloc, side, word, rest),
+        "gets" => Ok(Step::Pass {
+            to: side,
+            bytes: word.parse()?,
+        }),
+        "takes" => Ok(Step::Take {
+            side,
+            label: word.parse()?,
+        }),
+        "answers" => answer(alloc, side, word, rest),
+        "refuses" => refuse(alloc, side, word, rest),
+        "cancels" => Ok(Step::Cancel {
+            side,
+            id: id_of(alloc, word)?,
+        }),
+        "gives-up" => Ok(Step::GiveUp {
+            side,
+            id: id_of(alloc, word)?,
+        }),
         _ => bail!("no such step: {line}"),
     }
 }
 
-fn register(alloc: Global, side: Side, words: &str) -> Result<Step> {
-    let (method, rest) = words.split_once(" ").context("no payload")?;
-    let (payload, params) = rest.split_once(" ").unwrap_or((rest, "null"));
+/// The first word, and what follows it.
+fn cut(words: &str) -> (&str, &str) {
+    words.split_once(" ").unwrap_or((words, ""))
+}
+
+fn register(alloc: Global, side: Side, method: &str, words: &str) -> Result<Step> {
+    let (payload, params) = cut(words);
     let payload = payload.parse()?;
     let method = String::from_str(alloc, method)?;
-    let params = Value::from_str(alloc, params)?;
+    let params = params_of(alloc, params)?;
     Ok(Step::Register {
         side,
         method,
@@ -58,35 +75,32 @@ fn register(alloc: Global, side: Side, words: &str) -> Result<Step> {
     })
 }
 
-fn tell(alloc: Global, side: Side, words: &str) -> Result<Step> {
-    let (method, params) = words.split_once(" ").unwrap_or((words, "null"));
+fn tell(alloc: Global, side: Side, method: &str, params: &str) -> Result<Step> {
+    let method = String::from_str(alloc, method)?;
+    let params = params_of(alloc, params)?;
     Ok(Step::Tell {
         side,
-        method: String::from_str(alloc, method)?,
-        params: Value::from_str(alloc, params)?,
+        method,
+        params,
     })
 }
 
-fn pass(to: Side, word: &str) -> Result<Step> {
-    let bytes = word.parse()?;
-    Ok(Step::Pass { to, bytes })
+/// The params of a request or a notification. If nothing is written they are null.
+fn params_of(alloc: Global, text: &str) -> Result<Value> {
+    match text {
+        "" => Ok(Value::Null),
+        _ => Ok(Value::from_str(alloc, text)?),
+    }
 }
 
-fn take(side: Side, word: &str) -> Result<Step> {
-    let label = word.parse()?;
-    Ok(Step::Take { side, label })
-}
-
-fn answer(alloc: Global, side: Side, words: &str) -> Result<Step> {
-    let (id, result) = words.split_once(" ").context("no result")?;
-    let result = Value::from_str(alloc, result)?;
+fn answer(alloc: Global, side: Side, id: &str, text: &str) -> Result<Step> {
     let id = id_of(alloc, id)?;
+    let result = Value::from_str(alloc, text)?;
     Ok(Step::Answer { side, id, result })
 }
 
-fn refuse(alloc: Global, side: Side, words: &str) -> Result<Step> {
-    let (id, rest) = words.split_once(" ").context("no code")?;
-    let (code, message) = rest.split_once(" ").context("no text")?;
+fn refuse(alloc: Global, side: Side, id: &str, words: &str) -> Result<Step> {
+    let (code, message) = cut(words);
     let code = code.parse()?;
     let message = String::from_str(alloc, message)?;
     let id = id_of(alloc, id)?;
@@ -96,16 +110,6 @@ fn refuse(alloc: Global, side: Side, words: &str) -> Result<Step> {
         code,
         message,
     })
-}
-
-fn cancel(alloc: Global, side: Side, word: &str) -> Result<Step> {
-    let id = id_of(alloc, word)?;
-    Ok(Step::Cancel { side, id })
-}
-
-fn give_up(alloc: Global, side: Side, word: &str) -> Result<Step> {
-    let id = id_of(alloc, word)?;
-    Ok(Step::GiveUp { side, id })
 }
 
 /// The id that is written so in JSON: a number or a text.

@@ -36,8 +36,7 @@ pub fn talk(alloc: Global) -> Result<(World, bool), WorldFault>
     ensures begun { IfOk result (λ r. IsTalk r.0) }
     ensures ended { IfOk result (λ r. r.1 ≡ true → HasEnded r.0) }
 {
-    let params = json!(in alloc; { "capabilities": {} })?;
-    let mut world = begin(alloc, params)?;
+    let mut world = begin(alloc)?;
     take_turns(alloc, &mut world)?;
     let ended = has_come_to_end(&world);
     Ok((world, ended))
@@ -83,11 +82,11 @@ fn has_ended(world: &World) -> bool
 }
 
 /// A new world, in which the client has asked the server to initialize.
-fn begin(alloc: Global, params: Value) -> Result<World, WorldFault>
-    requires { depth (view params) ≤ 126 }
+fn begin(alloc: Global) -> Result<World, WorldFault>
     ensures { IfOk result (λ world. IsTalk world) }
 {
     a_shallow_step_keeps_a_history_readable();
+    let params = no_capabilities(alloc)?;
     let method = String::from_str(alloc, "initialize")?;
     let step = Step::Register {
         side: Side::A,
@@ -96,8 +95,15 @@ fn begin(alloc: Global, params: Value) -> Result<World, WorldFault>
         payload: INITIALIZE,
     };
     let mut world = World::new(alloc);
-    world.step(step)?;
+    drop(world.step(step)?);
     Ok(world)
+}
+
+/// What both sides say of themselves.
+fn no_capabilities(alloc: Global) -> Result<Value, AllocError>
+    ensures { IfOk result (λ value. depth (view value) ≤ 126) }
+{
+    json!(in alloc; { "capabilities": {} })
 }
 
 /// Whether the last of these messages is the notification `exit`.
@@ -209,7 +215,10 @@ fn step_for(alloc: Global, outcome: Outcome, taken: &[Message]) -> Result<Option
             Some(id) => Ok(Some(Step::Cancel { side, id })),
             None => Ok(None),
         },
-        _ => Ok(None),
+        other => {
+            drop(other);
+            Ok(None)
+        }
     }
 }
 
@@ -221,25 +230,22 @@ fn reply_to(alloc: Global, id: RequestId, taken: &[Message]) -> Result<Option<St
     let Some(Message::Request(request)) = taken.last() else {
         return Ok(None);
     };
-    match request.method.as_str() {
-        "initialize" => Ok(Some(Step::Answer {
-            side,
-            id,
-            result: json!(in alloc; { "capabilities": {} })?,
-        })),
-        "shutdown" => Ok(Some(Step::Answer {
-            side,
-            id,
-            result: Value::Null,
-        })),
-        "test/slow" => Ok(None),
-        _ => Ok(Some(Step::Refuse {
-            side,
-            id,
-            code: ErrorCode::MethodNotFound.number(),
-            message: String::from_str(alloc, "method not found")?,
-        })),
-    }
+    let result = match request.method.as_str() {
+        "initialize" => no_capabilities(alloc)?,
+        "shutdown" => Value::Null,
+        "test/slow" => return Ok(None),
+        _ => {
+            let code = ErrorCode::MethodNotFound.number();
+            let message = String::from_str(alloc, "method not found")?;
+            return Ok(Some(Step::Refuse {
+                side,
+                id,
+                code,
+                message,
+            }));
+        }
+    };
+    Ok(Some(Step::Answer { side, id, result }))
 }
 
 /// The id of the request that the last notification cancels, if it cancels one.
