@@ -1,9 +1,7 @@
 // The calls over a reader and a writer.
 use crate::devices::{Sink, Source};
-use crate::escapes::escape;
-use crate::messages::{text_of, text_or};
+use crate::said::Said;
 use crate::servers::{Echo, Talker};
-use crate::stop::{Stop, add_text, made};
 use crate::table::{Case, Given};
 use lsp_message::{Front, Message, ReadFault, WriteFault, front, write_frames};
 use lsp_service::{QueuedServer, WokenQueuedServer, session_with};
@@ -13,17 +11,8 @@ use lsp_session::{
     read_loop_within, serve_line, session, session_of_service, session_within,
 };
 use serde_json::{Map, Value};
-use std::alloc::{AllocError, Global};
+use std::alloc::Global;
 use std::cell::Cell;
-
-/// What came of a call that is tried.
-#[derive(Drop)]
-pub enum Attempt {
-    /// It answered so.
-    Came(String),
-    /// It answered that an allocation failed, and left this.
-    Refused(String),
-}
 
 /// A case at one of its places, with one size of pieces.
 #[derive(Clone, Copy)]
@@ -51,107 +40,110 @@ impl Run<'_> {
             _ => None,
         }
     }
-
-    /// What was refused is the answer if no memory can hold the content part.
-    fn answer(self, text: String, is_refused: bool) -> Attempt {
-        if is_refused && self.case.device != "huge" {
-            Attempt::Refused(text)
-        } else {
-            Attempt::Came(text)
-        }
-    }
 }
 
 /// How many bytes are written without a new allocation, which could fail in the call.
 const ROOM: usize = 65536;
 
-/// What comes of a run.
-pub fn attempt_of(alloc: Global, run: Run<'_>, given: &Given) -> Result<Attempt, Stop> {
+/// Says what comes of a run, and of no run before. That an allocation failed is the answer if no memory can hold the content part.
+pub fn call_at(said: &mut Said, run: Run<'_>, given: &Given) {
+    said.text.clear();
+    said.is_refused = false;
     let bytes = given.bytes.as_slice();
     let end = run.at("ends").unwrap_or(usize::MAX).min(bytes.len());
     let written = Cell::new(0);
-    let taken = Vec::with_capacity(alloc, ROOM)?;
-    let mut reader = Source {
-        bytes: &bytes[..end],
-        pauses: given.pauses.as_slice(),
-        written: &written,
-        taken: 0,
-        step: run.step,
-        fails_at: run.at("breaks"),
-        kind: run.case.kind,
+    let Ok(taken) = Vec::with_capacity(said.alloc, ROOM) else {
+        said.is_short = true;
+        return;
     };
-    let mut writer = Sink {
-        taken,
-        written: &written,
-        step: run.step,
-        room: run.at("fills").unwrap_or(usize::MAX),
-        kind: run.case.kind,
-        bad_flush: run.at("flushes").unwrap_or(0),
-        flushes: 0,
+    let mut trial = Trial {
+        run,
+        reader: Source {
+            bytes: &bytes[..end],
+            pauses: given.pauses.as_slice(),
+            written: &written,
+            taken: 0,
+            step: run.step,
+            fails_at: run.at("breaks"),
+            kind: run.case.kind,
+        },
+        writer: Sink {
+            taken,
+            written: &written,
+            step: run.step,
+            room: run.at("fills").unwrap_or(usize::MAX),
+            kind: run.case.kind,
+            bad_flush: run.at("flushes").unwrap_or(0),
+            flushes: 0,
+        },
     };
-    let attempt = call(alloc, run, &mut reader, &mut writer);
-    drop(writer);
-    drop(reader);
-    attempt
+    call(said, &mut trial);
+    drop(trial);
+    said.is_refused = said.is_refused && run.case.device != "huge";
 }
 
-fn call(
-    alloc: Global,
-    run: Run<'_>,
-    reader: &mut Source<'_>,
-    writer: &mut Sink<'_>,
-) -> Result<Attempt, Stop> {
-    match run.case.call {
-        "front" => front_answer(alloc, reader.left()),
-        "read" => read_answer(alloc, run, reader),
-        "inbox" => inbox_answer(alloc, reader),
-        "loop" => loop_answer(alloc, run, reader),
-        "write" => write_answer(alloc, run, reader, writer),
-        "frames" => frames_answer(alloc, run, reader, writer),
-        "outbox" => outbox_answer(alloc, reader, writer),
-        "session" => session_answer(alloc, run, reader, writer),
-        "speaks" => speaks_answer(alloc, run, reader, writer),
-        "line" => line_answer(alloc, run, reader, writer),
-        _ => tolerant_answer(alloc, run, reader, writer),
+/// A run, and its devices.
+#[derive(Drop)]
+struct Trial<'a> {
+    run: Run<'a>,
+    reader: Source<'a>,
+    writer: Sink<'a>,
+}
+
+fn call(said: &mut Said, trial: &mut Trial<'_>) {
+    match trial.run.case.call {
+        "front" => say_front(said, trial.reader.left()),
+        "read" => say_read(said, trial),
+        "inbox" => say_inbox(said, trial),
+        "loop" => say_loop(said, trial),
+        "write" => say_write(said, trial),
+        "frames" => say_frames(said, trial),
+        "outbox" => say_outbox(said, trial),
+        "session" => say_session(said, trial),
+        "speaks" => say_speaks(said, trial),
+        "line" => say_line(said, trial),
+        _ => say_tolerant(said, trial),
     }
 }
 
-fn front_answer(alloc: Global, bytes: &[u8]) -> Result<Attempt, Stop> {
-    let text = match front(bytes) {
-        Front::Whole(length) => format!(in alloc; "whole, {length} bytes")?,
-        Front::More => String::from_str(alloc, "more")?,
-        Front::Fault(number) => format!(in alloc; "read fault {number}")?,
-    };
-    Ok(Attempt::Came(text))
+fn say_front(said: &mut Said, bytes: &[u8]) {
+    match front(bytes) {
+        Front::Whole(length) => {
+            said.push("whole, ");
+            said.show(length);
+            said.push(" bytes");
+        }
+        Front::More => said.push("more"),
+        Front::Fault(number) => {
+            said.push("read fault ");
+            said.show(number);
+        }
+    }
 }
 
 /// What one read gives, and what it leaves.
-fn read_answer(alloc: Global, run: Run<'_>, reader: &mut Source<'_>) -> Result<Attempt, Stop> {
-    let read = match run.limit() {
-        Some(limit) => Message::read_within(alloc, reader, limit),
-        None => Message::read(alloc, reader),
+fn say_read(said: &mut Said, trial: &mut Trial<'_>) {
+    let read = match trial.run.limit() {
+        Some(limit) => Message::read_within(said.alloc, &mut trial.reader, limit),
+        None => Message::read(said.alloc, &mut trial.reader),
     };
-    let is_refused = matches!(&read, Err(ReadFault::Memory));
-    let came = read_text(alloc, read)?;
-    let left = escape(alloc, reader.left())?;
-    Ok(run.answer(format!(in alloc; "{came}; left {left}")?, is_refused))
+    say_message(said, read);
+    said.bytes("; left ", trial.reader.left())
 }
 
-fn read_text(
-    alloc: Global,
-    read: Result<Option<Message>, ReadFault>,
-) -> Result<String, AllocError> {
+/// The message that was read, or the fault, with the kind of the reader's error.
+pub fn say_message(said: &mut Said, read: Result<Option<Message>, ReadFault>) {
     match read {
-        Ok(message) => text_or(alloc, message, "the end"),
-        Err(fault) => fault_text(alloc, fault),
-    }
-}
-
-/// A fault, with the kind of the reader's error.
-fn fault_text(alloc: Global, fault: ReadFault) -> Result<String, AllocError> {
-    match fault {
-        ReadFault::Input(kind) => format!(in alloc; "{fault} by {kind:?}"),
-        _ => format!(in alloc; "{fault}"),
+        Ok(message) => said.message_or(message, "the end"),
+        Err(ReadFault::Input(kind)) => {
+            said.show(ReadFault::Input(kind));
+            said.push(" by ");
+            said.debug(kind);
+        }
+        Err(fault) => {
+            said.is_refused = matches!(fault, ReadFault::Memory);
+            said.show(fault);
+        }
     }
 }
 
@@ -159,83 +151,59 @@ fn fault_text(alloc: Global, fault: ReadFault) -> Result<String, AllocError> {
 const MOST: usize = 20;
 
 /// What an inbox over the reader gives, how it ended, and whether it is closed then.
-fn inbox_answer(alloc: Global, reader: &mut Source<'_>) -> Result<Attempt, Stop> {
-    let mut inbox = StreamInbox::new(alloc, reader);
-    let texts = texts_in(alloc, &mut inbox)?;
+fn say_inbox(said: &mut Said, trial: &mut Trial<'_>) {
+    let mut inbox = StreamInbox::new(said.alloc, &mut trial.reader);
+    say_events(said, &mut inbox);
     let end = inbox.end();
     let event = inbox.receive();
     let is_closed = matches!(&event, Event::Closed);
     drop(event);
-    Ok(Attempt::Came(format!(in alloc; "{texts} {end:?}, closed {is_closed}")?))
+    drop(inbox);
+    said.push(" ");
+    said.debug(end);
+    said.push(", closed ");
+    said.show(is_closed);
 }
 
-fn texts_in<I: Inbox>(alloc: Global, inbox: &mut I) -> Result<String, AllocError> {
-    let mut texts = String::new(alloc);
+/// The messages up to the first event that is none.
+fn say_events<I: Inbox>(said: &mut Said, inbox: &mut I) {
     for _ in 0..MOST {
-        match next_text(alloc, inbox)? {
-            Some(text) => texts.push_str(text.as_str())?,
-            None => break,
+        match inbox.receive_for(1) {
+            Event::Message(message) => said.message("", message),
+            Event::Timeout => return,
+            Event::Closed => return,
         }
-    }
-    Ok(texts)
-}
-
-fn next_text<I: Inbox>(alloc: Global, inbox: &mut I) -> Result<Option<String>, AllocError> {
-    let event = inbox.receive_for(1);
-    let text = event_text(alloc, &event);
-    drop(event);
-    text
-}
-
-/// The member text of an event that is a message.
-fn event_text(alloc: Global, event: &Event) -> Result<Option<String>, AllocError> {
-    match event {
-        Event::Message(message) => Ok(Some(message.member_text(alloc)?)),
-        Event::Timeout | Event::Closed => Ok(None),
     }
 }
 
 /// What a loop hands on, how it ends, and how many bytes it leaves.
-fn loop_answer(alloc: Global, run: Run<'_>, reader: &mut Source<'_>) -> Result<Attempt, Stop> {
-    let mut outbox = ListOutbox::new(alloc, run.at("fills").unwrap_or(usize::MAX));
-    let end = match run.limit() {
-        Some(limit) => read_loop_within(alloc, reader, &mut outbox, limit),
-        None => read_loop(alloc, reader, &mut outbox),
+fn say_loop(said: &mut Said, trial: &mut Trial<'_>) {
+    let mut outbox = ListOutbox::new(said.alloc, trial.run.at("fills").unwrap_or(usize::MAX));
+    let end = match trial.run.limit() {
+        Some(limit) => read_loop_within(said.alloc, &mut trial.reader, &mut outbox, limit),
+        None => read_loop(said.alloc, &mut trial.reader, &mut outbox),
     };
-    let is_refused = matches!(end, ReadEnd::Memory | ReadEnd::Fault(ReadFault::Memory));
-    let text = loop_text(alloc, end, outbox.sent.as_slice(), reader.left().len());
+    say_sent(said, end, outbox.sent.as_slice(), trial.reader.left().len());
     drop(outbox);
-    Ok(run.answer(text?, is_refused))
 }
 
-fn loop_text(alloc: Global, end: ReadEnd, sent: &[Message], left: usize) -> Result<String, Stop> {
-    let texts = member_texts(alloc, sent)?;
-    made(format!(in alloc; "{end:?}; sent {texts}; left {left}"))
-}
-
-/// The member texts of messages, one after another.
-pub fn member_texts(alloc: Global, messages: &[Message]) -> Result<String, Stop> {
-    let mut texts = String::new(alloc);
-    for message in messages {
-        add_text(&mut texts, made(message.member_text(alloc)))?;
-    }
-    Ok(texts)
+fn say_sent(said: &mut Said, end: ReadEnd, sent: &[Message], left: usize) {
+    said.is_refused = matches!(end, ReadEnd::Memory | ReadEnd::Fault(ReadFault::Memory));
+    said.debug(end);
+    said.messages("; sent ", sent);
+    said.push("; left ");
+    said.show(left);
 }
 
 /// What comes of writing the first message, and what the writer got.
-fn write_answer(
-    alloc: Global,
-    run: Run<'_>,
-    reader: &mut Source<'_>,
-    writer: &mut Sink<'_>,
-) -> Result<Attempt, Stop> {
-    match next_message(alloc, reader) {
+fn say_write(said: &mut Said, trial: &mut Trial<'_>) {
+    match next_message(said.alloc, &mut trial.reader) {
         Some(message) => {
-            let written = message.write(alloc, writer);
+            let written = message.write(said.alloc, &mut trial.writer);
             drop(message);
-            written_answer(alloc, run, written, writer)
+            say_written(said, written, &trial.writer)
         }
-        None => Err(Stop::Table),
+        None => said.unknown(),
     }
 }
 
@@ -248,136 +216,117 @@ fn next_message(alloc: Global, reader: &mut Source<'_>) -> Option<Message> {
 }
 
 /// What comes of writing all frames at once, and what the writer got.
-fn frames_answer(
-    alloc: Global,
-    run: Run<'_>,
-    reader: &Source<'_>,
-    writer: &mut Sink<'_>,
-) -> Result<Attempt, Stop> {
-    let Ok(frames) = str::from_utf8(reader.left()) else {
-        return Err(Stop::Table);
-    };
-    let written = write_frames(writer, frames);
-    written_answer(alloc, run, written, writer)
+fn say_frames(said: &mut Said, trial: &mut Trial<'_>) {
+    match str::from_utf8(trial.reader.left()) {
+        Ok(frames) => {
+            let written = write_frames(&mut trial.writer, frames);
+            say_written(said, written, &trial.writer)
+        },
+        Err(_) => said.unknown(),
+    }
 }
 
-fn written_answer(
-    alloc: Global,
-    run: Run<'_>,
-    written: Result<(), WriteFault>,
-    writer: &Sink<'_>,
-) -> Result<Attempt, Stop> {
-    let is_refused = matches!(&written, Err(WriteFault::Memory));
-    let got = escape(alloc, writer.taken.as_slice())?;
-    let flushes = writer.flushes;
-    let text = format!(in alloc; "{written:?}; wrote {got}, {flushes} flushes")?;
-    Ok(run.answer(text, is_refused))
+fn say_written(said: &mut Said, written: Result<(), WriteFault>, writer: &Sink<'_>) {
+    said.is_refused = matches!(&written, Err(WriteFault::Memory));
+    said.debug(written);
+    say_got(said, writer)
+}
+
+/// What the writer got.
+fn say_got(said: &mut Said, writer: &Sink<'_>) {
+    said.bytes("; wrote ", writer.taken.as_slice());
+    said.push(", ");
+    said.show(writer.flushes);
+    said.push(" flushes");
 }
 
 /// What becomes of each message that is sent to an outbox over the writer, and what the writer got.
-fn outbox_answer(
-    alloc: Global,
-    reader: &mut Source<'_>,
-    writer: &mut Sink<'_>,
-) -> Result<Attempt, Stop> {
-    let mut outbox = FrameOutbox::new(alloc, writer);
-    let texts = sent_texts(alloc, reader, &mut outbox)?;
+fn say_outbox(said: &mut Said, trial: &mut Trial<'_>) {
+    let mut outbox = FrameOutbox::new(said.alloc, &mut trial.writer);
+    send_all(said, &mut trial.reader, &mut outbox);
     let fault = outbox.fault();
-    let got = escape(alloc, writer.taken.as_slice())?;
-    let flushes = writer.flushes;
-    Ok(Attempt::Came(format!(in alloc; "{texts}{fault:?}; wrote {got}, {flushes} flushes")?))
+    drop(outbox);
+    said.debug(fault);
+    say_got(said, &trial.writer)
 }
 
-fn sent_texts<O: Outbox>(
-    alloc: Global,
-    reader: &mut Source<'_>,
-    outbox: &mut O,
-) -> Result<String, Stop> {
-    let mut texts = String::new(alloc);
+fn send_all<O: Outbox>(said: &mut Said, reader: &mut Source<'_>, outbox: &mut O) {
     for _ in 0..MOST {
-        let text = match next_message(alloc, reader) {
-            Some(message) => sent_text(alloc, outbox.send(message)),
-            None => break,
-        };
-        texts.push_str(text?.as_str())?;
-    }
-    Ok(texts)
-}
-
-fn sent_text(alloc: Global, sent: Result<(), SendFault>) -> Result<String, Stop> {
-    match sent {
-        Ok(()) => made(String::from_str(alloc, "taken, ")),
-        Err(fault) => back_text(alloc, fault),
-    }
-}
-
-/// The message that came back.
-fn back_text(alloc: Global, fault: SendFault) -> Result<String, Stop> {
-    match fault {
-        SendFault::Closed(message) => {
-            let text = text_of(alloc, message)?;
-            made(format!(in alloc; "{text} back, "))
+        match next_message(said.alloc, reader) {
+            Some(message) => say_taken(said, outbox.send(message)),
+            None => return,
         }
-        SendFault::Memory(message) => {
+    }
+}
+
+/// Whether a message was taken, or came back.
+fn say_taken(said: &mut Said, sent: Result<(), SendFault>) {
+    match sent {
+        Ok(()) => said.push("taken, "),
+        Err(SendFault::Closed(message)) => {
+            said.message("", message);
+            said.push(" back, ")
+        }
+        Err(SendFault::Memory(message)) => {
             drop(message);
-            Err(Stop::Memory)
+            said.is_short = true;
         }
     }
 }
 
 /// How a session of the echo ends, and what it wrote.
-fn session_answer(
-    alloc: Global,
-    run: Run<'_>,
-    reader: &mut Source<'_>,
-    writer: &mut Sink<'_>,
-) -> Result<Attempt, Stop> {
+fn say_session(said: &mut Said, trial: &mut Trial<'_>) {
+    let alloc = said.alloc;
     let none = Value::Object(Map::new(alloc));
     let mut echo = Echo::new(alloc);
-    let end = match run.limit() {
-        Some(limit) => session_within(alloc, reader, writer, none, &mut echo, limit),
-        None => session(alloc, reader, writer, none, &mut echo),
+    let end = match trial.run.limit() {
+        Some(limit) => session_within(
+            alloc,
+            &mut trial.reader,
+            &mut trial.writer,
+            none,
+            &mut echo,
+            limit,
+        ),
+        None => session(alloc, &mut trial.reader, &mut trial.writer, none, &mut echo),
     };
-    ended_answer(alloc, run, end, writer, None)
+    say_ended(said, end, &trial.writer)
 }
 
 /// How a session of the server that speaks ends, and what it wrote.
-fn speaks_answer(
-    alloc: Global,
-    run: Run<'_>,
-    reader: &mut Source<'_>,
-    writer: &mut Sink<'_>,
-) -> Result<Attempt, Stop> {
-    let end = match run.limit() {
-        Some(limit) => limited_end(alloc, reader, writer, &mut EndSession, limit),
-        None => speaks_end(alloc, reader, writer),
+fn say_speaks(said: &mut Said, trial: &mut Trial<'_>) {
+    let end = match trial.run.limit() {
+        Some(limit) => limited_end(said.alloc, trial, &mut EndSession, limit),
+        None => speaks_end(said.alloc, trial),
     };
-    ended_answer(alloc, run, end, writer, None)
+    say_ended(said, end, &trial.writer)
 }
 
 fn limited_end<L: Listener>(
     alloc: Global,
-    reader: &mut Source<'_>,
-    writer: &mut Sink<'_>,
+    trial: &mut Trial<'_>,
     listener: &mut L,
     limit: u64,
 ) -> Result<SessionEnd, SessionFault> {
     let talker = Talker::new(alloc);
-    let (talker, end) = session_with(alloc, reader, writer, talker, listener, limit);
+    let (talker, end) = session_with(
+        alloc,
+        &mut trial.reader,
+        &mut trial.writer,
+        talker,
+        listener,
+        limit,
+    );
     drop(talker);
     end
 }
 
-fn speaks_end(
-    alloc: Global,
-    reader: &mut Source<'_>,
-    writer: &mut Sink<'_>,
-) -> Result<SessionEnd, SessionFault> {
+fn speaks_end(alloc: Global, trial: &mut Trial<'_>) -> Result<SessionEnd, SessionFault> {
     let mut queued = QueuedServer::new(alloc, Talker::new(alloc));
     let end = session_of_service(
         alloc,
-        reader,
-        writer,
+        &mut trial.reader,
+        &mut trial.writer,
         &mut queued,
         &mut EndSession,
         u64::MAX,
@@ -387,97 +336,74 @@ fn speaks_end(
 }
 
 /// The same over one value that holds the reader and the writer.
-fn line_answer(
-    alloc: Global,
-    run: Run<'_>,
-    reader: &mut Source<'_>,
-    writer: &mut Sink<'_>,
-) -> Result<Attempt, Stop> {
-    let mut service = QueuedServer::new(alloc, Talker::new(alloc));
+fn say_line(said: &mut Said, trial: &mut Trial<'_>) {
+    let mut service = QueuedServer::new(said.alloc, Talker::new(said.alloc));
     let mut listener = EndSession;
-    let mut line = StreamLine::within(alloc, reader, writer, &mut listener, u64::MAX);
-    let served = serve_line(alloc, &mut line, &mut service);
+    let mut line = StreamLine::within(
+        said.alloc,
+        &mut trial.reader,
+        &mut trial.writer,
+        &mut listener,
+        u64::MAX,
+    );
+    let served = serve_line(said.alloc, &mut line, &mut service);
     let end = line.answer(served);
     drop(line);
     drop(service);
-    ended_answer(alloc, run, end, writer, None)
+    say_ended(said, end, &trial.writer)
 }
 
 /// The same if content parts are passed over, and how many of each kind: not UTF-8, no JSON, no message, lists. With a limit the server is
 /// told of none.
-fn tolerant_answer(
-    alloc: Global,
-    run: Run<'_>,
-    reader: &mut Source<'_>,
-    writer: &mut Sink<'_>,
-) -> Result<Attempt, Stop> {
-    if let Some(limit) = run.limit() {
-        let end = limited_end(alloc, reader, writer, &mut Ignore, limit);
-        return ended_answer(alloc, run, end, writer, None);
+fn say_tolerant(said: &mut Said, trial: &mut Trial<'_>) {
+    if let Some(limit) = trial.run.limit() {
+        let end = limited_end(said.alloc, trial, &mut Ignore, limit);
+        return say_ended(said, end, &trial.writer);
     }
     let mut counts = FaultCounts::new();
-    let end = tolerant_end(alloc, reader, writer, &mut counts);
-    ended_answer(alloc, run, end, writer, Some(counts))
+    let end = tolerant_end(said.alloc, trial, &mut counts);
+    say_ended(said, end, &trial.writer);
+    say_counts(said, counts)
 }
 
 fn tolerant_end(
     alloc: Global,
-    reader: &mut Source<'_>,
-    writer: &mut Sink<'_>,
+    trial: &mut Trial<'_>,
     counts: &mut FaultCounts,
 ) -> Result<SessionEnd, SessionFault> {
     let mut woken = WokenQueuedServer::new(alloc, Talker::new(alloc));
-    let end = session_of_service(alloc, reader, writer, &mut woken, counts, u64::MAX);
+    let end = session_of_service(
+        alloc,
+        &mut trial.reader,
+        &mut trial.writer,
+        &mut woken,
+        counts,
+        u64::MAX,
+    );
     drop(woken);
     end
 }
 
-fn ended_answer(
-    alloc: Global,
-    run: Run<'_>,
-    ended: Result<SessionEnd, SessionFault>,
-    writer: &Sink<'_>,
-    passed: Option<FaultCounts>,
-) -> Result<Attempt, Stop> {
-    let is_refused = matches!(&ended, Err(SessionFault::Memory));
-    let text = ended_line(alloc, &ended, writer, passed);
-    drop(ended);
-    Ok(run.answer(text?, is_refused))
-}
-
-fn ended_line(
-    alloc: Global,
-    ended: &Result<SessionEnd, SessionFault>,
-    writer: &Sink<'_>,
-    passed: Option<FaultCounts>,
-) -> Result<String, AllocError> {
-    let end = ended_text(alloc, ended)?;
-    let written = escape(alloc, writer.taken.as_slice())?;
-    let passed = passed_text(alloc, passed)?;
-    format!(in alloc; "{end}; wrote {written}{passed}")
-}
-
-fn passed_text(alloc: Global, passed: Option<FaultCounts>) -> Result<String, AllocError> {
-    let Some(counts) = passed else {
-        return Ok(String::new(alloc));
-    };
-    let FaultCounts {
-        not_text,
-        no_json,
-        no_message,
-        batches,
-    } = counts;
-    format!(in alloc; "; passed {not_text} {no_json} {no_message} {batches}")
-}
-
-fn ended_text(
-    alloc: Global,
-    ended: &Result<SessionEnd, SessionFault>,
-) -> Result<String, AllocError> {
+fn say_ended(said: &mut Said, ended: Result<SessionEnd, SessionFault>, writer: &Sink<'_>) {
     match ended {
-        Ok(end) => String::from_str(alloc, end_name(*end)),
-        Err(fault) => format!(in alloc; "{fault}"),
+        Ok(end) => said.push(end_name(end)),
+        Err(fault) => {
+            said.is_refused = matches!(&fault, SessionFault::Memory);
+            said.show(fault);
+        }
     }
+    said.bytes("; wrote ", writer.taken.as_slice())
+}
+
+fn say_counts(said: &mut Said, counts: FaultCounts) {
+    said.push("; passed ");
+    said.show(counts.not_text);
+    said.push(" ");
+    said.show(counts.no_json);
+    said.push(" ");
+    said.show(counts.no_message);
+    said.push(" ");
+    said.show(counts.batches);
 }
 
 /// How a session ended, in words.

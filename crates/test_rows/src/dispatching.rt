@@ -1,95 +1,100 @@
 // The calls of a dispatcher, as steps: the member text of a message that is delivered, or `finish ID TICKET RESULT`. `dispatch` makes
 // each call alone, `replay` all of them by the call of that name. The answers print as they do for a programmer.
 use crate::messages::{id_in, message_in, value_in};
-use crate::stop::{Stop, add_step, count_in, cut, made};
+use crate::said::{Said, Stepped};
 use lsp_dispatch::{Answer, Call, DispatchFault, Dispatcher, replay};
-use std::alloc::Global;
+use std::alloc::AllocError;
+use std::fmt::Write;
 
 /// What the steps give on a new dispatcher, one after another.
-pub fn dispatched(alloc: Global, steps: &str) -> Result<String, Stop> {
-    let mut dispatcher = Dispatcher::default(alloc);
-    let said = said_by(alloc, &mut dispatcher, steps);
-    drop(dispatcher);
-    said
+pub fn dispatched(said: &mut Said, steps: &str) {
+    let dispatcher = Dispatcher::default(said.alloc);
+    said.steps_on(steps, dispatcher)
 }
 
-fn said_by(alloc: Global, dispatcher: &mut Dispatcher, steps: &str) -> Result<String, Stop> {
-    let mut answers = Vec::new(alloc);
-    for step in steps.split("; ") {
-        add(&mut answers, answer(dispatcher, call_in(alloc, step)))?;
-    }
-    texts_of(alloc, answers.as_slice())
-}
-
-fn answer(dispatcher: &mut Dispatcher, call: Result<Call, Stop>) -> Result<Answer, Stop> {
-    match call {
-        Ok(Call::Deliver(message)) => delivered(dispatcher.deliver(message)),
-        Ok(Call::Finish { id, ticket, result }) => Ok(dispatcher.finish(id, ticket, result)),
-        Err(stop) => Err(stop),
+impl Stepped for Dispatcher {
+    fn step(&mut self, said: &mut Said, step: &str) {
+        match call_in(said, step) {
+            Ok(Some(Call::Deliver(message))) => say(said, self.deliver(message)),
+            Ok(Some(Call::Finish { id, ticket, result })) => {
+                said.debug(self.finish(id, ticket, result))
+            }
+            Ok(None) => said.unknown(),
+            Err(_) => said.is_short = true,
+        }
     }
 }
 
-fn delivered(answer: Result<Answer, DispatchFault>) -> Result<Answer, Stop> {
+fn say(said: &mut Said, answer: Result<Answer, DispatchFault>) {
     match answer {
-        Ok(answer) => Ok(answer),
+        Ok(answer) => said.debug(answer),
         Err(fault) => {
             drop(fault);
-            Err(Stop::Memory)
+            said.is_short = true;
         }
     }
 }
 
 /// What all steps give on a new dispatcher.
-pub fn replayed(alloc: Global, steps: &str) -> Result<String, Stop> {
-    let mut calls = Vec::new(alloc);
-    for step in steps.split("; ") {
-        add(&mut calls, call_in(alloc, step))?;
-    }
-    match replay(alloc, calls) {
-        Ok(answers) => texts_of(alloc, answers.as_slice()),
-        Err(_) => Err(Stop::Memory),
+pub fn replayed(said: &mut Said, steps: &str) {
+    let mut calls = Calls(Vec::new(said.alloc));
+    said.steps(steps, &mut calls);
+    match replay(said.alloc, calls.0) {
+        Ok(answers) => say_all(said, answers.as_slice()),
+        Err(_) => said.is_short = true,
     }
 }
 
-fn add<T: Drop>(list: &mut Vec<T>, made: Result<T, Stop>) -> Result<(), Stop> {
-    match made {
-        Ok(item) => Ok(list.push(item)?),
-        Err(stop) => Err(stop),
+/// The calls that `replay` is to make.
+#[derive(Drop)]
+struct Calls(Vec<Call>);
+
+impl Stepped for Calls {
+    fn step(&mut self, said: &mut Said, step: &str) {
+        match call_in(said, step) {
+            Ok(Some(call)) => said.kept(self.0.push(call)),
+            Ok(None) => said.unknown(),
+            Err(_) => said.is_short = true,
+        }
     }
 }
 
-fn texts_of(alloc: Global, answers: &[Answer]) -> Result<String, Stop> {
-    let mut texts = String::new(alloc);
+fn say_all(said: &mut Said, answers: &[Answer]) {
     for answer in answers {
-        add_step(&mut texts, made(format!(in alloc; "{answer:?}")))?;
+        said.begin_step();
+        let told = write!(said.text, "{answer:?}");
+        said.note(told);
     }
-    Ok(texts)
 }
 
-fn call_in(alloc: Global, step: &str) -> Result<Call, Stop> {
+fn call_in(said: &mut Said, step: &str) -> Result<Option<Call>, AllocError> {
     match step.strip_prefix("finish ") {
-        Some(words) => finish_in(alloc, words),
-        None => match message_in(alloc, step) {
-            Ok(message) => Ok(Call::Deliver(message)),
-            Err(stop) => Err(stop),
+        Some(words) => finish_in(said, words),
+        None => match message_in(said.alloc, step) {
+            Ok(Some(message)) => Ok(Some(Call::Deliver(message))),
+            Ok(None) => Ok(None),
+            Err(error) => Err(error),
         },
     }
 }
 
-fn finish_in(alloc: Global, words: &str) -> Result<Call, Stop> {
-    let (id, rest) = cut(words, " ")?;
-    let (ticket, result) = cut(rest, " ")?;
-    let ticket = count_in(ticket)? as u64;
-    let id = id_in(alloc, id)?;
-    match value_in(alloc, result) {
-        Ok(result) => Ok(Call::Finish {
-            id,
-            ticket,
-            result: Ok(result),
-        }),
-        Err(stop) => {
-            drop(id);
-            Err(stop)
-        }
+fn finish_in(said: &mut Said, words: &str) -> Result<Option<Call>, AllocError> {
+    let (id, rest) = said.cut(words, " ");
+    let (ticket, result) = said.cut(rest, " ");
+    let ticket = said.count_in(ticket) as u64;
+    match id_in(said.alloc, id) {
+        Ok(Some(id)) => match value_in(said.alloc, result) {
+            Ok(result) => Ok(Some(Call::Finish {
+                id,
+                ticket,
+                result: Ok(result),
+            })),
+            Err(error) => {
+                drop(id);
+                Err(error)
+            }
+        },
+        Ok(None) => Ok(None),
+        Err(error) => Err(error),
     }
 }

@@ -4,20 +4,23 @@
 // of it, or what is wrong, and whether a text is lost by it, and then each document that was open once: its URI, its version, its
 // language, its text, and how many lines it has and the position of each place where a character begins. One that is closed shows
 // `-`, and one whose text is lost `?`. A body that is no message has `unread`: it may have told of any document, so each text is lost.
-use crate::messages::{quoted, text_in};
-use crate::stop::{Stop, add_text, made};
+use crate::messages::text_in;
+use crate::said::Said;
+use crate::types::say_written;
 use lsp_documents::{DocumentFault, Made, NotMade, TextDocuments, position_encoding};
 use lsp_text::{PositionEncoding, Text, TextDocument};
 use serde_json::Value;
 use std::alloc::{AllocError, Global};
+use std::fmt::Write;
+use std::mem;
 
-/// The documents of a server, the URIs that it was told of, and what it was told since `initialize`.
+/// The documents of a server, and as lines the URIs that it was told of, each behind a tab, and what it was told since `initialize`.
 #[derive(Drop)]
 pub struct Documents {
     alloc: Global,
     documents: TextDocuments,
-    seen: Vec<String>,
-    told: Vec<String>,
+    seen: String,
+    told: String,
 }
 
 impl Documents {
@@ -26,201 +29,148 @@ impl Documents {
         Documents {
             alloc,
             documents: TextDocuments::new(alloc, PositionEncoding::Utf16),
-            seen: Vec::new(alloc),
-            told: Vec::new(alloc),
+            seen: String::new(alloc),
+            told: String::new(alloc),
         }
     }
 
     /// What comes of a message. One for which there was no memory is missed, so all before it is told once more.
-    pub fn answer(&mut self, text: &str) -> Result<String, Stop> {
-        let came = self.heard(text);
-        if matches!(&came, Err(Stop::Memory)) {
-            self.tell_again()?;
+    pub fn answer(&mut self, said: &mut Said, text: &str) {
+        self.hear(said, text);
+        if said.is_short {
+            self.hear_again();
         }
-        came
-    }
-
-    fn heard(&mut self, text: &str) -> Result<String, Stop> {
-        match read(self.alloc, text) {
-            Ok(Some(message)) => {
-                let came = self.heard_message(text, &message);
-                drop(message);
-                came
-            }
-            Ok(None) => {
-                self.documents.lose_all();
-                self.kept(text, "unread")
-            }
-            Err(stop) => Err(stop),
-        }
-    }
-
-    fn heard_message(&mut self, text: &str, message: &Value) -> Result<String, Stop> {
-        let none = Value::Null;
-        let params = message.get("params").unwrap_or(&none);
-        let came = self.heard_params(text, method_of(message), params);
-        drop(none);
-        came
-    }
-
-    fn heard_params(&mut self, text: &str, method: &str, params: &Value) -> Result<String, Stop> {
-        if method == "initialize" {
-            self.documents = TextDocuments::new(self.alloc, position_encoding(params));
-            self.seen = Vec::new(self.alloc);
-            self.told = Vec::new(self.alloc);
-            return made(String::from_str(self.alloc, self.documents.encoding().name()));
-        }
-        match hear(&mut self.documents, method, params) {
-            Ok(made) => {
-                self.see(made.uri)?;
-                let answer = self.made_text(made)?;
-                self.kept(text, answer.as_str())
-            }
-            Err(missed) => self.missed(text, missed),
-        }
-    }
-
-    /// What comes of a message that was not made.
-    fn missed(&mut self, text: &str, missed: NotMade<'_>) -> Result<String, Stop> {
-        if missed.fault == DocumentFault::Memory {
-            return Err(Stop::Memory);
-        }
-        let fault = missed.fault;
-        let lost = if missed.lost {
-            ", its text is lost"
-        } else {
-            ""
-        };
-        self.kept(text, format!(in self.alloc; "{fault}{lost}")?.as_str())
     }
 
     /// Tells all that was told to documents that begin anew.
-    fn tell_again(&mut self) -> Result<(), Stop> {
-        self.documents = TextDocuments::new(self.alloc, self.documents.encoding());
-        for text in self.told.iter() {
-            tell(self.alloc, &mut self.documents, text.as_str())?;
+    fn hear_again(&mut self) {
+        let told = mem::replace(&mut self.told, String::new(self.alloc));
+        let encoding = self.documents.encoding();
+        self.begin(encoding);
+        let mut said = Said::new(self.alloc);
+        for text in told.lines() {
+            self.hear(&mut said, text);
         }
-        Ok(())
+        drop(said);
     }
 
-    fn made_text(&self, made: Made<'_>) -> Result<String, AllocError> {
-        match made.remark {
-            Some(remark) => format!(in self.alloc; "ok: {remark}"),
-            None => String::from_str(self.alloc, "ok"),
+    /// Begins anew, in this encoding.
+    fn begin(&mut self, encoding: PositionEncoding) {
+        self.documents = TextDocuments::new(self.alloc, encoding);
+        self.seen.clear();
+        self.told.clear();
+    }
+
+    fn hear(&mut self, said: &mut Said, text: &str) {
+        match Value::from_str(self.alloc, text) {
+            Ok(message) => {
+                self.hear_message(said, &message);
+                drop(message);
+            }
+            Err(fault) if fault.is_memory() => said.is_short = true,
+            Err(_) => {
+                self.documents.lose_all();
+                said.push("unread");
+                self.show(said);
+            }
+        }
+        if !said.is_short {
+            let kept = write!(self.told, "{text}\n");
+            said.note(kept);
+        }
+    }
+
+    fn hear_message(&mut self, said: &mut Said, message: &Value) {
+        let none = Value::Null;
+        let params = message.get("params").unwrap_or(&none);
+        self.hear_params(said, text_in(message.get("method")), params);
+        drop(none);
+    }
+
+    fn hear_params(&mut self, said: &mut Said, method: &str, params: &Value) {
+        let heard = match method {
+            "initialize" => {
+                self.begin(position_encoding(params));
+                return said.push(self.documents.encoding().name());
+            }
+            "textDocument/didOpen" => self.documents.did_open(params),
+            "textDocument/didChange" => self.documents.did_change(params),
+            "textDocument/didSave" => self.documents.did_save(params),
+            _ => self.documents.did_close(params),
+        };
+        self.say(said, heard);
+        self.show(said);
+    }
+
+    /// What came of a notification.
+    fn say(&mut self, said: &mut Said, heard: Result<Made<'_>, NotMade<'_>>) {
+        match heard {
+            Ok(Made { uri, remark }) => {
+                said.push("ok");
+                if let Some(remark) = remark {
+                    said.push(": ");
+                    said.show(remark);
+                }
+                let seen = self.see(uri);
+                said.note(seen);
+            }
+            Err(NotMade { fault, lost, .. }) => {
+                said.is_short = said.is_short || matches!(fault, DocumentFault::Memory);
+                said.show(fault);
+                if lost {
+                    said.push(", its text is lost");
+                }
+            }
         }
     }
 
     /// Remembers a URI.
     fn see(&mut self, uri: &str) -> Result<(), AllocError> {
-        for known in self.seen.iter() {
-            if known.as_str() == uri {
-                return Ok(());
-            }
+        let line = format!(in self.alloc; "\t{uri}\n")?;
+        if self.seen.contains(line.as_str()) {
+            return Ok(());
         }
-        self.seen.push(String::from_str(self.alloc, uri)?)?;
-        Ok(())
+        self.seen.push_str(line.as_str())
     }
 
-    /// Keeps a message, and gives the answer to it, and each document.
-    fn kept(&mut self, message: &str, answer: &str) -> Result<String, Stop> {
-        let row = self.shown(answer)?;
-        self.told.push(String::from_str(self.alloc, message)?)?;
-        Ok(row)
-    }
-
-    fn shown(&self, answer: &str) -> Result<String, Stop> {
-        let mut row = String::from_str(self.alloc, answer)?;
-        for uri in self.seen.iter() {
-            add_text(&mut row, self.document_shown(uri.as_str()))?;
+    /// Each document that was open once.
+    fn show(&self, said: &mut Said) {
+        for line in self.seen.lines() {
+            said.push(line);
+            said.push(" ");
+            self.show_document(said, line.strip_prefix("\t").unwrap_or(line));
         }
-        Ok(row)
     }
 
-    fn document_shown(&self, uri: &str) -> Result<String, Stop> {
+    fn show_document(&self, said: &mut Said, uri: &str) {
         match self.documents.get(uri) {
-            Some(document) => self.open_text(uri, document),
-            None if self.documents.is_open(uri) => made(format!(in self.alloc; "\t{uri} ?")),
-            None => made(format!(in self.alloc; "\t{uri} -")),
+            Some(document) => self.show_open(said, document),
+            None if self.documents.is_open(uri) => said.push("?"),
+            None => said.push("-"),
         }
     }
 
-    fn open_text(&self, uri: &str, document: &TextDocument) -> Result<String, Stop> {
-        let version = document.version();
-        let language = document.language_id();
-        let text = self.text_shown(document.text())?;
-        made(format!(in self.alloc; "\t{uri} {version:?} {language} {text}"))
+    fn show_open(&self, said: &mut Said, document: &TextDocument) {
+        let text = document.text();
+        said.debug(document.version());
+        said.push(" ");
+        said.push(document.language_id());
+        said.push(" ");
+        say_written(said, &text.as_str());
+        said.push(" ");
+        said.show(text.line_count());
+        self.show_places(said, text);
     }
 
-    fn text_shown(&self, text: &Text) -> Result<String, Stop> {
-        let quoted = quoted(self.alloc, String::from_str(self.alloc, text.as_str())?)?;
-        let lines = text.line_count();
-        let places = self.places_text(text)?;
-        made(format!(in self.alloc; "{quoted} {lines}{places}"))
-    }
-
-    fn places_text(&self, text: &Text) -> Result<String, Stop> {
-        let mut places = String::new(self.alloc);
+    fn show_places(&self, said: &mut Said, text: &Text) {
         for offset in 0..=text.as_str().len() {
             if text.as_str().is_char_boundary(offset) {
                 let place = text.position_at(offset, self.documents.encoding());
-                let shown = format!(in self.alloc; " {}:{}", place.line, place.character);
-                add_text(&mut places, made(shown))?;
+                said.push(" ");
+                said.show(place.line);
+                said.push(":");
+                said.show(place.character);
             }
         }
-        Ok(places)
-    }
-}
-
-/// Tells documents a message once more.
-fn tell(alloc: Global, documents: &mut TextDocuments, text: &str) -> Result<(), Stop> {
-    match read(alloc, text) {
-        Ok(Some(message)) => {
-            let told = tell_message(documents, &message);
-            drop(message);
-            told
-        }
-        Ok(None) => {
-            documents.lose_all();
-            Ok(())
-        }
-        Err(stop) => Err(stop),
-    }
-}
-
-fn tell_message(documents: &mut TextDocuments, message: &Value) -> Result<(), Stop> {
-    let none = Value::Null;
-    let params = message.get("params").unwrap_or(&none);
-    let heard = hear(documents, method_of(message), params);
-    let is_missed = matches!(&heard, Err(missed) if missed.fault == DocumentFault::Memory);
-    drop(none);
-    if is_missed {
-        return Err(Stop::Memory);
-    }
-    Ok(())
-}
-
-/// The message of a body, if it is one.
-fn read(alloc: Global, text: &str) -> Result<Option<Value>, Stop> {
-    match Value::from_str(alloc, text) {
-        Ok(message) => Ok(Some(message)),
-        Err(fault) if fault.is_memory() => Err(Stop::Memory),
-        Err(_) => Ok(None),
-    }
-}
-
-fn method_of(message: &Value) -> &str {
-    text_in(message.get("method"))
-}
-
-fn hear<'v>(
-    documents: &mut TextDocuments,
-    method: &str,
-    params: &'v Value,
-) -> Result<Made<'v>, NotMade<'v>> {
-    match method {
-        "textDocument/didOpen" => documents.did_open(params),
-        "textDocument/didChange" => documents.did_change(params),
-        "textDocument/didSave" => documents.did_save(params),
-        _ => documents.did_close(params),
     }
 }

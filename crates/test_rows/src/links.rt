@@ -6,69 +6,73 @@
 // | `deep LEVELS` | the same of a notification whose params are so many lists, each in the next |
 // | `pass COUNT` | `pass` |
 // | `take`, `skip` | the same |
-use crate::messages::{message_in, nested, text_or};
-use crate::stop::{Stop, add_step, count_in, made};
+use crate::messages::{message_in, nested};
+use crate::said::{Said, Stepped};
 use lsp_message::{Message, Notification};
 use lsp_peers::{Link, WorldFault};
-use std::alloc::Global;
+use std::alloc::{AllocError, Global};
 
 /// What comes of these steps on a link without bytes.
-pub fn answers(alloc: Global, steps: &str) -> Result<String, Stop> {
-    let mut link = Link::default(alloc);
-    let said = called(alloc, &mut link, steps);
-    drop(link);
-    said
+pub fn answers(said: &mut Said, steps: &str) {
+    let link = Link::default(said.alloc);
+    said.steps_on(steps, link)
 }
 
-fn called(alloc: Global, link: &mut Link, steps: &str) -> Result<String, Stop> {
-    let mut said = String::new(alloc);
-    for step in steps.split("; ") {
-        add_step(&mut said, call(alloc, link, step))?;
-    }
-    Ok(said)
-}
-
-fn call(alloc: Global, link: &mut Link, step: &str) -> Result<String, Stop> {
-    let (verb, word) = step.split_once(" ").unwrap_or((step, ""));
-    match verb {
-        "pass" => {
-            let count = link.pass(count_in(word)?);
-            let there = link.arrived().len();
-            made(format!(in alloc; "passed {count}, {there} there"))
+impl Stepped for Link {
+    fn step(&mut self, said: &mut Said, step: &str) {
+        let (verb, word) = step.split_once(" ").unwrap_or((step, ""));
+        match verb {
+            "pass" => {
+                let count = self.pass(said.count_in(word));
+                said.push("passed ");
+                said.show(count);
+                said.push(", ");
+                said.show(self.arrived().len());
+                said.push(" there");
+            }
+            "take" => take(said, self),
+            "skip" => {
+                said.push("skipped ");
+                said.show(self.skip());
+            }
+            "deep" => {
+                let message = deep_message(said.alloc, said.count_in(word));
+                write(said, self, message)
+            }
+            _ => {
+                let message = message_in(said.alloc, step);
+                write(said, self, message)
+            }
         }
-        "take" => take(alloc, link),
-        "skip" => made(format!(in alloc; "skipped {}", link.skip())),
-        "deep" => write(alloc, link, deep_message(alloc, count_in(word)?)),
-        _ => write(alloc, link, message_in(alloc, step)),
     }
 }
 
-fn deep_message(alloc: Global, levels: usize) -> Result<Message, Stop> {
+fn deep_message(alloc: Global, levels: usize) -> Result<Option<Message>, AllocError> {
     let method = String::from_str(alloc, "deep")?;
     match nested(alloc, levels) {
-        Ok(params) => Ok(Message::from(Notification { method, params })),
-        Err(error) => Err(Stop::from(error)),
+        Ok(params) => Ok(Some(Message::from(Notification { method, params }))),
+        Err(error) => Err(error),
     }
 }
 
-fn write(alloc: Global, link: &mut Link, message: Result<Message, Stop>) -> Result<String, Stop> {
+fn write(said: &mut Said, link: &mut Link, message: Result<Option<Message>, AllocError>) {
     match message {
-        Ok(message) => {
+        Ok(Some(message)) => {
             let written = link.write(&message);
             drop(message);
-            if written.is_err() {
-                return Err(Stop::Memory);
-            }
-            made(format!(in alloc; "{} on the way", link.on_way().len()))
+            said.is_short = said.is_short || written.is_err();
+            said.show(link.on_way().len());
+            said.push(" on the way");
         }
-        Err(stop) => Err(stop),
+        Ok(None) => said.unknown(),
+        Err(_) => said.is_short = true,
     }
 }
 
-fn take(alloc: Global, link: &mut Link) -> Result<String, Stop> {
+fn take(said: &mut Said, link: &mut Link) {
     match link.take() {
-        Ok(message) => made(text_or(alloc, message, "nothing")),
-        Err(WorldFault::Memory) => Err(Stop::Memory),
-        Err(WorldFault::NotReadBack) => made(String::from_str(alloc, "body not read back")),
+        Ok(message) => said.message_or(message, "nothing"),
+        Err(WorldFault::Memory) => said.is_short = true,
+        Err(WorldFault::NotReadBack) => said.push("body not read back"),
     }
 }

@@ -12,12 +12,11 @@
 // of turns, as `start:10`; `finish` without one waits without limit. If a name begins with `>`, the inbox is closed until the call
 // has sent something.
 use crate::boxes::{Events, Habit, Sent};
-use crate::calls::{end_name, member_texts};
+use crate::calls::end_name;
 use crate::devices::Sink;
-use crate::escapes::escape;
 use crate::messages::message_in;
+use crate::said::{Said, Stepped};
 use crate::servers::{Echo, Talker};
-use crate::stop::{Stop, add_text, count_in, cut, made};
 use lsp_message::{Request, RequestId, WriteFault};
 use lsp_service::{QueuedServer, WokenQueuedServer};
 use lsp_session::{
@@ -27,25 +26,22 @@ use lsp_session::{
 use serde_json::{Map, Value};
 use std::alloc::{AllocError, Global};
 use std::cell::Cell;
+use std::fmt::Write;
 use std::io::ErrorKind;
 use std::mem;
 
-/// Adds the events of a row.
-fn add_events(alloc: Global, list: &mut ListInbox, events: &str) -> Result<(), Stop> {
-    for event in events.split("; ") {
-        match event {
+/// A step is an event that is added.
+impl Stepped for ListInbox {
+    fn step(&mut self, said: &mut Said, step: &str) {
+        match step {
             "" => {}
-            "timeout" => list.events.push_back(Event::Timeout)?,
-            text => add_message(alloc, list, text)?,
+            "timeout" => said.kept(self.events.push_back(Event::Timeout)),
+            text => match message_in(said.alloc, text) {
+                Ok(Some(message)) => said.kept(self.events.push_back(Event::Message(message))),
+                Ok(None) => said.unknown(),
+                Err(_) => said.is_short = true,
+            },
         }
-    }
-    Ok(())
-}
-
-fn add_message(alloc: Global, list: &mut ListInbox, text: &str) -> Result<(), Stop> {
-    match message_in(alloc, text) {
-        Ok(message) => Ok(list.events.push_back(Event::Message(message))?),
-        Err(stop) => Err(stop),
     }
 }
 
@@ -66,14 +62,11 @@ struct Boxes<'a> {
 
 impl<'a> Boxes<'a> {
     /// Empty boxes. The outbox takes its messages without a new allocation.
-    fn new(
-        alloc: Global,
-        room: usize,
-        habit: Habit,
-        is_some: &'a Cell<bool>,
-    ) -> Result<Boxes<'a>, AllocError> {
-        let sent = Vec::with_capacity(alloc, MESSAGES)?;
-        Ok(Boxes {
+    fn new(said: &mut Said, room: &str, habit: Habit, is_some: &'a Cell<bool>) -> Boxes<'a> {
+        let alloc = said.alloc;
+        let room = said.count_in(room);
+        let sent = said.made(Vec::with_capacity(alloc, MESSAGES), Vec::new(alloc));
+        Boxes {
             inbox: Events {
                 list: ListInbox::new(alloc),
                 habit,
@@ -87,224 +80,181 @@ impl<'a> Boxes<'a> {
             },
             gate: ListGate::new(alloc),
             id: RequestId::from(1),
-        })
+        }
     }
 }
 
 /// What the calls give; what was sent, what is left of the events and the answers, and for how long the last wait was.
-pub fn called(alloc: Global, row: &str) -> Result<String, Stop> {
-    let (names, row) = cut(row, " | ")?;
-    let (answers, row) = cut(row, " | ")?;
-    let (room, events) = cut(row, " | ")?;
+pub fn called(said: &mut Said, row: &str) {
+    let (names, row) = said.cut(row, " | ");
+    let (answers, row) = said.cut(row, " | ");
+    let (room, events) = said.cut(row, " | ");
     let sent = Cell::new(false);
-    let mut boxes = Boxes::new(alloc, count_in(room)?, Habit::Gives, &sent)?;
-    let said = called_row(alloc, &mut boxes, names, answers, events);
+    let mut boxes = Boxes::new(said, room, Habit::Gives, &sent);
+    call_row(said, &mut boxes, names, answers, events);
     drop(boxes);
-    said
 }
 
-fn add_answers(gate: &mut ListGate, answers: &str) -> Result<(), AllocError> {
-    for answer in answers.chars() {
-        gate.answers.push_back(answer == 'y')?;
+fn call_row(said: &mut Said, boxes: &mut Boxes<'_>, names: &str, answers: &str, events: &str) {
+    add_answers(said, &mut boxes.gate, answers);
+    said.steps(events, &mut boxes.inbox.list);
+    call_all(said, boxes, names);
+    said.messages("sent ", boxes.outbox.list.sent.as_slice());
+    said.push("; left ");
+    said.show(boxes.inbox.list.events.len());
+    said.push(" and ");
+    said.show(boxes.gate.answers.len());
+    said.push("; ");
+    said.show(boxes.inbox.seconds);
+    said.push(" seconds");
+}
+
+fn add_answers(said: &mut Said, gate: &mut ListGate, answers: &str) {
+    for answer in answers.as_bytes() {
+        said.kept(gate.answers.push_back(*answer == b'y'));
     }
-    Ok(())
 }
 
-fn called_row(
-    alloc: Global,
-    boxes: &mut Boxes<'_>,
-    names: &str,
-    answers: &str,
-    events: &str,
-) -> Result<String, Stop> {
-    add_answers(&mut boxes.gate, answers)?;
-    add_events(alloc, &mut boxes.inbox.list, events)?;
-    let texts = called_texts(alloc, boxes, names)?;
-    boxes_text(alloc, boxes, texts.as_str())
-}
-
-fn boxes_text(alloc: Global, boxes: &Boxes<'_>, texts: &str) -> Result<String, Stop> {
-    let sent = member_texts(alloc, boxes.outbox.list.sent.as_slice())?;
-    let events = boxes.inbox.list.events.len();
-    let answers = boxes.gate.answers.len();
-    let seconds = boxes.inbox.seconds;
-    made(format!(in alloc; "{texts}sent {sent}; left {events} and {answers}; {seconds} seconds"))
-}
-
-fn called_texts(alloc: Global, boxes: &mut Boxes<'_>, names: &str) -> Result<String, Stop> {
-    let mut texts = String::new(alloc);
+fn call_all(said: &mut Said, boxes: &mut Boxes<'_>, names: &str) {
     for name in names.split(' ') {
-        add_text(&mut texts, called_text(alloc, boxes, name))?;
+        said.push(name);
+        said.push(" ");
+        call(said, boxes, name);
+        said.push("; ");
     }
-    Ok(texts)
 }
 
-fn called_text(alloc: Global, boxes: &mut Boxes<'_>, name: &str) -> Result<String, Stop> {
-    let said = call(alloc, boxes, name)?;
-    made(format!(in alloc; "{name} {said}; "))
-}
-
-fn call(alloc: Global, boxes: &mut Boxes<'_>, name: &str) -> Result<String, Stop> {
+fn call(said: &mut Said, boxes: &mut Boxes<'_>, name: &str) {
     let (name, turns) = name.split_once(":").unwrap_or((name, "0"));
-    let turns = count_in(turns)? as u64;
+    let turns = said.count_in(turns) as u64;
     boxes.outbox.is_some.set(false);
     let (habit, name) = match name.strip_prefix(">") {
         Some(name) => (Habit::Follows, name),
         None => (Habit::Gives, name),
     };
     boxes.inbox.habit = habit;
-    call_named(alloc, boxes, name, turns)
-}
-
-fn call_named(
-    alloc: Global,
-    boxes: &mut Boxes<'_>,
-    name: &str,
-    turns: u64,
-) -> Result<String, Stop> {
     match name {
-        "start" => started(alloc, boxes, turns),
-        "wait" => {
-            let answer = wait_within(alloc, &mut boxes.inbox, &mut boxes.gate, turns);
-            done(alloc, answer)
-        }
-        "finish" => finished(alloc, boxes, turns),
-        method => shut(alloc, boxes, method),
+        "start" => start(said, boxes, turns),
+        "wait" => wait(said, boxes, turns),
+        "finish" => end(said, boxes, turns),
+        method => shut(said, boxes, method),
     }
 }
 
-fn done(alloc: Global, answer: Option<Result<(), ProtocolError>>) -> Result<String, Stop> {
-    match answer {
-        Some(answer) => said(alloc, answer, "done"),
-        None => made(String::from_str(alloc, "undecided")),
-    }
-}
-
-/// These words, or why not.
-fn said(alloc: Global, answer: Result<(), ProtocolError>, words: &str) -> Result<String, Stop> {
-    match answer {
-        Ok(()) => made(String::from_str(alloc, words)),
-        Err(error) => error_text(alloc, error),
-    }
-}
-
-/// What the error says. An allocation that failed is no answer.
-fn error_text(alloc: Global, error: ProtocolError) -> Result<String, Stop> {
-    let is_memory = error.is_out_of_memory();
-    let text = format!(in alloc; "{error}");
-    drop(error);
-    if is_memory {
-        return Err(Stop::Memory);
-    }
-    made(text)
-}
-
-/// The id and the params of a start.
-fn started(alloc: Global, boxes: &mut Boxes<'_>, turns: u64) -> Result<String, Stop> {
+/// Calls `start_within`: the id and the params of a start.
+fn start(said: &mut Said, boxes: &mut Boxes<'_>, turns: u64) {
     let Boxes {
         inbox,
         outbox,
         gate,
         id,
     } = boxes;
-    match start_within(alloc, inbox, outbox, gate, turns) {
-        Some(answer) => started_text(alloc, id, answer),
-        None => made(String::from_str(alloc, "undecided")),
-    }
-}
-
-fn started_text(
-    alloc: Global,
-    id: &mut RequestId,
-    answer: Result<(RequestId, Value), ProtocolError>,
-) -> Result<String, Stop> {
-    match answer {
-        Ok((came, params)) => {
-            let words = format!(in alloc; "{came} {params}");
-            drop(params);
+    match start_within(said.alloc, inbox, outbox, gate, turns) {
+        Some(Ok((came, params))) => {
+            let told = write!(said.text, "{came} ");
+            said.note(told);
+            said.show(params);
             drop(mem::replace(id, came));
-            made(words)
         }
-        Err(error) => error_text(alloc, error),
+        Some(Err(error)) => say_error(said, error),
+        None => said.push("undecided"),
     }
 }
 
-fn finished(alloc: Global, boxes: &mut Boxes<'_>, turns: u64) -> Result<String, Stop> {
-    let id = boxes.id.clone()?;
+fn wait(said: &mut Said, boxes: &mut Boxes<'_>, turns: u64) {
+    let Boxes { inbox, gate, .. } = boxes;
+    let answer = wait_within(said.alloc, inbox, gate, turns);
+    say_done(said, answer)
+}
+
+/// Calls `finish`, or with a count of turns `finish_within`.
+fn end(said: &mut Said, boxes: &mut Boxes<'_>, turns: u64) {
     let Boxes {
         inbox,
         outbox,
         gate,
-        ..
+        id,
     } = boxes;
-    if turns == 0 {
-        return said(alloc, finish(alloc, inbox, outbox, id, Value::Null), "done");
+    let id = said.made(id.clone(), RequestId::from(0));
+    let answer = match turns {
+        0 => Some(finish(said.alloc, inbox, outbox, id, Value::Null)),
+        _ => finish_within(said.alloc, inbox, outbox, gate, id, Value::Null, turns),
+    };
+    say_done(said, answer)
+}
+
+fn say_done(said: &mut Said, answer: Option<Result<(), ProtocolError>>) {
+    match answer {
+        Some(Ok(())) => said.push("done"),
+        Some(Err(error)) => say_error(said, error),
+        None => said.push("undecided"),
     }
-    let answer = finish_within(alloc, inbox, outbox, gate, id, Value::Null, turns);
-    done(alloc, answer)
+}
+
+/// What the error says. An allocation that failed is no answer.
+fn say_error(said: &mut Said, error: ProtocolError) {
+    if error.is_out_of_memory() {
+        said.is_short = true;
+    }
+    said.show(error);
 }
 
 /// What `shutdown` answers to a request of this method.
-fn shut(alloc: Global, boxes: &mut Boxes<'_>, method: &str) -> Result<String, Stop> {
-    let last = String::from_str(alloc, "last")?;
-    let method = String::from_str(alloc, method)?;
+fn shut(said: &mut Said, boxes: &mut Boxes<'_>, method: &str) {
+    let last = said.text_of("last");
+    let method = said.text_of(method);
     let request = Request {
         id: RequestId::from(last),
         method,
         params: Value::Null,
     };
-    let answer = shutdown(alloc, &mut boxes.inbox, &mut boxes.outbox, &request);
+    let Boxes { inbox, outbox, .. } = boxes;
+    let answer = shutdown(said.alloc, inbox, outbox, &request);
     drop(request);
     match answer {
-        Ok(is_last) => made(format!(in alloc; "{is_last}")),
-        Err(error) => error_text(alloc, error),
+        Ok(is_last) => said.show(is_last),
+        Err(error) => say_error(said, error),
     }
 }
 
 /// How a session over lists ends, and what it sent.
-pub fn session(alloc: Global, word: &str, row: &str) -> Result<String, Stop> {
-    let (room, events) = cut(row, " | ")?;
+pub fn session(said: &mut Said, word: &str, row: &str) {
+    let (room, events) = said.cut(row, " | ");
     let sent = Cell::new(false);
     let habit = match word {
         "woken" => Habit::Wakes,
         _ => Habit::Gives,
     };
-    let mut boxes = Boxes::new(alloc, count_in(room)?, habit, &sent)?;
-    let said = session_text(alloc, word, &mut boxes, events);
+    let mut boxes = Boxes::new(said, room, habit, &sent);
+    session_row(said, word, &mut boxes, events);
     drop(boxes);
-    said
 }
 
-fn session_text(
-    alloc: Global,
-    word: &str,
-    boxes: &mut Boxes<'_>,
-    events: &str,
-) -> Result<String, Stop> {
-    add_events(alloc, &mut boxes.inbox.list, events)?;
-    let mut echo = Echo::new(alloc);
-    let end = end_text(alloc, word, &mut boxes.inbox, &mut boxes.outbox, &mut echo)?;
-    let texts = member_texts(alloc, boxes.outbox.list.sent.as_slice())?;
-    let (asked, told) = (echo.asked, echo.told);
-    made(format!(in alloc; "{end}; sent {texts}; {asked} asked, {told} told"))
+fn session_row(said: &mut Said, word: &str, boxes: &mut Boxes<'_>, events: &str) {
+    said.steps(events, &mut boxes.inbox.list);
+    let mut echo = Echo::new(said.alloc);
+    say_end(said, word, boxes, &mut echo);
+    said.messages("; sent ", boxes.outbox.list.sent.as_slice());
+    said.push("; ");
+    said.show(echo.asked);
+    said.push(" asked, ");
+    said.show(echo.told);
+    said.push(" told");
+    drop(echo);
 }
 
-fn end_text(
-    alloc: Global,
-    word: &str,
-    inbox: &mut Events<'_>,
-    outbox: &mut Sent<'_>,
-    echo: &mut Echo,
-) -> Result<String, Stop> {
+fn say_end(said: &mut Said, word: &str, boxes: &mut Boxes<'_>, echo: &mut Echo) {
+    let alloc = said.alloc;
+    let Boxes { inbox, outbox, .. } = boxes;
     let ended = match word {
         "serve" => serve(alloc, inbox, outbox, Value::Object(Map::new(alloc)), echo),
         "woken" => woken(alloc, inbox, outbox),
         "served" => served(alloc, inbox, outbox),
-        _ => return Err(Stop::Table),
+        _ => return said.unknown(),
     };
     match ended {
-        Ok(end) => made(String::from_str(alloc, end_name(end))),
-        Err(error) => error_text(alloc, error),
+        Ok(end) => said.push(end_name(end)),
+        Err(error) => say_error(said, error),
     }
 }
 
@@ -331,39 +281,29 @@ fn served(
 }
 
 /// What is written of the events, and what is handed on afterwards.
-pub fn written(alloc: Global, row: &str) -> Result<String, Stop> {
-    let (counts, events) = cut(row, " | ")?;
-    let (fills, room) = cut(counts, " ")?;
-    let fills = count_in(fills)?;
+pub fn written(said: &mut Said, row: &str) {
+    let (counts, events) = said.cut(row, " | ");
+    let (fills, room) = said.cut(counts, " ");
+    let fills = said.count_in(fills);
     let sent = Cell::new(false);
-    let mut boxes = Boxes::new(alloc, count_in(room)?, Habit::Gives, &sent)?;
-    let said = written_row(alloc, &mut boxes, events, fills);
+    let mut boxes = Boxes::new(said, room, Habit::Gives, &sent);
+    write_row(said, &mut boxes, events, fills);
     drop(boxes);
-    said
 }
 
-fn written_row(
-    alloc: Global,
-    boxes: &mut Boxes<'_>,
-    events: &str,
-    fills: usize,
-) -> Result<String, Stop> {
-    add_events(alloc, &mut boxes.inbox.list, events)?;
-    let text = written_text(alloc, &mut boxes.inbox, &mut boxes.outbox, fills)?;
-    let on = member_texts(alloc, boxes.outbox.list.sent.as_slice())?;
-    let left = boxes.inbox.list.events.len();
-    made(format!(in alloc; "{text}; on {on}; left {left}"))
+fn write_row(said: &mut Said, boxes: &mut Boxes<'_>, events: &str, fills: usize) {
+    said.steps(events, &mut boxes.inbox.list);
+    write_all(said, boxes, fills);
+    said.messages("; on ", boxes.outbox.list.sent.as_slice());
+    said.push("; left ");
+    said.show(boxes.inbox.list.events.len());
 }
 
-fn written_text(
-    alloc: Global,
-    inbox: &mut Events<'_>,
-    spent: &mut Sent<'_>,
-    fills: usize,
-) -> Result<String, Stop> {
+fn write_all(said: &mut Said, boxes: &mut Boxes<'_>, fills: usize) {
     let flushed = Cell::new(0);
+    let taken = said.made(Vec::with_capacity(said.alloc, BYTES), Vec::new(said.alloc));
     let mut writer = Sink {
-        taken: Vec::with_capacity(alloc, BYTES)?,
+        taken,
         written: &flushed,
         step: usize::MAX,
         room: fills,
@@ -371,10 +311,16 @@ fn written_text(
         bad_flush: 0,
         flushes: 0,
     };
-    let end = write_loop(alloc, inbox, &mut writer, spent);
-    if end == WriteEnd::Fault(WriteFault::Memory) {
-        return Err(Stop::Memory);
+    let Boxes { inbox, outbox, .. } = boxes;
+    let end = write_loop(said.alloc, inbox, &mut writer, outbox);
+    say_write_end(said, end, writer.taken.as_slice());
+    drop(writer);
+}
+
+fn say_write_end(said: &mut Said, end: WriteEnd, taken: &[u8]) {
+    if matches!(end, WriteEnd::Fault(WriteFault::Memory)) {
+        said.is_short = true;
     }
-    let taken = escape(alloc, writer.taken.as_slice())?;
-    made(format!(in alloc; "{end:?}; wrote {taken}"))
+    said.debug(end);
+    said.bytes("; wrote ", taken)
 }

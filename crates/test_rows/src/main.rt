@@ -28,6 +28,7 @@ mod lists;
 mod messages;
 mod queues;
 mod rows;
+mod said;
 mod servers;
 mod stop;
 mod table;
@@ -36,6 +37,7 @@ mod types;
 mod uris;
 
 use rows::Rows;
+use said::Said;
 use std::io;
 use std::io::Write;
 use std::process::ExitCode;
@@ -54,7 +56,7 @@ fn main(rt: HostRuntime) -> ExitCode {
 fn run<R: Input + Print + AllocGlobal>(rt: &R) -> Result<(), Stop> {
     let alloc = rt.alloc();
     let table = io::read_to_string(alloc, rt.reader())?;
-    let mut rows = Rows::new(alloc)?;
+    let mut rows = Rows::new(alloc);
     let printed = print_rows(rt, &mut rows, table.as_str());
     drop(rows);
     printed
@@ -69,6 +71,18 @@ fn print_rows<R: Print>(rt: &R, rows: &mut Rows, table: &str) -> Result<(), Stop
 
 fn print_row<R: Print>(rt: &R, rows: &mut Rows, line: &str) -> Result<(), Stop> {
     rt.println(line)?;
-    let said = rows.run(line)?;
-    Ok(rt.print(said.as_str())?)
+    let said = rows.run(line);
+    let printed = print_said(rt, &said);
+    drop(said);
+    printed
+}
+
+fn print_said<R: Print>(rt: &R, said: &Said) -> Result<(), Stop> {
+    if said.is_short {
+        return Err(Stop::Memory);
+    }
+    if said.is_unknown {
+        return Err(Stop::Table);
+    }
+    Ok(rt.print(said.text.as_str())?)
 }

@@ -1,35 +1,36 @@
 // What bytes and trees mean as messages, and what messages become.
-use crate::escapes::{escape, unescape};
-use crate::stop::{Stop, add_step, cut, made};
-use lsp_message::{Message, Notification, Request, RequestId};
+use crate::calls::say_message;
+use crate::escapes::unescape;
+use crate::said::Said;
+use lsp_message::{Message, RequestId};
 use serde_json::Value;
 use std::alloc::{AllocError, Global};
 
-/// The tree of a text that is one.
-pub fn value_in(alloc: Global, text: &str) -> Result<Value, Stop> {
+/// The tree of a text that is one. The texts of a table are JSON, so only memory can be wanting.
+pub fn value_in(alloc: Global, text: &str) -> Result<Value, AllocError> {
     match Value::from_str(alloc, text) {
         Ok(tree) => Ok(tree),
-        Err(fault) => Err(Stop::from(fault)),
+        Err(_) => Err(AllocError),
     }
 }
 
-/// The message of a member text.
-pub fn message_in(alloc: Global, text: &str) -> Result<Message, Stop> {
-    match value_in(alloc, text) {
+/// The message of a member text, if it is one.
+pub fn message_in(alloc: Global, text: &str) -> Result<Option<Message>, AllocError> {
+    match Value::from_str(alloc, text) {
+        Ok(tree) => Ok(Message::from_tree(tree)),
+        Err(_) => Err(AllocError),
+    }
+}
+
+/// The id in a JSON text, if it is one.
+pub fn id_in(alloc: Global, text: &str) -> Result<Option<RequestId>, AllocError> {
+    match Value::from_str(alloc, text) {
         Ok(tree) => {
-            let read = Message::from_value(alloc, &tree);
+            let read = RequestId::from_value(&tree);
             drop(tree);
-            message_of(read)
+            read
         }
-        Err(stop) => Err(stop),
-    }
-}
-
-fn message_of(read: Result<Option<Message>, AllocError>) -> Result<Message, Stop> {
-    match read {
-        Ok(Some(message)) => Ok(message),
-        Ok(None) => Err(Stop::Table),
-        Err(error) => Err(Stop::from(error)),
+        Err(_) => Err(AllocError),
     }
 }
 
@@ -38,30 +39,6 @@ pub fn text_in(found: Option<&Value>) -> &str {
     match found {
         Some(Value::String(text)) => text.as_str(),
         _ => "",
-    }
-}
-
-/// A text as JSON writes it.
-pub fn quoted(alloc: Global, text: String) -> Result<String, AllocError> {
-    let value = Value::from(text);
-    let quoted = value.to_string(alloc);
-    drop(value);
-    quoted
-}
-
-/// The id in a JSON text.
-pub fn id_in(alloc: Global, word: &str) -> Result<RequestId, Stop> {
-    read_id(alloc, word)?.ok_or(Stop::Table)
-}
-
-fn read_id(alloc: Global, text: &str) -> Result<Option<RequestId>, Stop> {
-    match value_in(alloc, text) {
-        Ok(tree) => {
-            let read = RequestId::from_value(&tree);
-            drop(tree);
-            Ok(read?)
-        }
-        Err(stop) => Err(stop),
     }
 }
 
@@ -76,179 +53,130 @@ pub fn nested(alloc: Global, levels: usize) -> Result<Value, AllocError> {
     Ok(value)
 }
 
-/// The member text of a message, or what is said where there is none.
-pub fn text_or(
-    alloc: Global,
-    message: Option<Message>,
-    otherwise: &str,
-) -> Result<String, AllocError> {
-    match message {
-        Some(message) => text_of(alloc, message),
-        None => String::from_str(alloc, otherwise),
-    }
-}
-
-/// The member text of a message.
-pub fn text_of(alloc: Global, message: Message) -> Result<String, AllocError> {
-    let text = message.member_text(alloc);
-    drop(message);
-    text
-}
-
 /// The id in a tree, as it prints.
-pub fn id_text(alloc: Global, text: &str) -> Result<String, Stop> {
-    match read_id(alloc, text)? {
-        Some(id) => {
-            let said = format!(in alloc; "{id}");
-            drop(id);
-            made(said)
-        }
-        None => made(String::from_str(alloc, "no id")),
+pub fn id_text(said: &mut Said, text: &str) {
+    match id_in(said.alloc, text) {
+        Ok(Some(id)) => said.show(id),
+        Ok(None) => said.push("no id"),
+        Err(_) => said.is_short = true,
     }
 }
 
 /// What a content part means in a frame, and as a tree if that is something else.
-pub fn meaning(alloc: Global, escaped: &str) -> Result<String, Stop> {
-    let body = unescape(alloc, escaped)?;
-    let by_tree = tree_text(alloc, body.as_slice())?;
-    let header = format!(in alloc; "Content-Length: {}\r\n\r\n", body.len())?;
-    let mut frame = Vec::from_slice(alloc, header.as_bytes())?;
-    frame.extend_from_slice(body.as_slice())?;
-    match Message::read(alloc, &mut frame.as_slice()) {
-        Ok(message) => meant(alloc, message, by_tree),
-        Err(fault) => made(format!(in alloc; "{fault}, {by_tree}")),
+pub fn meaning(said: &mut Said, escaped: &str) {
+    let mut body = Vec::new(said.alloc);
+    unescape(said, escaped, &mut body);
+    let mut by_tree = Said::new(said.alloc);
+    say_tree(&mut by_tree, body.as_slice());
+    say_frame(said, body.as_slice());
+    drop(body);
+    said.is_short = said.is_short || by_tree.is_short;
+    if said.text != by_tree.text {
+        said.push(", ");
+        said.push(by_tree.text.as_str());
     }
+    drop(by_tree);
 }
 
-fn tree_text(alloc: Global, body: &[u8]) -> Result<String, AllocError> {
-    match Value::from_slice(alloc, body) {
+fn say_frame(said: &mut Said, body: &[u8]) {
+    let mut header = Said::new(said.alloc);
+    header.push("Content-Length: ");
+    header.show(body.len());
+    header.push("\r\n\r\n");
+    said.is_short = said.is_short || header.is_short;
+    let mut frame = header.text.into_bytes();
+    said.note(frame.extend_from_slice(body));
+    say_message(said, Message::read(said.alloc, &mut frame.as_slice()));
+}
+
+fn say_tree(said: &mut Said, body: &[u8]) {
+    match Value::from_slice(said.alloc, body) {
         Ok(tree) => {
-            let read = Message::from_value(alloc, &tree);
+            let read = Message::from_value(said.alloc, &tree);
             drop(tree);
-            parsed_text(alloc, read)
+            match read {
+                Ok(message) => said.message_or(message, "no message"),
+                Err(_) => said.is_short = true,
+            }
         }
-        Err(_) => String::from_str(alloc, "no message"),
+        Err(_) => said.push("no message"),
     }
-}
-
-fn parsed_text(
-    alloc: Global,
-    read: Result<Option<Message>, AllocError>,
-) -> Result<String, AllocError> {
-    match read {
-        Ok(message) => text_or(alloc, message, "no message"),
-        Err(error) => Err(error),
-    }
-}
-
-fn meant(alloc: Global, message: Option<Message>, by_tree: String) -> Result<String, Stop> {
-    let said = text_or(alloc, message, "the end")?;
-    if said == by_tree {
-        return Ok(said);
-    }
-    made(format!(in alloc; "{said}, {by_tree}"))
 }
 
 /// Reads the message in a member text, clones it, and gives its texts, its tree and its frame.
-pub fn values(alloc: Global, text: &str) -> Result<String, Stop> {
-    match message_in(alloc, text) {
-        Ok(message) => {
+pub fn values(said: &mut Said, text: &str) {
+    match message_in(said.alloc, text) {
+        Ok(Some(message)) => {
             let clone: Result<Message, AllocError> = message.clone();
             drop(message);
-            cloned_text(alloc, clone)
+            say_clone(said, clone)
         }
-        Err(stop) => Err(stop),
+        Ok(None) => said.unknown(),
+        Err(_) => said.is_short = true,
     }
 }
 
-fn cloned_text(alloc: Global, clone: Result<Message, AllocError>) -> Result<String, Stop> {
+fn say_clone(said: &mut Said, clone: Result<Message, AllocError>) {
     match clone {
         Ok(message) => {
-            let texts = texts_of(alloc, &message);
+            say_texts(said, &message);
             drop(message);
-            texts
         }
-        Err(error) => Err(Stop::from(error)),
+        Err(_) => said.is_short = true,
     }
 }
 
-fn texts_of(alloc: Global, message: &Message) -> Result<String, Stop> {
-    let mut texts = String::new(alloc);
-    add_step(&mut texts, made(message.member_text(alloc)))?;
-    add_step(&mut texts, made(tree_of(alloc, message)))?;
-    add_step(&mut texts, made(message.body_text(alloc)))?;
-    add_step(&mut texts, frame_of(alloc, message))?;
-    Ok(texts)
-}
-
-fn frame_of(alloc: Global, message: &Message) -> Result<String, Stop> {
-    let mut frame = Vec::new(alloc);
-    if message.write(alloc, &mut frame).is_err() {
-        return Err(Stop::Memory);
+fn say_texts(said: &mut Said, message: &Message) {
+    said.add("", message.member_text(said.alloc));
+    said.push("\n  ");
+    say_value(said, message.to_value(said.alloc));
+    said.add("\n  ", message.body_text(said.alloc));
+    let mut frame = Vec::new(said.alloc);
+    match message.write(said.alloc, &mut frame) {
+        Ok(()) => said.bytes("\n  ", frame.as_slice()),
+        Err(_) => said.is_short = true,
     }
-    made(escape(alloc, frame.as_slice()))
 }
 
-fn tree_of(alloc: Global, message: &Message) -> Result<String, AllocError> {
-    match message.to_value(alloc) {
-        Ok(tree) => {
-            let text = format!(in alloc; "{tree}");
-            drop(tree);
-            text
-        }
-        Err(error) => Err(error),
+fn say_value(said: &mut Said, made: Result<Value, AllocError>) {
+    match made {
+        Ok(value) => said.show(value),
+        Err(_) => said.is_short = true,
     }
 }
 
 /// `METHOD MESSAGE`: the params of a message as a number, if it has this method.
-pub fn extracted(alloc: Global, row: &str) -> Result<String, Stop> {
-    let (method, text) = cut(row, " ")?;
-    match message_in(alloc, text) {
-        Ok(message) => {
-            let said = extracted_of(alloc, message, method)?;
-            made(escape(alloc, said.as_bytes()))
-        }
-        Err(stop) => Err(stop),
-    }
+pub fn extracted(said: &mut Said, row: &str) {
+    let (method, text) = said.cut(row, " ");
+    let mut found = Said::new(said.alloc);
+    extract(&mut found, message_in(said.alloc, text), method);
+    said.is_unknown = said.is_unknown || found.is_unknown;
+    said.is_short = said.is_short || found.is_short;
+    let text = found.text;
+    said.bytes("", text.as_bytes());
 }
 
-fn extracted_of(alloc: Global, message: Message, method: &str) -> Result<String, Stop> {
+fn extract(said: &mut Said, message: Result<Option<Message>, AllocError>, method: &str) {
     match message {
-        Message::Request(request) => made(of_request(alloc, request, method)),
-        Message::Notification(notification) => made(of_notification(alloc, notification, method)),
-        Message::Response(response) => {
+        Ok(Some(Message::Request(request))) => match request.extract::<i32>(said.alloc, method) {
+            Ok((id, number)) => {
+                said.show(id);
+                said.push(": ");
+                said.show(number);
+            }
+            Err(error) => said.show(error),
+        },
+        Ok(Some(Message::Notification(notification))) => {
+            match notification.extract::<i32>(said.alloc, method) {
+                Ok(number) => said.show(number),
+                Err(error) => said.show(error),
+            }
+        }
+        Ok(Some(Message::Response(response))) => {
             drop(response);
-            Err(Stop::Table)
+            said.unknown()
         }
-    }
-}
-
-fn of_request(alloc: Global, request: Request, method: &str) -> Result<String, AllocError> {
-    match request.extract::<i32>(alloc, method) {
-        Ok((id, number)) => {
-            let said = format!(in alloc; "{id}: {number}");
-            drop(id);
-            said
-        }
-        Err(error) => {
-            let said = format!(in alloc; "{error}");
-            drop(error);
-            said
-        }
-    }
-}
-
-fn of_notification(
-    alloc: Global,
-    notification: Notification,
-    method: &str,
-) -> Result<String, AllocError> {
-    match notification.extract::<i32>(alloc, method) {
-        Ok(number) => format!(in alloc; "{number}"),
-        Err(error) => {
-            let said = format!(in alloc; "{error}");
-            drop(error);
-            said
-        }
+        Ok(None) => said.unknown(),
+        Err(_) => said.is_short = true,
     }
 }

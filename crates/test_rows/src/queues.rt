@@ -7,132 +7,130 @@
 // | `receive ID DATA`, `cancel ID`, `answer ID` | `register`, `cancel` and `complete` of `Incoming` |
 // | `pending` | `has_pending` |
 // | `shown` | how the queues print for a programmer |
-use crate::messages::{id_in, nested, text_of, value_in};
-use crate::stop::{Stop, add_step, count_in, cut, made};
+use crate::messages::{id_in, nested, value_in};
+use crate::said::{Said, Stepped};
 use lsp_message::{Message, Request, RequestId, Response};
 use lsp_queue::{RegisterFault, ReqQueue};
 use serde_json::Value;
-use std::alloc::{AllocError, Global};
+use std::alloc::AllocError;
+use std::fmt::Write;
 
 type Queue = ReqQueue<char, char>;
 
 /// What comes of these steps on new queues.
-pub fn answers(alloc: Global, steps: &str) -> Result<String, Stop> {
-    let mut queue = ReqQueue::default(alloc);
-    let said = called(alloc, &mut queue, steps);
-    drop(queue);
-    said
+pub fn answers(said: &mut Said, steps: &str) {
+    let queue: Queue = ReqQueue::default(said.alloc);
+    said.steps_on(steps, queue)
 }
 
-fn called(alloc: Global, queue: &mut Queue, steps: &str) -> Result<String, Stop> {
-    let mut said = String::new(alloc);
-    for step in steps.split("; ") {
-        add_step(&mut said, call(alloc, queue, step))?;
+impl Stepped for Queue {
+    fn step(&mut self, said: &mut Said, step: &str) {
+        let (verb, words) = step.split_once(" ").unwrap_or((step, ""));
+        match verb {
+            "register" | "register_value" | "deep" => register(said, self, verb, words),
+            "shown" => {
+                let told = write!(said.text, "{self:?}");
+                said.note(told);
+            }
+            "pending" => {
+                said.push("pending ");
+                said.show(self.has_pending());
+            }
+            _ => {
+                let (id, _) = words.split_once(" ").unwrap_or((words, ""));
+                match id_in(said.alloc, id) {
+                    Ok(Some(id)) => call_with(said, self, verb, id, words),
+                    Ok(None) => said.unknown(),
+                    Err(_) => said.is_short = true,
+                }
+            }
+        }
     }
-    Ok(said)
 }
 
-fn call(alloc: Global, queue: &mut Queue, step: &str) -> Result<String, Stop> {
-    let (verb, words) = step.split_once(" ").unwrap_or((step, ""));
+/// A call with an id.
+fn call_with(said: &mut Said, queue: &mut Queue, verb: &str, id: RequestId, words: &str) {
     match verb {
-        "register" | "register_value" | "deep" => register(alloc, queue, verb, words),
-        "shown" => made(format!(in alloc; "{queue:?}")),
-        "pending" => made(format!(in alloc; "pending {}", queue.has_pending())),
-        "receive" => receive(alloc, queue, words),
-        "cancel" => cancel(alloc, queue, words),
-        _ => complete(alloc, queue, verb, words),
+        "receive" => receive(said, queue, id, words),
+        "cancel" => cancel(said, queue, id),
+        "complete" => {
+            said.push("complete ");
+            said.debug(queue.outgoing.complete(id));
+        }
+        "answer" => {
+            let data = queue.incoming.complete(&id);
+            drop(id);
+            said.push("answer ");
+            said.debug(data);
+        }
+        _ => {
+            drop(id);
+            said.unknown()
+        }
     }
 }
 
-fn data_in(word: &str) -> Result<char, Stop> {
-    word.chars().next().ok_or(Stop::Table)
+fn data_in(said: &mut Said, word: &str) -> char {
+    match word.chars().next() {
+        Some(data) => data,
+        None => {
+            said.is_unknown = true;
+            ' '
+        }
+    }
 }
 
 /// Params that nest too deep are refused, however often they come, and other params only for memory.
-fn register(alloc: Global, queue: &mut Queue, verb: &str, words: &str) -> Result<String, Stop> {
-    let (method, rest) = cut(words, " ")?;
-    let (params, data) = rest.rsplit_once(" ").ok_or(Stop::Table)?;
-    let data = data_in(data)?;
-    let method = String::from_str(alloc, method)?;
-    match params_in(alloc, verb, params) {
+fn register(said: &mut Said, queue: &mut Queue, verb: &str, words: &str) {
+    let (method, rest) = said.cut(words, " ");
+    let (params, data) = rest.rsplit_once(" ").unwrap_or((rest, ""));
+    let data = data_in(said, data);
+    let method = said.text_of(method);
+    match params_in(said, verb, params) {
         Ok(params) => {
             let registered = match verb {
                 "register_value" => queue.outgoing.register_value(method, params, data),
                 _ => queue.outgoing.register(method, params, data),
             };
-            registered_text(alloc, registered, verb)
+            say_registered(said, registered, verb)
         }
-        Err(stop) => Err(stop),
+        Err(_) => said.is_short = true,
     }
 }
 
-fn params_in(alloc: Global, verb: &str, params: &str) -> Result<Value, Stop> {
+fn params_in(said: &mut Said, verb: &str, params: &str) -> Result<Value, AllocError> {
     match verb {
-        "deep" => Ok(nested(alloc, count_in(params)?)?),
-        _ => value_in(alloc, params),
+        "deep" => nested(said.alloc, said.count_in(params)),
+        _ => value_in(said.alloc, params),
     }
 }
 
-fn registered_text(
-    alloc: Global,
-    registered: Result<Request, RegisterFault<char>>,
-    verb: &str,
-) -> Result<String, Stop> {
+fn say_registered(said: &mut Said, registered: Result<Request, RegisterFault<char>>, verb: &str) {
     match registered {
-        Ok(request) => {
-            let text = text_of(alloc, Message::from(request))?;
-            made(format!(in alloc; "sent {text}"))
+        Ok(request) => said.message("sent ", Message::from(request)),
+        Err(fault) => {
+            said.is_refused = said.is_refused || verb != "deep";
+            said.debug(fault)
         }
-        Err(fault) => refused_text(alloc, fault, verb),
     }
 }
 
-fn refused_text(alloc: Global, fault: RegisterFault<char>, verb: &str) -> Result<String, Stop> {
-    match verb {
-        "deep" => made(format!(in alloc; "{fault:?}")),
-        _ => Err(Stop::Memory),
-    }
-}
-
-fn receive(alloc: Global, queue: &mut Queue, words: &str) -> Result<String, Stop> {
-    let (id, data) = cut(words, " ")?;
-    let data = data_in(data)?;
-    match queue.incoming.register(id_in(alloc, id)?, data) {
-        Ok(()) => made(format!(in alloc; "received {id}")),
-        Err(_) => Err(Stop::Memory),
-    }
-}
-
-fn cancel(alloc: Global, queue: &mut Queue, word: &str) -> Result<String, Stop> {
-    let text = match queue.incoming.cancel(id_in(alloc, word)?) {
-        Ok(reply) => reply_text(alloc, reply)?,
-        Err(_) => return Err(Stop::Memory),
-    };
-    made(format!(in alloc; "cancelled {text}"))
-}
-
-fn reply_text(alloc: Global, reply: Option<Response>) -> Result<String, AllocError> {
-    match reply {
-        Some(reply) => text_of(alloc, Message::from(reply)),
-        None => String::from_str(alloc, "none"),
-    }
-}
-
-fn complete(alloc: Global, queue: &mut Queue, verb: &str, word: &str) -> Result<String, Stop> {
-    let id = id_in(alloc, word)?;
-    let data = match verb {
-        "complete" => queue.outgoing.complete(id),
-        "answer" => answered(queue, id),
-        _ => {
-            drop(id);
-            return Err(Stop::Table);
+fn receive(said: &mut Said, queue: &mut Queue, id: RequestId, words: &str) {
+    let (word, data) = said.cut(words, " ");
+    let data = data_in(said, data);
+    match queue.incoming.register(id, data) {
+        Ok(()) => {
+            said.push("received ");
+            said.push(word);
         }
-    };
-    made(format!(in alloc; "{verb} {data:?}"))
+        Err(_) => said.is_short = true,
+    }
 }
 
-fn answered(queue: &mut Queue, id: RequestId) -> Option<char> {
-    let data = queue.incoming.complete(&id);
-    drop(id);
-    data
+fn cancel(said: &mut Said, queue: &mut Queue, id: RequestId) {
+    match queue.incoming.cancel(id) {
+        Ok(Some(reply)) => said.message("cancelled ", Message::from(reply)),
+        Ok(None) => said.push("cancelled none"),
+        Err(_) => said.is_short = true,
+    }
 }

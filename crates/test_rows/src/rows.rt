@@ -1,11 +1,10 @@
 // One row after another.
-use crate::calls::{Attempt, Run, attempt_of};
+use crate::calls::{Run, call_at};
 use crate::documents::Documents;
-use crate::stop::{Stop, count_in};
+use crate::said::Said;
 use crate::table::{Case, Given, case_in};
 use crate::{dispatching, links, lists, messages, queues, types, uris};
-use std::alloc::{AllocError, Global};
-use std::fmt::Write;
+use std::alloc::Global;
 
 /// What the next row is about.
 #[derive(Drop)]
@@ -17,23 +16,32 @@ pub struct Rows {
 
 impl Rows {
     /// No bytes, and no documents.
-    pub fn new(alloc: Global) -> Result<Rows, Stop> {
-        Ok(Rows {
+    pub fn new(alloc: Global) -> Rows {
+        Rows {
             alloc,
-            given: Given::new(alloc, "")?,
+            given: Given::new(alloc),
             documents: Documents::new(alloc),
-        })
+        }
     }
 
     /// The lines that come below this row.
-    pub fn run(&mut self, line: &str) -> Result<String, Stop> {
+    pub fn run(&mut self, line: &str) -> Said {
+        let mut lines = Said::new(self.alloc);
+        let mut said = Said::new(self.alloc);
+        self.run_line(&mut lines, &mut said, line);
+        lines.is_short = lines.is_short || said.is_short;
+        lines.is_unknown = said.is_unknown;
+        drop(said);
+        lines
+    }
+
+    fn run_line(&mut self, lines: &mut Said, said: &mut Said, line: &str) {
         let (word, rest) = line.split_once(" ").unwrap_or(("#", ""));
-        let mut said = String::new(self.alloc);
         match word {
             "#" => {}
-            "=" => self.given = Given::new(self.alloc, rest)?,
-            "+" => self.given.repeat(self.alloc, rest)?,
-            "pauses" => self.given.pause(rest)?,
+            "=" => self.given.begin(said, rest),
+            "+" => self.given.repeat(said, rest),
+            "pauses" => self.given.pause(said, rest),
             "front"
             | "read"
             | "inbox"
@@ -44,88 +52,98 @@ impl Rows {
             | "session"
             | "speaks"
             | "line"
-            | "tolerant" => self.run_case(&mut said, case_in(word, rest)?)?,
-            _ => self.run_whole(&mut said, word, rest)?,
+            | "tolerant" => {
+                let case = case_in(said, word, rest);
+                self.run_case(lines, said, case);
+            }
+            _ => self.run_whole(lines, said, word, rest),
         }
-        Ok(said)
     }
 
     /// Runs a row that is run again as a whole if an allocation failed.
-    fn run_whole(&mut self, said: &mut String, word: &str, rest: &str) -> Result<(), Stop> {
-        let came = match self.answer(word, rest) {
-            Err(Stop::Memory) => {
-                add_line(said, "refused: ", word)?;
-                self.answer(word, rest)?
-            }
-            came => came?,
-        };
-        Ok(add_line(said, "", came.as_str())?)
+    fn run_whole(&mut self, lines: &mut Said, said: &mut Said, word: &str, rest: &str) {
+        self.answer(said, word, rest);
+        if said.is_short || said.is_refused {
+            add_line(lines, "refused: ", word);
+            said.clear();
+            self.answer(said, word, rest);
+        }
+        said.is_short = said.is_short || said.is_refused;
+        add_line(lines, "", said.text.as_str());
     }
 
-    fn answer(&mut self, word: &str, rest: &str) -> Result<String, Stop> {
+    fn answer(&mut self, said: &mut Said, word: &str, rest: &str) {
         match word {
-            "document" => self.documents.answer(rest),
-            "body" => messages::meaning(self.alloc, rest),
-            "id" => messages::id_text(self.alloc, rest),
-            "values" => messages::values(self.alloc, rest),
-            "extract" => messages::extracted(self.alloc, rest),
-            "queues" => queues::answers(self.alloc, rest),
-            "dispatch" => dispatching::dispatched(self.alloc, rest),
-            "replay" => dispatching::replayed(self.alloc, rest),
-            "link" => links::answers(self.alloc, rest),
-            "typed" => types::answer(self.alloc, rest),
-            "uri" => uris::uri(self.alloc, rest),
-            "path" => uris::path(self.alloc, rest),
-            "folders" => uris::folders(self.alloc, rest),
-            "tokens" => uris::tokens(self.alloc, rest),
-            "offset" => uris::offset(self.alloc, rest),
-            "calls" => lists::called(self.alloc, rest),
-            "writes" => lists::written(self.alloc, rest),
-            _ => lists::session(self.alloc, word, rest),
+            "document" => self.documents.answer(said, rest),
+            "body" => messages::meaning(said, rest),
+            "id" => messages::id_text(said, rest),
+            "values" => messages::values(said, rest),
+            "extract" => messages::extracted(said, rest),
+            "queues" => queues::answers(said, rest),
+            "dispatch" => dispatching::dispatched(said, rest),
+            "replay" => dispatching::replayed(said, rest),
+            "link" => links::answers(said, rest),
+            "typed" => types::answer(said, rest),
+            "uri" => uris::uri(said, rest),
+            "path" => uris::path(said, rest),
+            "folders" => uris::folders(said, rest),
+            "tokens" => uris::tokens(said, rest),
+            "offset" => uris::offset(said, rest),
+            "calls" => lists::called(said, rest),
+            "writes" => lists::written(said, rest),
+            _ => lists::session(said, word, rest),
         }
     }
 
     /// Runs a case at each of its places. What came is told if it is another than at the place before.
-    fn run_case(&self, said: &mut String, case: Case<'_>) -> Result<(), Stop> {
+    fn run_case(&self, lines: &mut Said, said: &mut Said, case: Case<'_>) {
         let mut last = String::new(self.alloc);
         for count in case.from..=case.to {
-            let came = self.run_at(said, case, count)?;
+            let came = self.run_at(lines, said, case, count);
             if came != last {
-                write!(said, "  {count}: {came}\n")?;
+                lines.push("  ");
+                lines.show(count);
+                lines.push(": ");
+                lines.push(came.as_str());
+                lines.push("\n");
             }
             last = came;
         }
-        Ok(())
     }
 
     /// What comes of a case at one of its places: the same with each size of pieces, or what differs.
-    fn run_at(&self, said: &mut String, case: Case<'_>, count: usize) -> Result<String, Stop> {
-        let mut all = String::new(self.alloc);
+    fn run_at(&self, lines: &mut Said, said: &mut Said, case: Case<'_>, count: usize) -> String {
+        let mut all = Said::new(self.alloc);
         for word in case.steps.split(',') {
-            let step = count_in(word)?;
-            let run = Run { case, step, count };
-            let came = self.run_once(said, run)?;
-            if all.is_empty() {
-                all = came;
-            } else if all != came {
-                all = format!(in self.alloc; "{all}, but by {word}: {came}")?;
+            let step = said.count_in(word);
+            self.run_once(lines, said, Run { case, step, count });
+            if all.text.is_empty() {
+                all.push(said.text.as_str());
+            } else if all.text != said.text {
+                all.push(", but by ");
+                all.push(word);
+                all.push(": ");
+                all.push(said.text.as_str());
             }
         }
-        Ok(all)
+        said.is_short = said.is_short || all.is_short;
+        all.text
     }
 
-    fn run_once(&self, said: &mut String, run: Run<'_>) -> Result<String, Stop> {
-        match attempt_of(self.alloc, run, &self.given)? {
-            Attempt::Came(came) => return Ok(came),
-            Attempt::Refused(what) => add_line(said, "refused: ", what.as_str())?,
+    /// Says what comes of a run, or of the same once more if an allocation failed in the call.
+    fn run_once(&self, lines: &mut Said, said: &mut Said, run: Run<'_>) {
+        call_at(said, run, &self.given);
+        if said.is_refused {
+            add_line(lines, "refused: ", said.text.as_str());
+            call_at(said, run, &self.given);
         }
-        match attempt_of(self.alloc, run, &self.given)? {
-            Attempt::Came(came) => Ok(came),
-            Attempt::Refused(_) => Err(Stop::Memory),
-        }
+        said.is_short = said.is_short || said.is_refused;
     }
 }
 
-fn add_line(said: &mut String, before: &str, text: &str) -> Result<(), AllocError> {
-    write!(said, "  {before}{text}\n")
+fn add_line(lines: &mut Said, before: &str, text: &str) {
+    lines.push("  ");
+    lines.push(before);
+    lines.push(text);
+    lines.push("\n");
 }

@@ -1,5 +1,6 @@
 // A handler, and a server that speaks.
 use crate::typed;
+use crate::typed::{both, kept, listed, refused};
 use lsp_message::{Notification, Request, RequestId, ResponseError};
 use lsp_service::{Act, Server, WokenServer};
 use lsp_session::{Handler, initialize_result};
@@ -35,10 +36,7 @@ impl Handler for Echo {
             let params: Result<Value, AllocError> = request.params.clone();
             return found(params);
         }
-        match ResponseError::method_not_found(self.alloc) {
-            Ok(error) => Ok(Err(error)),
-            Err(error) => Err(error),
-        }
+        refused(ResponseError::method_not_found(self.alloc))
     }
 
     fn note(&mut self, _notification: &Notification) -> Result<(), AllocError> {
@@ -47,8 +45,8 @@ impl Handler for Echo {
     }
 }
 
-/// The outcome that this was made for.
-fn found(made: Result<Value, AllocError>) -> Result<Result<Value, ResponseError>, AllocError> {
+/// The outcome that this value was made for.
+fn found<T: Drop, E: Drop>(made: Result<T, AllocError>) -> Result<Result<T, E>, AllocError> {
     match made {
         Ok(value) => Ok(Ok(value)),
         Err(error) => Err(error),
@@ -69,6 +67,25 @@ fn echoed(alloc: Global, request: Request) -> Result<Acts, AllocError> {
     let Request { id, method, params } = request;
     drop(method);
     Act::one(alloc, Act::Reply(id, Ok(params)))
+}
+
+/// A notification.
+fn told(alloc: Global, method: &str, params: Value) -> Result<Act<Asked>, AllocError> {
+    match String::from_str(alloc, method) {
+        Ok(method) => Ok(Act::Tell(Notification { method, params })),
+        Err(error) => {
+            drop(params);
+            Err(error)
+        }
+    }
+}
+
+/// The question of this number for the configuration.
+fn question(alloc: Global, number: u64) -> Result<Act<Asked>, AllocError> {
+    match String::from_str(alloc, "workspace/configuration") {
+        Ok(method) => Ok(Act::Ask(method, Value::Null, Asked::Configuration(number))),
+        Err(error) => Err(error),
+    }
 }
 
 /// Pushes, asks, and answers late.
@@ -98,33 +115,32 @@ impl Talker {
         }
     }
 
-    /// A notification alone.
-    fn told(&self, method: &str, params: Value) -> Result<Acts, AllocError> {
-        match String::from_str(self.alloc, method) {
-            Ok(method) => Act::one(self.alloc, Act::Tell(Notification { method, params })),
-            Err(error) => {
-                drop(params);
-                Err(error)
-            }
-        }
-    }
-
     /// A notification, and the question for the configuration.
     fn asking(&mut self, method: &str, params: Value) -> Result<Acts, AllocError> {
-        let mut acts = self.told(method, params)?;
         self.questions = self.questions.saturating_add(1);
-        let method = String::from_str(self.alloc, "workspace/configuration")?;
-        let asked = Asked::Configuration(self.questions);
-        acts.push(Act::Ask(method, Value::Null, asked))?;
-        Ok(acts)
+        let told = told(self.alloc, method, params);
+        both(self.alloc, told, question(self.alloc, self.questions))
     }
 
-    /// Adds the answers to what it keeps.
-    fn release(&mut self, mut acts: Acts) -> Result<Acts, AllocError> {
-        for id in mem::replace(&mut self.held, Vec::new(self.alloc)) {
-            acts.push(Act::Reply(id, Ok(Value::Null)))?;
+    /// These acts, and the answers to what it keeps.
+    fn release(&mut self, acts: Result<Acts, AllocError>) -> Result<Acts, AllocError> {
+        match acts {
+            Ok(mut acts) => match self.release_to(&mut acts) {
+                Ok(()) => Ok(acts),
+                Err(error) => {
+                    drop(acts);
+                    Err(error)
+                }
+            },
+            Err(error) => Err(error),
         }
-        Ok(acts)
+    }
+
+    fn release_to(&mut self, acts: &mut Acts) -> Result<(), AllocError> {
+        for id in mem::replace(&mut self.held, Vec::new(self.alloc)) {
+            kept(acts.push(Act::Reply(id, Ok(Value::Null))))?;
+        }
+        Ok(())
     }
 
     /// Asks the client, whose reply is the answer to this request.
@@ -143,8 +159,10 @@ impl Talker {
 
     /// Keeps a request.
     fn hold(&mut self, id: RequestId) -> Result<Acts, AllocError> {
-        self.held.push(id)?;
-        Ok(Vec::new(self.alloc))
+        match kept(self.held.push(id)) {
+            Ok(()) => Ok(Vec::new(self.alloc)),
+            Err(error) => Err(error),
+        }
     }
 }
 
@@ -173,7 +191,9 @@ impl Server for Talker {
         if notification.method.as_str().starts_with("typed/") {
             return typed::noticed(self.alloc, notification);
         }
-        let acts = self.asking("demo/pushed", notification.params)?;
+        let Notification { method, params } = notification;
+        drop(method);
+        let acts = self.asking("demo/pushed", params);
         self.release(acts)
     }
 
@@ -186,7 +206,7 @@ impl Server for Talker {
             Asked::For(id) => Act::one(self.alloc, Act::Reply(id, outcome)),
             Asked::Configuration(number) => {
                 drop(outcome);
-                self.told("demo/pushed", Value::from(number))
+                listed(self.alloc, Act::tell(self.alloc, "demo/pushed", &number))
             }
         }
     }
@@ -203,7 +223,7 @@ impl WokenServer for Talker {
     ghost wakes = { λ _ _ _. ⊤ };
 
     fn woken(&mut self, _alloc: Global) -> Result<Acts, AllocError> {
-        let acts = self.told("demo/woken", Value::Null)?;
+        let acts = listed(self.alloc, Act::tell(self.alloc, "demo/woken", &()));
         self.release(acts)
     }
 }

@@ -1,7 +1,7 @@
 // The words of a case, and the bytes that cases are about.
 use crate::devices::Pause;
 use crate::escapes::unescape;
-use crate::stop::{Stop, count_in, cut};
+use crate::said::Said;
 use std::alloc::Global;
 use std::io::ErrorKind;
 
@@ -13,35 +13,37 @@ pub struct Given {
 }
 
 impl Given {
-    /// The bytes of a text with escapes, with no pauses.
-    pub fn new(alloc: Global, text: &str) -> Result<Given, Stop> {
-        Ok(Given {
-            bytes: unescape(alloc, text)?,
+    /// No bytes, and no pauses.
+    pub fn new(alloc: Global) -> Given {
+        Given {
+            bytes: Vec::new(alloc),
             pauses: Vec::new(alloc),
-        })
+        }
+    }
+
+    /// The bytes of a text with escapes, with no pauses.
+    pub fn begin(&mut self, said: &mut Said, text: &str) {
+        self.bytes = Vec::new(said.alloc);
+        self.pauses = Vec::new(said.alloc);
+        unescape(said, text, &mut self.bytes)
     }
 
     /// `COUNT TEXT`: this text follows so many times.
-    pub fn repeat(&mut self, alloc: Global, words: &str) -> Result<(), Stop> {
-        let (count, text) = cut(words, " ")?;
-        let count = count_in(count)?;
-        let text = unescape(alloc, text)?;
-        for _ in 0..count {
-            self.bytes.extend_from_slice(text.as_slice())?;
+    pub fn repeat(&mut self, said: &mut Said, words: &str) {
+        let (count, text) = said.cut(words, " ");
+        for _ in 0..said.count_in(count) {
+            unescape(said, text, &mut self.bytes);
         }
-        Ok(())
     }
 
     /// `AT:COUNT ..`: at these places, which rise, a reader has nothing until so many bytes were written and flushed.
-    pub fn pause(&mut self, words: &str) -> Result<(), Stop> {
+    pub fn pause(&mut self, said: &mut Said, words: &str) {
         for word in words.split(' ') {
-            let (at, written) = cut(word, ":")?;
-            self.pauses.push(Pause {
-                at: count_in(at)?,
-                written: count_in(written)?,
-            })?;
+            let (at, written) = said.cut(word, ":");
+            let at = said.count_in(at);
+            let written = said.count_in(written);
+            said.kept(self.pauses.push(Pause { at, written }));
         }
-        Ok(())
     }
 }
 
@@ -83,28 +85,31 @@ pub struct Case<'a> {
 }
 
 /// The case of these words.
-pub fn case_in<'a>(call: &'a str, words: &'a str) -> Result<Case<'a>, Stop> {
-    let (steps, words) = cut(words, " ")?;
-    let (device, words) = cut(words, " ")?;
-    let (from, words) = cut(words, " ")?;
+pub fn case_in<'a>(said: &mut Said, call: &'a str, words: &'a str) -> Case<'a> {
+    let (steps, words) = said.cut(words, " ");
+    let (device, words) = said.cut(words, " ");
+    let (from, words) = said.cut(words, " ");
     let (to, kind) = words.split_once(" ").unwrap_or((words, "BrokenPipe"));
-    Ok(Case {
+    Case {
         call,
         steps,
         device,
-        from: count_in(from)?,
-        to: count_in(to)?,
-        kind: kind_of(kind)?,
-    })
+        from: said.count_in(from),
+        to: said.count_in(to),
+        kind: kind_of(said, kind),
+    }
 }
 
-fn kind_of(word: &str) -> Result<ErrorKind, Stop> {
+fn kind_of(said: &mut Said, word: &str) -> ErrorKind {
     match word {
-        "BrokenPipe" => Ok(ErrorKind::BrokenPipe),
-        "Interrupted" => Ok(ErrorKind::Interrupted),
-        "OutOfMemory" => Ok(ErrorKind::OutOfMemory),
-        "UnexpectedEof" => Ok(ErrorKind::UnexpectedEof),
-        "WriteZero" => Ok(ErrorKind::WriteZero),
-        _ => Err(Stop::Table),
+        "BrokenPipe" => ErrorKind::BrokenPipe,
+        "Interrupted" => ErrorKind::Interrupted,
+        "OutOfMemory" => ErrorKind::OutOfMemory,
+        "UnexpectedEof" => ErrorKind::UnexpectedEof,
+        "WriteZero" => ErrorKind::WriteZero,
+        _ => {
+            said.is_unknown = true;
+            ErrorKind::Other
+        }
     }
 }

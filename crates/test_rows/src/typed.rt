@@ -2,7 +2,7 @@
 use lsp_message::{ErrorCode, Notification, Request, RequestId, ResponseError};
 use lsp_service::Act;
 use lsp_types::{MessageType, Position, TextDocumentPositionParams};
-use std::alloc::{AllocError, Global};
+use std::alloc::{AllocError, AllocFailed, Global};
 
 /// - `typed/uri` gives the document.
 /// - `typed/above` gives the position above, and the error -32803 if there is none.
@@ -15,20 +15,12 @@ pub fn asked<P: Drop>(alloc: Global, request: Request) -> Result<Vec<Act<P>>, Al
         "typed/above" => Act::try_answer(alloc, request, |place: TextDocumentPositionParams| {
             above(alloc, place.position)
         }),
-        "typed/show" => {
-            Act::of_request(
-                alloc,
-                request,
-                |id, _place: TextDocumentPositionParams| shown(alloc, id),
-            )
-        }
-        _ => unknown(alloc, taken_id(request)),
+        "typed/show" => Act::of_request(alloc, request, |id, place: TextDocumentPositionParams| {
+            drop(place);
+            shown(alloc, id)
+        }),
+        _ => listed(alloc, Act::method_not_found(alloc, taken_id(request))),
     }
-}
-
-/// The answer to a request whose method nobody knows.
-pub fn unknown<P: Drop>(alloc: Global, id: RequestId) -> Result<Vec<Act<P>>, AllocError> {
-    one(alloc, Act::method_not_found(alloc, id))
 }
 
 /// The id of a request, without the rest.
@@ -39,25 +31,38 @@ pub fn taken_id(request: Request) -> RequestId {
     id
 }
 
-/// A list of this act.
-fn one<P: Drop>(alloc: Global, act: Result<Act<P>, AllocError>) -> Result<Vec<Act<P>>, AllocError> {
-    match act {
-        Ok(act) => Act::one(alloc, act),
-        Err(error) => Err(error),
+/// A list of this item alone.
+pub fn listed<T: Drop>(alloc: Global, item: Result<T, AllocError>) -> Result<Vec<T>, AllocError> {
+    and(Vec::new(alloc), item)
+}
+
+/// A list of these items.
+pub fn both<T: Drop>(
+    alloc: Global,
+    first: Result<T, AllocError>,
+    second: Result<T, AllocError>,
+) -> Result<Vec<T>, AllocError> {
+    match listed(alloc, first) {
+        Ok(items) => and(items, second),
+        Err(error) => {
+            drop(second);
+            Err(error)
+        }
     }
 }
 
-/// These acts, and behind them this one.
-fn and<P: Drop>(
-    mut acts: Vec<Act<P>>,
-    act: Result<Act<P>, AllocError>,
-) -> Result<Vec<Act<P>>, AllocError> {
-    match act {
-        Ok(act) => {
-            acts.push(act)?;
-            Ok(acts)
-        }
+/// These items, and behind them this one.
+fn and<T: Drop>(mut items: Vec<T>, item: Result<T, AllocError>) -> Result<Vec<T>, AllocError> {
+    let added = match item {
+        Ok(item) => kept(items.push(item)),
         Err(error) => Err(error),
+    };
+    match added {
+        Ok(()) => Ok(items),
+        Err(error) => {
+            drop(items);
+            Err(error)
+        }
     }
 }
 
@@ -71,29 +76,38 @@ pub fn noticed<P: Drop>(
     })
 }
 
-fn above(alloc: Global, at: Position) -> Result<Result<Position, ResponseError>, AllocError> {
-    match at.line.checked_sub(1) {
-        Some(line) => Ok(Ok(Position::new(line, at.character))),
-        None => match ResponseError::new(alloc, ErrorCode::RequestFailed, "no line above") {
-            Ok(error) => Ok(Err(error)),
-            Err(error) => Err(error),
-        },
-    }
-}
-
-fn shown<P: Drop>(alloc: Global, id: RequestId) -> Result<Vec<Act<P>>, AllocError> {
-    match one(alloc, Act::show(alloc, MessageType::INFO, "here")) {
-        Ok(acts) => and(acts, Act::reply(alloc, id, &())),
-        Err(error) => {
-            drop(id);
-            Err(error)
+/// Whether a list took an item.
+pub fn kept<T: Drop>(pushed: Result<(), AllocFailed<T>>) -> Result<(), AllocError> {
+    match pushed {
+        Ok(()) => Ok(()),
+        Err(refused) => {
+            drop(refused);
+            Err(AllocError)
         }
     }
 }
 
-fn told<P: Drop>(alloc: Global, at: Position) -> Result<Vec<Act<P>>, AllocError> {
-    match one(alloc, Act::tell(alloc, "typed/told", &at)) {
-        Ok(acts) => and(acts, Act::log(alloc, MessageType::WARNING, "told")),
+fn above(alloc: Global, at: Position) -> Result<Result<Position, ResponseError>, AllocError> {
+    match at.line.checked_sub(1) {
+        Some(line) => Ok(Ok(Position::new(line, at.character))),
+        None => refused(ResponseError::new(alloc, ErrorCode::RequestFailed, "no line above")),
+    }
+}
+
+/// The outcome that this error was made for.
+pub fn refused<T: Drop, E: Drop>(made: Result<E, AllocError>) -> Result<Result<T, E>, AllocError> {
+    match made {
+        Ok(error) => Ok(Err(error)),
         Err(error) => Err(error),
     }
+}
+
+fn shown<P: Drop>(alloc: Global, id: RequestId) -> Result<Vec<Act<P>>, AllocError> {
+    let shown = Act::show(alloc, MessageType::INFO, "here");
+    both(alloc, shown, Act::reply(alloc, id, &()))
+}
+
+fn told<P: Drop>(alloc: Global, at: Position) -> Result<Vec<Act<P>>, AllocError> {
+    let told = Act::tell(alloc, "typed/told", &at);
+    both(alloc, told, Act::log(alloc, MessageType::WARNING, "told"))
 }

@@ -1,222 +1,157 @@
 // Values that are read by the types of `lsp_types` and written again.
 use crate::messages::{text_in, value_in};
-use crate::stop::{Stop, cut, made};
+use crate::said::Said;
 use lsp_types::{
     ApplyWorkspaceEditParams, ApplyWorkspaceEditResult, CodeAction, CodeActionOptions,
     CodeActionParams, Command, CompletionItem, CompletionList, CompletionOptions,
     ConfigurationParams, DidChangeTextDocumentParams, DidOpenTextDocumentParams,
     DidSaveTextDocumentParams, DocumentFormattingParams, DocumentSymbol, ExecuteCommandOptions,
     ExecuteCommandParams, Hover, InitializeParams, InitializeResult, InlayHint, Location,
-    ProgressParams, PublishDiagnosticsParams, ReferenceParams, RenameOptions, RenameParams,
-    SaveOptions, SemanticTokens, SemanticTokensLegend, SemanticTokensOptions, ServerCapabilities,
-    ServerInfo, ShowMessageParams, SignatureHelp, SignatureHelpOptions, SymbolKind,
-    TextDocumentParams, TextDocumentPositionParams, TextDocumentRangeParams, TextDocumentSyncKind,
-    TextDocumentSyncOptions, WorkDoneProgressBegin, WorkDoneProgressCreateParams,
-    WorkDoneProgressEnd, WorkDoneProgressParams, WorkDoneProgressReport,
+    NumberOrString, Position, ProgressParams, PublishDiagnosticsParams, Range, ReferenceParams,
+    RenameOptions, RenameParams, SaveOptions, SemanticTokens, SemanticTokensLegend,
+    SemanticTokensOptions, ServerCapabilities, ServerInfo, ShowMessageParams, SignatureHelp,
+    SignatureHelpOptions, SymbolKind, TextDocumentParams, TextDocumentPositionParams,
+    TextDocumentRangeParams, TextDocumentSyncKind, TextDocumentSyncOptions, WorkDoneProgressBegin,
+    WorkDoneProgressCreateParams, WorkDoneProgressEnd, WorkDoneProgressParams,
+    WorkDoneProgressReport,
 };
 use serde::{DeserializeOwned, Serialize};
 use serde_json::{Error, Value, from_value, to_value};
 use std::alloc::{AllocError, Global};
 
 /// What comes of a type's name and a value: the value as it is written again, or `refused`.
-pub fn answer(alloc: Global, text: &str) -> Result<String, Stop> {
-    let (name, value) = cut(text, " ")?;
-    match value_in(alloc, value) {
-        Ok(value) => row_or_refused(alloc, of_document(alloc, name, value)),
-        Err(stop) => Err(stop),
+pub fn answer(said: &mut Said, row: &str) {
+    let (name, text) = said.cut(row, " ");
+    said.is_wrong = false;
+    of_document(said, name, text);
+    if said.is_wrong {
+        said.text.clear();
+        said.push("refused");
     }
 }
 
-fn row_or_refused(alloc: Global, row: Result<String, Error>) -> Result<String, Stop> {
-    match row {
-        Ok(row) => Ok(row),
-        Err(fault) if fault.is_memory() => Err(Stop::Memory),
-        Err(_) => made(String::from_str(alloc, "refused")),
-    }
-}
-
-/// A value as JSON writes it.
-pub fn written<T: Serialize>(alloc: Global, value: &T) -> Result<String, Error> {
-    match to_value(alloc, value) {
-        Ok(tree) => {
-            let text = tree.to_string(alloc);
-            drop(tree);
-            Ok(text?)
-        }
+/// The value that a text of JSON has by its type.
+pub fn read_typed<T: DeserializeOwned>(alloc: Global, text: &str) -> Result<T, Error> {
+    match Value::from_str(alloc, text) {
+        Ok(value) => from_value(alloc, value),
         Err(error) => Err(error),
+    }
+}
+
+/// The value that a text of JSON has by its type, or another.
+pub fn read<T: DeserializeOwned + Drop>(said: &mut Said, text: &str, otherwise: T) -> T {
+    let found = read_typed(said.alloc, text);
+    read_or(said, found, otherwise)
+}
+
+/// The value that was read, or another.
+fn read_or<T: Drop>(said: &mut Said, found: Result<T, Error>, otherwise: T) -> T {
+    match found {
+        Ok(value) => {
+            drop(otherwise);
+            value
+        }
+        Err(error) => {
+            said.refuse(error);
+            otherwise
+        }
+    }
+}
+
+/// Says a value as JSON writes it.
+pub fn say_written<T: Serialize>(said: &mut Said, value: &T) {
+    match to_value(said.alloc, value) {
+        Ok(tree) => said.show(tree),
+        Err(error) => said.refuse(error),
     }
 }
 
 /// A value that is read and written by a type.
-fn back<T: Serialize + DeserializeOwned + Drop>(
-    alloc: Global,
-    value: Value,
-) -> Result<String, Error> {
-    match from_value::<T>(alloc, value) {
+fn back<T: Serialize + DeserializeOwned + Drop>(said: &mut Said, text: &str) {
+    match read_typed::<T>(said.alloc, text) {
         Ok(read) => {
-            let text = written(alloc, &read);
+            say_written(said, &read);
             drop(read);
-            text
         }
-        Err(error) => Err(error),
+        Err(error) => said.refuse(error),
     }
 }
 
-fn of_document(alloc: Global, name: &str, value: Value) -> Result<String, Error> {
+fn of_document(said: &mut Said, name: &str, text: &str) {
     match name {
-        "InitializeParams" => back::<InitializeParams>(alloc, value),
-        "InitializeResult" => {
-            let row = initialized(alloc, &value);
-            drop(value);
-            row
-        }
-        "DidOpenTextDocumentParams" => back::<DidOpenTextDocumentParams>(alloc, value),
-        "DidChangeTextDocumentParams" => back::<DidChangeTextDocumentParams>(alloc, value),
-        "DidSaveTextDocumentParams" => back::<DidSaveTextDocumentParams>(alloc, value),
-        "TextDocumentParams" => back::<TextDocumentParams>(alloc, value),
-        "TextDocumentPositionParams" => back::<TextDocumentPositionParams>(alloc, value),
-        "TextDocumentRangeParams" => back::<TextDocumentRangeParams>(alloc, value),
-        "ReferenceParams" => back::<ReferenceParams>(alloc, value),
-        _ => of_change(alloc, name, value),
+        "InitializeParams" => back::<InitializeParams>(said, text),
+        "DidOpenTextDocumentParams" => back::<DidOpenTextDocumentParams>(said, text),
+        "DidChangeTextDocumentParams" => back::<DidChangeTextDocumentParams>(said, text),
+        "DidSaveTextDocumentParams" => back::<DidSaveTextDocumentParams>(said, text),
+        "TextDocumentParams" => back::<TextDocumentParams>(said, text),
+        "TextDocumentPositionParams" => back::<TextDocumentPositionParams>(said, text),
+        "TextDocumentRangeParams" => back::<TextDocumentRangeParams>(said, text),
+        "ReferenceParams" => back::<ReferenceParams>(said, text),
+        _ => of_change(said, name, text),
     }
 }
 
-fn of_change(alloc: Global, name: &str, value: Value) -> Result<String, Error> {
+fn of_change(said: &mut Said, name: &str, text: &str) {
     match name {
-        "CodeActionParams" => back::<CodeActionParams>(alloc, value),
-        "CodeAction" => back::<CodeAction>(alloc, value),
-        "Command" => back::<Command>(alloc, value),
-        "RenameParams" => back::<RenameParams>(alloc, value),
-        "DocumentFormattingParams" => back::<DocumentFormattingParams>(alloc, value),
-        "ExecuteCommandParams" => back::<ExecuteCommandParams>(alloc, value),
-        "ApplyWorkspaceEditParams" => back::<ApplyWorkspaceEditParams>(alloc, value),
-        "ApplyWorkspaceEditResult" => back::<ApplyWorkspaceEditResult>(alloc, value),
-        _ => of_answer(alloc, name, value),
+        "CodeActionParams" => back::<CodeActionParams>(said, text),
+        "CodeAction" => back::<CodeAction>(said, text),
+        "Command" => back::<Command>(said, text),
+        "RenameParams" => back::<RenameParams>(said, text),
+        "DocumentFormattingParams" => back::<DocumentFormattingParams>(said, text),
+        "ExecuteCommandParams" => back::<ExecuteCommandParams>(said, text),
+        "ApplyWorkspaceEditParams" => back::<ApplyWorkspaceEditParams>(said, text),
+        "ApplyWorkspaceEditResult" => back::<ApplyWorkspaceEditResult>(said, text),
+        _ => of_answer(said, name, text),
     }
 }
 
-fn of_answer(alloc: Global, name: &str, value: Value) -> Result<String, Error> {
+fn of_answer(said: &mut Said, name: &str, text: &str) {
     match name {
-        "Hover" => back::<Hover>(alloc, value),
-        "CompletionList" => back::<CompletionList>(alloc, value),
-        "CompletionItem" => back::<CompletionItem>(alloc, value),
-        "SignatureHelp" => back::<SignatureHelp>(alloc, value),
-        "Location" => back::<Location>(alloc, value),
-        "DocumentSymbol" => {
-            let row = symbol_with_children(alloc, &value);
-            drop(value);
-            row
-        }
-        "SemanticTokens" => back::<SemanticTokens>(alloc, value),
-        "InlayHint" => back::<InlayHint>(alloc, value),
-        _ => of_window(alloc, name, value),
+        "Hover" => back::<Hover>(said, text),
+        "CompletionList" => back::<CompletionList>(said, text),
+        "CompletionItem" => back::<CompletionItem>(said, text),
+        "SignatureHelp" => back::<SignatureHelp>(said, text),
+        "Location" => back::<Location>(said, text),
+        "SemanticTokens" => back::<SemanticTokens>(said, text),
+        "InlayHint" => back::<InlayHint>(said, text),
+        _ => of_window(said, name, text),
     }
 }
 
-fn of_window(alloc: Global, name: &str, value: Value) -> Result<String, Error> {
+fn of_window(said: &mut Said, name: &str, text: &str) {
     match name {
-        "PublishDiagnosticsParams" => back::<PublishDiagnosticsParams>(alloc, value),
-        "ShowMessageParams" => back::<ShowMessageParams>(alloc, value),
-        "ConfigurationParams" => back::<ConfigurationParams>(alloc, value),
-        "ProgressParams" => {
-            let row = of_progress(alloc, &value);
-            drop(value);
-            row
-        }
-        "WorkDoneProgressParams" => back::<WorkDoneProgressParams>(alloc, value),
-        "WorkDoneProgressCreateParams" => back::<WorkDoneProgressCreateParams>(alloc, value),
-        "ServerCapabilities" => {
-            let row = capabilities(alloc, &value);
-            drop(value);
-            row
-        }
-        _ => {
-            drop(value);
-            Ok(String::from_str(alloc, "no such type")?)
-        }
-    }
-}
-
-/// Progress by the type of its kind.
-fn of_progress(alloc: Global, found: &Value) -> Result<String, Error> {
-    match text_in(found.pointer("/value/kind")) {
-        "begin" => progress::<WorkDoneProgressBegin>(alloc, found),
-        "report" => progress::<WorkDoneProgressReport>(alloc, found),
-        _ => progress::<WorkDoneProgressEnd>(alloc, found),
-    }
-}
-
-fn progress<T: Serialize + DeserializeOwned + Drop>(
-    alloc: Global,
-    found: &Value,
-) -> Result<String, Error> {
-    let token = member(alloc, found, "token")?;
-    match member::<T>(alloc, found, "value") {
-        Ok(value) => {
-            let told = ProgressParams { token, value };
-            let text = written(alloc, &told);
-            drop(told);
-            text
-        }
-        Err(error) => Err(error),
-    }
-}
-
-/// A symbol with those right inside it.
-fn symbol_with_children(alloc: Global, found: &Value) -> Result<String, Error> {
-    match symbol(alloc, found) {
-        Ok(mut symbol) => {
-            let text = match add_children(alloc, found, &mut symbol.children) {
-                Ok(()) => written(alloc, &symbol),
-                Err(error) => Err(error),
-            };
-            drop(symbol);
-            text
-        }
-        Err(error) => Err(error),
-    }
-}
-
-fn add_children(
-    alloc: Global,
-    found: &Value,
-    children: &mut Vec<DocumentSymbol>,
-) -> Result<(), Error> {
-    if let Some(Value::Array(list)) = found.get("children") {
-        for child in list {
-            add_child(children, symbol(alloc, child))?;
-        }
-    }
-    Ok(())
-}
-
-fn add_child(
-    children: &mut Vec<DocumentSymbol>,
-    child: Result<DocumentSymbol, Error>,
-) -> Result<(), Error> {
-    match child {
-        Ok(child) => match children.push(child) {
-            Ok(()) => Ok(()),
-            Err(failed) => Err(AllocError::from(failed).into()),
+        "PublishDiagnosticsParams" => back::<PublishDiagnosticsParams>(said, text),
+        "ShowMessageParams" => back::<ShowMessageParams>(said, text),
+        "ConfigurationParams" => back::<ConfigurationParams>(said, text),
+        "WorkDoneProgressParams" => back::<WorkDoneProgressParams>(said, text),
+        "WorkDoneProgressCreateParams" => back::<WorkDoneProgressCreateParams>(said, text),
+        _ => match value_in(said.alloc, text) {
+            Ok(found) => {
+                of_members(said, name, &found);
+                drop(found);
+            }
+            Err(_) => said.is_short = true,
         },
-        Err(error) => Err(error),
     }
 }
 
-/// A symbol with none inside it.
-fn symbol(alloc: Global, found: &Value) -> Result<DocumentSymbol, Error> {
-    let kind = SymbolKind(member(alloc, found, "kind")?);
-    let range = member(alloc, found, "range")?;
-    let selection_range = member(alloc, found, "selectionRange")?;
-    let name = member(alloc, found, "name")?;
-    Ok(DocumentSymbol {
-        name,
-        detail: member(alloc, found, "detail")?,
-        kind,
-        range,
-        selection_range,
-        children: Vec::new(alloc),
-    })
+/// A value of a type that is not read as a whole.
+fn of_members(said: &mut Said, name: &str, found: &Value) {
+    match name {
+        "InitializeResult" => initialized(said, found),
+        "DocumentSymbol" => symbol_with_children(said, found),
+        "ProgressParams" => match text_in(found.pointer("/value/kind")) {
+            "begin" => progress::<WorkDoneProgressBegin>(said, found),
+            "report" => progress::<WorkDoneProgressReport>(said, found),
+            _ => progress::<WorkDoneProgressEnd>(said, found),
+        },
+        "ServerCapabilities" => {
+            let all = capabilities(said, found);
+            say_written(said, &all);
+            drop(all);
+        }
+        _ => said.push("no such type"),
+    }
 }
 
 /// A member by its type, null if there is none.
@@ -237,44 +172,103 @@ fn copied(found: Option<&Value>) -> Result<Value, AllocError> {
     }
 }
 
-fn initialized(alloc: Global, found: &Value) -> Result<String, Error> {
-    let name = member(alloc, found, "name")?;
-    let version = member(alloc, found, "version")?;
+/// A member by its type, or another value.
+fn get<T: DeserializeOwned + Drop>(said: &mut Said, found: &Value, key: &str, otherwise: T) -> T {
+    let found = member(said.alloc, found, key);
+    read_or(said, found, otherwise)
+}
+
+fn progress<T: Serialize + DeserializeOwned + Drop>(said: &mut Said, found: &Value) {
+    let token = get(said, found, "token", NumberOrString::Number(0));
+    match member::<T>(said.alloc, found, "value") {
+        Ok(value) => {
+            let told = ProgressParams { token, value };
+            say_written(said, &told);
+            drop(told);
+        }
+        Err(error) => {
+            drop(token);
+            said.refuse(error)
+        }
+    }
+}
+
+/// A symbol with those right inside it.
+fn symbol_with_children(said: &mut Said, found: &Value) {
+    let mut symbol = symbol(said, found);
+    add_children(said, found, &mut symbol.children);
+    say_written(said, &symbol);
+    drop(symbol);
+}
+
+fn add_children(said: &mut Said, found: &Value, children: &mut Vec<DocumentSymbol>) {
+    if let Some(Value::Array(list)) = found.get("children") {
+        for child in list {
+            let symbol = symbol(said, child);
+            said.kept(children.push(symbol));
+        }
+    }
+}
+
+/// A symbol with none inside it.
+fn symbol(said: &mut Said, found: &Value) -> DocumentSymbol {
+    let start = Position::new(0, 0);
+    DocumentSymbol {
+        name: get(said, found, "name", String::new(said.alloc)),
+        detail: get(said, found, "detail", None),
+        kind: SymbolKind(get(said, found, "kind", 0)),
+        range: get(said, found, "range", Range::new(start, start)),
+        selection_range: get(said, found, "selectionRange", Range::new(start, start)),
+        children: Vec::new(said.alloc),
+    }
+}
+
+fn initialized(said: &mut Said, found: &Value) {
+    let server_info = ServerInfo {
+        name: get(said, found, "name", String::new(said.alloc)),
+        version: get(said, found, "version", None),
+    };
     let result = InitializeResult {
         capabilities: ServerCapabilities::default(),
-        server_info: ServerInfo { name, version },
+        server_info,
     };
-    let text = written(alloc, &result);
+    say_written(said, &result);
     drop(result);
-    text
 }
 
 /// A server that can do all that has a field, and what is given as `more`.
-fn capabilities(alloc: Global, found: &Value) -> Result<String, Error> {
-    let mut all = flags();
-    let text = match set_options(alloc, found, &mut all) {
-        Ok(()) => written(alloc, &all),
-        Err(error) => Err(error),
-    };
-    drop(all);
-    text
-}
-
-fn flags() -> ServerCapabilities {
+fn capabilities(said: &mut Said, found: &Value) -> ServerCapabilities {
     ServerCapabilities {
+        position_encoding: get(said, found, "positionEncoding", None),
         text_document_sync: Some(synchronization()),
+        completion_provider: Some(CompletionOptions {
+            trigger_characters: get(said, found, "characters", None),
+            resolve_provider: Some(true),
+        }),
         hover_provider: Some(true),
+        signature_help_provider: Some(SignatureHelpOptions {
+            trigger_characters: get(said, found, "characters", None),
+            retrigger_characters: get(said, found, "names", None),
+        }),
         definition_provider: Some(false),
         references_provider: Some(true),
         document_symbol_provider: Some(true),
+        code_action_provider: Some(CodeActionOptions {
+            code_action_kinds: get(said, found, "names", None),
+            resolve_provider: Some(true),
+        }),
         document_formatting_provider: Some(true),
         document_range_formatting_provider: Some(true),
         rename_provider: Some(RenameOptions {
             prepare_provider: Some(true),
         }),
+        execute_command_provider: Some(ExecuteCommandOptions {
+            commands: words(said, found, "names"),
+        }),
+        semantic_tokens_provider: Some(tokens(said, found)),
         inlay_hint_provider: Some(true),
         workspace_symbol_provider: Some(true),
-        ..ServerCapabilities::default()
+        more: get(said, found, "more", None),
     }
 }
 
@@ -289,64 +283,17 @@ fn synchronization() -> TextDocumentSyncOptions {
     }
 }
 
-fn set_options(alloc: Global, found: &Value, all: &mut ServerCapabilities) -> Result<(), Error> {
-    set(
-        &mut all.position_encoding,
-        member(alloc, found, "positionEncoding"),
-    )?;
-    set(&mut all.completion_provider, completions(alloc, found))?;
-    set(&mut all.signature_help_provider, signatures(alloc, found))?;
-    set(&mut all.code_action_provider, actions(alloc, found))?;
-    set(&mut all.execute_command_provider, commands(alloc, found))?;
-    set(&mut all.semantic_tokens_provider, tokens(alloc, found))?;
-    set(&mut all.more, member(alloc, found, "more"))
-}
-
-/// Gives a field its value, if there is one.
-fn set<T: Drop>(field: &mut T, value: Result<T, Error>) -> Result<(), Error> {
-    match value {
-        Ok(value) => {
-            *field = value;
-            Ok(())
-        }
-        Err(error) => Err(error),
-    }
-}
-
-fn completions(alloc: Global, found: &Value) -> Result<Option<CompletionOptions>, Error> {
-    Ok(Some(CompletionOptions {
-        trigger_characters: member(alloc, found, "characters")?,
-        resolve_provider: Some(true),
-    }))
-}
-
-fn signatures(alloc: Global, found: &Value) -> Result<Option<SignatureHelpOptions>, Error> {
-    Ok(Some(SignatureHelpOptions {
-        trigger_characters: member(alloc, found, "characters")?,
-        retrigger_characters: member(alloc, found, "names")?,
-    }))
-}
-
-fn actions(alloc: Global, found: &Value) -> Result<Option<CodeActionOptions>, Error> {
-    Ok(Some(CodeActionOptions {
-        code_action_kinds: member(alloc, found, "names")?,
-        resolve_provider: Some(true),
-    }))
-}
-
-fn commands(alloc: Global, found: &Value) -> Result<Option<ExecuteCommandOptions>, Error> {
-    Ok(Some(ExecuteCommandOptions {
-        commands: member(alloc, found, "names")?,
-    }))
-}
-
-fn tokens(alloc: Global, found: &Value) -> Result<Option<SemanticTokensOptions>, Error> {
-    Ok(Some(SemanticTokensOptions {
+fn tokens(said: &mut Said, found: &Value) -> SemanticTokensOptions {
+    SemanticTokensOptions {
         legend: SemanticTokensLegend {
-            token_types: member(alloc, found, "names")?,
-            token_modifiers: member(alloc, found, "characters")?,
+            token_types: words(said, found, "names"),
+            token_modifiers: words(said, found, "characters"),
         },
         range: Some(false),
         full: Some(true),
-    }))
+    }
+}
+
+fn words(said: &mut Said, found: &Value, key: &str) -> Vec<String> {
+    get(said, found, key, Vec::new(said.alloc))
 }
