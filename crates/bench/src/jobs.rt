@@ -4,26 +4,22 @@ ghost use Rattle.lsp_message.specs.Frame.{no_limit};
 ghost use Rattle.lsp_threads.specs.Threads.{ThreadsGiveOver};
 ghost use Rattle.bench.specs.Echo.{EchoesAtWakes};
 
+use crate::Host;
+use crate::speaking::Speaking;
 use crate::threads::ended;
 use lsp_jobs::laws::session_with_jobs_keeps_laws;
 use lsp_jobs::{
     AnsweredBy, CancellationToken, Job, JobEnd, JobServer, NewJob, PoolSize, Progress, run_jobs,
 };
 use lsp_server::{
-    Act, EndSession, Notification, Request, RequestId, ResponseError, Server, StandardOutput,
-    StartFault, ThreadOptions, Threaded,
+    Act, EndSession, Request, RequestId, ResponseError, StandardOutput, StartFault, ThreadOptions,
+    Threaded,
 };
-use serde_json::{Map, Value, put};
+use serde_json::Value;
 use std::alloc::{AllocError, Global};
 use std::io::{BufRead, Write};
 use std::sync::Wait;
 use std::thread::Threads;
-
-/// A server each of whose requests is a job.
-#[derive(Drop)]
-struct Jobs {
-    alloc: Global,
-}
 
 /// Computes for as many turns as `turns` in the params says, and gives the params back.
 #[derive(Drop)]
@@ -33,53 +29,8 @@ struct Computation {
 
 type Acts = Vec<Act<()>>;
 
-impl Server for Jobs {
-    type Payload = ();
-
-    fn initialize(&mut self, params: Value) -> Result<Result<Value, ResponseError>, AllocError> {
-        drop(params);
-        let mut result = Map::new(self.alloc);
-        let none = Value::Object(Map::new(self.alloc));
-        put(&mut result, self.alloc, "capabilities", none)?;
-        Ok(Ok(Value::Object(result)))
-    }
-
-    fn initialized(&mut self) -> Result<Acts, AllocError> {
-        Ok(Vec::new(self.alloc))
-    }
-
-    fn request(&mut self, request: Request) -> Result<Acts, AllocError> {
-        let Request { id, method, params } = request;
-        drop(method);
-        drop(params);
-        let mut acts = Vec::new(self.alloc);
-        match Act::method_not_found(self.alloc, id) {
-            Ok(act) => acts.push(act)?,
-            Err(error) => return Err(error),
-        }
-        Ok(acts)
-    }
-
-    fn notification(&mut self, notification: Notification) -> Result<Acts, AllocError> {
-        drop(notification);
-        Ok(Vec::new(self.alloc))
-    }
-
-    fn response(
-        &mut self,
-        _payload: (),
-        outcome: Result<Value, ResponseError>,
-    ) -> Result<Acts, AllocError> {
-        drop(outcome);
-        Ok(Vec::new(self.alloc))
-    }
-
-    fn unsent(&mut self, _payload: ()) -> Result<(), AllocError> {
-        Ok(())
-    }
-}
-
-impl JobServer<Computation> for Jobs {
+/// Each request is a job.
+impl JobServer<Computation> for Speaking {
     type Key = ();
 
     fn job(&mut self, request: Request) -> Result<AnsweredBy<Computation, ()>, AllocError> {
@@ -159,8 +110,11 @@ where
         ThreadsGiveOver true no_limit (λ exchanges stop shutdown_reply answer. EchoesAtWakes exchanges)
         text (W.contents writer) (W.contents done.writer) done.answer)) }
 {
-    session_with_jobs_keeps_laws::<T, Jobs, Computation>();
-    let jobs = Jobs { alloc };
+    session_with_jobs_keeps_laws::<T, Speaking, Computation>();
+    let jobs = Speaking {
+        alloc,
+        is_null: false,
+    };
     let size = PoolSize::from(workers);
     let options = ThreadOptions::new();
     let (_, done) = run_jobs(
@@ -179,7 +133,7 @@ where
 /// The whole session.
 pub fn serve<T, R>(rt: &T, alloc: Global, reader: R, workers: usize) -> anyhow::Result<()>
 where
-    T: Threads + Wait + Print + Copy + Drop + Send + 'static,
+    T: Host,
     R: BufRead + Drop + Send + 'static,
 {
     ended(echo_with_jobs(rt, alloc, reader, StandardOutput::new(*rt), workers))

@@ -2,16 +2,63 @@
 //! length, an empty line and the body, over and over.
 use anyhow::Result;
 use serde_json::Value;
-use std::alloc::{AllocError, Global};
+use std::alloc::Global;
 use std::fmt::Write as _;
-use std::io::{BufRead, Write};
+use std::io;
+use std::io::{BufRead, ErrorKind, Write};
 
-/// The number in a header, and 0 at the end of the input.
-fn read_header<R: BufRead>(reader: &mut R, line: &mut Vec<u8>) -> Result<usize> {
-    line.clear();
-    reader.read_until(b'\n', line)?;
-    reader.skip_until(b'\n')?;
-    Ok(number_in(line.as_slice()))
+/// What is kept from one message to the next, so that each takes the same room.
+#[derive(Drop)]
+struct Buffers {
+    line: Vec<u8>,
+    body: Vec<u8>,
+    frame: String,
+}
+
+impl Buffers {
+    /// The number in a header, and 0 at the end of the input.
+    fn read_header<R: BufRead>(&mut self, reader: &mut R) -> io::Result<usize> {
+        self.line.clear();
+        reader.read_until(b'\n', &mut self.line)?;
+        reader.skip_until(b'\n')?;
+        Ok(number_in(self.line.as_slice()))
+    }
+
+    /// Reads the next body. False at the end of the input.
+    fn read_body<R: BufRead>(&mut self, reader: &mut R) -> io::Result<bool> {
+        let length = self.read_header(reader)?;
+        if length == 0 {
+            return Ok(false);
+        }
+        self.body.resize(length, 0)?;
+        reader.read_exact(self.body.as_mut_slice())?;
+        Ok(true)
+    }
+
+    /// Makes the frame of the value that the body has.
+    fn make_frame(&mut self, alloc: Global) -> io::Result<()> {
+        let text = text_of(alloc, self.body.as_slice())?;
+        self.frame.clear();
+        let length = text.len();
+        write!(self.frame, "Content-Length: {length}\r\n\r\n")?;
+        Ok(self.frame.push_str(text.as_str())?)
+    }
+
+    fn write_each<R, W>(&mut self, alloc: Global, reader: &mut R, writer: &mut W) -> io::Result<()>
+    where
+        R: BufRead,
+        W: Write,
+    {
+        for _ in 0..u64::MAX {
+            if !self.read_body(reader)? {
+                return Ok(());
+            }
+            self.make_frame(alloc)?;
+            writer.write_all(self.frame.as_bytes())?;
+            writer.flush()?;
+        }
+        Ok(())
+    }
 }
 
 /// The number that the digits of a line make.
@@ -27,30 +74,13 @@ fn number_in(line: &[u8]) -> usize {
 }
 
 /// The text of the value that a body has.
-fn text_of(alloc: Global, body: &[u8]) -> Result<String> {
-    let value = Value::from_slice(alloc, body)?;
+fn text_of(alloc: Global, body: &[u8]) -> io::Result<String> {
+    let Ok(value) = Value::from_slice(alloc, body) else {
+        return Err(io::Error::from(ErrorKind::InvalidData));
+    };
     let text = value.to_string(alloc);
     drop(value);
     Ok(text?)
-}
-
-/// Reads the next body. False at the end of the input.
-fn read_body<R: BufRead>(reader: &mut R, line: &mut Vec<u8>, body: &mut Vec<u8>) -> Result<bool> {
-    let length = read_header(reader, line)?;
-    if length == 0 {
-        return Ok(false);
-    }
-    body.resize(length, 0)?;
-    reader.read_exact(body.as_mut_slice())?;
-    Ok(true)
-}
-
-/// Makes the frame of this text.
-fn put_frame(frame: &mut String, text: &str) -> Result<(), AllocError> {
-    frame.clear();
-    let length = text.len();
-    write!(frame, "Content-Length: {length}\r\n\r\n")?;
-    frame.push_str(text)
 }
 
 /// Reads each body as a `Value`, and writes that value's text.
@@ -59,21 +89,12 @@ pub fn write_again<R: BufRead, W: Write>(
     reader: &mut R,
     writer: &mut W,
 ) -> Result<()> {
-    let mut line = Vec::new(alloc);
-    let mut body = Vec::new(alloc);
-    let mut frame = String::new(alloc);
-    for _ in 0..u64::MAX {
-        if !read_body(reader, &mut line, &mut body)? {
-            break;
-        }
-        put_frame(&mut frame, text_of(alloc, body.as_slice())?.as_str())?;
-        write_frame(writer, frame.as_bytes())?;
-    }
-    Ok(())
-}
-
-fn write_frame<W: Write>(writer: &mut W, frame: &[u8]) -> Result<()> {
-    writer.write_all(frame)?;
-    writer.flush()?;
-    Ok(())
+    let mut buffers = Buffers {
+        line: Vec::new(alloc),
+        body: Vec::new(alloc),
+        frame: String::new(alloc),
+    };
+    let written = buffers.write_each(alloc, reader, writer);
+    drop(buffers);
+    Ok(written?)
 }

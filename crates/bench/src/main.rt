@@ -25,15 +25,23 @@ mod speaking;
 mod texts;
 mod threads;
 
-use anyhow::{Context, Error, Result};
+use anyhow::{Error, Result};
 use lsp_server::keep_freed_memory;
-use serde_json::Value;
+use session::Echo;
 use std::alloc::Global;
-use std::io::{BufRead, BufReader, Cursor, Read};
+use std::io::{BufRead, BufReader, Cursor, Read, Write};
 use std::sync::Wait;
 use std::thread::Threads;
 use std::time::Clock;
 use std::{env, io};
+
+/// What the measures need of the runtime.
+pub trait Host: Threads + Wait + Print + Clock + AllocGlobal + Copy + Drop + Send + 'static {}
+
+impl<T> Host for T
+where
+    T: Threads + Wait + Print + Clock + AllocGlobal + Copy + Drop + Send + 'static,
+{}
 
 /// How many bytes of standard input are asked for at once.
 const READ_AHEAD: usize = 65536;
@@ -41,8 +49,8 @@ const READ_AHEAD: usize = 65536;
 const USAGE: &str =
     "usage: bench json | session [speaking] [null] | threads WAY | drops WAY COUNT | jobs WORKERS | queues [N ..] | texts [N ..] | all";
 
-/// The measures that go over frames.
-const OVER_FRAMES: [&str; 8] = [
+/// The measures that `all` takes.
+static ALL: [&str; 10] = [
     "json",
     "session",
     "session null",
@@ -51,177 +59,142 @@ const OVER_FRAMES: [&str; 8] = [
     "threads pump",
     "threads run_threads",
     "threads run_threads_with",
+    "queues",
+    "texts",
 ];
 
 fn main(rt: HostRuntime) -> Result<()> {
     let alloc = rt.alloc();
     keep_freed_memory(alloc);
     let words: Vec<String> = env::args(&rt)?.skip(1).collect(alloc)?;
+    let words = words.as_slice().join(alloc, " ")?;
     let reader = BufReader::with_capacity(alloc, READ_AHEAD, rt.reader())?;
-    measure(&rt, alloc, words.as_slice(), reader)
+    measure(&rt, alloc, words.as_str(), reader)
 }
 
 /// The measure that these words ask for.
-fn measure<T, R>(rt: &T, alloc: Global, words: &[String], reader: R) -> Result<()>
+fn measure<T, R>(rt: &T, alloc: Global, words: &str, reader: R) -> Result<()>
 where
-    T: Threads + Wait + Print + Clock + AllocGlobal + Copy + Drop + Send + 'static,
+    T: Host,
     R: BufRead + Drop + Send + 'static,
 {
-    match words {
-        [word, rest @ ..] => named(rt, alloc, word.as_str(), words, rest, reader),
-        [] => Err(Error::msg(USAGE)),
-    }
-}
-
-/// The same, where this is the first word, and those are the rest.
-fn named<T, R>(
-    rt: &T,
-    alloc: Global,
-    word: &str,
-    words: &[String],
-    rest: &[String],
-    reader: R,
-) -> Result<()>
-where
-    T: Threads + Wait + Print + Clock + AllocGlobal + Copy + Drop + Send + 'static,
-    R: BufRead + Drop + Send + 'static,
-{
-    match word {
-        "queues" => queues::measure(rt, alloc, rest),
-        "texts" => texts::measure(rt, alloc, rest),
-        "jobs" => run_jobs(rt, alloc, rest, reader),
+    let (name, rest) = words.split_once(" ").unwrap_or((words, ""));
+    match name {
+        "jobs" => match rest.parse::<usize>() {
+            Ok(workers) => jobs::serve(rt, alloc, reader, workers),
+            Err(error) => {
+                drop(reader);
+                Err(Error::from(error))
+            }
+        },
         "drops" => run_drops(rt, alloc, rest, reader),
-        "all" => run_all(rt, alloc, rest, reader),
-        _ => run(rt, alloc, joined(alloc, words)?.as_str(), reader),
+        "all" => run_all(rt, alloc, reader),
+        "queues" | "texts" if !rest.is_empty() => time_each(rt, alloc, rest, name == "queues"),
+        _ => run(rt, alloc, words, reader),
     }
-}
-
-/// The session whose requests are jobs of so many workers.
-fn run_jobs<T, R>(rt: &T, alloc: Global, words: &[String], reader: R) -> Result<()>
-where
-    T: Threads + Wait + Print + Copy + Drop + Send + 'static,
-    R: BufRead + Drop + Send + 'static,
-{
-    match words {
-        [workers] => {
-            let workers = workers.parse::<usize>().context("how many workers")?;
-            jobs::serve(rt, alloc, reader, workers)
-        }
-        _ => Err(Error::msg(USAGE)),
-    }
-}
-
-/// The words, with a space between two of them.
-fn joined(alloc: Global, words: &[String]) -> Result<String> {
-    let mut text = String::new(alloc);
-    for word in words {
-        if !text.is_empty() {
-            text.push(' ')?;
-        }
-        text.push_str(word.as_str())?;
-    }
-    Ok(text)
 }
 
 /// The session of a server that drops its params.
-fn run_drops<T, R>(rt: &T, alloc: Global, words: &[String], reader: R) -> Result<()>
+fn run_drops<T, R>(rt: &T, alloc: Global, words: &str, reader: R) -> Result<()>
 where
-    T: Threads + Wait + Print + Clock + AllocGlobal + Copy + Drop + Send + 'static,
+    T: Host,
     R: BufRead + Drop + Send + 'static,
 {
-    match words {
-        [way, count] => {
-            let count = count.parse::<u64>().context("how many places")?;
-            run_way(
-                rt,
-                alloc,
-                way.as_str(),
-                reader,
-                drops::places(alloc, count)?,
-            )
+    let (way, count) = words.split_once(" ").unwrap_or((words, ""));
+    match drops::server(alloc, count) {
+        Ok(echo) => run_way(rt, alloc, way, reader, echo),
+        Err(error) => {
+            drop(reader);
+            Err(error)
         }
-        _ => Err(Error::msg(USAGE)),
     }
 }
 
 /// The session of this name of that server.
-fn run_way<T, R>(rt: &T, alloc: Global, way: &str, reader: R, reply: Value) -> Result<()>
+fn run_way<T, R>(rt: &T, alloc: Global, way: &str, reader: R, echo: Echo) -> Result<()>
 where
-    T: Threads + Wait + Print + Clock + AllocGlobal + Copy + Drop + Send + 'static,
+    T: Host,
     R: BufRead + Drop + Send + 'static,
 {
     let mut reader = reader;
     match way {
-        "session" => drops::serve(alloc, &mut reader, &mut io::writer(rt), reply),
-        "run_threads" => drops::serve_in_threads(rt, alloc, reader, reply),
-        "connection" => drops::serve_connection(rt, reader, reply),
+        "session" => session::serve(alloc, &mut reader, &mut io::writer(rt), echo),
+        "run_threads" => threads::serve(rt, alloc, reader, echo),
+        "connection" => drops::serve_connection(rt, reader, echo),
         _ => {
-            drop(reply);
+            drop(echo);
             Err(Error::msg(USAGE))
         }
     }
 }
 
-/// Each measure over these bytes, and after them those of the queues and of texts.
-fn run_all<T, R>(rt: &T, alloc: Global, words: &[String], reader: R) -> Result<()>
+/// Each measure over these bytes, under its name.
+fn run_all<T, R>(rt: &T, alloc: Global, reader: R) -> Result<()>
 where
-    T: Threads + Wait + Print + Clock + Copy + Drop + Send + 'static,
+    T: Host,
     R: BufRead + Drop,
 {
-    if !words.is_empty() {
-        return Err(Error::msg(USAGE));
-    }
     let mut reader = reader;
     let mut text = Vec::new(alloc);
     reader.read_to_end(&mut text)?;
     run_over(rt, alloc, text.as_slice())
 }
 
-fn run_over<T>(rt: &T, alloc: Global, text: &[u8]) -> Result<()>
-where
-    T: Threads + Wait + Print + Clock + Copy + Drop + Send + 'static,
-{
-    for measure in OVER_FRAMES {
-        run_again(rt, alloc, measure, text)?;
+fn run_over<T: Host>(rt: &T, alloc: Global, text: &[u8]) -> Result<()> {
+    let mut gap = "";
+    for measure in &ALL {
+        println!(rt; "{gap}{measure}")?;
+        let bytes = Vec::from_slice(alloc, text)?;
+        run(rt, alloc, measure, Cursor::new(bytes))?;
+        gap = "\n";
     }
-    println!(rt; "queues")?;
-    queues::measure(rt, alloc, &[])?;
-    println!(rt; "")?;
-    println!(rt; "texts")?;
-    texts::measure(rt, alloc, &[])
-}
-
-/// The measure of this name over these bytes, under its name.
-fn run_again<T>(rt: &T, alloc: Global, measure: &str, text: &[u8]) -> Result<()>
-where
-    T: Threads + Wait + Print + Copy + Drop + Send + 'static,
-{
-    println!(rt; "{measure}")?;
-    let mut bytes = Vec::new(alloc);
-    bytes.extend_from_slice(text)?;
-    run(rt, alloc, measure, Cursor::new(bytes))?;
-    println!(rt; "")?;
     Ok(())
 }
 
 /// The measure of this name.
 fn run<T, R>(rt: &T, alloc: Global, measure: &str, reader: R) -> Result<()>
 where
-    T: Threads + Wait + Print + Copy + Drop + Send + 'static,
+    T: Host,
     R: BufRead + Drop + Send + 'static,
 {
     let mut reader = reader;
-    let writer = &mut io::writer(rt);
     match measure {
-        "json" => json::write_again(alloc, &mut reader, writer),
-        "session" => session::serve(alloc, &mut reader, writer, false),
-        "session null" => session::serve(alloc, &mut reader, writer, true),
-        "session speaking" => speaking::serve(alloc, &mut reader, writer, false),
-        "session speaking null" => speaking::serve(alloc, &mut reader, writer, true),
-        "threads pass" => threads::pass_on(alloc, &mut reader, writer),
-        "threads pump" => threads::pump_on(rt, alloc, reader, writer),
-        "threads run_threads" => threads::serve(rt, alloc, reader),
+        "threads pump" => threads::pump_on(rt, alloc, reader),
+        "threads run_threads" => threads::serve(rt, alloc, reader, Echo::new(false)),
         "threads run_threads_with" => threads::serve_speaking(rt, alloc, reader),
+        "queues" => queues::tell_found(rt, alloc),
+        "texts" => texts::tell_length(rt, alloc),
+        _ => run_alone(alloc, measure, &mut reader, &mut io::writer(rt)),
+    }
+}
+
+/// The measure of this name, on one thread.
+fn run_alone<R, W>(alloc: Global, measure: &str, reader: &mut R, writer: &mut W) -> Result<()>
+where
+    R: BufRead,
+    W: Write,
+{
+    match measure {
+        "json" => json::write_again(alloc, reader, writer),
+        "session" => session::serve(alloc, reader, writer, Echo::new(false)),
+        "session null" => session::serve(alloc, reader, writer, Echo::new(true)),
+        "session speaking" => speaking::serve(alloc, reader, writer, false),
+        "session speaking null" => speaking::serve(alloc, reader, writer, true),
+        "threads pass" => threads::pass_on(alloc, reader, writer),
         _ => Err(Error::msg(USAGE)),
     }
+}
+
+/// The times of the queues or of texts, for each of these numbers.
+fn time_each<T: Host>(rt: &T, alloc: Global, numbers: &str, is_of_queues: bool) -> Result<()> {
+    for number in numbers.split(' ') {
+        let count = number.parse::<u32>()?;
+        let timed = if is_of_queues {
+            queues::time_calls(rt, alloc, count)
+        } else {
+            texts::time_all(rt, alloc, count)
+        };
+        timed?;
+    }
+    Ok(())
 }

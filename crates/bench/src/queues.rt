@@ -1,27 +1,17 @@
 //! How the time of a call on the request queues grows with what is pending.
-use anyhow::{Context, Result};
+use anyhow::Result;
 use lsp_server::{Outgoing, ReqQueue, RequestId};
 use serde_json::Value;
 use std::alloc::Global;
+use std::io;
+use std::io::ErrorKind;
 use std::time::{Clock, Instant};
 
 /// How many requests are registered and completed if no number is given, and no time is printed.
 const FEW: u32 = 1000;
 
-/// Registers and completes so many requests for each word, and prints the nanoseconds that a call took. Without words it says how
-/// many of a thousand were given back.
-pub fn measure<R: Clock + Print>(rt: &R, alloc: Global, words: &[String]) -> Result<()> {
-    if words.is_empty() {
-        return tell_found(rt, alloc);
-    }
-    for word in words {
-        let count = word.parse::<u32>().context("how many requests")?;
-        time_calls(rt, alloc, count)?;
-    }
-    Ok(())
-}
-
-fn tell_found<R: Print>(rt: &R, alloc: Global) -> Result<()> {
+/// Says how many of a thousand requests were given back.
+pub fn tell_found<R: Print>(rt: &R, alloc: Global) -> Result<()> {
     let mut queue: ReqQueue<u64, u64> = ReqQueue::default(alloc);
     let registered = register_all(alloc, &mut queue.outgoing, FEW);
     let found = complete_all(&mut queue.outgoing, FEW);
@@ -31,7 +21,8 @@ fn tell_found<R: Print>(rt: &R, alloc: Global) -> Result<()> {
     Ok(())
 }
 
-fn time_calls<R: Clock + Print>(rt: &R, alloc: Global, count: u32) -> Result<()> {
+/// Registers and completes so many requests, and prints the nanoseconds that a call took.
+pub fn time_calls<R: Clock + Print>(rt: &R, alloc: Global, count: u32) -> io::Result<()> {
     let mut queue: ReqQueue<u64, u64> = ReqQueue::default(alloc);
     let timed = time_queue(rt, alloc, &mut queue.outgoing, count);
     drop(queue);
@@ -43,30 +34,24 @@ fn time_queue<R: Clock + Print>(
     alloc: Global,
     queue: &mut Outgoing<u64>,
     count: u32,
-) -> Result<()> {
+) -> io::Result<()> {
     let start = Instant::now(rt)?;
     register_all(alloc, queue, count)?;
-    let each = per_call(start.elapsed(rt)?.as_nanos(), count);
-    let (found, last) = time_completing(rt, queue, count)?;
-    println!(rt; "{count} pending: register {each} ns, complete {last} ns, {found} given back")?;
-    Ok(())
-}
-
-/// How many are given back, and the nanoseconds of a call.
-fn time_completing<R: Clock>(rt: &R, queue: &mut Outgoing<u64>, count: u32) -> Result<(u32, u128)> {
+    let each = per_call(rt, start, count)?;
     let start = Instant::now(rt)?;
     let found = complete_all(queue, count);
-    Ok((found, per_call(start.elapsed(rt)?.as_nanos(), count)))
+    let last = per_call(rt, start, count)?;
+    println!(rt; "{count} pending: register {each} ns, complete {last} ns, {found} given back")
 }
 
 /// Registers so many requests. The data of each is its number.
-fn register_all(alloc: Global, queue: &mut Outgoing<u64>, count: u32) -> Result<()> {
+fn register_all(alloc: Global, queue: &mut Outgoing<u64>, count: u32) -> io::Result<()> {
     for number in 0..count {
         let registered = queue.register_value(String::new(alloc), Value::Null, u64::from(number));
         let is_refused = registered.is_err();
         drop(registered);
         if is_refused {
-            return Err(anyhow::Error::msg("a registration was refused"));
+            return Err(io::Error::from(ErrorKind::OutOfMemory));
         }
     }
     Ok(())
@@ -86,7 +71,7 @@ fn complete_all(queue: &mut Outgoing<u64>, count: u32) -> u32 {
     found
 }
 
-/// The nanoseconds of a call, if so many took this long.
-fn per_call(nanoseconds: u128, count: u32) -> u128 {
-    nanoseconds / u128::from(count.max(1))
+/// The nanoseconds of a call, if so many were made since this start.
+fn per_call<R: Clock>(rt: &R, start: Instant, count: u32) -> io::Result<u128> {
+    Ok(start.elapsed(rt)?.as_nanos() / u128::from(count.max(1)))
 }

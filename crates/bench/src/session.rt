@@ -1,6 +1,5 @@
-//! A session on one thread, of a server that answers each request with its params, or with null: what it costs beside `pump`, and how
-//! it answers a recorded client.
-use anyhow::{Result, anyhow};
+//! A session on one thread: what it costs beside `pump`, and how it answers a recorded client.
+use anyhow::{Error, Result};
 use lsp_server::{
     Handler, Notification, Request, Response, ResponseError, SessionEnd, SessionFault, session,
 };
@@ -8,26 +7,39 @@ use serde_json::{Map, Value};
 use std::alloc::{AllocError, Global};
 use std::io::{BufRead, Write};
 
-/// Answers with the params, or with null.
+/// Answers each request with its params, or with a copy of one value.
 #[derive(Drop)]
 pub struct Echo {
-    pub is_null: bool,
+    /// Whether it gives the params back.
+    pub echoes: bool,
+    /// What it answers with else.
+    pub reply: Value,
+}
+
+impl Echo {
+    /// One that gives the params back, or answers with null.
+    pub fn new(is_null: bool) -> Echo {
+        Echo {
+            echoes: !is_null,
+            reply: Value::Null,
+        }
+    }
 }
 
 impl Handler for Echo {
-    ghost use Rattle.serde_json.specs.Data.{null};
+    ghost use Rattle.serde_json.specs.View.{view};
     ghost use Rattle.std.specs.Prelude.{◌≡◌, Ok, if◌then◌else◌};
 
     ghost answers = { λ old id method params outcome new. (new ≡ old)
-        × (outcome ≡ Ok (if old.is_null then null else params)) };
+        × (outcome ≡ Ok (if old.echoes then params else view old.reply)) };
 
     ghost notes = { λ old method params new. new ≡ old };
 
     fn answer(&mut self, request: &Request) -> Result<Result<Value, ResponseError>, AllocError> {
-        if self.is_null {
-            return Ok(Ok(Value::Null));
+        if self.echoes {
+            return Ok(Ok(request.params.clone()?));
         }
-        Ok(Ok(request.params.clone()?))
+        Ok(Ok(self.reply.clone()?))
     }
 
     fn note(&mut self, _notification: &Notification) -> Result<(), AllocError> {
@@ -37,16 +49,24 @@ impl Handler for Echo {
     fn respond(&mut self, request: Request) -> Result<Response, AllocError> {
         let Request { id, method, params } = request;
         drop(method);
-        let value = if self.is_null {
-            drop(params);
-            Value::Null
-        } else {
-            params
-        };
-        Ok(Response {
-            id,
-            response_result: Ok(value),
-        })
+        if self.echoes {
+            let response_result = Ok(params);
+            return Ok(Response {
+                id,
+                response_result,
+            });
+        }
+        drop(params);
+        match self.reply.clone() {
+            Ok(reply) => Ok(Response {
+                id,
+                response_result: Ok(reply),
+            }),
+            Err(error) => {
+                drop(id);
+                Err(error)
+            }
+        }
     }
 }
 
@@ -55,20 +75,19 @@ pub fn serve<R: BufRead, W: Write>(
     alloc: Global,
     reader: &mut R,
     writer: &mut W,
-    is_null: bool,
+    echo: Echo,
 ) -> Result<()> {
+    let mut echo = echo;
     let capabilities = Value::Object(Map::new(alloc));
-    ended(session(alloc, reader, writer, capabilities, &mut Echo { is_null }))
+    let answer = session(alloc, reader, writer, capabilities, &mut echo);
+    drop(echo);
+    ended(answer)
 }
 
 /// How a session ended.
 pub fn ended(answer: Result<SessionEnd, SessionFault>) -> Result<()> {
     match answer {
         Ok(_) => Ok(()),
-        Err(fault) => {
-            let error = anyhow!("{fault}");
-            drop(fault);
-            Err(error)
-        }
+        Err(fault) => Err(Error::from(fault)),
     }
 }

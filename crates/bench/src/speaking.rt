@@ -2,7 +2,8 @@
 use crate::session::ended;
 use anyhow::Result;
 use lsp_server::{Act, EndSession, Notification, Request, ResponseError, Server, session_with};
-use serde_json::{Map, Value, put};
+use lsp_session::initialize_result;
+use serde_json::{Map, Value};
 use std::alloc::{AllocError, Global};
 use std::io::{BufRead, Write};
 
@@ -38,10 +39,8 @@ impl Server for Speaking {
 
     fn initialize(&mut self, params: Value) -> Result<Result<Value, ResponseError>, AllocError> {
         drop(params);
-        let mut result = Map::new(self.alloc);
         let none = Value::Object(Map::new(self.alloc));
-        put(&mut result, self.alloc, "capabilities", none)?;
-        Ok(Ok(Value::Object(result)))
+        Ok(Ok(initialize_result(self.alloc, none)?))
     }
 
     fn initialized(&mut self) -> Result<Acts, AllocError> {

@@ -1,7 +1,7 @@
 //! How the time of an edit depends on where it stands in a text of a million bytes, and in a long line.
-use anyhow::{Context, Result};
 use lsp_text::{Position, PositionEncoding, Range, Text};
-use std::alloc::Global;
+use std::alloc::{AllocError, Global};
+use std::io;
 use std::time::{Clock, Instant};
 
 const LINES: u32 = 25_000;
@@ -11,142 +11,199 @@ const FEW: u32 = 10;
 
 const UTF16: PositionEncoding = PositionEncoding::Utf16;
 
-/// How many characters a long line has.
-const LONG: [u32; 2] = [1_000_000, 10_000_000];
-
-/// For each word makes so many keystrokes at the text's start, in its middle and at its end, and so many new lines in its middle, asks
-/// for the positions of as many offsets, types at as many carets, and a tenth as often at the end of a long line, and prints the
-/// microseconds of each. Without words it says how long the text is after a few keystrokes at its start.
-pub fn measure<R: Clock + Print>(rt: &R, alloc: Global, words: &[String]) -> Result<()> {
-    if words.is_empty() {
-        return tell_length(rt, alloc);
-    }
-    for word in words {
-        let count = word.parse::<u32>().context("how many keystrokes")?;
-        time_all(rt, alloc, count)?;
-    }
-    Ok(())
+/// What is typed over and over in a line, behind a character and up to forty further ones.
+struct Typing {
+    /// Its name.
+    what: &'static str,
+    line: u32,
+    behind: u32,
+    new: &'static str,
 }
 
-fn tell_length<R: Print>(rt: &R, alloc: Global) -> Result<()> {
+/// In the large text: at its start, in its middle, at its end, and new lines in its middle.
+static EDITS: [Typing; 4] = [
+    Typing {
+        what: "keystrokes at line 0",
+        line: 0,
+        behind: 0,
+        new: "x",
+    },
+    Typing {
+        what: "keystrokes at line 12500",
+        line: 12_500,
+        behind: 0,
+        new: "x",
+    },
+    Typing {
+        what: "keystrokes at line 25000",
+        line: LINES,
+        behind: 0,
+        new: "x",
+    },
+    Typing {
+        what: "new lines at line 12500",
+        line: 12_500,
+        behind: 0,
+        new: "y\n",
+    },
+];
+
+/// At the end of a long line.
+static LONG: [Typing; 2] = [
+    Typing {
+        what: "keystrokes at the end of a line of 1000000 bytes",
+        line: 0,
+        behind: 1_000_000,
+        new: "x",
+    },
+    Typing {
+        what: "keystrokes at the end of a line of 10000000 bytes",
+        line: 0,
+        behind: 10_000_000,
+        new: "x",
+    },
+];
+
+/// Says how long the text is after a few keystrokes at its start.
+pub fn tell_length<R: Print>(rt: &R, alloc: Global) -> anyhow::Result<()> {
     let mut text = large(alloc)?;
-    typed(alloc, &mut text, 0, 0, "x", FEW)?;
+    let edited = typed(alloc, &mut text, &EDITS[0], FEW);
     let bytes = text.as_str().len();
+    drop(text);
+    edited?;
     println!(rt; "{bytes} bytes")?;
     Ok(())
 }
 
-fn time_all<R: Clock + Print>(rt: &R, alloc: Global, count: u32) -> Result<()> {
-    time_edits(rt, alloc, count)?;
+/// Makes so many keystrokes at the text's start, in its middle and at its end, and so many new lines in its middle, asks for the
+/// positions of as many offsets, types at as many carets, and a tenth as often at the end of a long line, and prints the microseconds of
+/// each.
+pub fn time_all<R: Clock + Print>(rt: &R, alloc: Global, count: u32) -> io::Result<()> {
+    time_large(rt, alloc, count)?;
     time_carets(rt, alloc, count)?;
-    for length in LONG {
-        time_long_line(rt, alloc, length, count / 10)?;
+    for typing in &LONG {
+        time_long_line(rt, alloc, typing, count / 10)?;
     }
     Ok(())
 }
 
-fn time_edits<R: Clock + Print>(rt: &R, alloc: Global, count: u32) -> Result<()> {
+fn time_large<R: Clock + Print>(rt: &R, alloc: Global, count: u32) -> io::Result<()> {
     let start = Instant::now(rt)?;
     let mut text = large(alloc)?;
-    let took = start.elapsed(rt)?.as_micros();
-    println!(rt; "made and indexed: {took} us")?;
-    time_edits_of(rt, alloc, &mut text, count)
+    let timed = time_edits(rt, alloc, start, &mut text, count);
+    drop(text);
+    timed
 }
 
-fn time_edits_of<R: Clock + Print>(
+/// The times of a text that was begun then.
+fn time_edits<R: Clock + Print>(
     rt: &R,
     alloc: Global,
+    start: Instant,
     text: &mut Text,
     count: u32,
-) -> Result<()> {
-    for line in [0u32, 12_500, LINES] {
-        let took = time_typing(rt, alloc, text, line, 0, "x", count)?;
-        println!(rt; "{count} keystrokes at line {line}: {took} us")?;
+) -> io::Result<()> {
+    let took = start.elapsed(rt)?.as_micros();
+    println!(rt; "made and indexed: {took} us")?;
+    for typing in &EDITS {
+        time_typing(rt, alloc, text, typing, count)?;
     }
-    let took = time_typing(rt, alloc, text, 12_500, 0, "y\n", count)?;
-    println!(rt; "{count} new lines at line 12500: {took} us")?;
     time_asking(rt, text, count)
 }
 
-/// The microseconds of `typed`.
-fn time_typing<R: Clock>(
+fn time_typing<R: Clock + Print>(
     rt: &R,
     alloc: Global,
     text: &mut Text,
-    line: u32,
-    behind: u32,
-    new: &str,
+    typing: &Typing,
     count: u32,
-) -> Result<u128> {
+) -> io::Result<()> {
     let start = Instant::now(rt)?;
-    typed(alloc, text, line, behind, new, count)?;
-    Ok(start.elapsed(rt)?.as_micros())
+    typed(alloc, text, typing, count)?;
+    tell_count(rt, start, count, typing.what)
 }
 
-fn time_asking<R: Clock + Print>(rt: &R, text: &Text, count: u32) -> Result<()> {
+fn time_asking<R: Clock + Print>(rt: &R, text: &Text, count: u32) -> io::Result<()> {
     let start = Instant::now(rt)?;
     let sum = asked(text, count);
     let took = start.elapsed(rt)?.as_micros();
-    println!(rt; "{count} positions of offsets and back: {took} us, sum {sum}")?;
-    Ok(())
+    println!(rt; "{count} positions of offsets and back: {took} us, sum {sum}")
 }
 
-fn time_carets<R: Clock + Print>(rt: &R, alloc: Global, count: u32) -> Result<()> {
+fn time_carets<R: Clock + Print>(rt: &R, alloc: Global, count: u32) -> io::Result<()> {
     let mut text = large(alloc)?;
+    let timed = time_carets_in(rt, alloc, &mut text, count);
+    drop(text);
+    timed
+}
+
+fn time_carets_in<R: Clock + Print>(
+    rt: &R,
+    alloc: Global,
+    text: &mut Text,
+    count: u32,
+) -> io::Result<()> {
     let start = Instant::now(rt)?;
-    for i in 0..count {
-        // From the last line up, as an editor sends them.
-        typed(
-            alloc,
-            &mut text,
-            LINES.saturating_sub(i.saturating_mul(2)),
-            0,
-            "x",
-            1,
-        )?;
-    }
+    typed_at_carets(alloc, text, count)?;
+    tell_count(rt, start, count, "carets, each two lines above the last")
+}
+
+fn time_long_line<R: Clock + Print>(
+    rt: &R,
+    alloc: Global,
+    typing: &Typing,
+    count: u32,
+) -> io::Result<()> {
+    let mut text = repeated(alloc, "x", typing.behind)?;
+    let timed = time_typing(rt, alloc, &mut text, typing, count);
+    drop(text);
+    timed
+}
+
+/// Prints the microseconds since this start behind a name.
+fn tell_count<R: Clock + Print>(rt: &R, start: Instant, count: u32, what: &str) -> io::Result<()> {
     let took = start.elapsed(rt)?.as_micros();
-    println!(rt; "{count} carets, each two lines above the last: {took} us")?;
+    println!(rt; "{count} {what}: {took} us")
+}
+
+fn large(alloc: Global) -> Result<Text, AllocError> {
+    repeated(alloc, "    let value = some_call(argument, 1);\n", LINES)
+}
+
+/// A text that is this one so many times.
+fn repeated(alloc: Global, text: &str, count: u32) -> Result<Text, AllocError> {
+    let text = text.repeat(alloc, count as usize)?;
+    Text::new(alloc, text.as_str())
+}
+
+/// Types so many times.
+fn typed(alloc: Global, text: &mut Text, typing: &Typing, count: u32) -> Result<(), AllocError> {
+    for i in 0..count {
+        let character = typing.behind.saturating_add(i % 40);
+        insert(alloc, text, typing.line, character, typing.new)?;
+    }
     Ok(())
 }
 
-fn time_long_line<R: Clock + Print>(rt: &R, alloc: Global, length: u32, count: u32) -> Result<()> {
-    let mut text = String::new(alloc);
-    for _ in 0..length {
-        text.push('x')?;
+/// Types at so many carets, from the last line up, as an editor sends them.
+fn typed_at_carets(alloc: Global, text: &mut Text, count: u32) -> Result<(), AllocError> {
+    for i in 0..count {
+        let line = LINES.saturating_sub(i.saturating_mul(2));
+        insert(alloc, text, line, 0, "x")?;
     }
-    let mut text = Text::new(alloc, text.as_str())?;
-    let took = time_typing(rt, alloc, &mut text, 0, length, "x", count)?;
-    println!(rt; "{count} keystrokes at the end of a line of {length} bytes: {took} us")?;
     Ok(())
 }
 
-fn large(alloc: Global) -> Result<Text> {
-    let mut text = String::new(alloc);
-    for _ in 0..LINES {
-        text.push_str("    let value = some_call(argument, 1);\n")?;
-    }
-    Ok(Text::new(alloc, text.as_str())?)
-}
-
-/// Inserts these characters so many times in a line, behind a character and up to forty further ones.
-fn typed(
+fn insert(
     alloc: Global,
     text: &mut Text,
     line: u32,
-    behind: u32,
+    character: u32,
     new: &str,
-    count: u32,
-) -> Result<()> {
-    for i in 0..count {
-        let start = Position {
-            line,
-            character: behind.saturating_add(i % 40),
-        };
-        let range = Range { start, end: start };
-        text.apply(alloc, Some(range), UTF16, new)?;
-    }
-    Ok(())
+) -> Result<(), AllocError> {
+    let start = Position { line, character };
+    let range = Range { start, end: start };
+    text.apply(alloc, Some(range), UTF16, new)
 }
 
 /// The sum of so many offsets, each by way of its position.

@@ -1,62 +1,59 @@
 //! What threads cost: the same work on one thread, and on two or three.
-use crate::session;
 use crate::session::Echo;
 use crate::speaking::Speaking;
-use anyhow::{Result, bail};
+use crate::{Host, session};
+use anyhow::{Error, Result};
 use lsp_server::{
     EndSession, FrameOutbox, ReadEnd, StandardOutput, StartFault, ThreadOptions, Threaded, pump,
     read_loop, run_threads, run_threads_with,
 };
 use serde_json::{Map, Value};
 use std::alloc::Global;
+use std::io;
 use std::io::{BufRead, Write};
-use std::sync::Wait;
-use std::thread::Threads;
 
 /// Passes messages on with one thread.
 pub fn pass_on<R: BufRead, W: Write>(alloc: Global, reader: &mut R, writer: &mut W) -> Result<()> {
     match read_loop(alloc, reader, &mut FrameOutbox::new(alloc, writer)) {
         ReadEnd::Exit | ReadEnd::End => Ok(()),
-        ReadEnd::Fault(fault) => bail!("{fault}"),
-        ReadEnd::Closed | ReadEnd::Memory => bail!("a message was not written"),
+        ReadEnd::Fault(fault) => Err(Error::from(fault)),
+        ReadEnd::Closed | ReadEnd::Memory => Err(Error::msg("a message was not written")),
     }
 }
 
 /// Passes messages on with two threads.
-pub fn pump_on<T, R, W>(rt: &T, alloc: Global, reader: R, writer: &mut W) -> Result<()>
+pub fn pump_on<T, R>(rt: &T, alloc: Global, reader: R) -> Result<()>
 where
-    T: Threads + Wait + Copy + Drop + Send + 'static,
+    T: Host,
     R: BufRead + Drop + Send + 'static,
-    W: Write,
 {
-    match pump(rt, alloc, reader, writer) {
-        Ok(()) => Ok(()),
-        Err(fault) => bail!("{fault}"),
-    }
+    Ok(pump(rt, alloc, reader, &mut io::writer(rt))?)
 }
 
-/// A whole session on three threads, whose requests get their params back.
-pub fn serve<T, R>(rt: &T, alloc: Global, reader: R) -> Result<()>
+/// A whole session on three threads.
+pub fn serve<T, R>(rt: &T, alloc: Global, reader: R, echo: Echo) -> Result<()>
 where
-    T: Threads + Wait + Print + Copy + Drop + Send + 'static,
+    T: Host,
     R: BufRead + Drop + Send + 'static,
 {
     let capabilities = Value::Object(Map::new(alloc));
-    let mut echo = Echo { is_null: false };
-    ended(run_threads(
+    let mut echo = echo;
+    let done = run_threads(
         rt,
         alloc,
         reader,
         StandardOutput::new(*rt),
         capabilities,
         &mut echo,
-    ))
+    );
+    drop(echo);
+    ended(done)
 }
 
 /// The same of a server that speaks.
 pub fn serve_speaking<T, R>(rt: &T, alloc: Global, reader: R) -> Result<()>
 where
-    T: Threads + Wait + Print + Copy + Drop + Send + 'static,
+    T: Host,
     R: BufRead + Drop + Send + 'static,
 {
     let speaking = Speaking {
@@ -80,6 +77,6 @@ where
 pub fn ended<W: Drop>(done: Result<Threaded<W>, StartFault>) -> Result<()> {
     match done {
         Ok(Threaded { answer, .. }) => session::ended(answer),
-        Err(fault) => bail!("{fault}"),
+        Err(fault) => Err(Error::from(fault)),
     }
 }

@@ -6,24 +6,27 @@ use std::{fmt, io};
 
 /// What came of a call that is tried.
 #[derive(Drop)]
-pub enum Attempt {
-    /// It answered so.
-    Came(String),
-    /// It answered that an allocation failed, or that a thread was not started: which call, and what it left.
-    Refused(String),
+pub struct Attempt {
+    /// What it answered.
+    pub said: String,
+    /// Whether it answered that an allocation failed, or that a thread was not started. Then it says which call, and what it left.
+    pub is_refused: bool,
 }
 
 impl Attempt {
-    /// The call of this name answered that an allocation failed.
-    pub fn refused(alloc: Global, name: &str) -> Result<Attempt, AllocError> {
-        Ok(Attempt::Refused(String::from_str(alloc, name)?))
+    /// It answered so.
+    pub fn came(said: String) -> Attempt {
+        Attempt {
+            said,
+            is_refused: false,
+        }
     }
 
-    /// What came of a call that was made once more.
-    pub fn again(self) -> Result<String, Stop> {
-        match self {
-            Attempt::Came(came) => Ok(came),
-            Attempt::Refused(_) => Err(Stop::Again),
+    /// It answered that an allocation failed, or that a thread was not started.
+    pub fn refused(said: String) -> Attempt {
+        Attempt {
+            said,
+            is_refused: true,
         }
     }
 }
@@ -55,13 +58,17 @@ impl Stop {
 
 impl fmt::Display for Stop {
     fn fmt<W: fmt::Write>(&self, f: &mut fmt::Formatter<W>) -> fmt::Result {
-        match self {
-            Stop::Memory => write!(f, "no memory for a row"),
-            Stop::Stream => write!(f, "a stream failed"),
-            Stop::Table => write!(f, "no such line in a table"),
-            Stop::Again => write!(f, "refused again"),
-            Stop::Broken(why) => write!(f, "BROKEN: {why}"),
-        }
+        let text = match self {
+            Stop::Memory => "no memory for a row",
+            Stop::Stream => "a stream failed",
+            Stop::Table => "no such line in a table",
+            Stop::Again => "refused again",
+            Stop::Broken(why) => {
+                f.write_str("BROKEN: ")?;
+                why
+            }
+        };
+        f.write_str(text)
     }
 }
 
@@ -102,6 +109,8 @@ impl From<io::Error> for Stop {
 
 /// Prints a line below a row: what came of a call, or, behind `refused: `, which call is made once more.
 pub fn print_below<R: Print>(rt: &R, alloc: Global, what: &str, came: &str) -> Result<(), Stop> {
-    rt.println(format!(in alloc; "  {what}{came}")?.as_str())?;
-    Ok(())
+    let line = ["  ", what, came].join(alloc, "")?;
+    let printed = rt.println(line.as_str());
+    drop(line);
+    Ok(printed?)
 }

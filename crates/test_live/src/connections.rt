@@ -5,10 +5,11 @@ use lsp_message::{Message, Notification, Request, RequestId};
 use lsp_server::{Connection, ProtocolError, spawn};
 use serde_json::{Map, Value};
 use std::alloc::{AllocError, Global};
+use std::fmt::Display;
 use std::net::{Net, OpenListener, TcpListener};
 use std::sync::{Arc, Wait};
 use std::thread::Threads;
-use std::time::{Clock, Duration, Instant};
+use std::time::{Clock, Instant};
 
 /// `NAME | MESSAGES`: a call of a server, whose client sent these messages before, or is `gone`: what the call gave, how many messages
 /// it left, and what the client got.
@@ -23,11 +24,11 @@ pub fn called<R: Wait + Clock + AllocGlobal>(
         drop(client);
         let came = call(rt, alloc, &server, name);
         drop(server);
-        return Ok(Attempt::Came(came?));
+        return Ok(Attempt::came(came?));
     }
     let came = answered(rt, alloc, &server, &client, name, texts);
     drop(server);
-    Ok(Attempt::Came(with_rest(rt, alloc, came, client)?))
+    with_rest(rt, alloc, came, client)
 }
 
 /// What a call gives once the client has sent these messages, and how many it leaves.
@@ -39,9 +40,7 @@ fn answered<R: Wait + Clock + AllocGlobal>(
     name: &str,
     texts: &str,
 ) -> Result<String, Stop> {
-    for text in texts.split("; ") {
-        send(rt, alloc, client, text)?;
-    }
+    send_all(rt, alloc, client, texts)?;
     let came = call(rt, alloc, server, name)?;
     let left = server.receiver.len();
     Ok(format!(in alloc; "{came}; left {left}")?)
@@ -53,11 +52,21 @@ fn with_rest<R: Wait>(
     alloc: Global,
     came: Result<String, Stop>,
     client: Connection,
-) -> Result<String, Stop> {
+) -> Result<Attempt, Stop> {
     let got = rest_of(rt, alloc, &client);
     drop(client);
-    let (came, got) = (came?, got?);
-    Ok(format!(in alloc; "{came}; got {got}")?)
+    said_and_got(alloc, came?, got?)
+}
+
+/// Sends the messages with these member texts.
+fn send_all<R>(rt: &R, alloc: Global, client: &Connection, texts: &str) -> Result<(), Stop>
+where
+    R: Wait,
+{
+    for text in texts.split("; ") {
+        send(rt, alloc, client, text)?;
+    }
+    Ok(())
 }
 
 /// Sends the message with this member text.
@@ -65,31 +74,29 @@ fn send<R: Wait>(rt: &R, alloc: Global, client: &Connection, text: &str) -> Resu
     let tree = Value::from_str(alloc, text)?;
     let message = Message::from_value(alloc, &tree);
     drop(tree);
-    let found = match message {
-        Ok(found) => found,
-        Err(_) => return Err(Stop::Memory),
-    };
-    let sent = match found {
-        Some(message) => client.sender.send(rt, message),
-        None => return Err(Stop::Table),
-    };
-    let is_sent = sent.is_ok();
-    drop(sent);
-    if !is_sent {
-        return Err(Stop::Broken("a connection in memory was closed"));
+    match message {
+        Ok(Some(message)) => match client.sender.send(rt, message).ok() {
+            Some(()) => Ok(()),
+            None => Err(Stop::Broken("a connection in memory was closed")),
+        },
+        Ok(None) => Err(Stop::Table),
+        Err(_) => Err(Stop::Memory),
     }
-    Ok(())
 }
 
 /// The member texts of what comes, up to the end.
 fn rest_of<R: Wait>(rt: &R, alloc: Global, client: &Connection) -> Result<String, AllocError> {
     let mut texts = String::new(alloc);
     for message in client.receiver.iter(rt) {
-        let text = message.member_text(alloc);
+        let pushed = push_text(alloc, &mut texts, &message);
         drop(message);
-        texts.push_str(text?.as_str())?;
+        pushed?;
     }
     Ok(texts)
+}
+
+fn push_text(alloc: Global, texts: &mut String, message: &Message) -> Result<(), AllocError> {
+    texts.push_str(message.member_text(alloc)?.as_str())
 }
 
 fn call<R: Wait + Clock + AllocGlobal>(
@@ -106,7 +113,7 @@ fn call<R: Wait + Clock + AllocGlobal>(
             drop(signals);
             came
         }
-        "initialize" => asked(alloc, server.initialize(rt, Value::Object(Map::new(alloc)))),
+        "initialize" => given(alloc, server.initialize(rt, Value::Object(Map::new(alloc)))),
         "initialize_finish" => done(
             alloc,
             server.initialize_finish(rt, RequestId::from(234), Value::Null),
@@ -137,7 +144,7 @@ fn call_while<R: Wait + Clock + AllocGlobal>(
             alloc,
             server.initialize_finish_while(rt, RequestId::from(234), Value::Null, running),
         ),
-        _ => asked(
+        _ => given(
             alloc,
             server.initialize_while(rt, Value::Object(Map::new(alloc)), running),
         ),
@@ -153,6 +160,7 @@ fn request(alloc: Global, method: &str) -> Result<Request, AllocError> {
     })
 }
 
+/// The id and the params of `initialize`.
 fn started(
     alloc: Global,
     answer: Result<(RequestId, Value), ProtocolError>,
@@ -168,17 +176,6 @@ fn started(
     }
 }
 
-fn asked(alloc: Global, answer: Result<Value, ProtocolError>) -> Result<String, AllocError> {
-    match answer {
-        Ok(params) => {
-            let text = format!(in alloc; "{params}");
-            drop(params);
-            text
-        }
-        Err(error) => failed(alloc, error),
-    }
-}
-
 fn done(alloc: Global, answer: Result<(), ProtocolError>) -> Result<String, AllocError> {
     match answer {
         Ok(()) => String::from_str(alloc, "done"),
@@ -186,9 +183,17 @@ fn done(alloc: Global, answer: Result<(), ProtocolError>) -> Result<String, Allo
     }
 }
 
-fn is_shut(alloc: Global, answer: Result<bool, ProtocolError>) -> Result<String, AllocError> {
+/// What a call gave.
+fn given<T: Display + Drop>(
+    alloc: Global,
+    answer: Result<T, ProtocolError>,
+) -> Result<String, AllocError> {
     match answer {
-        Ok(is_done) => format!(in alloc; "{is_done}"),
+        Ok(value) => {
+            let text = format!(in alloc; "{value}");
+            drop(value);
+            text
+        }
         Err(error) => failed(alloc, error),
     }
 }
@@ -224,15 +229,15 @@ fn called_off_by<R: Wait + Clock + AllocGlobal>(
 ) -> Result<Attempt, Stop> {
     let start = Instant::now(rt)?;
     let came = call_while(rt, alloc, server, "initialize_start_while", signals, 2)?;
-    let is_late = start.elapsed(rt)? >= Duration::from_secs(1);
+    let is_late = start.elapsed(rt)?.as_secs() >= 1;
     let turns = signals.count(Signal::Turns);
-    Ok(Attempt::Came(format!(in alloc; "{came}, asked {turns} times, after a second {is_late}")?))
+    Ok(Attempt::came(format!(in alloc; "{came}, asked {turns} times, after a second {is_late}")?))
 }
 
 /// What a client in a thread sends before the server has asked so often whether to go on, and what it sends then.
 const EARLY: &str = "{\"id\":1,\"method\":\"initialize\",\"params\":{\"a\":1}}";
 
-const LATE: [&str; 3] = [
+static LATE: [&str; 3] = [
     "{\"method\":\"initialized\"}",
     "{\"id\":2,\"method\":\"shutdown\"}",
     "{\"method\":\"exit\"}",
@@ -260,7 +265,7 @@ fn got_by<R: Wait>(
 ) -> Result<String, Stop> {
     send(rt, alloc, client, EARLY)?;
     signals.wait(Signal::Turns, TURNS)?;
-    for text in LATE {
+    for text in &LATE {
         send(rt, alloc, client, text)?;
     }
     Ok(rest_of(rt, alloc, client)?)
@@ -274,19 +279,25 @@ where
     let signals = Arc::new(alloc, Signals::new())?;
     let theirs = Arc::try_clone(&signals)?;
     let (server, client) = Connection::memory(alloc)?;
-    let thread = match spawn(rt, client, move |rt, client| patient(rt, client, theirs)) {
-        Ok(thread) => thread,
+    match spawn(rt, client, move |rt, client| patient(rt, client, theirs)) {
+        Ok(thread) => {
+            let said = served(rt, alloc, &server, &signals);
+            drop(server);
+            let got = thread.join(rt);
+            said_and_got(alloc, said?, got?)
+        }
         Err(refused) => {
             drop(refused);
             drop(server);
-            return Ok(Attempt::refused(alloc, "spawn")?);
+            Ok(Attempt::refused(String::from_str(alloc, "spawn")?))
         }
-    };
-    let said = served(rt, alloc, &server, &signals);
-    drop(server);
-    let said = said?;
-    let got = thread.join(rt)?;
-    Ok(Attempt::Came(format!(in alloc; "{said}; got {got}")?))
+    }
+}
+
+/// What a server said, and what its client got.
+fn said_and_got(alloc: Global, said: String, got: String) -> Result<Attempt, Stop> {
+    let all = [said.as_str(), "; got ", got.as_str()].join(alloc, "")?;
+    Ok(Attempt::came(all))
 }
 
 /// A handshake, and the shutdown that a client asks for.
@@ -298,25 +309,15 @@ fn served<R: Wait + Clock + AllocGlobal>(
 ) -> Result<String, AllocError> {
     let said = call_while(rt, alloc, server, "initialize_while", signals, u64::MAX)?;
     let shut = match server.receiver.recv(rt) {
-        Ok(message) => shut_down_by(rt, alloc, server, message),
-        Err(_) => String::from_str(alloc, "no message"),
-    };
-    format!(in alloc; "{said}; shutdown {}", shut?)
-}
-
-fn shut_down_by<R: Wait + Clock + AllocGlobal>(
-    rt: &R,
-    alloc: Global,
-    server: &Connection,
-    message: Message,
-) -> Result<String, AllocError> {
-    match message {
-        Message::Request(request) => shut_down(rt, alloc, server, request),
-        other => {
+        Ok(Message::Request(request)) => shut_down(rt, alloc, server, request),
+        Ok(other) => {
             drop(other);
             String::from_str(alloc, "no request")
         }
-    }
+        Err(_) => String::from_str(alloc, "no message"),
+    };
+    let shut = shut?;
+    [said.as_str(), "; shutdown ", shut.as_str()].join(alloc, "")
 }
 
 /// What comes of the shutdown that this request may ask for.
@@ -328,11 +329,11 @@ fn shut_down<R: Wait + Clock + AllocGlobal>(
 ) -> Result<String, AllocError> {
     let answer = server.handle_shutdown(rt, &request);
     drop(request);
-    is_shut(alloc, answer)
+    given(alloc, answer)
 }
 
 /// Whether a server whose client stays and says nothing gives `exit` up, after 30 seconds and not before.
-pub fn awaits_exit<R: Wait + Clock + AllocGlobal>(rt: &R) -> Result<String, Stop> {
+pub fn awaits_exit<R: Wait + Clock + AllocGlobal>(rt: &R) -> Result<Attempt, Stop> {
     let alloc = rt.alloc();
     let (server, client) = Connection::memory(alloc)?;
     let said = exit_awaited(rt, alloc, &server);
@@ -347,7 +348,7 @@ fn exit_awaited<R: Wait + Clock + AllocGlobal>(
 ) -> Result<String, Stop> {
     let start = Instant::now(rt)?;
     let said = call(rt, alloc, server, "shutdown")?;
-    let is_late = start.elapsed(rt)? >= Duration::from_secs(30);
+    let is_late = start.elapsed(rt)?.as_secs() >= 30;
     Ok(format!(in alloc; "{said}, after 30 seconds {is_late}")?)
 }
 
@@ -357,13 +358,16 @@ where
     R: Net + Threads + Wait + Clock + AllocGlobal + Copy + Drop + Send + 'static,
     R::Stream: Send + 'static,
 {
-    let address = TcpListener::bind(rt, ("127.0.0.1", 0))?.local_addr()?;
-    match Connection::connect(rt, address) {
+    let listener = TcpListener::bind(rt, ("127.0.0.1", 0))?;
+    let address = listener.local_addr();
+    drop(listener);
+    let said = match Connection::connect(rt, address?) {
         Ok((connection, threads)) => {
             drop(connection);
             drop(threads);
-            Ok(Attempt::Came(String::from_str(alloc, "a connection")?))
+            String::from_str(alloc, "a connection")
         }
-        Err(fault) => Ok(Attempt::Came(format!(in alloc; "{fault:?}, {fault}")?)),
-    }
+        Err(fault) => format!(in alloc; "{fault:?}, {fault}"),
+    };
+    Ok(Attempt::came(said?))
 }

@@ -69,7 +69,7 @@ impl Source {
 
     /// The place up to which bytes are shown now. It waits at each pause that it came to.
     fn next_pause(&mut self) -> io::Result<usize> {
-        for _ in 0..self.pauses.len() {
+        for _ in 0..u64::MAX {
             let Some(pause) = self.pauses.as_slice().get(self.over).copied() else {
                 return Ok(usize::MAX);
             };
@@ -80,10 +80,7 @@ impl Source {
             self.signals.wait(pause.signal, pause.wanted)?;
             self.over = self.over.saturating_add(1);
         }
-        match self.pauses.as_slice().get(self.over) {
-            Some(pause) => Ok(pause.at),
-            None => Ok(usize::MAX),
-        }
+        Ok(usize::MAX)
     }
 }
 
@@ -146,8 +143,11 @@ impl Write for Sink {
         }
         let taken = &buf[..count];
         self.taken.extend_from_slice(taken)?;
-        let ends = taken.iter().filter(|it| **it == b'\r').count();
-        self.lines = self.lines.saturating_add(ends as u64);
+        for byte in taken {
+            if *byte == b'\r' {
+                self.lines = self.lines.saturating_add(1);
+            }
+        }
         self.signals.taken(self.taken.len());
         Ok(count)
     }

@@ -2,34 +2,43 @@
 use crate::attempt::Stop;
 use std::alloc::{AllocError, Global};
 use std::fmt::Write;
+use std::str::Bytes;
 
 /// The bytes of a text with escapes.
 pub fn unescape(alloc: Global, text: &str) -> Result<Vec<u8>, Stop> {
-    let mut bytes = Vec::new(alloc);
-    let mut is_first = true;
-    for part in text.split('\\') {
-        if is_first {
-            bytes.extend_from_slice(part.as_bytes())?;
-        } else {
-            let (byte, others) = escaped_byte(part).ok_or(Stop::Table)?;
-            bytes.push(byte)?;
-            bytes.extend_from_slice(others.as_bytes())?;
+    let mut bytes = Vec::with_capacity(alloc, text.len())?;
+    let mut rest = text.bytes();
+    for _ in 0..text.len() {
+        match rest.next() {
+            Some(b'\\') => bytes.push(escaped(&mut rest).ok_or(Stop::Table)?)?,
+            Some(byte) => bytes.push(byte)?,
+            None => break,
         }
-        is_first = false;
     }
     Ok(bytes)
 }
 
-/// The byte of the escape that a text begins with, whose backslash is gone, and the text behind it.
-fn escaped_byte(text: &str) -> Option<(u8, &str)> {
-    if let Some(others) = text.strip_prefix('r') {
-        return Some((b'\r', others));
+/// The byte of the escape whose backslash came.
+fn escaped(rest: &mut Bytes<'_>) -> Option<u8> {
+    match rest.next()? {
+        b'r' => Some(b'\r'),
+        b'n' => Some(b'\n'),
+        b'x' => {
+            let high = digit(rest.next()?)?;
+            let low = digit(rest.next()?)?;
+            Some(high.wrapping_mul(16).wrapping_add(low))
+        }
+        _ => None,
     }
-    if let Some(others) = text.strip_prefix('n') {
-        return Some((b'\n', others));
+}
+
+/// What a digit of base 16 stands for.
+fn digit(byte: u8) -> Option<u8> {
+    match byte {
+        b'0'..=b'9' => Some(byte.wrapping_sub(b'0')),
+        b'a'..=b'f' => Some(byte.wrapping_sub(b'a' - 10)),
+        _ => None,
     }
-    let (digits, others) = text.strip_prefix('x')?.split_at_checked(2)?;
-    Some((u8::from_str_radix(digits, 16).ok()?, others))
 }
 
 /// How many bytes are shown at most.

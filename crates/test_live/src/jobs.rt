@@ -6,7 +6,7 @@ use crate::signals::{Signal, Signals};
 use either::Either;
 use lsp_jobs::{CancellationToken, Job, PartialResults, Progress, WorkDone};
 use lsp_message::{ErrorCode, Notification, RequestId, ResponseError};
-use serde_json::{Map, Value, json, put};
+use serde_json::Value;
 use std::alloc::{AllocError, Global};
 use std::sync::Arc;
 use std::{mem, thread};
@@ -97,37 +97,31 @@ impl Course {
         requires asking { (method : List ℕ) (params : Data) → P.may_ask method params }
     {
         let (name, rest) = word.split_once(" ").unwrap_or((word, "0"));
+        let number = rest.parse::<u64>().unwrap_or(0);
         match name {
             "asks" => self.ask(progress),
             "creates" => self.create(rest, progress),
-            _ => self.act_alone(name, rest, token, progress),
+            "reports" => self.report(number, progress),
+            "sends" => self.send(number, progress),
+            "begins" | "steps" | "ends" => self.tell_work(name, number, progress),
+            "parts" => self.send_parts(number, progress),
+            _ => {
+                self.act_alone(name, number, token);
+                Ok(())
+            }
         }
     }
 
-    /// What it does without a reply of its client.
-    fn act_alone<P: Progress>(
-        &mut self,
-        name: &str,
-        number: &str,
-        token: &CancellationToken,
-        progress: &mut P,
-    ) -> Result<(), AllocError>
-        requires { (method : List ℕ) (params : Data) → P.may method params }
-    {
-        let number = number.parse::<u64>().unwrap_or(0);
+    /// What it does without its client.
+    fn act_alone(&mut self, name: &str, number: u64, token: &CancellationToken) {
         match name {
             "after" => self.await_written(number),
             "cancelled" => self.await_cancelled(token),
-            "reports" => self.report(number, progress)?,
-            "sends" => self.send(number, progress)?,
-            "begins" | "steps" | "ends" => self.tell_work(name, number, progress)?,
-            "parts" => self.send_parts(number, progress)?,
             "counted" => self.ending = Ending::Count,
             "fails" => self.ending = Ending::Error,
             "starves" => self.ending = Ending::NoMemory,
             _ => {}
         }
-        Ok(())
     }
 
     fn await_written(&self, count: u64) {
@@ -198,31 +192,32 @@ impl Course {
     ) -> Result<(), AllocError>
         requires { (method : List ℕ) (params : Data) → P.may method params }
     {
-        let Some(work) = self.work.take() else {
-            return Ok(());
-        };
-        let told = match name {
-            "begins" => work.begin(progress, "Working", None, Some(0)),
-            "steps" => self.tell_steps(&work, number, progress),
-            _ => return work.end(progress, Some("done")),
-        };
-        drop(mem::replace(&mut self.work, Some(work)));
-        told
+        match name {
+            "begins" => match &self.work {
+                Some(work) => work.begin(progress, "Working", None, Some(0)),
+                None => Ok(()),
+            },
+            "steps" => self.tell_steps(number, progress),
+            _ => match self.work.take() {
+                Some(work) => work.end(progress, Some("done")),
+                None => Ok(()),
+            },
+        }
     }
 
-    fn tell_steps<P: Progress>(
-        &mut self,
-        work: &WorkDone,
-        number: u64,
-        progress: &mut P,
-    ) -> Result<(), AllocError>
+    fn tell_steps<P: Progress>(&mut self, number: u64, progress: &mut P) -> Result<(), AllocError>
         requires { (method : List ℕ) (params : Data) → P.may method params }
     {
+        let Some(work) = &self.work else {
+            return Ok(());
+        };
         for _ in 0..number {
             self.told = self.told.saturating_add(1);
             let told = self.told;
             let message = format!(in self.alloc; "step {told}")?;
-            work.report(progress, Some(message.as_str()), Some(told))?;
+            let reported = work.report(progress, Some(message.as_str()), Some(told));
+            drop(message);
+            reported?;
         }
         self.signals.tell(Signal::Reported);
         Ok(())
@@ -233,23 +228,28 @@ impl Course {
     {
         for _ in 0..number {
             self.told = self.told.saturating_add(1);
-            let part = json!(in self.alloc; [self.told])?;
+            let part = list_of(self.alloc, Value::from(self.told))?;
             self.parts.send(progress, part)?;
         }
         Ok(())
     }
 }
 
+/// The list with this value alone.
+pub fn list_of(alloc: Global, value: Value) -> Result<Value, AllocError> {
+    let mut list = Vec::new(alloc);
+    list.push(value)?;
+    Ok(Value::Array(list))
+}
+
 /// The notification of a report (LSP 3.17, "Progress Support").
 fn progress_of(alloc: Global, number: u64) -> Result<Notification, AllocError> {
-    let mut params = Map::new(alloc);
-    let token = Value::String(String::from_str(alloc, "job")?);
-    put(&mut params, alloc, "token", token)?;
-    put(&mut params, alloc, "value", Value::from(number))?;
-    Ok(Notification {
-        method: String::from_str(alloc, "$/progress")?,
-        params: Value::Object(params),
-    })
+    let method = String::from_str(alloc, "$/progress")?;
+    let text = format!(in alloc; "{{\"token\":\"job\",\"value\":{number}}}")?;
+    match Value::from_str(alloc, text.as_str()) {
+        Ok(params) => Ok(Notification { method, params }),
+        Err(_) => Err(AllocError),
+    }
 }
 
 impl Job for Scripted {

@@ -41,6 +41,14 @@ use std::time::Clock;
 use std::{io, thread};
 use table::{Case, Given, case_of};
 
+/// What rows need of the runtime, beside sockets.
+pub trait Live: Threads + Wait + Clock + Print + AllocGlobal + Copy + Drop + Send + 'static {}
+
+impl<R> Live for R
+where
+    R: Threads + Wait + Clock + Print + AllocGlobal + Copy + Drop + Send + 'static,
+{}
+
 fn main(rt: HostRuntime) -> ExitCode {
     match run(&rt) {
         Ok(()) => ExitCode::SUCCESS,
@@ -53,17 +61,7 @@ fn main(rt: HostRuntime) -> ExitCode {
 
 fn run<R>(rt: &R) -> Result<(), Stop>
 where
-    R: Net<Listener = TcpListener, Stream = TcpStream>
-        + Threads
-        + Wait
-        + Clock
-        + Input
-        + Print
-        + AllocGlobal
-        + Copy
-        + Drop
-        + Send
-        + 'static,
+    R: Live + Input + Net<Listener = TcpListener, Stream = TcpStream>,
 {
     let alloc = rt.alloc();
     let table = io::read_to_string(alloc, rt.reader())?;
@@ -73,23 +71,14 @@ where
         return Err(stop);
     }
     match silent {
-        Some(thread) => print_below(rt, alloc, "", thread.join(rt)?.as_str()),
+        Some(thread) => print_below(rt, alloc, "", thread.join(rt)?.said.as_str()),
         None => Ok(()),
     }
 }
 
 fn run_lines<R>(rt: &R, alloc: Global, table: &str) -> Result<(), Stop>
 where
-    R: Net<Listener = TcpListener, Stream = TcpStream>
-        + Threads
-        + Wait
-        + Clock
-        + Print
-        + AllocGlobal
-        + Copy
-        + Drop
-        + Send
-        + 'static,
+    R: Live + Net<Listener = TcpListener, Stream = TcpStream>,
 {
     let mut given = Given::new(alloc, "")?;
     for line in table.lines() {
@@ -100,16 +89,7 @@ where
 
 fn run_line<R>(rt: &R, alloc: Global, line: &str, given: &mut Given) -> Result<(), Stop>
 where
-    R: Net<Listener = TcpListener, Stream = TcpStream>
-        + Threads
-        + Wait
-        + Clock
-        + Print
-        + AllocGlobal
-        + Copy
-        + Drop
-        + Send
-        + 'static,
+    R: Live + Net<Listener = TcpListener, Stream = TcpStream>,
 {
     rt.println(line)?;
     let (word, rest) = line.split_once(" ").unwrap_or((line, ""));
@@ -126,9 +106,9 @@ where
 }
 
 /// A thread whose server waits for an `exit`, if the last row of the table is about it.
-fn silent_client<R>(rt: &R, table: &str) -> Result<Option<JoinHandle<Result<String, Stop>>>, Stop>
+fn silent_client<R>(rt: &R, table: &str) -> Result<Option<JoinHandle<Result<Attempt, Stop>>>, Stop>
 where
-    R: Threads + Wait + Clock + AllocGlobal + Copy + Drop + Send + 'static,
+    R: Live,
 {
     if !table.ends_with("\nexit\n") {
         return Ok(None);
@@ -140,70 +120,71 @@ where
     }
 }
 
+/// A row, which tells what came of a call.
+#[derive(Clone, Copy)]
+enum Row<'a> {
+    /// A case at one of its places.
+    Case(Run),
+    /// A row that is no case: its word and the rest.
+    Whole(&'a str, &'a str),
+}
+
 fn run_row<R>(rt: &R, alloc: Global, word: &str, rest: &str, given: &Given) -> Result<(), Stop>
 where
-    R: Net<Listener = TcpListener, Stream = TcpStream>
-        + Threads
-        + Wait
-        + Clock
-        + Print
-        + AllocGlobal
-        + Copy
-        + Drop
-        + Send
-        + 'static,
+    R: Live + Net<Listener = TcpListener, Stream = TcpStream>,
 {
     if let Some(case) = case_of(word, rest) {
         return run_case(rt, alloc, case, given);
     }
-    match whole_of(rt, alloc, word, rest)? {
-        Attempt::Came(came) => return print_below(rt, alloc, "", came.as_str()),
-        Attempt::Refused(what) => print_below(rt, alloc, "refused: ", what.as_str())?,
-    }
-    let came = whole_of(rt, alloc, word, rest)?.again()?;
+    let came = run_once(rt, alloc, Row::Whole(word, rest), given)?;
     print_below(rt, alloc, "", came.as_str())
 }
 
-/// A row that is no case.
-fn whole_of<R>(rt: &R, alloc: Global, word: &str, rest: &str) -> Result<Attempt, Stop>
+/// What comes of a row, whose call is made once more if it is refused.
+fn run_once<R>(rt: &R, alloc: Global, row: Row<'_>, given: &Given) -> Result<String, Stop>
 where
-    R: Net<Listener = TcpListener, Stream = TcpStream>
-        + Threads
-        + Wait
-        + Clock
-        + AllocGlobal
-        + Copy
-        + Drop
-        + Send
-        + 'static,
+    R: Live + Net<Listener = TcpListener, Stream = TcpStream>,
 {
-    match word {
-        "relay" => relays::relayed(rt, alloc, rest),
-        "waker" => relays::woken(rt, alloc, rest),
-        "pool" => pools::came_of(rt, alloc, rest),
-        "call" => connections::called(rt, alloc, rest),
-        "called_off" => connections::called_off(rt, alloc),
-        "turns" => connections::turns(rt, alloc),
-        "nobody" => connections::nobody(rt, alloc),
-        _ => Err(Stop::Table),
+    let first = tried(rt, alloc, row, given)?;
+    if !first.is_refused {
+        return Ok(first.said);
+    }
+    print_below(rt, alloc, "refused: ", first.said.as_str())?;
+    let again = tried(rt, alloc, row, given)?;
+    if again.is_refused {
+        return Err(Stop::Again);
+    }
+    Ok(again.said)
+}
+
+fn tried<R>(rt: &R, alloc: Global, row: Row<'_>, given: &Given) -> Result<Attempt, Stop>
+where
+    R: Live + Net<Listener = TcpListener, Stream = TcpStream>,
+{
+    match row {
+        Row::Case(run) => attempt_of(rt, alloc, run, given),
+        Row::Whole("relay", rest) => relays::relayed(rt, alloc, rest),
+        Row::Whole("waker", rest) => relays::woken(rt, alloc, rest),
+        Row::Whole("pool", rest) => pools::came_of(rt, alloc, rest),
+        Row::Whole("call", rest) => connections::called(rt, alloc, rest),
+        Row::Whole("called_off", _) => connections::called_off(rt, alloc),
+        Row::Whole("turns", _) => connections::turns(rt, alloc),
+        Row::Whole("nobody", _) => connections::nobody(rt, alloc),
+        Row::Whole(..) => Err(Stop::Table),
     }
 }
 
 /// Runs a case at each of its places. What came is printed if it is another than at the place before.
 fn run_case<R>(rt: &R, alloc: Global, case: Case<'_>, given: &Given) -> Result<(), Stop>
 where
-    R: Print + Threads + Wait + Clock + AllocGlobal + Copy + Drop + Send + 'static,
+    R: Live + Net<Listener = TcpListener, Stream = TcpStream>,
 {
     let mut last = String::new(alloc);
     for count in case.from..=case.to {
         let came = run_at(rt, alloc, case, given, count)?;
         if came != last {
-            print_below(
-                rt,
-                alloc,
-                format!(in alloc; "{count}: ")?.as_str(),
-                came.as_str(),
-            )?;
+            let place = format!(in alloc; "{count}: ")?;
+            print_below(rt, alloc, place.as_str(), came.as_str())?;
         }
         last = came;
     }
@@ -219,7 +200,7 @@ fn run_at<R>(
     count: usize,
 ) -> Result<String, Stop>
 where
-    R: Print + Threads + Wait + Clock + AllocGlobal + Copy + Drop + Send + 'static,
+    R: Live + Net<Listener = TcpListener, Stream = TcpStream>,
 {
     let mut all = String::new(alloc);
     for word in case.steps.split(',') {
@@ -232,7 +213,7 @@ where
             count,
             written: case.written,
         };
-        let came = run_once(rt, alloc, run, given)?;
+        let came = run_once(rt, alloc, Row::Case(run), given)?;
         if all.is_empty() {
             all = came;
         } else if all != came {
@@ -240,15 +221,4 @@ where
         }
     }
     Ok(all)
-}
-
-fn run_once<R>(rt: &R, alloc: Global, run: Run, given: &Given) -> Result<String, Stop>
-where
-    R: Print + Threads + Wait + Clock + AllocGlobal + Copy + Drop + Send + 'static,
-{
-    match attempt_of(rt, alloc, run, given)? {
-        Attempt::Came(came) => return Ok(came),
-        Attempt::Refused(what) => print_below(rt, alloc, "refused: ", what.as_str())?,
-    }
-    attempt_of(rt, alloc, run, given)?.again()
 }

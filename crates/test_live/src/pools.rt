@@ -13,21 +13,20 @@
 //
 // The client of such a job gave the tokens `w` and 7. At the end the pool is ended, nothing more may be heard then, and it is told how many jobs began and how many saw their cancellation.
 use crate::attempt::{Attempt, Stop};
-use crate::jobs::{AnyJob, Fixed, Means, Scripted};
+use crate::jobs::{AnyJob, Fixed, Means, Scripted, list_of};
 use crate::signals::{Signal, Signals};
 use crate::table::pool_of;
 use crossbeam_channel::Receiver;
 use either::Either;
 use lsp_jobs::{JobMessage, JobPool, SubmitFault};
 use lsp_message::RequestId;
-use serde_json::{Value, json};
+use serde_json::Value;
 use std::alloc::{AllocError, Global};
 use std::fmt::Write;
 use std::sync::{Arc, Wait};
 use std::thread::Threads;
 
-/// A pool, and what is told of it.
-#[derive(Drop)]
+/// A pool, and what is told of it. It has to be ended.
 struct Bench<R: Wait + Drop> {
     rt: R,
     alloc: Global,
@@ -47,7 +46,7 @@ where
     let signals = Arc::new(alloc, Signals::new())?;
     let (pool, woken) = match JobPool::start(rt, alloc, size) {
         Ok(started) => started,
-        Err(_) => return Ok(Attempt::refused(alloc, "start")?),
+        Err(_) => return Ok(Attempt::refused(String::from_str(alloc, "start")?)),
     };
     let mut bench = Bench {
         rt: *rt,
@@ -57,13 +56,10 @@ where
         woken,
         told: String::new(alloc),
     };
-    match bench.go_on(steps) {
-        Ok(()) => Ok(Attempt::Came(bench.end()?)),
-        Err(stop) => {
-            drop(bench);
-            Err(stop)
-        }
-    }
+    let went = bench.go_on(steps);
+    let told = bench.end();
+    went?;
+    Ok(Attempt::came(told?))
 }
 
 /// The number of an id or a key. What is no such number is 0.
@@ -89,11 +85,11 @@ where
     fn end(self) -> Result<String, AllocError> {
         let Bench {
             rt,
+            alloc: _,
             signals,
             pool,
             woken,
             mut told,
-            ..
         } = self;
         pool.end();
         // This would wait for ever if the pool still held its end.
@@ -117,22 +113,43 @@ impl<R: Wait + Drop> Bench<R> {
     fn go(&mut self, step: &str) -> Result<(), Stop> {
         let (name, rest) = step.split_once(" ").unwrap_or((step, ""));
         match name {
-            "submit" => self.submit(rest)?,
-            "begun" => self.signals.wait(Signal::Begun, count_of(rest))?,
-            "ended" => self.signals.wait(Signal::Ended, count_of(rest))?,
-            "reported" => self.signals.wait(Signal::Reported, count_of(rest))?,
-            "hear" => self.hear()?,
-            "listen" => self.listen(count_of(rest))?,
-            "message" => {
-                let _ = self.take_message(true)?;
+            "begun" => self.await_signal(Signal::Begun, rest),
+            "ended" => self.await_signal(Signal::Ended, rest),
+            "reported" => self.await_signal(Signal::Reported, rest),
+            "forget" | "reply" | "give_up" => {
+                self.go_silently(name, rest);
+                Ok(())
             }
-            "waits" => self.tell_waiting(id_of(rest))?,
+            "submit" | "hear" | "listen" | "message" | "waits" => Ok(self.tell(name, rest)?),
+            _ => Err(Stop::Table),
+        }
+    }
+
+    fn await_signal(&self, signal: Signal, count: &str) -> Result<(), Stop> {
+        Ok(self.signals.wait(signal, count_of(count))?)
+    }
+
+    /// A step of which nothing is told.
+    fn go_silently(&mut self, name: &str, rest: &str) {
+        match name {
             "forget" => self.pool.forget(&id_of(rest)),
             "reply" => self.pool.reply(count_of(rest), Ok(Value::Bool(true))),
-            "give_up" => self.pool.give_up(count_of(rest)),
-            _ => return Err(Stop::Table),
+            _ => self.pool.give_up(count_of(rest)),
         }
-        Ok(())
+    }
+
+    /// A step, and what is told of it.
+    fn tell(&mut self, name: &str, rest: &str) -> Result<(), AllocError> {
+        match name {
+            "submit" => self.submit(rest),
+            "hear" => self.hear(),
+            "listen" => self.listen(count_of(rest)),
+            "waits" => self.tell_waiting(id_of(rest)),
+            _ => match self.take_message(true) {
+                Ok(_) => Ok(()),
+                Err(error) => Err(error),
+            },
+        }
     }
 
     fn submit(&mut self, words: &str) -> Result<(), AllocError> {
@@ -239,7 +256,7 @@ fn job_of(
     script: &str,
     key: i32,
 ) -> Result<AnyJob, AllocError> {
-    let value = json!(in alloc; [key])?;
+    let value = list_of(alloc, Value::from(key))?;
     if script == "fixed" {
         return Ok(Either::Right(Fixed { value }));
     }
@@ -256,8 +273,13 @@ fn job_of(
     }
 }
 
+/// The tokens of its client.
+const TOKENS: &str = "{\"workDoneToken\":\"w\",\"partialResultToken\":7}";
+
 fn means_of(alloc: Global, signals: &Arc<Signals>, script: &str) -> Result<Means, AllocError> {
-    let params = json!(in alloc; { "workDoneToken": "w", "partialResultToken": 7 })?;
+    let Ok(params) = Value::from_str(alloc, TOKENS) else {
+        return Err(AllocError);
+    };
     let means = Means::of(alloc, signals, script, &params);
     drop(params);
     means

@@ -36,7 +36,7 @@ pub fn relayed<R: Wait>(rt: &R, alloc: Global, method: &str) -> Result<Attempt, 
     drop(rx);
     drop(tx);
     let (taken, settled, again) = (taken?, settled?, again?);
-    Ok(Attempt::Came(format!(in alloc;
+    Ok(Attempt::came(format!(in alloc;
         "sent {is_sent}, ended {is_ended}, taken {taken}, settled {settled}, settled again {again}"
     )?))
 }
@@ -72,7 +72,7 @@ pub fn woken<R: Wait>(rt: &R, alloc: Global, method: &str) -> Result<Attempt, St
     drop(waker);
     drop(tx);
     let (taken, found, settled) = (taken?, found?, settled?);
-    Ok(Attempt::Came(format!(in alloc;
+    Ok(Attempt::came(format!(in alloc;
         "woken {is_woken}, sent {is_sent}, woken {is_woken_again}, ended {is_ended}, taken {taken}, found {found}, settled {settled}, woken {is_woken_late}"
     )?))
 }

@@ -1,11 +1,11 @@
 // The handler of all rows, and their server: it speaks, asks, and starts jobs.
-use crate::jobs::{Means, Scripted, own_id};
+use crate::jobs::{Means, Scripted, list_of, own_id};
 use crate::signals::{Signal, Signals};
 use lsp_jobs::{AnsweredBy, JobEnd, JobServer, NewJob};
 use lsp_message::{Notification, Request, RequestId, ResponseError};
 use lsp_service::{Act, Server};
-use lsp_session::Handler;
-use serde_json::{Map, Value, json};
+use lsp_session::{Handler, initialize_result};
+use serde_json::{Map, Value};
 use std::alloc::{AllocError, Global};
 use std::fmt::Write;
 use std::mem;
@@ -26,10 +26,13 @@ impl Handler for Echo {
         if self.is_gated && self.signals.wait(Signal::Pauses, 2).is_err() {
             return Ok(Ok(Value::Null));
         }
-        if request.method.as_str() == "demo/echo" {
-            return Ok(Ok(request.params.clone()?));
+        if request.method.as_str() != "demo/echo" {
+            return Ok(Err(ResponseError::method_not_found(self.alloc)?));
         }
-        Ok(Err(ResponseError::method_not_found(self.alloc)?))
+        match request.params.clone() {
+            Ok(params) => Ok(Ok(params)),
+            Err(error) => Err(error),
+        }
     }
 
     fn note(&mut self, _notification: &Notification) -> Result<(), AllocError> {
@@ -180,33 +183,31 @@ impl Talker {
     }
 
     /// Starts a job under an id of its own.
-    fn start_job(&mut self, script: &str, params: &Value) -> Result<Acts, AllocError> {
-        let id = own_id(self.alloc)?;
-        let params = params.clone()?;
-        match self.new_job(id, script, params) {
+    fn start_job(&mut self, script: &str, params: Value) -> Result<Acts, AllocError> {
+        let started = match own_id(self.alloc) {
+            Ok(id) => self.new_job(id, script, params),
+            Err(error) => {
+                drop(params);
+                Err(error)
+            }
+        };
+        match started {
             Ok(job) => self.starts.push(job)?,
             Err(error) => return Err(error),
         }
         Ok(Vec::new(self.alloc))
     }
 
-    /// What it does at a notification that is no push: nothing comes back if it is one.
-    fn note(&mut self, method: &str, params: &Value) -> Result<Option<Acts>, AllocError> {
-        let acts = Vec::new(self.alloc);
-        if method == "start" {
-            self.starts = mem::replace(&mut self.later, Vec::new(self.alloc));
-            return Ok(Some(acts));
-        }
+    /// What it does at a notification that says no more by its name: it may start a job, and pushes the params else.
+    fn note(&mut self, method: &str, params: Value) -> Result<Acts, AllocError> {
         if let Some(script) = method.strip_prefix("job ") {
-            return Ok(Some(self.start_job(script, params)?));
-        }
-        if method == "answer" {
-            return Ok(Some(self.answer_first(params)?));
+            return self.start_job(script, params);
         }
         if method.starts_with("$/") {
-            return Ok(Some(acts));
+            drop(params);
+            return Ok(Vec::new(self.alloc));
         }
-        Ok(None)
+        self.push(params)
     }
 
     /// Answers the request whose id stands first in these params.
@@ -220,6 +221,18 @@ impl Talker {
                 self.one(Act::Reply(id, Ok(Value::String(text))))
             }
             None => Ok(Vec::new(self.alloc)),
+        }
+    }
+
+    /// Publishes what a job came to that has an id of its own.
+    fn publish(&self, id: &RequestId, value: &Value) -> Result<Acts, AllocError> {
+        let own = own_id(self.alloc)?;
+        let is_own = *id == own;
+        drop(own);
+        if is_own {
+            self.tell("published", value.clone()?)
+        } else {
+            Ok(Vec::new(self.alloc))
         }
     }
 
@@ -239,7 +252,8 @@ impl Server for Talker {
 
     fn initialize(&mut self, params: Value) -> Result<Result<Value, ResponseError>, AllocError> {
         drop(params);
-        Ok(Ok(json!(in self.alloc; { "capabilities": {} })?))
+        let none = Value::Object(Map::new(self.alloc));
+        Ok(Ok(initialize_result(self.alloc, none)?))
     }
 
     fn initialized(&mut self) -> Result<Acts, AllocError> {
@@ -270,16 +284,18 @@ impl Server for Talker {
 
     fn notification(&mut self, notification: Notification) -> Result<Acts, AllocError> {
         let Notification { method, params } = notification;
-        match self.note(method.as_str(), &params) {
-            Ok(Some(acts)) => {
+        match method.as_str() {
+            "start" => {
                 drop(params);
-                Ok(acts)
+                self.starts = mem::replace(&mut self.later, Vec::new(self.alloc));
+                Ok(Vec::new(self.alloc))
             }
-            Ok(None) => self.push(params),
-            Err(error) => {
+            "answer" => {
+                let acts = self.answer_first(&params);
                 drop(params);
-                Err(error)
+                acts
             }
+            method => self.note(method, params),
         }
     }
 
@@ -336,19 +352,13 @@ impl JobServer<Scripted> for Talker {
         alloc: Global,
     ) -> Result<Acts, AllocError> {
         write!(self.finished, " {id}:{key}")?;
-        let outcome = match end {
-            JobEnd::Outcome(outcome) => outcome,
+        match end {
             JobEnd::Refused => {
                 self.finished.push_str(" refused")?;
-                return self.tell("refused", json!(in alloc; [key])?);
+                self.tell("refused", list_of(alloc, Value::from(key))?)
             }
-        };
-        if *id != own_id(alloc)? {
-            return Ok(Vec::new(alloc));
-        }
-        match outcome {
-            Ok(value) => self.tell("published", value.clone()?),
-            Err(_) => Ok(Vec::new(alloc)),
+            JobEnd::Outcome(Ok(value)) => self.publish(id, value),
+            JobEnd::Outcome(Err(_)) => Ok(Vec::new(alloc)),
         }
     }
 }

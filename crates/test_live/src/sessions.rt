@@ -11,7 +11,7 @@ use crate::table::{Call, Device, Given};
 use lsp_jobs::{PoolSize, run_jobs};
 use lsp_server::{Connection, UNREAD_WEIGHT};
 use lsp_service::QueuedServer;
-use lsp_session::{HandlerService, SessionEnd, SessionFault};
+use lsp_session::{FaultCounts, HandlerService, Service, SessionEnd, SessionFault};
 use lsp_threads::{
     PumpFault, StartFault, ThreadOptions, Threaded, UNREAD_BYTES, pump_by, run_threads_of_service,
 };
@@ -169,19 +169,10 @@ where
     };
     let mut none = Value::Object(Map::new(alloc));
     let mut service = HandlerService::new(alloc, &mut none, &mut echo);
-    let mut listening = Listening::new(matches!(run.device, Device::Passes));
-    let ran = run_threads_of_service(
-        rt,
-        alloc,
-        reader,
-        writer,
-        &mut service,
-        &mut listening,
-        options(run),
-    );
+    let came = served(rt, alloc, run, reader, writer, signals, &mut service);
     drop(service);
     drop(none);
-    listened(alloc, ran, run, signals, &listening)
+    came
 }
 
 /// How a session of the server that speaks ends, and what it wrote.
@@ -198,49 +189,30 @@ where
 {
     let talker = Talker::new(alloc, Arc::try_clone(signals)?);
     let mut queued = QueuedServer::new(alloc, talker);
-    let mut listening = Listening::new(matches!(run.device, Device::Passes));
-    let ran = run_threads_of_service(
-        rt,
-        alloc,
-        reader,
-        writer,
-        &mut queued,
-        &mut listening,
-        options(run),
-    );
+    let came = served(rt, alloc, run, reader, writer, signals, &mut queued);
     drop(queued);
-    listened(alloc, ran, run, signals, &listening)
+    came
 }
 
-/// What came of a session in threads, and what its listener heard.
-fn listened(
+/// How a session of a service ends, and what it wrote.
+fn served<R, S>(
+    rt: &R,
     alloc: Global,
-    ran: Result<Threaded<Sink>, StartFault>,
     run: Run,
+    reader: Source,
+    writer: Sink,
     signals: &Arc<Signals>,
-    listening: &Listening,
-) -> Result<Attempt, AllocError> {
-    let came = threads_answer(alloc, ran, run, signals)?;
-    with_passed(alloc, run, came, listening)
-}
-
-/// What came of a run and, if it passes over content parts, how many of each kind it passed over.
-fn with_passed(
-    alloc: Global,
-    run: Run,
-    came: Attempt,
-    listening: &Listening,
-) -> Result<Attempt, AllocError> {
-    match (run.device, came) {
-        (Device::Passes, Attempt::Came(came)) => {
-            let counts = listening.counts;
-            let (not_text, no_json) = (counts.not_text, counts.no_json);
-            let (no_message, batches) = (counts.no_message, counts.batches);
-            let passed = format!(in alloc; "{not_text} {no_json} {no_message} {batches}")?;
-            Ok(Attempt::Came(format!(in alloc; "{came}; passed {passed}")?))
-        }
-        (_, came) => Ok(came),
-    }
+    service: &mut S,
+) -> Result<Attempt, AllocError>
+where
+    R: Threads + Wait + Copy + Drop + Send + 'static,
+    S: Service,
+{
+    let mut listening = Listening::new(matches!(run.device, Device::Passes));
+    let options = options(run);
+    let ran = run_threads_of_service(rt, alloc, reader, writer, service, &mut listening, options);
+    let came = threads_answer(alloc, ran, run, signals);
+    with_passed(run, came, &listening)
 }
 
 /// How a session with jobs ends, what it wrote, how many jobs began and saw their cancellation, and which it saw come to an end.
@@ -258,30 +230,52 @@ where
     let talker = Talker::new(alloc, Arc::try_clone(signals)?);
     let mut listening = Listening::new(matches!(run.device, Device::Passes));
     let (talker, ran) = run_talker(rt, alloc, reader, writer, run, talker, &mut listening);
-    let answer = threads_answer(alloc, ran, run, signals);
-    let told = with_jobs(alloc, run, answer, signals, talker.finished.as_str());
+    let came = threads_answer(alloc, ran, run, signals);
+    let told = with_jobs(run, came, signals, talker.finished.as_str());
     drop(talker);
-    with_passed(alloc, run, told?, &listening)
+    with_passed(run, told, &listening)
 }
 
 /// What came of a session and of its jobs.
 fn with_jobs(
-    alloc: Global,
     run: Run,
-    answer: Result<Attempt, AllocError>,
+    came: Result<Attempt, AllocError>,
     signals: &Arc<Signals>,
     finished: &str,
 ) -> Result<Attempt, AllocError> {
-    let came = match answer {
-        Ok(Attempt::Came(came)) => came,
-        refused => return refused,
-    };
-    let (begun, stopped) = (signals.count(Signal::Begun), signals.count(Signal::Stopped));
-    let told = match run.call {
-        Call::Many => format!(in alloc; "{came}; {begun} begun"),
-        _ => format!(in alloc; "{came}; {begun} begun, {stopped} stopped; finished{finished}"),
-    };
-    Ok(Attempt::Came(told?))
+    let mut came = came?;
+    if came.is_refused {
+        return Ok(came);
+    }
+    let begun = signals.count(Signal::Begun);
+    write!(came.said, "; {begun} begun")?;
+    if !matches!(run.call, Call::Many) {
+        let stopped = signals.count(Signal::Stopped);
+        write!(came.said, ", {stopped} stopped; finished{finished}")?;
+    }
+    Ok(came)
+}
+
+/// What came of a run and, if it passes over content parts, how many of each kind it passed over.
+fn with_passed(
+    run: Run,
+    came: Result<Attempt, AllocError>,
+    listening: &Listening,
+) -> Result<Attempt, AllocError> {
+    let mut came = came?;
+    if matches!(run.device, Device::Passes) && !came.is_refused {
+        let FaultCounts {
+            not_text,
+            no_json,
+            no_message,
+            batches,
+        } = listening.counts;
+        write!(
+            came.said,
+            "; passed {not_text} {no_json} {no_message} {batches}"
+        )?;
+    }
+    Ok(came)
 }
 
 /// A session of the server with its jobs, over any reader and writer: so it is proved in one place that threads may own a job, and in
@@ -370,9 +364,9 @@ fn not_started(
     match run.device {
         Device::NoReader | Device::NoWriter => {
             let calls = signals.calls();
-            Ok(Attempt::Came(format!(in alloc; "{fault}, {calls} calls")?))
+            Ok(Attempt::came(format!(in alloc; "{fault}, {calls} calls")?))
         }
-        _ => Ok(Attempt::Refused(format!(in alloc; "{fault}; wrote ")?)),
+        _ => Ok(Attempt::refused(format!(in alloc; "{fault}; wrote ")?)),
     }
 }
 
@@ -407,7 +401,7 @@ fn told(alloc: Global, run: Run, end: &str, writer: &Sink) -> Result<Attempt, Al
         Call::Many => escape(alloc, in_order(alloc, bytes)?.as_bytes())?,
         _ => escape(alloc, bytes)?,
     };
-    let mut said = format!(in alloc; "{end}; wrote {written}")?;
+    let mut said = [end, "; wrote ", written.as_str()].join(alloc, "")?;
     if matches!(run.call, Call::Burst) {
         write!(said, ", in {} writes", writer.writes)?;
     }
@@ -416,32 +410,23 @@ fn told(alloc: Global, run: Run, end: &str, writer: &Sink) -> Result<Attempt, Al
 
 /// What came of a call that ended so: that an allocation failed, unless no memory could be enough.
 fn attempt(run: Run, end: &str, said: String) -> Attempt {
-    if matches!(run.device, Device::Huge) || !lacks_memory(end) {
-        return Attempt::Came(said);
+    Attempt {
+        said,
+        is_refused: lacks_memory(end) && !matches!(run.device, Device::Huge),
     }
-    Attempt::Refused(said)
 }
 
 /// Whether a fault that prints so is a failed allocation.
 fn lacks_memory(fault: &str) -> bool {
-    fault == "out of memory" || fault == "read fault 11" || fault == "write fault 2"
+    matches!(fault, "out of memory" | "read fault 11" | "write fault 2")
 }
 
 /// Frames in the order of their texts.
 fn in_order(alloc: Global, written: &[u8]) -> Result<String, AllocError> {
-    let mut frames = Vec::new(alloc);
-    for frame in str::from_utf8(written)
-        .unwrap_or("")
-        .split("Content-Length: ")
-    {
-        frames.push(frame)?;
-    }
+    let text = str::from_utf8(written).unwrap_or("");
+    let mut frames: Vec<&str> = text.split("Content-Length: ").collect(alloc)?;
     frames.sort()?;
-    let mut text = String::new(alloc);
-    for frame in frames {
-        text.push_str(frame)?;
-    }
-    Ok(text)
+    frames.as_slice().join(alloc, "")
 }
 
 /// What the threads of a connection answer, and how many bytes were written and flushed; of a writer that fills, how many it took.
@@ -459,13 +444,14 @@ where
     let opened = Connection::over_within(rt, reader, writer, run.limit(), run.bound());
     let (connection, threads) = match opened {
         Ok(started) => started,
-        Err(fault) => return Ok(Attempt::Refused(format!(in alloc; "{fault}; wrote ")?)),
+        Err(fault) => return Ok(Attempt::refused(format!(in alloc; "{fault}; wrote ")?)),
     };
     let (most, ended) = parted(rt, run, connection, threads, signals);
     let end = match ended {
-        Ok(()) => String::from_str(alloc, "fine")?,
-        Err(fault) => format!(in alloc; "{fault}")?,
+        Ok(()) => String::from_str(alloc, "fine"),
+        Err(fault) => format!(in alloc; "{fault}"),
     };
+    let end = end?;
     // How many frames a write has is not known, so of a writer that fails those count that it took.
     let counted = match run.device {
         Device::Fills => Signal::Taken,

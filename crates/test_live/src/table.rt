@@ -27,10 +27,8 @@ impl Given {
         let (count, text) = words.split_once(" ").ok_or(Stop::Table)?;
         let count: usize = count.parse()?;
         let text = unescape(alloc, text)?;
-        for _ in 0..count {
-            self.bytes.extend_from_slice(text.as_slice())?;
-        }
-        Ok(())
+        let repeated = text.as_slice().repeat(alloc, count)?;
+        Ok(self.bytes.extend_from_slice(repeated.as_slice())?)
     }
 
     /// `AT:SIGNAL:COUNT ..`: at these places, in their order, a reader waits until the signal has come so often.
@@ -44,10 +42,21 @@ impl Given {
 
 fn pause_of(word: &str) -> Option<Pause> {
     let mut words = word.split(':');
-    let at = words.next()?.parse::<usize>().ok()?;
-    let signal = named(&SIGNALS, words.next()?)?;
-    let wanted = words.next()?.parse::<u64>().ok()?;
-    Some(Pause { at, signal, wanted })
+    let at = number(words.next());
+    let signal = named(&SIGNALS, words.next());
+    match (at, signal, number(words.next())) {
+        (Some(at), Some(signal), Some(wanted)) => Some(Pause {
+            at,
+            signal,
+            wanted: wanted as u64,
+        }),
+        _ => None,
+    }
+}
+
+/// The number that a word is.
+fn number(word: Option<&str>) -> Option<usize> {
+    word?.parse::<usize>().ok()
 }
 
 static SIGNALS: [(&str, Signal); 7] = [
@@ -61,7 +70,8 @@ static SIGNALS: [(&str, Signal); 7] = [
 ];
 
 /// What stands beside a word.
-fn named<T: Copy>(table: &[(&str, T)], word: &str) -> Option<T> {
+fn named<T: Copy>(table: &[(&str, T)], word: Option<&str>) -> Option<T> {
+    let word = word.unwrap_or("");
     for (name, it) in table {
         if *name == word {
             return Some(*it);
@@ -154,23 +164,29 @@ pub enum Device {
 
 /// The case of these words. There is none if they are no case.
 pub fn case_of<'a>(call: &str, rest: &'a str) -> Option<Case<'a>> {
-    let call = named(&CALLS, call)?;
     let mut words = rest.split(' ');
-    let pool = pool_of(words.next()?)?;
-    let steps = words.next()?;
-    let device = named(&DEVICES, words.next()?)?;
-    let from = words.next()?.parse::<usize>().ok()?;
-    let to = words.next()?.parse::<usize>().ok()?;
-    let written = words.next().unwrap_or("0").parse::<u64>().ok()?;
-    Some(Case {
-        call,
-        pool,
-        steps,
-        device,
-        from,
-        to,
-        written,
-    })
+    let (Some(pool), Some(steps)) = (words.next(), words.next()) else {
+        return None;
+    };
+    let device = words.next();
+    let from = words.next();
+    let to = words.next();
+    let written = words.next();
+    let call = named(&CALLS, Some(call));
+    let device = named(&DEVICES, device);
+    let written = number(written).unwrap_or(0) as u64;
+    match (call, pool_of(pool), device, number(from), number(to)) {
+        (Some(call), Some(pool), Some(device), Some(from), Some(to)) => Some(Case {
+            call,
+            pool,
+            steps,
+            device,
+            from,
+            to,
+            written,
+        }),
+        _ => None,
+    }
 }
 
 /// `WORKERS`, or `WORKERS:WAITING` if only so many jobs may wait. A call without jobs has the word `threads`.
@@ -178,13 +194,11 @@ pub fn pool_of(word: &str) -> Option<PoolSize> {
     if word == "threads" {
         return Some(PoolSize::from(1));
     }
-    match word.split_once(":") {
-        Some((workers, waiting)) => Some(PoolSize {
-            workers: workers.parse::<usize>().ok()?,
-            waiting: Some(waiting.parse::<usize>().ok()?),
-        }),
-        None => Some(PoolSize::from(word.parse::<usize>().ok()?)),
-    }
+    let (workers, waiting) = word.split_once(":").unwrap_or((word, ""));
+    Some(PoolSize {
+        workers: number(Some(workers))?,
+        waiting: number(Some(waiting)),
+    })
 }
 
 static CALLS: [(&str, Call); 13] = [
