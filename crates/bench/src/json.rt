@@ -75,12 +75,15 @@ fn number_in(line: &[u8]) -> usize {
 
 /// The text of the value that a body has.
 fn text_of(alloc: Global, body: &[u8]) -> io::Result<String> {
-    let Ok(value) = Value::from_slice(alloc, body) else {
-        return Err(io::Error::from(ErrorKind::InvalidData));
-    };
-    let text = value.to_string(alloc);
-    drop(value);
-    Ok(text?)
+    match Value::from_slice(alloc, body) {
+        Ok(value) => {
+            let text = value.to_string(alloc);
+            drop(value);
+            Ok(text?)
+        }
+        Err(fault) if fault.is_memory() => Err(io::Error::from(ErrorKind::OutOfMemory)),
+        Err(_) => Err(io::Error::from(ErrorKind::InvalidData)),
+    }
 }
 
 /// Reads each body as a `Value`, and writes that value's text.
