@@ -174,7 +174,7 @@ pub fn case_of<'a>(call: &str, rest: &'a str) -> Option<Case<'a>> {
     let written = words.next();
     let call = named(&CALLS, Some(call));
     let device = named(&DEVICES, device);
-    let written = number(written).unwrap_or(0) as u64;
+    let written = number(written.or(Some("0")))? as u64;
     match (call, pool_of(pool), device, number(from), number(to)) {
         (Some(call), Some(pool), Some(device), Some(from), Some(to)) => Some(Case {
             call,
@@ -194,11 +194,13 @@ pub fn pool_of(word: &str) -> Option<PoolSize> {
     if word == "threads" {
         return Some(PoolSize::from(1));
     }
-    let (workers, waiting) = word.split_once(":").unwrap_or((word, ""));
-    Some(PoolSize {
-        workers: number(Some(workers))?,
-        waiting: number(Some(waiting)),
-    })
+    match word.split_once(":") {
+        Some((workers, waiting)) => Some(PoolSize {
+            workers: number(Some(workers))?,
+            waiting: Some(number(Some(waiting))?),
+        }),
+        None => Some(PoolSize::from(number(Some(word))?)),
+    }
 }
 
 static CALLS: [(&str, Call); 13] = [
