@@ -55,12 +55,18 @@ impl InitializeResult {
         ensures name { IfOk result (λ r. string_bytes r.server_info.«name» ≡ «name».now) }
         ensures version { IfOk result (λ r. r.server_info.version ≡ None) }
     {
-        Ok(InitializeResult {
-            capabilities,
-            server_info: ServerInfo {
-                name: String::from_str(alloc, name)?,
-                version: None,
-            },
-        })
+        match String::from_str(alloc, name) {
+            Ok(name) => Ok(InitializeResult {
+                capabilities,
+                server_info: ServerInfo {
+                    name,
+                    version: None,
+                },
+            }),
+            Err(failed) => {
+                drop(capabilities);
+                Err(failed)
+            }
+        }
     }
 }

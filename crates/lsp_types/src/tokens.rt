@@ -42,16 +42,18 @@ impl SemanticToken {
         requires { is_behind line start self.now ≡ true }
         ensures { OnOk result (data.new.items ≡ data.old.items ++ five_behind line start self.now) }
     {
-        data.push(self.line - line)?;
-        if line == self.line {
-            data.push(self.start - start)?;
+        let start = if line == self.line {
+            self.start - start
         } else {
-            data.push(self.start)?;
-        }
-        data.push(self.length)?;
-        data.push(self.token_type)?;
-        data.push(self.token_modifiers)?;
-        Ok(())
+            self.start
+        };
+        data.extend_from_slice(&[
+            self.line - line,
+            start,
+            self.length,
+            self.token_type,
+            self.token_modifiers,
+        ])
     }
 }
 

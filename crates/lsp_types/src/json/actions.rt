@@ -1,6 +1,6 @@
 // Code actions as JSON.
 use crate::actions::{CodeAction, CodeActionContext, CodeActionParams, CodeActionTriggerKind};
-use crate::json::{Members, Object};
+use crate::json::{Keyed, ReadMembers, Sink, Source, WriteMembers, read_object, write_object};
 use crate::numbers::number_within;
 use serde::{
     Described, Deserialize, DeserializeOwned, Deserializer, Format, Serialize, Serializer,
@@ -9,13 +9,31 @@ use std::alloc::Global;
 
 impl Described for CodeActionParams {}
 
+impl Keyed for CodeActionParams {
+    const KEYS: &'static [&'static str] = &["textDocument", "range", "context"];
+}
+
+impl WriteMembers for CodeActionParams {
+    fn write<O: Sink>(&self, out: O) -> O {
+        out.member(&self.text_document)
+            .member(&self.range)
+            .member(&self.context)
+    }
+}
+
 impl Serialize for CodeActionParams {
     fn serialize<S: Serializer>(&self, out: &mut S) -> Result<(), S::Error> {
-        Object::begin(out)
-            .member("textDocument", &self.text_document)
-            .member("range", &self.range)
-            .member("context", &self.context)
-            .end()
+        write_object(self, out)
+    }
+}
+
+impl ReadMembers for CodeActionParams {
+    fn read<S: Source>(members: &mut S) -> CodeActionParams {
+        CodeActionParams {
+            text_document: members.required(),
+            range: members.required(),
+            context: members.required(),
+        }
     }
 }
 
@@ -24,25 +42,37 @@ impl DeserializeOwned for CodeActionParams {
         alloc: Global,
         from: &mut Deserializer<'_, '_, F>,
     ) -> Result<CodeActionParams, F::Error> {
-        let mut members = Members::of(alloc, from);
-        let read = CodeActionParams {
-            text_document: members.required("textDocument"),
-            range: members.required("range"),
-            context: members.required("context"),
-        };
-        members.end(read)
+        read_object(alloc, from)
     }
 }
 
 impl Described for CodeActionContext {}
 
+impl Keyed for CodeActionContext {
+    const KEYS: &'static [&'static str] = &["diagnostics", "only", "triggerKind"];
+}
+
+impl WriteMembers for CodeActionContext {
+    fn write<O: Sink>(&self, out: O) -> O {
+        out.member(&self.diagnostics)
+            .some(&self.only)
+            .some(&self.trigger_kind)
+    }
+}
+
 impl Serialize for CodeActionContext {
     fn serialize<S: Serializer>(&self, out: &mut S) -> Result<(), S::Error> {
-        Object::begin(out)
-            .member("diagnostics", &self.diagnostics)
-            .some("only", &self.only)
-            .some("triggerKind", &self.trigger_kind)
-            .end()
+        write_object(self, out)
+    }
+}
+
+impl ReadMembers for CodeActionContext {
+    fn read<S: Source>(members: &mut S) -> CodeActionContext {
+        CodeActionContext {
+            diagnostics: members.required(),
+            only: members.optional(),
+            trigger_kind: members.optional(),
+        }
     }
 }
 
@@ -51,13 +81,16 @@ impl<'de> Deserialize<'de> for CodeActionContext {
         alloc: Global,
         from: &mut Deserializer<'de, '_, F>,
     ) -> Result<CodeActionContext, F::Error> {
-        let mut members = Members::of(alloc, from);
-        let read = CodeActionContext {
-            diagnostics: members.required("diagnostics"),
-            only: members.optional("only"),
-            trigger_kind: members.optional("triggerKind"),
-        };
-        members.end(read)
+        read_object(alloc, from)
+    }
+}
+
+impl DeserializeOwned for CodeActionContext {
+    fn deserialize_owned<F: Format>(
+        alloc: Global,
+        from: &mut Deserializer<'_, '_, F>,
+    ) -> Result<CodeActionContext, F::Error> {
+        read_object(alloc, from)
     }
 }
 
@@ -81,19 +114,58 @@ impl<'de> Deserialize<'de> for CodeActionTriggerKind {
     }
 }
 
+impl DeserializeOwned for CodeActionTriggerKind {
+    fn deserialize_owned<F: Format>(
+        alloc: Global,
+        from: &mut Deserializer<'_, '_, F>,
+    ) -> Result<CodeActionTriggerKind, F::Error> {
+        CodeActionTriggerKind::deserialize(alloc, from)
+    }
+}
+
 impl Described for CodeAction {}
+
+impl Keyed for CodeAction {
+    const KEYS: &'static [&'static str] = &[
+        "title",
+        "kind",
+        "diagnostics",
+        "isPreferred",
+        "edit",
+        "command",
+        "data",
+    ];
+}
+
+impl WriteMembers for CodeAction {
+    fn write<O: Sink>(&self, out: O) -> O {
+        out.member(&self.title)
+            .some(&self.kind)
+            .some(&self.diagnostics)
+            .some(&self.is_preferred)
+            .some(&self.edit)
+            .some(&self.command)
+            .some(&self.data)
+    }
+}
 
 impl Serialize for CodeAction {
     fn serialize<S: Serializer>(&self, out: &mut S) -> Result<(), S::Error> {
-        Object::begin(out)
-            .member("title", &self.title)
-            .some("kind", &self.kind)
-            .some("diagnostics", &self.diagnostics)
-            .some("isPreferred", &self.is_preferred)
-            .some("edit", &self.edit)
-            .some("command", &self.command)
-            .some("data", &self.data)
-            .end()
+        write_object(self, out)
+    }
+}
+
+impl ReadMembers for CodeAction {
+    fn read<S: Source>(members: &mut S) -> CodeAction {
+        CodeAction {
+            title: members.required(),
+            kind: members.optional(),
+            diagnostics: members.optional(),
+            is_preferred: members.optional(),
+            edit: members.optional(),
+            command: members.optional(),
+            data: members.optional(),
+        }
     }
 }
 
@@ -102,16 +174,6 @@ impl DeserializeOwned for CodeAction {
         alloc: Global,
         from: &mut Deserializer<'_, '_, F>,
     ) -> Result<CodeAction, F::Error> {
-        let mut members = Members::of(alloc, from);
-        let read = CodeAction {
-            title: members.required("title"),
-            kind: members.optional("kind"),
-            diagnostics: members.optional("diagnostics"),
-            is_preferred: members.optional("isPreferred"),
-            edit: members.optional("edit"),
-            command: members.optional("command"),
-            data: members.optional("data"),
-        };
-        members.end(read)
+        read_object(alloc, from)
     }
 }

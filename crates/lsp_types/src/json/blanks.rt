@@ -1,12 +1,6 @@
 // What stands for a value that could not be read.
-use crate::actions::CodeActionContext;
 use crate::diagnostics::NumberOrString;
-use crate::documents::{
-    Location, ReferenceContext, TextDocumentIdentifier, TextDocumentItem,
-    VersionedTextDocumentIdentifier,
-};
-use crate::edits::{FormattingOptions, OptionalVersionedTextDocumentIdentifier, WorkspaceEdit};
-use crate::hovers::{MarkupContent, MarkupKind};
+use crate::hovers::MarkupKind;
 use crate::json::Blank;
 use crate::window::MessageType;
 use lsp_text::{Position, Range};
@@ -76,99 +70,5 @@ impl Blank for Position {
 impl Blank for Range {
     fn blank(alloc: Global) -> Range {
         Range::new(Position::blank(alloc), Position::blank(alloc))
-    }
-}
-
-impl Blank for Location {
-    fn blank(alloc: Global) -> Location {
-        Location {
-            uri: String::new(alloc),
-            range: Range::blank(alloc),
-        }
-    }
-}
-
-impl Blank for TextDocumentIdentifier {
-    fn blank(alloc: Global) -> TextDocumentIdentifier {
-        TextDocumentIdentifier {
-            uri: String::new(alloc),
-        }
-    }
-}
-
-impl Blank for VersionedTextDocumentIdentifier {
-    fn blank(alloc: Global) -> VersionedTextDocumentIdentifier {
-        VersionedTextDocumentIdentifier {
-            uri: String::new(alloc),
-            version: 0,
-        }
-    }
-}
-
-impl Blank for OptionalVersionedTextDocumentIdentifier {
-    fn blank(alloc: Global) -> OptionalVersionedTextDocumentIdentifier {
-        OptionalVersionedTextDocumentIdentifier {
-            uri: String::new(alloc),
-            version: None,
-        }
-    }
-}
-
-impl Blank for TextDocumentItem {
-    fn blank(alloc: Global) -> TextDocumentItem {
-        TextDocumentItem {
-            uri: String::new(alloc),
-            language_id: String::new(alloc),
-            version: 0,
-            text: String::new(alloc),
-        }
-    }
-}
-
-impl Blank for ReferenceContext {
-    fn blank(_alloc: Global) -> ReferenceContext {
-        ReferenceContext {
-            include_declaration: false,
-        }
-    }
-}
-
-impl Blank for FormattingOptions {
-    fn blank(_alloc: Global) -> FormattingOptions {
-        FormattingOptions {
-            tab_size: 0,
-            insert_spaces: false,
-            trim_trailing_whitespace: None,
-            insert_final_newline: None,
-            trim_final_newlines: None,
-        }
-    }
-}
-
-impl Blank for MarkupContent {
-    fn blank(alloc: Global) -> MarkupContent {
-        MarkupContent {
-            kind: MarkupKind::PlainText,
-            value: String::new(alloc),
-        }
-    }
-}
-
-impl Blank for WorkspaceEdit {
-    fn blank(_alloc: Global) -> WorkspaceEdit {
-        WorkspaceEdit {
-            changes: None,
-            document_changes: None,
-        }
-    }
-}
-
-impl Blank for CodeActionContext {
-    fn blank(alloc: Global) -> CodeActionContext {
-        CodeActionContext {
-            diagnostics: Vec::new(alloc),
-            only: None,
-            trigger_kind: None,
-        }
     }
 }

@@ -4,38 +4,57 @@ use crate::capabilities::{
     SemanticTokensLegend, SemanticTokensOptions, ServerCapabilities, SignatureHelpOptions,
     TextDocumentSyncKind, TextDocumentSyncOptions,
 };
-use crate::json::Object;
+use crate::json::{Keyed, Sink, WriteMembers, write_object};
 use serde::{Described, Serialize, Serializer};
 
 impl Described for ServerCapabilities {}
 
+impl Keyed for ServerCapabilities {
+    const KEYS: &'static [&'static str] = &[
+        "positionEncoding",
+        "textDocumentSync",
+        "completionProvider",
+        "hoverProvider",
+        "signatureHelpProvider",
+        "definitionProvider",
+        "referencesProvider",
+        "documentSymbolProvider",
+        "codeActionProvider",
+        "documentFormattingProvider",
+        "documentRangeFormattingProvider",
+        "renameProvider",
+        "executeCommandProvider",
+        "semanticTokensProvider",
+        "inlayHintProvider",
+        "workspaceSymbolProvider",
+    ];
+}
+
+impl WriteMembers for ServerCapabilities {
+    fn write<O: Sink>(&self, out: O) -> O {
+        out.some(&self.position_encoding)
+            .some(&self.text_document_sync)
+            .some(&self.completion_provider)
+            .some(&self.hover_provider)
+            .some(&self.signature_help_provider)
+            .some(&self.definition_provider)
+            .some(&self.references_provider)
+            .some(&self.document_symbol_provider)
+            .some(&self.code_action_provider)
+            .some(&self.document_formatting_provider)
+            .some(&self.document_range_formatting_provider)
+            .some(&self.rename_provider)
+            .some(&self.execute_command_provider)
+            .some(&self.semantic_tokens_provider)
+            .some(&self.inlay_hint_provider)
+            .some(&self.workspace_symbol_provider)
+            .rest(&self.more)
+    }
+}
+
 impl Serialize for ServerCapabilities {
     fn serialize<S: Serializer>(&self, out: &mut S) -> Result<(), S::Error> {
-        Object::begin(out)
-            .some("positionEncoding", &self.position_encoding)
-            .some("textDocumentSync", &self.text_document_sync)
-            .some("completionProvider", &self.completion_provider)
-            .some("hoverProvider", &self.hover_provider)
-            .some("signatureHelpProvider", &self.signature_help_provider)
-            .some("definitionProvider", &self.definition_provider)
-            .some("referencesProvider", &self.references_provider)
-            .some("documentSymbolProvider", &self.document_symbol_provider)
-            .some("codeActionProvider", &self.code_action_provider)
-            .some(
-                "documentFormattingProvider",
-                &self.document_formatting_provider,
-            )
-            .some(
-                "documentRangeFormattingProvider",
-                &self.document_range_formatting_provider,
-            )
-            .some("renameProvider", &self.rename_provider)
-            .some("executeCommandProvider", &self.execute_command_provider)
-            .some("semanticTokensProvider", &self.semantic_tokens_provider)
-            .some("inlayHintProvider", &self.inlay_hint_provider)
-            .some("workspaceSymbolProvider", &self.workspace_symbol_provider)
-            .rest(&self.more)
-            .end()
+        write_object(self, out)
     }
 }
 
@@ -49,98 +68,175 @@ impl Serialize for TextDocumentSyncKind {
 
 impl Described for TextDocumentSyncOptions {}
 
+impl Keyed for TextDocumentSyncOptions {
+    const KEYS: &'static [&'static str] = &[
+        "openClose",
+        "change",
+        "willSave",
+        "willSaveWaitUntil",
+        "save",
+    ];
+}
+
+impl WriteMembers for TextDocumentSyncOptions {
+    fn write<O: Sink>(&self, out: O) -> O {
+        out.some(&self.open_close)
+            .some(&self.change)
+            .some(&self.will_save)
+            .some(&self.will_save_wait_until)
+            .some(&self.save)
+    }
+}
+
 impl Serialize for TextDocumentSyncOptions {
     fn serialize<S: Serializer>(&self, out: &mut S) -> Result<(), S::Error> {
-        Object::begin(out)
-            .some("openClose", &self.open_close)
-            .some("change", &self.change)
-            .some("willSave", &self.will_save)
-            .some("willSaveWaitUntil", &self.will_save_wait_until)
-            .some("save", &self.save)
-            .end()
+        write_object(self, out)
     }
 }
 
 impl Described for SaveOptions {}
 
+impl Keyed for SaveOptions {
+    const KEYS: &'static [&'static str] = &["includeText"];
+}
+
+impl WriteMembers for SaveOptions {
+    fn write<O: Sink>(&self, out: O) -> O {
+        out.some(&self.include_text)
+    }
+}
+
 impl Serialize for SaveOptions {
     fn serialize<S: Serializer>(&self, out: &mut S) -> Result<(), S::Error> {
-        Object::begin(out)
-            .some("includeText", &self.include_text)
-            .end()
+        write_object(self, out)
     }
 }
 
 impl Described for CompletionOptions {}
 
+impl Keyed for CompletionOptions {
+    const KEYS: &'static [&'static str] = &["triggerCharacters", "resolveProvider"];
+}
+
+impl WriteMembers for CompletionOptions {
+    fn write<O: Sink>(&self, out: O) -> O {
+        out.some(&self.trigger_characters)
+            .some(&self.resolve_provider)
+    }
+}
+
 impl Serialize for CompletionOptions {
     fn serialize<S: Serializer>(&self, out: &mut S) -> Result<(), S::Error> {
-        Object::begin(out)
-            .some("triggerCharacters", &self.trigger_characters)
-            .some("resolveProvider", &self.resolve_provider)
-            .end()
+        write_object(self, out)
     }
 }
 
 impl Described for SignatureHelpOptions {}
 
+impl Keyed for SignatureHelpOptions {
+    const KEYS: &'static [&'static str] = &["triggerCharacters", "retriggerCharacters"];
+}
+
+impl WriteMembers for SignatureHelpOptions {
+    fn write<O: Sink>(&self, out: O) -> O {
+        out.some(&self.trigger_characters)
+            .some(&self.retrigger_characters)
+    }
+}
+
 impl Serialize for SignatureHelpOptions {
     fn serialize<S: Serializer>(&self, out: &mut S) -> Result<(), S::Error> {
-        Object::begin(out)
-            .some("triggerCharacters", &self.trigger_characters)
-            .some("retriggerCharacters", &self.retrigger_characters)
-            .end()
+        write_object(self, out)
     }
 }
 
 impl Described for CodeActionOptions {}
 
+impl Keyed for CodeActionOptions {
+    const KEYS: &'static [&'static str] = &["codeActionKinds", "resolveProvider"];
+}
+
+impl WriteMembers for CodeActionOptions {
+    fn write<O: Sink>(&self, out: O) -> O {
+        out.some(&self.code_action_kinds)
+            .some(&self.resolve_provider)
+    }
+}
+
 impl Serialize for CodeActionOptions {
     fn serialize<S: Serializer>(&self, out: &mut S) -> Result<(), S::Error> {
-        Object::begin(out)
-            .some("codeActionKinds", &self.code_action_kinds)
-            .some("resolveProvider", &self.resolve_provider)
-            .end()
+        write_object(self, out)
     }
 }
 
 impl Described for RenameOptions {}
 
+impl Keyed for RenameOptions {
+    const KEYS: &'static [&'static str] = &["prepareProvider"];
+}
+
+impl WriteMembers for RenameOptions {
+    fn write<O: Sink>(&self, out: O) -> O {
+        out.some(&self.prepare_provider)
+    }
+}
+
 impl Serialize for RenameOptions {
     fn serialize<S: Serializer>(&self, out: &mut S) -> Result<(), S::Error> {
-        Object::begin(out)
-            .some("prepareProvider", &self.prepare_provider)
-            .end()
+        write_object(self, out)
     }
 }
 
 impl Described for ExecuteCommandOptions {}
 
+impl Keyed for ExecuteCommandOptions {
+    const KEYS: &'static [&'static str] = &["commands"];
+}
+
+impl WriteMembers for ExecuteCommandOptions {
+    fn write<O: Sink>(&self, out: O) -> O {
+        out.member(&self.commands)
+    }
+}
+
 impl Serialize for ExecuteCommandOptions {
     fn serialize<S: Serializer>(&self, out: &mut S) -> Result<(), S::Error> {
-        Object::begin(out).member("commands", &self.commands).end()
+        write_object(self, out)
     }
 }
 
 impl Described for SemanticTokensOptions {}
 
+impl Keyed for SemanticTokensOptions {
+    const KEYS: &'static [&'static str] = &["legend", "range", "full"];
+}
+
+impl WriteMembers for SemanticTokensOptions {
+    fn write<O: Sink>(&self, out: O) -> O {
+        out.member(&self.legend).some(&self.range).some(&self.full)
+    }
+}
+
 impl Serialize for SemanticTokensOptions {
     fn serialize<S: Serializer>(&self, out: &mut S) -> Result<(), S::Error> {
-        Object::begin(out)
-            .member("legend", &self.legend)
-            .some("range", &self.range)
-            .some("full", &self.full)
-            .end()
+        write_object(self, out)
     }
 }
 
 impl Described for SemanticTokensLegend {}
 
+impl Keyed for SemanticTokensLegend {
+    const KEYS: &'static [&'static str] = &["tokenTypes", "tokenModifiers"];
+}
+
+impl WriteMembers for SemanticTokensLegend {
+    fn write<O: Sink>(&self, out: O) -> O {
+        out.member(&self.token_types).member(&self.token_modifiers)
+    }
+}
+
 impl Serialize for SemanticTokensLegend {
     fn serialize<S: Serializer>(&self, out: &mut S) -> Result<(), S::Error> {
-        Object::begin(out)
-            .member("tokenTypes", &self.token_types)
-            .member("tokenModifiers", &self.token_modifiers)
-            .end()
+        write_object(self, out)
     }
 }

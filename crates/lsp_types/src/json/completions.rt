@@ -1,6 +1,6 @@
 // Completions as JSON.
 use crate::completions::{CompletionItem, CompletionItemKind, CompletionList, InsertTextFormat};
-use crate::json::{Members, Object};
+use crate::json::{Keyed, ReadMembers, Sink, Source, WriteMembers, read_object, write_object};
 use crate::numbers::number_within;
 use serde::{
     Described, Deserialize, DeserializeOwned, Deserializer, Format, Serialize, Serializer,
@@ -27,6 +27,15 @@ impl<'de> Deserialize<'de> for CompletionItemKind {
     }
 }
 
+impl DeserializeOwned for CompletionItemKind {
+    fn deserialize_owned<F: Format>(
+        alloc: Global,
+        from: &mut Deserializer<'_, '_, F>,
+    ) -> Result<CompletionItemKind, F::Error> {
+        CompletionItemKind::deserialize(alloc, from)
+    }
+}
+
 impl Described for InsertTextFormat {}
 
 impl Serialize for InsertTextFormat {
@@ -47,24 +56,73 @@ impl<'de> Deserialize<'de> for InsertTextFormat {
     }
 }
 
+impl DeserializeOwned for InsertTextFormat {
+    fn deserialize_owned<F: Format>(
+        alloc: Global,
+        from: &mut Deserializer<'_, '_, F>,
+    ) -> Result<InsertTextFormat, F::Error> {
+        InsertTextFormat::deserialize(alloc, from)
+    }
+}
+
 impl Described for CompletionItem {}
+
+impl Keyed for CompletionItem {
+    const KEYS: &'static [&'static str] = &[
+        "label",
+        "kind",
+        "detail",
+        "documentation",
+        "sortText",
+        "filterText",
+        "insertText",
+        "insertTextFormat",
+        "textEdit",
+        "additionalTextEdits",
+        "command",
+        "data",
+    ];
+}
+
+impl WriteMembers for CompletionItem {
+    fn write<O: Sink>(&self, out: O) -> O {
+        out.member(&self.label)
+            .some(&self.kind)
+            .some(&self.detail)
+            .some(&self.documentation)
+            .some(&self.sort_text)
+            .some(&self.filter_text)
+            .some(&self.insert_text)
+            .some(&self.insert_text_format)
+            .some(&self.text_edit)
+            .some(&self.additional_text_edits)
+            .some(&self.command)
+            .some(&self.data)
+    }
+}
 
 impl Serialize for CompletionItem {
     fn serialize<S: Serializer>(&self, out: &mut S) -> Result<(), S::Error> {
-        Object::begin(out)
-            .member("label", &self.label)
-            .some("kind", &self.kind)
-            .some("detail", &self.detail)
-            .some("documentation", &self.documentation)
-            .some("sortText", &self.sort_text)
-            .some("filterText", &self.filter_text)
-            .some("insertText", &self.insert_text)
-            .some("insertTextFormat", &self.insert_text_format)
-            .some("textEdit", &self.text_edit)
-            .some("additionalTextEdits", &self.additional_text_edits)
-            .some("command", &self.command)
-            .some("data", &self.data)
-            .end()
+        write_object(self, out)
+    }
+}
+
+impl ReadMembers for CompletionItem {
+    fn read<S: Source>(members: &mut S) -> CompletionItem {
+        CompletionItem {
+            label: members.required(),
+            kind: members.optional(),
+            detail: members.optional(),
+            documentation: members.optional(),
+            sort_text: members.optional(),
+            filter_text: members.optional(),
+            insert_text: members.optional(),
+            insert_text_format: members.optional(),
+            text_edit: members.optional(),
+            additional_text_edits: members.optional(),
+            command: members.optional(),
+            data: members.optional(),
+        }
     }
 }
 
@@ -73,22 +131,7 @@ impl<'de> Deserialize<'de> for CompletionItem {
         alloc: Global,
         from: &mut Deserializer<'de, '_, F>,
     ) -> Result<CompletionItem, F::Error> {
-        let mut members = Members::of(alloc, from);
-        let read = CompletionItem {
-            label: members.required("label"),
-            kind: members.optional("kind"),
-            detail: members.optional("detail"),
-            documentation: members.optional("documentation"),
-            sort_text: members.optional("sortText"),
-            filter_text: members.optional("filterText"),
-            insert_text: members.optional("insertText"),
-            insert_text_format: members.optional("insertTextFormat"),
-            text_edit: members.optional("textEdit"),
-            additional_text_edits: members.optional("additionalTextEdits"),
-            command: members.optional("command"),
-            data: members.optional("data"),
-        };
-        members.end(read)
+        read_object(alloc, from)
     }
 }
 
@@ -97,18 +140,34 @@ impl DeserializeOwned for CompletionItem {
         alloc: Global,
         from: &mut Deserializer<'_, '_, F>,
     ) -> Result<CompletionItem, F::Error> {
-        CompletionItem::deserialize(alloc, from)
+        read_object(alloc, from)
     }
 }
 
 impl Described for CompletionList {}
 
+impl Keyed for CompletionList {
+    const KEYS: &'static [&'static str] = &["isIncomplete", "items"];
+}
+
+impl WriteMembers for CompletionList {
+    fn write<O: Sink>(&self, out: O) -> O {
+        out.member(&self.is_incomplete).member(&self.items)
+    }
+}
+
 impl Serialize for CompletionList {
     fn serialize<S: Serializer>(&self, out: &mut S) -> Result<(), S::Error> {
-        Object::begin(out)
-            .member("isIncomplete", &self.is_incomplete)
-            .member("items", &self.items)
-            .end()
+        write_object(self, out)
+    }
+}
+
+impl ReadMembers for CompletionList {
+    fn read<S: Source>(members: &mut S) -> CompletionList {
+        CompletionList {
+            is_incomplete: members.required(),
+            items: members.required(),
+        }
     }
 }
 
@@ -117,11 +176,6 @@ impl DeserializeOwned for CompletionList {
         alloc: Global,
         from: &mut Deserializer<'_, '_, F>,
     ) -> Result<CompletionList, F::Error> {
-        let mut members = Members::of(alloc, from);
-        let read = CompletionList {
-            is_incomplete: members.required("isIncomplete"),
-            items: members.required("items"),
-        };
-        members.end(read)
+        read_object(alloc, from)
     }
 }

@@ -3,7 +3,7 @@ use crate::diagnostics::{
     Diagnostic, DiagnosticRelatedInformation, DiagnosticSeverity, DiagnosticTag, NumberOrString,
     PublishDiagnosticsParams,
 };
-use crate::json::{Members, Object};
+use crate::json::{Keyed, ReadMembers, Sink, Source, WriteMembers, read_object, write_object};
 use crate::numbers::number_within;
 use serde::{
     Described, Deserialize, DeserializeOwned, Deserializer, Format, Kind, Serialize, Serializer,
@@ -30,6 +30,15 @@ impl<'de> Deserialize<'de> for DiagnosticSeverity {
     }
 }
 
+impl DeserializeOwned for DiagnosticSeverity {
+    fn deserialize_owned<F: Format>(
+        alloc: Global,
+        from: &mut Deserializer<'_, '_, F>,
+    ) -> Result<DiagnosticSeverity, F::Error> {
+        DiagnosticSeverity::deserialize(alloc, from)
+    }
+}
+
 impl Described for DiagnosticTag {}
 
 impl Serialize for DiagnosticTag {
@@ -50,14 +59,39 @@ impl<'de> Deserialize<'de> for DiagnosticTag {
     }
 }
 
+impl DeserializeOwned for DiagnosticTag {
+    fn deserialize_owned<F: Format>(
+        alloc: Global,
+        from: &mut Deserializer<'_, '_, F>,
+    ) -> Result<DiagnosticTag, F::Error> {
+        DiagnosticTag::deserialize(alloc, from)
+    }
+}
+
 impl Described for DiagnosticRelatedInformation {}
+
+impl Keyed for DiagnosticRelatedInformation {
+    const KEYS: &'static [&'static str] = &["location", "message"];
+}
+
+impl WriteMembers for DiagnosticRelatedInformation {
+    fn write<O: Sink>(&self, out: O) -> O {
+        out.member(&self.location).member(&self.message)
+    }
+}
 
 impl Serialize for DiagnosticRelatedInformation {
     fn serialize<S: Serializer>(&self, out: &mut S) -> Result<(), S::Error> {
-        Object::begin(out)
-            .member("location", &self.location)
-            .member("message", &self.message)
-            .end()
+        write_object(self, out)
+    }
+}
+
+impl ReadMembers for DiagnosticRelatedInformation {
+    fn read<S: Source>(members: &mut S) -> DiagnosticRelatedInformation {
+        DiagnosticRelatedInformation {
+            location: members.required(),
+            message: members.required(),
+        }
     }
 }
 
@@ -66,29 +100,65 @@ impl<'de> Deserialize<'de> for DiagnosticRelatedInformation {
         alloc: Global,
         from: &mut Deserializer<'de, '_, F>,
     ) -> Result<DiagnosticRelatedInformation, F::Error> {
-        let mut members = Members::of(alloc, from);
-        let read = DiagnosticRelatedInformation {
-            location: members.required("location"),
-            message: members.required("message"),
-        };
-        members.end(read)
+        read_object(alloc, from)
+    }
+}
+
+impl DeserializeOwned for DiagnosticRelatedInformation {
+    fn deserialize_owned<F: Format>(
+        alloc: Global,
+        from: &mut Deserializer<'_, '_, F>,
+    ) -> Result<DiagnosticRelatedInformation, F::Error> {
+        read_object(alloc, from)
     }
 }
 
 impl Described for Diagnostic {}
 
+impl Keyed for Diagnostic {
+    const KEYS: &'static [&'static str] = &[
+        "range",
+        "severity",
+        "code",
+        "source",
+        "message",
+        "tags",
+        "relatedInformation",
+        "data",
+    ];
+}
+
+impl WriteMembers for Diagnostic {
+    fn write<O: Sink>(&self, out: O) -> O {
+        out.member(&self.range)
+            .some(&self.severity)
+            .some(&self.code)
+            .some(&self.source)
+            .member(&self.message)
+            .some(&self.tags)
+            .some(&self.related_information)
+            .some(&self.data)
+    }
+}
+
 impl Serialize for Diagnostic {
     fn serialize<S: Serializer>(&self, out: &mut S) -> Result<(), S::Error> {
-        Object::begin(out)
-            .member("range", &self.range)
-            .some("severity", &self.severity)
-            .some("code", &self.code)
-            .some("source", &self.source)
-            .member("message", &self.message)
-            .some("tags", &self.tags)
-            .some("relatedInformation", &self.related_information)
-            .some("data", &self.data)
-            .end()
+        write_object(self, out)
+    }
+}
+
+impl ReadMembers for Diagnostic {
+    fn read<S: Source>(members: &mut S) -> Diagnostic {
+        Diagnostic {
+            range: members.required(),
+            severity: members.optional(),
+            code: members.optional(),
+            source: members.optional(),
+            message: members.required(),
+            tags: members.optional(),
+            related_information: members.optional(),
+            data: members.optional(),
+        }
     }
 }
 
@@ -97,30 +167,46 @@ impl<'de> Deserialize<'de> for Diagnostic {
         alloc: Global,
         from: &mut Deserializer<'de, '_, F>,
     ) -> Result<Diagnostic, F::Error> {
-        let mut members = Members::of(alloc, from);
-        let read = Diagnostic {
-            range: members.required("range"),
-            severity: members.optional("severity"),
-            code: members.optional("code"),
-            source: members.optional("source"),
-            message: members.required("message"),
-            tags: members.optional("tags"),
-            related_information: members.optional("relatedInformation"),
-            data: members.optional("data"),
-        };
-        members.end(read)
+        read_object(alloc, from)
+    }
+}
+
+impl DeserializeOwned for Diagnostic {
+    fn deserialize_owned<F: Format>(
+        alloc: Global,
+        from: &mut Deserializer<'_, '_, F>,
+    ) -> Result<Diagnostic, F::Error> {
+        read_object(alloc, from)
     }
 }
 
 impl Described for PublishDiagnosticsParams {}
 
+impl Keyed for PublishDiagnosticsParams {
+    const KEYS: &'static [&'static str] = &["uri", "version", "diagnostics"];
+}
+
+impl WriteMembers for PublishDiagnosticsParams {
+    fn write<O: Sink>(&self, out: O) -> O {
+        out.member(&self.uri)
+            .some(&self.version)
+            .member(&self.diagnostics)
+    }
+}
+
 impl Serialize for PublishDiagnosticsParams {
     fn serialize<S: Serializer>(&self, out: &mut S) -> Result<(), S::Error> {
-        Object::begin(out)
-            .member("uri", &self.uri)
-            .some("version", &self.version)
-            .member("diagnostics", &self.diagnostics)
-            .end()
+        write_object(self, out)
+    }
+}
+
+impl ReadMembers for PublishDiagnosticsParams {
+    fn read<S: Source>(members: &mut S) -> PublishDiagnosticsParams {
+        PublishDiagnosticsParams {
+            uri: members.required(),
+            version: members.optional(),
+            diagnostics: members.required(),
+        }
     }
 }
 
@@ -129,13 +215,7 @@ impl DeserializeOwned for PublishDiagnosticsParams {
         alloc: Global,
         from: &mut Deserializer<'_, '_, F>,
     ) -> Result<PublishDiagnosticsParams, F::Error> {
-        let mut members = Members::of(alloc, from);
-        let read = PublishDiagnosticsParams {
-            uri: members.required("uri"),
-            version: members.optional("version"),
-            diagnostics: members.required("diagnostics"),
-        };
-        members.end(read)
+        read_object(alloc, from)
     }
 }
 

@@ -5,7 +5,10 @@ use crate::documents::{
     TextDocumentParams, TextDocumentPositionParams, TextDocumentRangeParams,
     VersionedTextDocumentIdentifier,
 };
-use crate::json::{Members, Object};
+use crate::json::{
+    Blank, Keyed, ReadMembers, Sink, Source, WriteMembers, read_object, write_object,
+};
+use lsp_text::ContentChange;
 use serde::{
     Described, Deserialize, DeserializeOwned, Deserializer, Format, Serialize, Serializer,
 };
@@ -13,12 +16,28 @@ use std::alloc::Global;
 
 impl Described for Location {}
 
+impl Keyed for Location {
+    const KEYS: &'static [&'static str] = &["uri", "range"];
+}
+
+impl WriteMembers for Location {
+    fn write<O: Sink>(&self, out: O) -> O {
+        out.member(&self.uri).member(&self.range)
+    }
+}
+
 impl Serialize for Location {
     fn serialize<S: Serializer>(&self, out: &mut S) -> Result<(), S::Error> {
-        Object::begin(out)
-            .member("uri", &self.uri)
-            .member("range", &self.range)
-            .end()
+        write_object(self, out)
+    }
+}
+
+impl ReadMembers for Location {
+    fn read<S: Source>(members: &mut S) -> Location {
+        Location {
+            uri: members.required(),
+            range: members.required(),
+        }
     }
 }
 
@@ -27,12 +46,7 @@ impl<'de> Deserialize<'de> for Location {
         alloc: Global,
         from: &mut Deserializer<'de, '_, F>,
     ) -> Result<Location, F::Error> {
-        let mut members = Members::of(alloc, from);
-        let read = Location {
-            uri: members.required("uri"),
-            range: members.required("range"),
-        };
-        members.end(read)
+        read_object(alloc, from)
     }
 }
 
@@ -41,15 +55,33 @@ impl DeserializeOwned for Location {
         alloc: Global,
         from: &mut Deserializer<'_, '_, F>,
     ) -> Result<Location, F::Error> {
-        Location::deserialize(alloc, from)
+        read_object(alloc, from)
     }
 }
 
 impl Described for TextDocumentIdentifier {}
 
+impl Keyed for TextDocumentIdentifier {
+    const KEYS: &'static [&'static str] = &["uri"];
+}
+
+impl WriteMembers for TextDocumentIdentifier {
+    fn write<O: Sink>(&self, out: O) -> O {
+        out.member(&self.uri)
+    }
+}
+
 impl Serialize for TextDocumentIdentifier {
     fn serialize<S: Serializer>(&self, out: &mut S) -> Result<(), S::Error> {
-        Object::begin(out).member("uri", &self.uri).end()
+        write_object(self, out)
+    }
+}
+
+impl ReadMembers for TextDocumentIdentifier {
+    fn read<S: Source>(members: &mut S) -> TextDocumentIdentifier {
+        TextDocumentIdentifier {
+            uri: members.required(),
+        }
     }
 }
 
@@ -58,22 +90,43 @@ impl<'de> Deserialize<'de> for TextDocumentIdentifier {
         alloc: Global,
         from: &mut Deserializer<'de, '_, F>,
     ) -> Result<TextDocumentIdentifier, F::Error> {
-        let mut members = Members::of(alloc, from);
-        let read = TextDocumentIdentifier {
-            uri: members.required("uri"),
-        };
-        members.end(read)
+        read_object(alloc, from)
+    }
+}
+
+impl DeserializeOwned for TextDocumentIdentifier {
+    fn deserialize_owned<F: Format>(
+        alloc: Global,
+        from: &mut Deserializer<'_, '_, F>,
+    ) -> Result<TextDocumentIdentifier, F::Error> {
+        read_object(alloc, from)
     }
 }
 
 impl Described for VersionedTextDocumentIdentifier {}
 
+impl Keyed for VersionedTextDocumentIdentifier {
+    const KEYS: &'static [&'static str] = &["uri", "version"];
+}
+
+impl WriteMembers for VersionedTextDocumentIdentifier {
+    fn write<O: Sink>(&self, out: O) -> O {
+        out.member(&self.uri).member(&self.version)
+    }
+}
+
 impl Serialize for VersionedTextDocumentIdentifier {
     fn serialize<S: Serializer>(&self, out: &mut S) -> Result<(), S::Error> {
-        Object::begin(out)
-            .member("uri", &self.uri)
-            .member("version", &self.version)
-            .end()
+        write_object(self, out)
+    }
+}
+
+impl ReadMembers for VersionedTextDocumentIdentifier {
+    fn read<S: Source>(members: &mut S) -> VersionedTextDocumentIdentifier {
+        VersionedTextDocumentIdentifier {
+            uri: members.required(),
+            version: members.required(),
+        }
     }
 }
 
@@ -82,25 +135,48 @@ impl<'de> Deserialize<'de> for VersionedTextDocumentIdentifier {
         alloc: Global,
         from: &mut Deserializer<'de, '_, F>,
     ) -> Result<VersionedTextDocumentIdentifier, F::Error> {
-        let mut members = Members::of(alloc, from);
-        let read = VersionedTextDocumentIdentifier {
-            uri: members.required("uri"),
-            version: members.required("version"),
-        };
-        members.end(read)
+        read_object(alloc, from)
+    }
+}
+
+impl DeserializeOwned for VersionedTextDocumentIdentifier {
+    fn deserialize_owned<F: Format>(
+        alloc: Global,
+        from: &mut Deserializer<'_, '_, F>,
+    ) -> Result<VersionedTextDocumentIdentifier, F::Error> {
+        read_object(alloc, from)
     }
 }
 
 impl Described for TextDocumentItem {}
 
+impl Keyed for TextDocumentItem {
+    const KEYS: &'static [&'static str] = &["uri", "languageId", "version", "text"];
+}
+
+impl WriteMembers for TextDocumentItem {
+    fn write<O: Sink>(&self, out: O) -> O {
+        out.member(&self.uri)
+            .member(&self.language_id)
+            .member(&self.version)
+            .member(&self.text)
+    }
+}
+
 impl Serialize for TextDocumentItem {
     fn serialize<S: Serializer>(&self, out: &mut S) -> Result<(), S::Error> {
-        Object::begin(out)
-            .member("uri", &self.uri)
-            .member("languageId", &self.language_id)
-            .member("version", &self.version)
-            .member("text", &self.text)
-            .end()
+        write_object(self, out)
+    }
+}
+
+impl ReadMembers for TextDocumentItem {
+    fn read<S: Source>(members: &mut S) -> TextDocumentItem {
+        TextDocumentItem {
+            uri: members.required(),
+            language_id: members.required(),
+            version: members.required(),
+            text: members.required(),
+        }
     }
 }
 
@@ -109,24 +185,42 @@ impl<'de> Deserialize<'de> for TextDocumentItem {
         alloc: Global,
         from: &mut Deserializer<'de, '_, F>,
     ) -> Result<TextDocumentItem, F::Error> {
-        let mut members = Members::of(alloc, from);
-        let read = TextDocumentItem {
-            uri: members.required("uri"),
-            language_id: members.required("languageId"),
-            version: members.required("version"),
-            text: members.required("text"),
-        };
-        members.end(read)
+        read_object(alloc, from)
+    }
+}
+
+impl DeserializeOwned for TextDocumentItem {
+    fn deserialize_owned<F: Format>(
+        alloc: Global,
+        from: &mut Deserializer<'_, '_, F>,
+    ) -> Result<TextDocumentItem, F::Error> {
+        read_object(alloc, from)
     }
 }
 
 impl Described for DidOpenTextDocumentParams {}
 
+impl Keyed for DidOpenTextDocumentParams {
+    const KEYS: &'static [&'static str] = &["textDocument"];
+}
+
+impl WriteMembers for DidOpenTextDocumentParams {
+    fn write<O: Sink>(&self, out: O) -> O {
+        out.member(&self.text_document)
+    }
+}
+
 impl Serialize for DidOpenTextDocumentParams {
     fn serialize<S: Serializer>(&self, out: &mut S) -> Result<(), S::Error> {
-        Object::begin(out)
-            .member("textDocument", &self.text_document)
-            .end()
+        write_object(self, out)
+    }
+}
+
+impl ReadMembers for DidOpenTextDocumentParams {
+    fn read<S: Source>(members: &mut S) -> DidOpenTextDocumentParams {
+        DidOpenTextDocumentParams {
+            text_document: members.required(),
+        }
     }
 }
 
@@ -135,22 +229,35 @@ impl DeserializeOwned for DidOpenTextDocumentParams {
         alloc: Global,
         from: &mut Deserializer<'_, '_, F>,
     ) -> Result<DidOpenTextDocumentParams, F::Error> {
-        let mut members = Members::of(alloc, from);
-        let read = DidOpenTextDocumentParams {
-            text_document: members.required("textDocument"),
-        };
-        members.end(read)
+        read_object(alloc, from)
     }
 }
 
 impl Described for DidChangeTextDocumentParams {}
 
+impl Keyed for DidChangeTextDocumentParams {
+    const KEYS: &'static [&'static str] = &["textDocument", "contentChanges"];
+}
+
+impl WriteMembers for DidChangeTextDocumentParams {
+    fn write<O: Sink>(&self, out: O) -> O {
+        out.member(&self.text_document)
+            .member(&self.content_changes)
+    }
+}
+
 impl Serialize for DidChangeTextDocumentParams {
     fn serialize<S: Serializer>(&self, out: &mut S) -> Result<(), S::Error> {
-        Object::begin(out)
-            .member("textDocument", &self.text_document)
-            .member("contentChanges", &self.content_changes)
-            .end()
+        write_object(self, out)
+    }
+}
+
+impl ReadMembers for DidChangeTextDocumentParams {
+    fn read<S: Source>(members: &mut S) -> DidChangeTextDocumentParams {
+        DidChangeTextDocumentParams {
+            text_document: members.required(),
+            content_changes: members.required::<Changes>().0,
+        }
     }
 }
 
@@ -159,23 +266,34 @@ impl DeserializeOwned for DidChangeTextDocumentParams {
         alloc: Global,
         from: &mut Deserializer<'_, '_, F>,
     ) -> Result<DidChangeTextDocumentParams, F::Error> {
-        let mut members = Members::of(alloc, from);
-        let read = DidChangeTextDocumentParams {
-            text_document: members.required("textDocument"),
-            content_changes: members.required("contentChanges"),
-        };
-        members.end(read)
+        read_object(alloc, from)
     }
 }
 
 impl Described for DidSaveTextDocumentParams {}
 
+impl Keyed for DidSaveTextDocumentParams {
+    const KEYS: &'static [&'static str] = &["textDocument", "text"];
+}
+
+impl WriteMembers for DidSaveTextDocumentParams {
+    fn write<O: Sink>(&self, out: O) -> O {
+        out.member(&self.text_document).some(&self.text)
+    }
+}
+
 impl Serialize for DidSaveTextDocumentParams {
     fn serialize<S: Serializer>(&self, out: &mut S) -> Result<(), S::Error> {
-        Object::begin(out)
-            .member("textDocument", &self.text_document)
-            .some("text", &self.text)
-            .end()
+        write_object(self, out)
+    }
+}
+
+impl ReadMembers for DidSaveTextDocumentParams {
+    fn read<S: Source>(members: &mut S) -> DidSaveTextDocumentParams {
+        DidSaveTextDocumentParams {
+            text_document: members.required(),
+            text: members.optional(),
+        }
     }
 }
 
@@ -184,22 +302,33 @@ impl DeserializeOwned for DidSaveTextDocumentParams {
         alloc: Global,
         from: &mut Deserializer<'_, '_, F>,
     ) -> Result<DidSaveTextDocumentParams, F::Error> {
-        let mut members = Members::of(alloc, from);
-        let read = DidSaveTextDocumentParams {
-            text_document: members.required("textDocument"),
-            text: members.optional("text"),
-        };
-        members.end(read)
+        read_object(alloc, from)
     }
 }
 
 impl Described for TextDocumentParams {}
 
+impl Keyed for TextDocumentParams {
+    const KEYS: &'static [&'static str] = &["textDocument"];
+}
+
+impl WriteMembers for TextDocumentParams {
+    fn write<O: Sink>(&self, out: O) -> O {
+        out.member(&self.text_document)
+    }
+}
+
 impl Serialize for TextDocumentParams {
     fn serialize<S: Serializer>(&self, out: &mut S) -> Result<(), S::Error> {
-        Object::begin(out)
-            .member("textDocument", &self.text_document)
-            .end()
+        write_object(self, out)
+    }
+}
+
+impl ReadMembers for TextDocumentParams {
+    fn read<S: Source>(members: &mut S) -> TextDocumentParams {
+        TextDocumentParams {
+            text_document: members.required(),
+        }
     }
 }
 
@@ -208,22 +337,34 @@ impl DeserializeOwned for TextDocumentParams {
         alloc: Global,
         from: &mut Deserializer<'_, '_, F>,
     ) -> Result<TextDocumentParams, F::Error> {
-        let mut members = Members::of(alloc, from);
-        let read = TextDocumentParams {
-            text_document: members.required("textDocument"),
-        };
-        members.end(read)
+        read_object(alloc, from)
     }
 }
 
 impl Described for TextDocumentPositionParams {}
 
+impl Keyed for TextDocumentPositionParams {
+    const KEYS: &'static [&'static str] = &["textDocument", "position"];
+}
+
+impl WriteMembers for TextDocumentPositionParams {
+    fn write<O: Sink>(&self, out: O) -> O {
+        out.member(&self.text_document).member(&self.position)
+    }
+}
+
 impl Serialize for TextDocumentPositionParams {
     fn serialize<S: Serializer>(&self, out: &mut S) -> Result<(), S::Error> {
-        Object::begin(out)
-            .member("textDocument", &self.text_document)
-            .member("position", &self.position)
-            .end()
+        write_object(self, out)
+    }
+}
+
+impl ReadMembers for TextDocumentPositionParams {
+    fn read<S: Source>(members: &mut S) -> TextDocumentPositionParams {
+        TextDocumentPositionParams {
+            text_document: members.required(),
+            position: members.required(),
+        }
     }
 }
 
@@ -232,23 +373,34 @@ impl DeserializeOwned for TextDocumentPositionParams {
         alloc: Global,
         from: &mut Deserializer<'_, '_, F>,
     ) -> Result<TextDocumentPositionParams, F::Error> {
-        let mut members = Members::of(alloc, from);
-        let read = TextDocumentPositionParams {
-            text_document: members.required("textDocument"),
-            position: members.required("position"),
-        };
-        members.end(read)
+        read_object(alloc, from)
     }
 }
 
 impl Described for TextDocumentRangeParams {}
 
+impl Keyed for TextDocumentRangeParams {
+    const KEYS: &'static [&'static str] = &["textDocument", "range"];
+}
+
+impl WriteMembers for TextDocumentRangeParams {
+    fn write<O: Sink>(&self, out: O) -> O {
+        out.member(&self.text_document).member(&self.range)
+    }
+}
+
 impl Serialize for TextDocumentRangeParams {
     fn serialize<S: Serializer>(&self, out: &mut S) -> Result<(), S::Error> {
-        Object::begin(out)
-            .member("textDocument", &self.text_document)
-            .member("range", &self.range)
-            .end()
+        write_object(self, out)
+    }
+}
+
+impl ReadMembers for TextDocumentRangeParams {
+    fn read<S: Source>(members: &mut S) -> TextDocumentRangeParams {
+        TextDocumentRangeParams {
+            text_document: members.required(),
+            range: members.required(),
+        }
     }
 }
 
@@ -257,24 +409,37 @@ impl DeserializeOwned for TextDocumentRangeParams {
         alloc: Global,
         from: &mut Deserializer<'_, '_, F>,
     ) -> Result<TextDocumentRangeParams, F::Error> {
-        let mut members = Members::of(alloc, from);
-        let read = TextDocumentRangeParams {
-            text_document: members.required("textDocument"),
-            range: members.required("range"),
-        };
-        members.end(read)
+        read_object(alloc, from)
     }
 }
 
 impl Described for ReferenceParams {}
 
+impl Keyed for ReferenceParams {
+    const KEYS: &'static [&'static str] = &["textDocument", "position", "context"];
+}
+
+impl WriteMembers for ReferenceParams {
+    fn write<O: Sink>(&self, out: O) -> O {
+        out.member(&self.text_document)
+            .member(&self.position)
+            .member(&self.context)
+    }
+}
+
 impl Serialize for ReferenceParams {
     fn serialize<S: Serializer>(&self, out: &mut S) -> Result<(), S::Error> {
-        Object::begin(out)
-            .member("textDocument", &self.text_document)
-            .member("position", &self.position)
-            .member("context", &self.context)
-            .end()
+        write_object(self, out)
+    }
+}
+
+impl ReadMembers for ReferenceParams {
+    fn read<S: Source>(members: &mut S) -> ReferenceParams {
+        ReferenceParams {
+            text_document: members.required(),
+            position: members.required(),
+            context: members.required(),
+        }
     }
 }
 
@@ -283,23 +448,33 @@ impl DeserializeOwned for ReferenceParams {
         alloc: Global,
         from: &mut Deserializer<'_, '_, F>,
     ) -> Result<ReferenceParams, F::Error> {
-        let mut members = Members::of(alloc, from);
-        let read = ReferenceParams {
-            text_document: members.required("textDocument"),
-            position: members.required("position"),
-            context: members.required("context"),
-        };
-        members.end(read)
+        read_object(alloc, from)
     }
 }
 
 impl Described for ReferenceContext {}
 
+impl Keyed for ReferenceContext {
+    const KEYS: &'static [&'static str] = &["includeDeclaration"];
+}
+
+impl WriteMembers for ReferenceContext {
+    fn write<O: Sink>(&self, out: O) -> O {
+        out.member(&self.include_declaration)
+    }
+}
+
 impl Serialize for ReferenceContext {
     fn serialize<S: Serializer>(&self, out: &mut S) -> Result<(), S::Error> {
-        Object::begin(out)
-            .member("includeDeclaration", &self.include_declaration)
-            .end()
+        write_object(self, out)
+    }
+}
+
+impl ReadMembers for ReferenceContext {
+    fn read<S: Source>(members: &mut S) -> ReferenceContext {
+        ReferenceContext {
+            include_declaration: members.required(),
+        }
     }
 }
 
@@ -308,10 +483,37 @@ impl<'de> Deserialize<'de> for ReferenceContext {
         alloc: Global,
         from: &mut Deserializer<'de, '_, F>,
     ) -> Result<ReferenceContext, F::Error> {
-        let mut members = Members::of(alloc, from);
-        let read = ReferenceContext {
-            include_declaration: members.required("includeDeclaration"),
-        };
-        members.end(read)
+        read_object(alloc, from)
+    }
+}
+
+impl DeserializeOwned for ReferenceContext {
+    fn deserialize_owned<F: Format>(
+        alloc: Global,
+        from: &mut Deserializer<'_, '_, F>,
+    ) -> Result<ReferenceContext, F::Error> {
+        read_object(alloc, from)
+    }
+}
+
+/// The changes of a document, which are read into a list.
+#[derive(Drop)]
+struct Changes(Vec<ContentChange>);
+
+impl Blank for Changes {
+    fn blank(alloc: Global) -> Changes {
+        Changes(Vec::new(alloc))
+    }
+}
+
+impl DeserializeOwned for Changes {
+    fn deserialize_owned<F: Format>(
+        alloc: Global,
+        from: &mut Deserializer<'_, '_, F>,
+    ) -> Result<Changes, F::Error> {
+        match Vec::deserialize(alloc, from) {
+            Ok(changes) => Ok(Changes(changes)),
+            Err(failed) => Err(failed),
+        }
     }
 }

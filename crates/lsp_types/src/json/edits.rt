@@ -3,7 +3,7 @@ use crate::edits::{
     DocumentFormattingParams, FormattingOptions, OptionalVersionedTextDocumentIdentifier,
     RenameParams, TextDocumentEdit, TextEdit, WorkspaceEdit,
 };
-use crate::json::{Members, Object};
+use crate::json::{Keyed, ReadMembers, Sink, Source, WriteMembers, read_object, write_object};
 use serde::{
     Described, Deserialize, DeserializeOwned, Deserializer, Format, Serialize, Serializer,
 };
@@ -11,12 +11,28 @@ use std::alloc::Global;
 
 impl Described for TextEdit {}
 
+impl Keyed for TextEdit {
+    const KEYS: &'static [&'static str] = &["range", "newText"];
+}
+
+impl WriteMembers for TextEdit {
+    fn write<O: Sink>(&self, out: O) -> O {
+        out.member(&self.range).member(&self.new_text)
+    }
+}
+
 impl Serialize for TextEdit {
     fn serialize<S: Serializer>(&self, out: &mut S) -> Result<(), S::Error> {
-        Object::begin(out)
-            .member("range", &self.range)
-            .member("newText", &self.new_text)
-            .end()
+        write_object(self, out)
+    }
+}
+
+impl ReadMembers for TextEdit {
+    fn read<S: Source>(members: &mut S) -> TextEdit {
+        TextEdit {
+            range: members.required(),
+            new_text: members.required(),
+        }
     }
 }
 
@@ -25,23 +41,43 @@ impl<'de> Deserialize<'de> for TextEdit {
         alloc: Global,
         from: &mut Deserializer<'de, '_, F>,
     ) -> Result<TextEdit, F::Error> {
-        let mut members = Members::of(alloc, from);
-        let read = TextEdit {
-            range: members.required("range"),
-            new_text: members.required("newText"),
-        };
-        members.end(read)
+        read_object(alloc, from)
+    }
+}
+
+impl DeserializeOwned for TextEdit {
+    fn deserialize_owned<F: Format>(
+        alloc: Global,
+        from: &mut Deserializer<'_, '_, F>,
+    ) -> Result<TextEdit, F::Error> {
+        read_object(alloc, from)
     }
 }
 
 impl Described for OptionalVersionedTextDocumentIdentifier {}
 
+impl Keyed for OptionalVersionedTextDocumentIdentifier {
+    const KEYS: &'static [&'static str] = &["uri", "version"];
+}
+
+impl WriteMembers for OptionalVersionedTextDocumentIdentifier {
+    fn write<O: Sink>(&self, out: O) -> O {
+        out.member(&self.uri).member(&self.version)
+    }
+}
+
 impl Serialize for OptionalVersionedTextDocumentIdentifier {
     fn serialize<S: Serializer>(&self, out: &mut S) -> Result<(), S::Error> {
-        Object::begin(out)
-            .member("uri", &self.uri)
-            .member("version", &self.version)
-            .end()
+        write_object(self, out)
+    }
+}
+
+impl ReadMembers for OptionalVersionedTextDocumentIdentifier {
+    fn read<S: Source>(members: &mut S) -> OptionalVersionedTextDocumentIdentifier {
+        OptionalVersionedTextDocumentIdentifier {
+            uri: members.required(),
+            version: members.optional(),
+        }
     }
 }
 
@@ -50,23 +86,43 @@ impl<'de> Deserialize<'de> for OptionalVersionedTextDocumentIdentifier {
         alloc: Global,
         from: &mut Deserializer<'de, '_, F>,
     ) -> Result<OptionalVersionedTextDocumentIdentifier, F::Error> {
-        let mut members = Members::of(alloc, from);
-        let read = OptionalVersionedTextDocumentIdentifier {
-            uri: members.required("uri"),
-            version: members.optional("version"),
-        };
-        members.end(read)
+        read_object(alloc, from)
+    }
+}
+
+impl DeserializeOwned for OptionalVersionedTextDocumentIdentifier {
+    fn deserialize_owned<F: Format>(
+        alloc: Global,
+        from: &mut Deserializer<'_, '_, F>,
+    ) -> Result<OptionalVersionedTextDocumentIdentifier, F::Error> {
+        read_object(alloc, from)
     }
 }
 
 impl Described for TextDocumentEdit {}
 
+impl Keyed for TextDocumentEdit {
+    const KEYS: &'static [&'static str] = &["textDocument", "edits"];
+}
+
+impl WriteMembers for TextDocumentEdit {
+    fn write<O: Sink>(&self, out: O) -> O {
+        out.member(&self.text_document).member(&self.edits)
+    }
+}
+
 impl Serialize for TextDocumentEdit {
     fn serialize<S: Serializer>(&self, out: &mut S) -> Result<(), S::Error> {
-        Object::begin(out)
-            .member("textDocument", &self.text_document)
-            .member("edits", &self.edits)
-            .end()
+        write_object(self, out)
+    }
+}
+
+impl ReadMembers for TextDocumentEdit {
+    fn read<S: Source>(members: &mut S) -> TextDocumentEdit {
+        TextDocumentEdit {
+            text_document: members.required(),
+            edits: members.required(),
+        }
     }
 }
 
@@ -75,23 +131,43 @@ impl<'de> Deserialize<'de> for TextDocumentEdit {
         alloc: Global,
         from: &mut Deserializer<'de, '_, F>,
     ) -> Result<TextDocumentEdit, F::Error> {
-        let mut members = Members::of(alloc, from);
-        let read = TextDocumentEdit {
-            text_document: members.required("textDocument"),
-            edits: members.required("edits"),
-        };
-        members.end(read)
+        read_object(alloc, from)
+    }
+}
+
+impl DeserializeOwned for TextDocumentEdit {
+    fn deserialize_owned<F: Format>(
+        alloc: Global,
+        from: &mut Deserializer<'_, '_, F>,
+    ) -> Result<TextDocumentEdit, F::Error> {
+        read_object(alloc, from)
     }
 }
 
 impl Described for WorkspaceEdit {}
 
+impl Keyed for WorkspaceEdit {
+    const KEYS: &'static [&'static str] = &["changes", "documentChanges"];
+}
+
+impl WriteMembers for WorkspaceEdit {
+    fn write<O: Sink>(&self, out: O) -> O {
+        out.some(&self.changes).some(&self.document_changes)
+    }
+}
+
 impl Serialize for WorkspaceEdit {
     fn serialize<S: Serializer>(&self, out: &mut S) -> Result<(), S::Error> {
-        Object::begin(out)
-            .some("changes", &self.changes)
-            .some("documentChanges", &self.document_changes)
-            .end()
+        write_object(self, out)
+    }
+}
+
+impl ReadMembers for WorkspaceEdit {
+    fn read<S: Source>(members: &mut S) -> WorkspaceEdit {
+        WorkspaceEdit {
+            changes: members.optional(),
+            document_changes: members.optional(),
+        }
     }
 }
 
@@ -100,24 +176,46 @@ impl<'de> Deserialize<'de> for WorkspaceEdit {
         alloc: Global,
         from: &mut Deserializer<'de, '_, F>,
     ) -> Result<WorkspaceEdit, F::Error> {
-        let mut members = Members::of(alloc, from);
-        let read = WorkspaceEdit {
-            changes: members.optional("changes"),
-            document_changes: members.optional("documentChanges"),
-        };
-        members.end(read)
+        read_object(alloc, from)
+    }
+}
+
+impl DeserializeOwned for WorkspaceEdit {
+    fn deserialize_owned<F: Format>(
+        alloc: Global,
+        from: &mut Deserializer<'_, '_, F>,
+    ) -> Result<WorkspaceEdit, F::Error> {
+        read_object(alloc, from)
     }
 }
 
 impl Described for RenameParams {}
 
+impl Keyed for RenameParams {
+    const KEYS: &'static [&'static str] = &["textDocument", "position", "newName"];
+}
+
+impl WriteMembers for RenameParams {
+    fn write<O: Sink>(&self, out: O) -> O {
+        out.member(&self.text_document)
+            .member(&self.position)
+            .member(&self.new_name)
+    }
+}
+
 impl Serialize for RenameParams {
     fn serialize<S: Serializer>(&self, out: &mut S) -> Result<(), S::Error> {
-        Object::begin(out)
-            .member("textDocument", &self.text_document)
-            .member("position", &self.position)
-            .member("newName", &self.new_name)
-            .end()
+        write_object(self, out)
+    }
+}
+
+impl ReadMembers for RenameParams {
+    fn read<S: Source>(members: &mut S) -> RenameParams {
+        RenameParams {
+            text_document: members.required(),
+            position: members.required(),
+            new_name: members.required(),
+        }
     }
 }
 
@@ -126,27 +224,47 @@ impl DeserializeOwned for RenameParams {
         alloc: Global,
         from: &mut Deserializer<'_, '_, F>,
     ) -> Result<RenameParams, F::Error> {
-        let mut members = Members::of(alloc, from);
-        let read = RenameParams {
-            text_document: members.required("textDocument"),
-            position: members.required("position"),
-            new_name: members.required("newName"),
-        };
-        members.end(read)
+        read_object(alloc, from)
     }
 }
 
 impl Described for FormattingOptions {}
 
+impl Keyed for FormattingOptions {
+    const KEYS: &'static [&'static str] = &[
+        "tabSize",
+        "insertSpaces",
+        "trimTrailingWhitespace",
+        "insertFinalNewline",
+        "trimFinalNewlines",
+    ];
+}
+
+impl WriteMembers for FormattingOptions {
+    fn write<O: Sink>(&self, out: O) -> O {
+        out.member(&self.tab_size)
+            .member(&self.insert_spaces)
+            .some(&self.trim_trailing_whitespace)
+            .some(&self.insert_final_newline)
+            .some(&self.trim_final_newlines)
+    }
+}
+
 impl Serialize for FormattingOptions {
     fn serialize<S: Serializer>(&self, out: &mut S) -> Result<(), S::Error> {
-        Object::begin(out)
-            .member("tabSize", &self.tab_size)
-            .member("insertSpaces", &self.insert_spaces)
-            .some("trimTrailingWhitespace", &self.trim_trailing_whitespace)
-            .some("insertFinalNewline", &self.insert_final_newline)
-            .some("trimFinalNewlines", &self.trim_final_newlines)
-            .end()
+        write_object(self, out)
+    }
+}
+
+impl ReadMembers for FormattingOptions {
+    fn read<S: Source>(members: &mut S) -> FormattingOptions {
+        FormattingOptions {
+            tab_size: members.required(),
+            insert_spaces: members.required(),
+            trim_trailing_whitespace: members.optional(),
+            insert_final_newline: members.optional(),
+            trim_final_newlines: members.optional(),
+        }
     }
 }
 
@@ -155,26 +273,43 @@ impl<'de> Deserialize<'de> for FormattingOptions {
         alloc: Global,
         from: &mut Deserializer<'de, '_, F>,
     ) -> Result<FormattingOptions, F::Error> {
-        let mut members = Members::of(alloc, from);
-        let read = FormattingOptions {
-            tab_size: members.required("tabSize"),
-            insert_spaces: members.required("insertSpaces"),
-            trim_trailing_whitespace: members.optional("trimTrailingWhitespace"),
-            insert_final_newline: members.optional("insertFinalNewline"),
-            trim_final_newlines: members.optional("trimFinalNewlines"),
-        };
-        members.end(read)
+        read_object(alloc, from)
+    }
+}
+
+impl DeserializeOwned for FormattingOptions {
+    fn deserialize_owned<F: Format>(
+        alloc: Global,
+        from: &mut Deserializer<'_, '_, F>,
+    ) -> Result<FormattingOptions, F::Error> {
+        read_object(alloc, from)
     }
 }
 
 impl Described for DocumentFormattingParams {}
 
+impl Keyed for DocumentFormattingParams {
+    const KEYS: &'static [&'static str] = &["textDocument", "options"];
+}
+
+impl WriteMembers for DocumentFormattingParams {
+    fn write<O: Sink>(&self, out: O) -> O {
+        out.member(&self.text_document).member(&self.options)
+    }
+}
+
 impl Serialize for DocumentFormattingParams {
     fn serialize<S: Serializer>(&self, out: &mut S) -> Result<(), S::Error> {
-        Object::begin(out)
-            .member("textDocument", &self.text_document)
-            .member("options", &self.options)
-            .end()
+        write_object(self, out)
+    }
+}
+
+impl ReadMembers for DocumentFormattingParams {
+    fn read<S: Source>(members: &mut S) -> DocumentFormattingParams {
+        DocumentFormattingParams {
+            text_document: members.required(),
+            options: members.required(),
+        }
     }
 }
 
@@ -183,11 +318,6 @@ impl DeserializeOwned for DocumentFormattingParams {
         alloc: Global,
         from: &mut Deserializer<'_, '_, F>,
     ) -> Result<DocumentFormattingParams, F::Error> {
-        let mut members = Members::of(alloc, from);
-        let read = DocumentFormattingParams {
-            text_document: members.required("textDocument"),
-            options: members.required("options"),
-        };
-        members.end(read)
+        read_object(alloc, from)
     }
 }

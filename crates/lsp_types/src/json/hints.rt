@@ -1,6 +1,6 @@
 // Inlay hints as JSON.
 use crate::hints::{InlayHint, InlayHintKind};
-use crate::json::{Members, Object};
+use crate::json::{Keyed, ReadMembers, Sink, Source, WriteMembers, read_object, write_object};
 use crate::numbers::number_within;
 use serde::{
     Described, Deserialize, DeserializeOwned, Deserializer, Format, Serialize, Serializer,
@@ -27,19 +27,58 @@ impl<'de> Deserialize<'de> for InlayHintKind {
     }
 }
 
+impl DeserializeOwned for InlayHintKind {
+    fn deserialize_owned<F: Format>(
+        alloc: Global,
+        from: &mut Deserializer<'_, '_, F>,
+    ) -> Result<InlayHintKind, F::Error> {
+        InlayHintKind::deserialize(alloc, from)
+    }
+}
+
 impl Described for InlayHint {}
+
+impl Keyed for InlayHint {
+    const KEYS: &'static [&'static str] = &[
+        "position",
+        "label",
+        "kind",
+        "tooltip",
+        "paddingLeft",
+        "paddingRight",
+        "data",
+    ];
+}
+
+impl WriteMembers for InlayHint {
+    fn write<O: Sink>(&self, out: O) -> O {
+        out.member(&self.position)
+            .member(&self.label)
+            .some(&self.kind)
+            .some(&self.tooltip)
+            .some(&self.padding_left)
+            .some(&self.padding_right)
+            .some(&self.data)
+    }
+}
 
 impl Serialize for InlayHint {
     fn serialize<S: Serializer>(&self, out: &mut S) -> Result<(), S::Error> {
-        Object::begin(out)
-            .member("position", &self.position)
-            .member("label", &self.label)
-            .some("kind", &self.kind)
-            .some("tooltip", &self.tooltip)
-            .some("paddingLeft", &self.padding_left)
-            .some("paddingRight", &self.padding_right)
-            .some("data", &self.data)
-            .end()
+        write_object(self, out)
+    }
+}
+
+impl ReadMembers for InlayHint {
+    fn read<S: Source>(members: &mut S) -> InlayHint {
+        InlayHint {
+            position: members.required(),
+            label: members.required(),
+            kind: members.optional(),
+            tooltip: members.optional(),
+            padding_left: members.optional(),
+            padding_right: members.optional(),
+            data: members.optional(),
+        }
     }
 }
 
@@ -48,16 +87,6 @@ impl DeserializeOwned for InlayHint {
         alloc: Global,
         from: &mut Deserializer<'_, '_, F>,
     ) -> Result<InlayHint, F::Error> {
-        let mut members = Members::of(alloc, from);
-        let read = InlayHint {
-            position: members.required("position"),
-            label: members.required("label"),
-            kind: members.optional("kind"),
-            tooltip: members.optional("tooltip"),
-            padding_left: members.optional("paddingLeft"),
-            padding_right: members.optional("paddingRight"),
-            data: members.optional("data"),
-        };
-        members.end(read)
+        read_object(alloc, from)
     }
 }

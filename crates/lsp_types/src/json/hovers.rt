@@ -1,6 +1,6 @@
 // Hovers as JSON.
 use crate::hovers::{Hover, MarkupContent, MarkupKind};
-use crate::json::{Members, Object};
+use crate::json::{Keyed, ReadMembers, Sink, Source, WriteMembers, read_object, write_object};
 use serde::{
     Described, Deserialize, DeserializeOwned, Deserializer, Format, Name, Serialize, Serializer,
 };
@@ -8,12 +8,28 @@ use std::alloc::Global;
 
 impl Described for MarkupContent {}
 
+impl Keyed for MarkupContent {
+    const KEYS: &'static [&'static str] = &["kind", "value"];
+}
+
+impl WriteMembers for MarkupContent {
+    fn write<O: Sink>(&self, out: O) -> O {
+        out.member(&self.kind).member(&self.value)
+    }
+}
+
 impl Serialize for MarkupContent {
     fn serialize<S: Serializer>(&self, out: &mut S) -> Result<(), S::Error> {
-        Object::begin(out)
-            .member("kind", &self.kind)
-            .member("value", &self.value)
-            .end()
+        write_object(self, out)
+    }
+}
+
+impl ReadMembers for MarkupContent {
+    fn read<S: Source>(members: &mut S) -> MarkupContent {
+        MarkupContent {
+            kind: members.required(),
+            value: members.required(),
+        }
     }
 }
 
@@ -22,23 +38,43 @@ impl<'de> Deserialize<'de> for MarkupContent {
         alloc: Global,
         from: &mut Deserializer<'de, '_, F>,
     ) -> Result<MarkupContent, F::Error> {
-        let mut members = Members::of(alloc, from);
-        let read = MarkupContent {
-            kind: members.required("kind"),
-            value: members.required("value"),
-        };
-        members.end(read)
+        read_object(alloc, from)
+    }
+}
+
+impl DeserializeOwned for MarkupContent {
+    fn deserialize_owned<F: Format>(
+        alloc: Global,
+        from: &mut Deserializer<'_, '_, F>,
+    ) -> Result<MarkupContent, F::Error> {
+        read_object(alloc, from)
     }
 }
 
 impl Described for Hover {}
 
+impl Keyed for Hover {
+    const KEYS: &'static [&'static str] = &["contents", "range"];
+}
+
+impl WriteMembers for Hover {
+    fn write<O: Sink>(&self, out: O) -> O {
+        out.member(&self.contents).some(&self.range)
+    }
+}
+
 impl Serialize for Hover {
     fn serialize<S: Serializer>(&self, out: &mut S) -> Result<(), S::Error> {
-        Object::begin(out)
-            .member("contents", &self.contents)
-            .some("range", &self.range)
-            .end()
+        write_object(self, out)
+    }
+}
+
+impl ReadMembers for Hover {
+    fn read<S: Source>(members: &mut S) -> Hover {
+        Hover {
+            contents: members.required(),
+            range: members.optional(),
+        }
     }
 }
 
@@ -47,12 +83,7 @@ impl DeserializeOwned for Hover {
         alloc: Global,
         from: &mut Deserializer<'_, '_, F>,
     ) -> Result<Hover, F::Error> {
-        let mut members = Members::of(alloc, from);
-        let read = Hover {
-            contents: members.required("contents"),
-            range: members.optional("range"),
-        };
-        members.end(read)
+        read_object(alloc, from)
     }
 }
 
@@ -77,5 +108,14 @@ impl<'de> Deserialize<'de> for MarkupKind {
             1 => Ok(MarkupKind::Markdown),
             _ => Err(from.unknown_variant()),
         }
+    }
+}
+
+impl DeserializeOwned for MarkupKind {
+    fn deserialize_owned<F: Format>(
+        alloc: Global,
+        from: &mut Deserializer<'_, '_, F>,
+    ) -> Result<MarkupKind, F::Error> {
+        MarkupKind::deserialize(alloc, from)
     }
 }

@@ -1,5 +1,5 @@
 // The handshake as JSON.
-use crate::json::{Members, Object};
+use crate::json::{Keyed, ReadMembers, Sink, Source, WriteMembers, read_object, write_object};
 use crate::lifecycle::{InitializeParams, InitializeResult, ServerInfo};
 use serde::{
     Described, Deserialize, DeserializeOwned, Deserializer, Format, Serialize, Serializer,
@@ -8,16 +8,44 @@ use std::alloc::Global;
 
 impl Described for InitializeParams {}
 
+impl Keyed for InitializeParams {
+    const KEYS: &'static [&'static str] = &[
+        "processId",
+        "clientInfo",
+        "rootUri",
+        "workspaceFolders",
+        "initializationOptions",
+        "capabilities",
+    ];
+}
+
+impl WriteMembers for InitializeParams {
+    fn write<O: Sink>(&self, out: O) -> O {
+        out.member(&self.process_id)
+            .some(&self.client_info)
+            .member(&self.root_uri)
+            .some(&self.workspace_folders)
+            .some(&self.initialization_options)
+            .member(&self.capabilities)
+    }
+}
+
 impl Serialize for InitializeParams {
     fn serialize<S: Serializer>(&self, out: &mut S) -> Result<(), S::Error> {
-        Object::begin(out)
-            .member("processId", &self.process_id)
-            .some("clientInfo", &self.client_info)
-            .member("rootUri", &self.root_uri)
-            .some("workspaceFolders", &self.workspace_folders)
-            .some("initializationOptions", &self.initialization_options)
-            .member("capabilities", &self.capabilities)
-            .end()
+        write_object(self, out)
+    }
+}
+
+impl ReadMembers for InitializeParams {
+    fn read<S: Source>(members: &mut S) -> InitializeParams {
+        InitializeParams {
+            process_id: members.optional(),
+            client_info: members.optional(),
+            root_uri: members.optional(),
+            workspace_folders: members.optional(),
+            initialization_options: members.optional(),
+            capabilities: members.required(),
+        }
     }
 }
 
@@ -26,27 +54,34 @@ impl DeserializeOwned for InitializeParams {
         alloc: Global,
         from: &mut Deserializer<'_, '_, F>,
     ) -> Result<InitializeParams, F::Error> {
-        let mut members = Members::of(alloc, from);
-        let read = InitializeParams {
-            process_id: members.optional("processId"),
-            client_info: members.optional("clientInfo"),
-            root_uri: members.optional("rootUri"),
-            workspace_folders: members.optional("workspaceFolders"),
-            initialization_options: members.optional("initializationOptions"),
-            capabilities: members.required("capabilities"),
-        };
-        members.end(read)
+        read_object(alloc, from)
     }
 }
 
 impl Described for ServerInfo {}
 
+impl Keyed for ServerInfo {
+    const KEYS: &'static [&'static str] = &["name", "version"];
+}
+
+impl WriteMembers for ServerInfo {
+    fn write<O: Sink>(&self, out: O) -> O {
+        out.member(&self.name).some(&self.version)
+    }
+}
+
 impl Serialize for ServerInfo {
     fn serialize<S: Serializer>(&self, out: &mut S) -> Result<(), S::Error> {
-        Object::begin(out)
-            .member("name", &self.name)
-            .some("version", &self.version)
-            .end()
+        write_object(self, out)
+    }
+}
+
+impl ReadMembers for ServerInfo {
+    fn read<S: Source>(members: &mut S) -> ServerInfo {
+        ServerInfo {
+            name: members.required(),
+            version: members.optional(),
+        }
     }
 }
 
@@ -55,22 +90,33 @@ impl<'de> Deserialize<'de> for ServerInfo {
         alloc: Global,
         from: &mut Deserializer<'de, '_, F>,
     ) -> Result<ServerInfo, F::Error> {
-        let mut members = Members::of(alloc, from);
-        let read = ServerInfo {
-            name: members.required("name"),
-            version: members.optional("version"),
-        };
-        members.end(read)
+        read_object(alloc, from)
+    }
+}
+
+impl DeserializeOwned for ServerInfo {
+    fn deserialize_owned<F: Format>(
+        alloc: Global,
+        from: &mut Deserializer<'_, '_, F>,
+    ) -> Result<ServerInfo, F::Error> {
+        read_object(alloc, from)
     }
 }
 
 impl Described for InitializeResult {}
 
+impl Keyed for InitializeResult {
+    const KEYS: &'static [&'static str] = &["capabilities", "serverInfo"];
+}
+
+impl WriteMembers for InitializeResult {
+    fn write<O: Sink>(&self, out: O) -> O {
+        out.member(&self.capabilities).member(&self.server_info)
+    }
+}
+
 impl Serialize for InitializeResult {
     fn serialize<S: Serializer>(&self, out: &mut S) -> Result<(), S::Error> {
-        Object::begin(out)
-            .member("capabilities", &self.capabilities)
-            .member("serverInfo", &self.server_info)
-            .end()
+        write_object(self, out)
     }
 }

@@ -1,5 +1,5 @@
 // Signature help as JSON.
-use crate::json::{Members, Object};
+use crate::json::{Keyed, ReadMembers, Sink, Source, WriteMembers, read_object, write_object};
 use crate::signatures::{ParameterInformation, SignatureHelp, SignatureInformation};
 use serde::{
     Described, Deserialize, DeserializeOwned, Deserializer, Format, Serialize, Serializer,
@@ -8,13 +8,31 @@ use std::alloc::Global;
 
 impl Described for SignatureHelp {}
 
+impl Keyed for SignatureHelp {
+    const KEYS: &'static [&'static str] = &["signatures", "activeSignature", "activeParameter"];
+}
+
+impl WriteMembers for SignatureHelp {
+    fn write<O: Sink>(&self, out: O) -> O {
+        out.member(&self.signatures)
+            .some(&self.active_signature)
+            .some(&self.active_parameter)
+    }
+}
+
 impl Serialize for SignatureHelp {
     fn serialize<S: Serializer>(&self, out: &mut S) -> Result<(), S::Error> {
-        Object::begin(out)
-            .member("signatures", &self.signatures)
-            .some("activeSignature", &self.active_signature)
-            .some("activeParameter", &self.active_parameter)
-            .end()
+        write_object(self, out)
+    }
+}
+
+impl ReadMembers for SignatureHelp {
+    fn read<S: Source>(members: &mut S) -> SignatureHelp {
+        SignatureHelp {
+            signatures: members.required(),
+            active_signature: members.optional(),
+            active_parameter: members.optional(),
+        }
     }
 }
 
@@ -23,26 +41,44 @@ impl DeserializeOwned for SignatureHelp {
         alloc: Global,
         from: &mut Deserializer<'_, '_, F>,
     ) -> Result<SignatureHelp, F::Error> {
-        let mut members = Members::of(alloc, from);
-        let read = SignatureHelp {
-            signatures: members.required("signatures"),
-            active_signature: members.optional("activeSignature"),
-            active_parameter: members.optional("activeParameter"),
-        };
-        members.end(read)
+        read_object(alloc, from)
     }
 }
 
 impl Described for SignatureInformation {}
 
+impl Keyed for SignatureInformation {
+    const KEYS: &'static [&'static str] = &[
+        "label",
+        "documentation",
+        "parameters",
+        "activeParameter",
+    ];
+}
+
+impl WriteMembers for SignatureInformation {
+    fn write<O: Sink>(&self, out: O) -> O {
+        out.member(&self.label)
+            .some(&self.documentation)
+            .some(&self.parameters)
+            .some(&self.active_parameter)
+    }
+}
+
 impl Serialize for SignatureInformation {
     fn serialize<S: Serializer>(&self, out: &mut S) -> Result<(), S::Error> {
-        Object::begin(out)
-            .member("label", &self.label)
-            .some("documentation", &self.documentation)
-            .some("parameters", &self.parameters)
-            .some("activeParameter", &self.active_parameter)
-            .end()
+        write_object(self, out)
+    }
+}
+
+impl ReadMembers for SignatureInformation {
+    fn read<S: Source>(members: &mut S) -> SignatureInformation {
+        SignatureInformation {
+            label: members.required(),
+            documentation: members.optional(),
+            parameters: members.optional(),
+            active_parameter: members.optional(),
+        }
     }
 }
 
@@ -51,25 +87,43 @@ impl<'de> Deserialize<'de> for SignatureInformation {
         alloc: Global,
         from: &mut Deserializer<'de, '_, F>,
     ) -> Result<SignatureInformation, F::Error> {
-        let mut members = Members::of(alloc, from);
-        let read = SignatureInformation {
-            label: members.required("label"),
-            documentation: members.optional("documentation"),
-            parameters: members.optional("parameters"),
-            active_parameter: members.optional("activeParameter"),
-        };
-        members.end(read)
+        read_object(alloc, from)
+    }
+}
+
+impl DeserializeOwned for SignatureInformation {
+    fn deserialize_owned<F: Format>(
+        alloc: Global,
+        from: &mut Deserializer<'_, '_, F>,
+    ) -> Result<SignatureInformation, F::Error> {
+        read_object(alloc, from)
     }
 }
 
 impl Described for ParameterInformation {}
 
+impl Keyed for ParameterInformation {
+    const KEYS: &'static [&'static str] = &["label", "documentation"];
+}
+
+impl WriteMembers for ParameterInformation {
+    fn write<O: Sink>(&self, out: O) -> O {
+        out.member(&self.label).some(&self.documentation)
+    }
+}
+
 impl Serialize for ParameterInformation {
     fn serialize<S: Serializer>(&self, out: &mut S) -> Result<(), S::Error> {
-        Object::begin(out)
-            .member("label", &self.label)
-            .some("documentation", &self.documentation)
-            .end()
+        write_object(self, out)
+    }
+}
+
+impl ReadMembers for ParameterInformation {
+    fn read<S: Source>(members: &mut S) -> ParameterInformation {
+        ParameterInformation {
+            label: members.required(),
+            documentation: members.optional(),
+        }
     }
 }
 
@@ -78,11 +132,15 @@ impl<'de> Deserialize<'de> for ParameterInformation {
         alloc: Global,
         from: &mut Deserializer<'de, '_, F>,
     ) -> Result<ParameterInformation, F::Error> {
-        let mut members = Members::of(alloc, from);
-        let read = ParameterInformation {
-            label: members.required("label"),
-            documentation: members.optional("documentation"),
-        };
-        members.end(read)
+        read_object(alloc, from)
+    }
+}
+
+impl DeserializeOwned for ParameterInformation {
+    fn deserialize_owned<F: Format>(
+        alloc: Global,
+        from: &mut Deserializer<'_, '_, F>,
+    ) -> Result<ParameterInformation, F::Error> {
+        read_object(alloc, from)
     }
 }

@@ -1,5 +1,5 @@
 // Symbols as JSON.
-use crate::json::Object;
+use crate::json::{Keyed, Object, Sink};
 use crate::symbols::{DocumentSymbol, SymbolKind};
 use serde::{Described, Serialize, Serializer};
 
@@ -13,15 +13,27 @@ impl Serialize for SymbolKind {
 
 impl Described for DocumentSymbol {}
 
+impl Keyed for DocumentSymbol {
+    const KEYS: &'static [&'static str] = &[
+        "name",
+        "detail",
+        "kind",
+        "range",
+        "selectionRange",
+        "children",
+    ];
+}
+
 impl Serialize for DocumentSymbol {
+    // One function, since a symbol has others in it.
     fn serialize<S: Serializer>(&self, out: &mut S) -> Result<(), S::Error> {
-        Object::begin(out)
-            .member("name", &self.name)
-            .some("detail", &self.detail)
-            .member("kind", &self.kind)
-            .member("range", &self.range)
-            .member("selectionRange", &self.selection_range)
-            .member("children", &self.children)
-            .end()
+        let mut object = Object::begin(DocumentSymbol::KEYS, out)
+            .member(&self.name)
+            .some(&self.detail)
+            .member(&self.kind)
+            .member(&self.range)
+            .member(&self.selection_range)
+            .member(&self.children);
+        object.end()
     }
 }

@@ -1,5 +1,5 @@
 // Messages as JSON.
-use crate::json::{Members, Object};
+use crate::json::{Keyed, ReadMembers, Sink, Source, WriteMembers, read_object, write_object};
 use crate::numbers::number_within;
 use crate::window::{MessageType, ShowMessageParams};
 use serde::{
@@ -27,14 +27,39 @@ impl<'de> Deserialize<'de> for MessageType {
     }
 }
 
+impl DeserializeOwned for MessageType {
+    fn deserialize_owned<F: Format>(
+        alloc: Global,
+        from: &mut Deserializer<'_, '_, F>,
+    ) -> Result<MessageType, F::Error> {
+        MessageType::deserialize(alloc, from)
+    }
+}
+
 impl Described for ShowMessageParams {}
+
+impl Keyed for ShowMessageParams {
+    const KEYS: &'static [&'static str] = &["type", "message"];
+}
+
+impl WriteMembers for ShowMessageParams {
+    fn write<O: Sink>(&self, out: O) -> O {
+        out.member(&self.typ).member(&self.message)
+    }
+}
 
 impl Serialize for ShowMessageParams {
     fn serialize<S: Serializer>(&self, out: &mut S) -> Result<(), S::Error> {
-        Object::begin(out)
-            .member("type", &self.typ)
-            .member("message", &self.message)
-            .end()
+        write_object(self, out)
+    }
+}
+
+impl ReadMembers for ShowMessageParams {
+    fn read<S: Source>(members: &mut S) -> ShowMessageParams {
+        ShowMessageParams {
+            typ: members.required(),
+            message: members.required(),
+        }
     }
 }
 
@@ -43,11 +68,6 @@ impl DeserializeOwned for ShowMessageParams {
         alloc: Global,
         from: &mut Deserializer<'_, '_, F>,
     ) -> Result<ShowMessageParams, F::Error> {
-        let mut members = Members::of(alloc, from);
-        let read = ShowMessageParams {
-            typ: members.required("type"),
-            message: members.required("message"),
-        };
-        members.end(read)
+        read_object(alloc, from)
     }
 }

@@ -1,5 +1,5 @@
 // The workspace as JSON.
-use crate::json::{Members, Object};
+use crate::json::{Keyed, ReadMembers, Sink, Source, WriteMembers, read_object, write_object};
 use crate::workspace::{
     ApplyWorkspaceEditParams, ApplyWorkspaceEditResult, Command, ConfigurationItem,
     ConfigurationParams, ExecuteCommandParams, WorkspaceFolder,
@@ -11,12 +11,28 @@ use std::alloc::Global;
 
 impl Described for WorkspaceFolder {}
 
+impl Keyed for WorkspaceFolder {
+    const KEYS: &'static [&'static str] = &["uri", "name"];
+}
+
+impl WriteMembers for WorkspaceFolder {
+    fn write<O: Sink>(&self, out: O) -> O {
+        out.member(&self.uri).member(&self.name)
+    }
+}
+
 impl Serialize for WorkspaceFolder {
     fn serialize<S: Serializer>(&self, out: &mut S) -> Result<(), S::Error> {
-        Object::begin(out)
-            .member("uri", &self.uri)
-            .member("name", &self.name)
-            .end()
+        write_object(self, out)
+    }
+}
+
+impl ReadMembers for WorkspaceFolder {
+    fn read<S: Source>(members: &mut S) -> WorkspaceFolder {
+        WorkspaceFolder {
+            uri: members.required(),
+            name: members.required(),
+        }
     }
 }
 
@@ -25,12 +41,7 @@ impl<'de> Deserialize<'de> for WorkspaceFolder {
         alloc: Global,
         from: &mut Deserializer<'de, '_, F>,
     ) -> Result<WorkspaceFolder, F::Error> {
-        let mut members = Members::of(alloc, from);
-        let read = WorkspaceFolder {
-            uri: members.required("uri"),
-            name: members.required("name"),
-        };
-        members.end(read)
+        read_object(alloc, from)
     }
 }
 
@@ -39,15 +50,33 @@ impl DeserializeOwned for WorkspaceFolder {
         alloc: Global,
         from: &mut Deserializer<'_, '_, F>,
     ) -> Result<WorkspaceFolder, F::Error> {
-        WorkspaceFolder::deserialize(alloc, from)
+        read_object(alloc, from)
     }
 }
 
 impl Described for ConfigurationParams {}
 
+impl Keyed for ConfigurationParams {
+    const KEYS: &'static [&'static str] = &["items"];
+}
+
+impl WriteMembers for ConfigurationParams {
+    fn write<O: Sink>(&self, out: O) -> O {
+        out.member(&self.items)
+    }
+}
+
 impl Serialize for ConfigurationParams {
     fn serialize<S: Serializer>(&self, out: &mut S) -> Result<(), S::Error> {
-        Object::begin(out).member("items", &self.items).end()
+        write_object(self, out)
+    }
+}
+
+impl ReadMembers for ConfigurationParams {
+    fn read<S: Source>(members: &mut S) -> ConfigurationParams {
+        ConfigurationParams {
+            items: members.required(),
+        }
     }
 }
 
@@ -56,22 +85,34 @@ impl DeserializeOwned for ConfigurationParams {
         alloc: Global,
         from: &mut Deserializer<'_, '_, F>,
     ) -> Result<ConfigurationParams, F::Error> {
-        let mut members = Members::of(alloc, from);
-        let read = ConfigurationParams {
-            items: members.required("items"),
-        };
-        members.end(read)
+        read_object(alloc, from)
     }
 }
 
 impl Described for ConfigurationItem {}
 
+impl Keyed for ConfigurationItem {
+    const KEYS: &'static [&'static str] = &["scopeUri", "section"];
+}
+
+impl WriteMembers for ConfigurationItem {
+    fn write<O: Sink>(&self, out: O) -> O {
+        out.some(&self.scope_uri).some(&self.section)
+    }
+}
+
 impl Serialize for ConfigurationItem {
     fn serialize<S: Serializer>(&self, out: &mut S) -> Result<(), S::Error> {
-        Object::begin(out)
-            .some("scopeUri", &self.scope_uri)
-            .some("section", &self.section)
-            .end()
+        write_object(self, out)
+    }
+}
+
+impl ReadMembers for ConfigurationItem {
+    fn read<S: Source>(members: &mut S) -> ConfigurationItem {
+        ConfigurationItem {
+            scope_uri: members.optional(),
+            section: members.optional(),
+        }
     }
 }
 
@@ -80,24 +121,46 @@ impl<'de> Deserialize<'de> for ConfigurationItem {
         alloc: Global,
         from: &mut Deserializer<'de, '_, F>,
     ) -> Result<ConfigurationItem, F::Error> {
-        let mut members = Members::of(alloc, from);
-        let read = ConfigurationItem {
-            scope_uri: members.optional("scopeUri"),
-            section: members.optional("section"),
-        };
-        members.end(read)
+        read_object(alloc, from)
+    }
+}
+
+impl DeserializeOwned for ConfigurationItem {
+    fn deserialize_owned<F: Format>(
+        alloc: Global,
+        from: &mut Deserializer<'_, '_, F>,
+    ) -> Result<ConfigurationItem, F::Error> {
+        read_object(alloc, from)
     }
 }
 
 impl Described for Command {}
 
+impl Keyed for Command {
+    const KEYS: &'static [&'static str] = &["title", "command", "arguments"];
+}
+
+impl WriteMembers for Command {
+    fn write<O: Sink>(&self, out: O) -> O {
+        out.member(&self.title)
+            .member(&self.command)
+            .some(&self.arguments)
+    }
+}
+
 impl Serialize for Command {
     fn serialize<S: Serializer>(&self, out: &mut S) -> Result<(), S::Error> {
-        Object::begin(out)
-            .member("title", &self.title)
-            .member("command", &self.command)
-            .some("arguments", &self.arguments)
-            .end()
+        write_object(self, out)
+    }
+}
+
+impl ReadMembers for Command {
+    fn read<S: Source>(members: &mut S) -> Command {
+        Command {
+            title: members.required(),
+            command: members.required(),
+            arguments: members.optional(),
+        }
     }
 }
 
@@ -106,13 +169,7 @@ impl<'de> Deserialize<'de> for Command {
         alloc: Global,
         from: &mut Deserializer<'de, '_, F>,
     ) -> Result<Command, F::Error> {
-        let mut members = Members::of(alloc, from);
-        let read = Command {
-            title: members.required("title"),
-            command: members.required("command"),
-            arguments: members.optional("arguments"),
-        };
-        members.end(read)
+        read_object(alloc, from)
     }
 }
 
@@ -121,18 +178,34 @@ impl DeserializeOwned for Command {
         alloc: Global,
         from: &mut Deserializer<'_, '_, F>,
     ) -> Result<Command, F::Error> {
-        Command::deserialize(alloc, from)
+        read_object(alloc, from)
     }
 }
 
 impl Described for ExecuteCommandParams {}
 
+impl Keyed for ExecuteCommandParams {
+    const KEYS: &'static [&'static str] = &["command", "arguments"];
+}
+
+impl WriteMembers for ExecuteCommandParams {
+    fn write<O: Sink>(&self, out: O) -> O {
+        out.member(&self.command).some(&self.arguments)
+    }
+}
+
 impl Serialize for ExecuteCommandParams {
     fn serialize<S: Serializer>(&self, out: &mut S) -> Result<(), S::Error> {
-        Object::begin(out)
-            .member("command", &self.command)
-            .some("arguments", &self.arguments)
-            .end()
+        write_object(self, out)
+    }
+}
+
+impl ReadMembers for ExecuteCommandParams {
+    fn read<S: Source>(members: &mut S) -> ExecuteCommandParams {
+        ExecuteCommandParams {
+            command: members.required(),
+            arguments: members.optional(),
+        }
     }
 }
 
@@ -141,23 +214,34 @@ impl DeserializeOwned for ExecuteCommandParams {
         alloc: Global,
         from: &mut Deserializer<'_, '_, F>,
     ) -> Result<ExecuteCommandParams, F::Error> {
-        let mut members = Members::of(alloc, from);
-        let read = ExecuteCommandParams {
-            command: members.required("command"),
-            arguments: members.optional("arguments"),
-        };
-        members.end(read)
+        read_object(alloc, from)
     }
 }
 
 impl Described for ApplyWorkspaceEditParams {}
 
+impl Keyed for ApplyWorkspaceEditParams {
+    const KEYS: &'static [&'static str] = &["label", "edit"];
+}
+
+impl WriteMembers for ApplyWorkspaceEditParams {
+    fn write<O: Sink>(&self, out: O) -> O {
+        out.some(&self.label).member(&self.edit)
+    }
+}
+
 impl Serialize for ApplyWorkspaceEditParams {
     fn serialize<S: Serializer>(&self, out: &mut S) -> Result<(), S::Error> {
-        Object::begin(out)
-            .some("label", &self.label)
-            .member("edit", &self.edit)
-            .end()
+        write_object(self, out)
+    }
+}
+
+impl ReadMembers for ApplyWorkspaceEditParams {
+    fn read<S: Source>(members: &mut S) -> ApplyWorkspaceEditParams {
+        ApplyWorkspaceEditParams {
+            label: members.optional(),
+            edit: members.required(),
+        }
     }
 }
 
@@ -166,24 +250,37 @@ impl DeserializeOwned for ApplyWorkspaceEditParams {
         alloc: Global,
         from: &mut Deserializer<'_, '_, F>,
     ) -> Result<ApplyWorkspaceEditParams, F::Error> {
-        let mut members = Members::of(alloc, from);
-        let read = ApplyWorkspaceEditParams {
-            label: members.optional("label"),
-            edit: members.required("edit"),
-        };
-        members.end(read)
+        read_object(alloc, from)
     }
 }
 
 impl Described for ApplyWorkspaceEditResult {}
 
+impl Keyed for ApplyWorkspaceEditResult {
+    const KEYS: &'static [&'static str] = &["applied", "failureReason", "failedChange"];
+}
+
+impl WriteMembers for ApplyWorkspaceEditResult {
+    fn write<O: Sink>(&self, out: O) -> O {
+        out.member(&self.applied)
+            .some(&self.failure_reason)
+            .some(&self.failed_change)
+    }
+}
+
 impl Serialize for ApplyWorkspaceEditResult {
     fn serialize<S: Serializer>(&self, out: &mut S) -> Result<(), S::Error> {
-        Object::begin(out)
-            .member("applied", &self.applied)
-            .some("failureReason", &self.failure_reason)
-            .some("failedChange", &self.failed_change)
-            .end()
+        write_object(self, out)
+    }
+}
+
+impl ReadMembers for ApplyWorkspaceEditResult {
+    fn read<S: Source>(members: &mut S) -> ApplyWorkspaceEditResult {
+        ApplyWorkspaceEditResult {
+            applied: members.required(),
+            failure_reason: members.optional(),
+            failed_change: members.optional(),
+        }
     }
 }
 
@@ -192,12 +289,6 @@ impl DeserializeOwned for ApplyWorkspaceEditResult {
         alloc: Global,
         from: &mut Deserializer<'_, '_, F>,
     ) -> Result<ApplyWorkspaceEditResult, F::Error> {
-        let mut members = Members::of(alloc, from);
-        let read = ApplyWorkspaceEditResult {
-            applied: members.required("applied"),
-            failure_reason: members.optional("failureReason"),
-            failed_change: members.optional("failedChange"),
-        };
-        members.end(read)
+        read_object(alloc, from)
     }
 }
