@@ -6,15 +6,20 @@ use Rattle.std.specs.declared.string.String.{String}
 use Rattle.lsp_text.specs.Documents.{Document}
 use Rattle.lsp_documents.specs.Notices.{shown}
 use Rattle.lsp_documents.specs.declared.kept.Open.{Open}
+use Rattle.lsp_documents.specs.declared.known.OpenText.{OpenText}
 
--- the document that is kept beside a URI, and the URI, if the text is known
+-- the URI and the document of an entry, if its text is known
 abbrev pub known_at : String Global × Open → Option (List ℕ × Document)
 known_at entry = option_map (λ d. (string_bytes entry.0, d)) (shown entry.1)
 
--- the same of all that is kept, in its order
+-- the same of each entry, in their order
 abbrev pub known_in : List (String Global × Open) → List (List ℕ × Document)
 known_in entries = filter_map known_at entries
 
--- their texts, each with its URI
-abbrev pub texts_in : List (String Global × Open) → List (List ℕ × List ℕ)
-texts_in entries = map (λ known. (known.0, known.1.text)) (known_in entries)
+-- the URIs and the texts of documents
+abbrev pub texts_in : List (List ℕ × Document) → List (List ℕ × List ℕ)
+texts_in known = map (λ k. (k.0, k.1.text)) known
+
+-- the URIs and the texts of copies
+abbrev pub copied : List OpenText → List (List ℕ × List ℕ)
+copied copies = map (λ copy. (string_bytes copy.uri, copy.text)) copies

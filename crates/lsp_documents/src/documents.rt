@@ -1,13 +1,13 @@
 // The documents that a client has opened, by their URIs.
-ghost use Rattle.std.specs.Prelude.{◌≡◌, ℕ, ◌<◌, ◌^◌, List, map, length, Option, Some, None, true, false, not, ◌&&◌, is_some, option_map, option_and_then, string_bytes, OnOk, OnErr, IfOk, IfErr, IfSome, IsSomeAnd, MatchOption};
+ghost use Rattle.std.specs.Prelude.{◌≡◌, ℕ, ◌<◌, ◌^◌, List, length, Option, Some, None, true, false, not, ◌&&◌, is_some, option_map, option_and_then, string_bytes, OnOk, OnErr, IfOk, IfErr, IfSome, IsSomeAnd, MatchOption};
 ghost use Rattle.std.specs.Option.{option_copied};
 ghost use Rattle.std.specs.Str.{bytes_eq};
 ghost use Rattle.std.specs.String.Boundary.{IsSplitPoint};
 ghost use Rattle.serde_json.specs.View.{view};
 ghost use Rattle.lsp_text.specs.Columns.{offset_of, IsPlace};
-ghost use Rattle.lsp_documents.specs.Heard.{notice_in, FailedBy, loses_by, Answers};
-ghost use Rattle.lsp_documents.specs.Held.{documents_of, has_known, loses};
-ghost use Rattle.lsp_documents.specs.Known.{known_in, texts_in};
+ghost use Rattle.lsp_documents.specs.Heard.{Answers};
+ghost use Rattle.lsp_documents.specs.Held.{documents_of, known_of, texts_of, has_known, loses};
+ghost use Rattle.lsp_documents.specs.Known.{copied};
 ghost use Rattle.lsp_documents.specs.Methods.{method_named};
 ghost use Rattle.lsp_documents.specs.Notices.{document, opens, edits, closes, saves, shown, lost, missed, is_not_higher as not_higher, changed_in, saved_in, change_fault, has_whole as has_whole_text, has_changes, is_known, MissesAll, Took, Refused, Failed, FailedSave};
 ghost use Rattle.lsp_documents.specs.declared.kept.Open.TheVariants.{Known};
@@ -85,7 +85,7 @@ impl TextDocuments {
 
     /// The documents whose text is known, each beside its URI, in the order of these.
     pub fn known(&self) -> KnownDocuments<'_>
-        ensures { result ≡ known_in self.now.documents.entries }
+        ensures { result ≡ known_of self.now }
     {
         KnownDocuments { open: self.iter() }
     }
@@ -93,14 +93,12 @@ impl TextDocuments {
     /// A copy of each text that is known, with its URI, in the order of these: for a job, which goes on while the documents
     /// change.
     pub fn snapshot(&self) -> Result<Vec<OpenText>, AllocError>
-        ensures { IfOk result (λ texts. map (λ copy. (string_bytes copy.uri, copy.text)) texts.items
-            ≡ texts_in self.now.documents.entries) }
+        ensures { IfOk result (λ texts. copied texts.items ≡ texts_of self.now) }
     {
         let mut texts = Vec::new(self.alloc);
         for (uri, document) in self.known() {
-            let uri = String::from_str(self.alloc, uri)?;
-            let text = Text::new(self.alloc, document.text().as_str())?;
-            texts.push(OpenText { uri, text })?;
+            let text = document.text().as_str();
+            texts.push(OpenText::new(self.alloc, uri, text)?)?;
         }
         Ok(texts)
     }

@@ -3,6 +3,7 @@ ghost use Rattle.std.specs.Iterator.{YieldsFirstBy, item_count};
 
 use crate::kept::Open;
 use lsp_text::{Text, TextDocument};
+use std::alloc::{AllocError, Global};
 use std::collections::btree_map::Iter;
 use std::marker::Model;
 
@@ -47,4 +48,18 @@ pub struct OpenText {
     pub uri: String,
     /// The whole text.
     pub text: Text,
+}
+
+impl OpenText {
+    ghost use Rattle.std.specs.Prelude.{◌≡◌, IfOk, string_bytes};
+
+    /// A copy of a URI and of a text.
+    pub fn new(alloc: Global, uri: &str, text: &str) -> Result<OpenText, AllocError>
+        ensures uri { IfOk result (λ copy. string_bytes copy.uri ≡ uri.now) }
+        ensures text { IfOk result (λ copy. copy.text ≡ text.now) }
+    {
+        let uri = String::from_str(alloc, uri)?;
+        let text = Text::new(alloc, text)?;
+        Ok(OpenText { uri, text })
+    }
 }
