@@ -166,7 +166,7 @@ class Documents:
         index = place(text, position_member(params, "position"), self.encoding)
         start, end = (position(text, it, self.encoding) for it in (index, len(text)))
         written = {name: dict(zip(("line", "character"), it)) for name, it in (("start", start), ("end", end))}
-        return f"{len(text[:index].encode())} {json.dumps(written, separators=(',', ':'))}"
+        return f"{len(text[:index].encode())} {json.dumps(written, separators=(',', ':'), sort_keys=True)}"
 
     def row(self, method, params):
         if method not in METHODS:

@@ -100,7 +100,7 @@ impl Documents {
     }
 
     fn hear_params(&mut self, said: &mut Said, method: &str, params: &Value) {
-        let copy = params.clone();
+        let copy: Result<Value, AllocError> = params.clone();
         let notification = Notification {
             method: said.text_of(method),
             params: said.made(copy, Value::Null),
