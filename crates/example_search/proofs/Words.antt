@@ -1,5 +1,5 @@
 -- Words of texts, and what a search finds.
-use Rattle.std.proofs.Common.{◌≡◌, ℕ, List, Vec, Global, ap, map, sym, subst, take, drop, string_bytes}
+use Rattle.std.proofs.Common.{◌≡◌, ℕ, List, Vec, Global, ap, map, sym, take, drop}
 use Rattle.std.proofs.lemmas.List.{take-append-drop}
 use Rattle.std.proofs.lemmas.List.Elements.{All-map}
 use Rattle.std.specs.Prelude.{Some, Ok, codes}
@@ -11,17 +11,12 @@ use Rattle.serde_json.specs.View.{view}
 use Rattle.serde_json.specs.declared.value.Value.{Value}
 use Rattle.serde_json.specs.declared.value.Value.TheVariants.{Array}
 use Rattle.serde_json.proofs.Views.{view-Array}
-use Rattle.example_search.specs.Found.{HasWord, IsFoundIn}
+use Rattle.example_search.specs.Found.{HasWord}
 use Rattle.example_search.specs.Sources.{AnswersSearch, AreFound, IsFound}
 
 -- a word that is found in a text is in it
 pub has_word : (word text : List ℕ) → HasMatch (FindsText word) text → HasWord word text
 has_word word text m = (take m.0 text, drop m.1 text, sym (rw m.2.1.split at (take-append-drop m.0 text)))
-
--- what is found in a document is found in the same document
-pub found_in_same : (a b : OpenText) (word : List ℕ) (symbol : Data) → a ≡ b
-    → IsFoundIn (string_bytes a.uri) a.text word symbol → IsFoundIn (string_bytes b.uri) b.text word symbol
-found_in_same a b word symbol same found = subst (λ (s : OpenText). IsFoundIn (string_bytes s.uri) s.text word symbol) same found
 
 -- what a search finds answers it
 pub answers_search : (sources : List OpenText) (word : List ℕ) (params : Data) (found : Vec Value Global)

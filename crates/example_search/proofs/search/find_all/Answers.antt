@@ -3,7 +3,6 @@ use Rattle.std.proofs.lemmas.List.Elements.{All-append}
 use Rattle.std.specs.List.{Any}
 use Rattle.serde_json.specs.View.{view}
 use Rattle.example_search.specs.Found.{IsFoundIn}
-use Rattle.example_search.proofs.Words.{found_in_same}
 use Rattle.example_search.proofs.search.find_all.Goals as goal
 
 pub loop-number-preserved : goal.loop-number-preserved
@@ -16,5 +15,5 @@ loop-number-preserved g c =
       c.index-sources-number.result,
       omega arith,
       sym c.index-sources-number.is,
-      found_in_same _ _ _ _ c.deref-in-loop-number.ensures (c.in_ok-headings.ensures k d h),
+      c.in_ok-headings.ensures k d h,
     )))
