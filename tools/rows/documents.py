@@ -60,6 +60,12 @@ def edited(text, span, new, encoding):
 
 # A server's documents.
 
+METHODS = ["textDocument/didOpen", "textDocument/didChange", "textDocument/didSave", "textDocument/didClose"]
+
+
+def shown_version(version):
+    return "None" if version is None else f"Some({version})"
+
 
 def whole(value, least, most):
     return isinstance(value, int) and not isinstance(value, bool) and least <= value <= most
@@ -132,6 +138,10 @@ class Documents:
         if method == "initialize":
             self.__init__(agreed(params))
             return [self.encoding]
+        if method == "known":
+            return [self.known()]
+        if method == "place":
+            return [self.place(params)]
         return [self.row(method, params)]
 
     def unread(self):
@@ -140,16 +150,36 @@ class Documents:
             self.lose(it)
         return "\t".join(["unread"] + [self.shown(it) for it in self.seen])
 
+    def known(self):
+        """The documents whose text is known, by the bytes of their URIs, and then the copies of their texts."""
+        known = sorted((it for it in self.open if self.is_known(it)), key=lambda it: it.encode())
+        named = [f" {it} {shown_version(self.open[it][0])}" for it in known]
+        copies = [f"\t{it} {json.dumps(self.open[it][2], ensure_ascii=False)}" for it in known]
+        return "known" + "".join(named + copies)
+
+    def place(self, params):
+        """Where a position is, in bytes of UTF-8, and the range from there to the text's end."""
+        uri = params["uri"]
+        if not self.is_known(uri):
+            return "no place"
+        text = self.open[uri][2]
+        index = place(text, position_member(params, "position"), self.encoding)
+        start, end = (position(text, it, self.encoding) for it in (index, len(text)))
+        written = {name: dict(zip(("line", "character"), it)) for name, it in (("start", start), ("end", end))}
+        return f"{len(text[:index].encode())} {json.dumps(written, separators=(',', ':'), sort_keys=True)}"
+
     def row(self, method, params):
+        if method not in METHODS:
+            return "\t".join(["no notification of documents"] + [self.shown(it) for it in self.seen])
         known = {uri for uri in self.open if self.is_known(uri)}
         uri = self.named(params)
         try:
             shape(uri is not None)
             answer = self.hears(method, uri, params)
-            if answer.startswith("ok") and uri not in self.seen:
+            if answer.startswith("made") and uri not in self.seen:
                 self.seen.append(uri)
         except ValueError:
-            answer = "params of another shape"
+            answer = "params of another shape" if uri is None else f"{uri}: params of another shape"
             if uri is not None:
                 self.lose(uri)
             elif method != "textDocument/didSave":
@@ -180,16 +210,16 @@ class Documents:
         if method == "textDocument/didChange":
             return self.hears_change(uri, params)
         if uri not in self.open:
-            return "the document is not open"
+            return f"{uri}: the document is not open"
         if method == "textDocument/didClose":
             del self.open[uri]
         elif not self.is_known(uri) and isinstance(params.get("text"), str):
             self.open[uri] = (None, self.open[uri][1], params["text"])
-        return "ok"
+        return f"made {uri}"
 
     def hears_open(self, uri, item):
         language, version, text = text_member(item, "languageId"), version_member(item), text_member(item, "text")
-        answer = "ok: the document was open already" if uri in self.open else "ok"
+        answer = f"made {uri}: the document was open already" if uri in self.open else f"made {uri}"
         self.open[uri] = (version, language, text)
         return answer
 
@@ -198,14 +228,15 @@ class Documents:
         shape(isinstance(changes, list))
         changes = [(text_member(change, "text"), span_of(change)) for change in changes]
         if uri not in self.open:
-            return "the document is not open"
+            return f"{uri}: the document is not open"
         before, language, text = self.open[uri]
         if text is None and all(span for _, span in changes):
-            return "the document is out of step"
+            return f"{uri}: the document is out of step"
         for new, span in changes:
             text = new if span is None else text if text is None else edited(text, span, new, self.encoding)
         self.open[uri] = (version, language, text)
-        return "ok: the version is not higher" if None not in (version, before) and version <= before else "ok"
+        is_higher = None in (version, before) or version > before
+        return f"made {uri}" if is_higher else f"made {uri}: the version is not higher"
 
     def shown(self, uri):
         if uri not in self.open:
@@ -215,8 +246,7 @@ class Documents:
         version, language, text = self.open[uri]
         places = [position(text, i, self.encoding) for i in range(len(text) + 1)]
         written = json.dumps(text, ensure_ascii=False)
-        number = "None" if version is None else f"Some({version})"
-        return f"{uri} {number} {language} {written} {len(lines(text))} " + " ".join("%d:%d" % it for it in places)
+        return f"{uri} {shown_version(version)} {language} {written} {len(lines(text))} " + " ".join("%d:%d" % it for it in places)
 
 
 # Rows.
@@ -254,6 +284,12 @@ class Table:
 
     def closes(self, uri):
         self.tell("textDocument/didClose", {"textDocument": {"uri": uri}})
+
+    def looks(self, uri, *positions):
+        """At what is known, and at these positions of a document."""
+        self.tell("known", None)
+        for line, character in positions:
+            self.tell("place", {"uri": uri, "position": {"line": line, "character": character}})
 
 
 def change(span, new):
@@ -329,6 +365,9 @@ def wrong(table):
     table.tell("textDocument/didChange", {"textDocument": {"uri": a}, "contentChanges": []})
     table.saves("file:///c")
     table.closes("file:///c")
+    for method in ["textDocument/willSave", "textDocument/didopen", "textDocument/didCloser", "textDocument", ""]:
+        table.tell(method, {"textDocument": {"uri": a, "languageId": "l", "version": 1, "text": ""}})
+    table.looks("file:///c", (0, 0))
     table.saves(a)
     table.saves(b, text=5)
     table.saves(b, text="not taken: the text is known")
@@ -384,7 +423,9 @@ def unread(table):
             table.loses(body)
             table.changes(a, 8, [(((0, 1), (0, 1)), "-")])
             table.loses(body)
+            table.looks(a, (0, 1))
             way()
+            table.looks(a, (0, 1))
             table.changes(b, 10, [(((0, 1), (0, 1)), "+")])
 
 
@@ -425,6 +466,9 @@ def session(table, source, count):
     for _ in range(count):
         uri = source.choice(URIS)
         held = table.documents.open.get(uri)
+        if source.random() < 0.1:
+            text = held[2] if held else None
+            table.looks(uri, some_position(source, text or "", encoding))
         kind = source.random()
         if held and source.random() < 0.06:
             name = uri if source.random() < 0.8 else None
@@ -453,6 +497,7 @@ def rows(seed, sessions):
         table.opens("u", text)
         if changes:
             table.changes("u", 2, changes)
+        table.looks("u", (0, 2), (0, 3), (1, 1), (GREATEST, 0))
     for params, encoding in OFFERS:
         table.begin(encoding, {} if params is None else params)
     wrong(table)

@@ -1,31 +1,25 @@
 -- Words of texts, and what a search finds.
-use Rattle.std.proofs.Common.{◌≡◌, ℕ, List, Vec, Global, ap, map, sym, subst, take, drop, string_bytes}
+use Rattle.std.proofs.Common.{◌≡◌, ℕ, List, Vec, Global, ap, map, sym, take, drop}
 use Rattle.std.proofs.lemmas.List.{take-append-drop}
 use Rattle.std.proofs.lemmas.List.Elements.{All-map}
 use Rattle.std.specs.Prelude.{Some, Ok, codes}
 use Rattle.std.specs.Str.Pattern.{HasMatch, FindsText}
-use Rattle.std.specs.declared.sync.Arc.{Arc}
+use Rattle.lsp_documents.specs.declared.known.OpenText.{OpenText}
 use Rattle.serde_json.specs.Data.{Data, string}
 use Rattle.serde_json.specs.Find.{get}
 use Rattle.serde_json.specs.View.{view}
 use Rattle.serde_json.specs.declared.value.Value.{Value}
 use Rattle.serde_json.specs.declared.value.Value.TheVariants.{Array}
 use Rattle.serde_json.proofs.Views.{view-Array}
-use Rattle.example_search.specs.Found.{HasWord, IsFoundIn}
+use Rattle.example_search.specs.Found.{HasWord}
 use Rattle.example_search.specs.Sources.{AnswersSearch, AreFound, IsFound}
-use Rattle.example_search.specs.declared.shared.Source.{Source}
 
 -- a word that is found in a text is in it
 pub has_word : (word text : List ℕ) → HasMatch (FindsText word) text → HasWord word text
 has_word word text m = (take m.0 text, drop m.1 text, sym (rw m.2.1.split at (take-append-drop m.0 text)))
 
--- what is found in a document is found in the same document
-pub found_in_same : (a b : Source) (word : List ℕ) (symbol : Data) → a ≡ b
-    → IsFoundIn (string_bytes a.uri) a.text word symbol → IsFoundIn (string_bytes b.uri) b.text word symbol
-found_in_same a b word symbol same found = subst (λ (s : Source). IsFoundIn (string_bytes s.uri) s.text word symbol) same found
-
 -- what a search finds answers it
-pub answers_search : (sources : List (Arc Source Global)) (word : List ℕ) (params : Data) (found : Vec Value Global)
+pub answers_search : (sources : List OpenText) (word : List ℕ) (params : Data) (found : Vec Value Global)
     → get (codes "query") params ≡ Some (string word) → AreFound sources word found.items
     → AnswersSearch sources params (Ok (view (Array found)))
 answers_search sources word params found asked are = (

@@ -5,23 +5,21 @@ use Rattle.serde_json.specs.View.{view, items_of}
 use Rattle.serde_json.specs.declared.value.Value.{Value}
 use Rattle.std.specs.List.{All, Any}
 use Rattle.std.specs.Prelude.{◌≡◌, ℕ, List, Some, Result, Ok, codes, string_bytes}
-use Rattle.std.specs.declared.alloc.Global.{Global}
-use Rattle.std.specs.declared.sync.Arc.{Arc}
+use Rattle.lsp_documents.specs.declared.known.OpenText.{OpenText}
 use Rattle.lsp_message.specs.Message.{ErrorObject}
 use Rattle.example_search.specs.Found.{IsFoundIn}
-use Rattle.example_search.specs.declared.shared.Source.{Source}
 
 -- this symbol may be found in one of these documents
-abbrev pub IsFound : List (Arc Source Global) → List ℕ → Data → Type 0
+abbrev pub IsFound : List OpenText → List ℕ → Data → Type 0
 IsFound sources word symbol =
-    Any (λ source. IsFoundIn (string_bytes source.value.uri) source.value.text word symbol) sources
+    Any (λ source. IsFoundIn (string_bytes source.uri) source.text word symbol) sources
 
 -- each of these symbols may be found in one of these documents
-abbrev pub AreFound : List (Arc Source Global) → List ℕ → List Value → Type 0
+abbrev pub AreFound : List OpenText → List ℕ → List Value → Type 0
 AreFound sources word symbols = All (λ symbol. IsFound sources word (view symbol)) symbols
 
 -- Each symbol of the result may be found in one of these documents, by the word that the params ask for.
-abbrev pub AnswersSearch : List (Arc Source Global) → Data → Result Data ErrorObject → Type 0
+abbrev pub AnswersSearch : List OpenText → Data → Result Data ErrorObject → Type 0
 AnswersSearch sources params outcome =
     (word : List ℕ) × (symbols : List Data) × (get (codes "query") params ≡ Some (string word))
     × (outcome ≡ Ok (array (items_of symbols))) × All (IsFound sources word) symbols

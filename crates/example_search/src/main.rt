@@ -22,7 +22,6 @@
 mod search;
 mod server;
 mod sessions;
-mod shared;
 mod sums;
 
 use anyhow::{Result, bail};

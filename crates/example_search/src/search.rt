@@ -6,14 +6,13 @@ ghost use Rattle.std.specs.Prelude.{◌≡◌, ℕ, List, IfOk, IfSome, string_b
 ghost use Rattle.example_search.specs.Found.{IsFoundIn, IsHeading, symbol_at};
 ghost use Rattle.example_search.specs.Sources.{AreFound};
 
-use crate::shared::Source;
 use crate::sums::{line_count, line_of};
+use lsp_documents::OpenText;
 use lsp_jobs::{CancellationToken, Job, Progress, WorkDone};
 use lsp_server::{Notification, ResponseError};
 use lsp_text::Text;
 use serde_json::{Value, json};
 use std::alloc::{AllocError, Global};
-use std::sync::Arc;
 
 /// A search, with all that it needs.
 #[derive(Drop)]
@@ -22,8 +21,8 @@ pub struct Search {
     pub alloc: Global,
     /// The word that a heading is to contain.
     pub query: String,
-    /// The texts that are searched.
-    pub sources: Vec<Arc<Source>>,
+    /// The texts that are searched, as they were when it was asked for.
+    pub sources: Vec<OpenText>,
     /// Tells the client how far it is.
     pub work: WorkDone,
 }
@@ -77,7 +76,7 @@ impl Job for Search {
 /// The headings of these documents that have the word, up to where the search is cancelled. It tells how far it is.
 fn find_all<P: Progress>(
     alloc: Global,
-    sources: &[Arc<Source>],
+    sources: &[OpenText],
     word: &str,
     work: &WorkDone,
     token: &CancellationToken,
@@ -109,7 +108,7 @@ fn percentage(done: usize, count: usize) -> Option<u32> {
 /// The headings of a document that have the word, up to where the search is cancelled.
 fn headings_with(
     alloc: Global,
-    source: &Source,
+    source: &OpenText,
     word: &str,
     token: &CancellationToken,
 ) -> Result<Vec<Value>, AllocError>
@@ -132,7 +131,7 @@ fn headings_with(
 /// The heading in a line of a document, if there is one that has the word.
 fn found_in(
     alloc: Global,
-    source: &Source,
+    source: &OpenText,
     line: u32,
     word: &str,
 ) -> Result<Option<Value>, AllocError>

@@ -2,20 +2,20 @@
 ghost use Rattle.serde_json.specs.Data.{string};
 ghost use Rattle.serde_json.specs.Find.{get};
 ghost use Rattle.serde_json.specs.View.{view};
-ghost use Rattle.std.specs.Prelude.{◌≡◌, Some, IfNone, IfOk, IfSome, codes, string_bytes};
+ghost use Rattle.std.specs.Prelude.{◌≡◌, Some, IfOk, IfSome, codes, string_bytes};
+ghost use Rattle.lsp_documents.specs.Held.{texts_of};
+ghost use Rattle.lsp_documents.specs.Known.{copied};
 
 use crate::search::{Search, Silence};
-use crate::shared::{SharedTexts, Source};
-use crate::sums::{Problem, Word, sheet_of, value_of, words_of};
-use lsp_documents::{DocumentFault, Made, NotMade, TextDocuments, position_encoding, position_in};
+use crate::sums::{Problem, Word, sheet_of, value_of, word_at};
+use lsp_documents::{Made, NotMade, TextDocuments, position_encoding, position_in};
 use lsp_jobs::{AnsweredBy, CancellationToken, Job, JobEnd, JobServer, NewJob, WorkDone};
 use lsp_server::{Act, ErrorCode, Notification, Request, RequestId, ResponseError, Server};
-use lsp_text::{Position, PositionEncoding, Range, Text, TextDocument};
+use lsp_text::{PositionEncoding, Text, TextDocument};
 use serde_json::{Value, json, put, to_value};
 use std::alloc::{AllocError, Global};
 use std::fmt::Display;
 use std::mem;
-use std::sync::Arc;
 
 /// What the client is told of the server.
 const ABOUT: &str = r#"{
@@ -39,8 +39,6 @@ pub struct Sums {
     /// Whether the client can be asked for its configuration.
     configures: bool,
     documents: TextDocuments,
-    /// Their texts, as searches have them.
-    texts: SharedTexts,
     /// The requests that are answered when nothing is wrong with a text.
     waiting: Vec<Request>,
 }
@@ -80,8 +78,7 @@ impl Server for Sums {
 
     fn notification(&mut self, notification: Notification) -> Result<Acts, AllocError> {
         let mut acts = Vec::new(self.alloc);
-        let method = notification.method.as_str();
-        let noted = self.note(method, &notification.params, &mut acts);
+        let noted = self.note(&notification, &mut acts);
         drop(notification);
         noted.and(Ok(acts))
     }
@@ -152,7 +149,6 @@ impl Sums {
             largest: i64::MAX,
             configures: false,
             documents: TextDocuments::new(alloc, PositionEncoding::Utf16),
-            texts: SharedTexts::new(alloc),
             waiting: Vec::new(alloc),
         }
     }
@@ -198,33 +194,22 @@ impl Sums {
         }
     }
 
-    /// The search that a client asks for, over the texts as they are now. Without a word there is none, and nothing changes.
-    fn search_in(&mut self, params: &Value) -> Result<Option<Search>, AllocError>
-        ensures some { IfOk result (λ found. IfSome found (λ search.
+    /// The search that a client asks for, over the texts as they are now. Without a word there is none.
+    fn search_in(&self, params: &Value) -> Result<Option<Search>, AllocError>
+        ensures asked { IfOk result (λ found. IfSome found (λ search.
             get (codes "query") (view params.now) ≡ Some (string (string_bytes search.query)))) }
-        ensures none { IfOk result (λ found. IfNone found (self.new ≡ self.old)) }
+        ensures whole { IfOk result (λ found. IfSome found (λ search.
+            copied search.sources.items ≡ texts_of self.now.documents)) }
     {
         let Some(query) = query_in(params) else {
             return Ok(None);
         };
-        let sources = self.sources()?;
         Ok(Some(Search {
             alloc: self.alloc,
             query: String::from_str(self.alloc, query)?,
-            sources,
+            sources: self.documents.snapshot()?,
             work: WorkDone::of(self.alloc, params)?,
         }))
-    }
-
-    /// The texts that are open, as they are now.
-    fn sources(&mut self) -> Result<Vec<Arc<Source>>, AllocError> {
-        let mut sources = Vec::new(self.alloc);
-        for (uri, kept) in self.documents.iter() {
-            if let Some(document) = kept.document() {
-                sources.push(self.texts.share(uri.as_str(), document.text().as_str())?)?;
-            }
-        }
-        Ok(sources)
     }
 
     /// Asks for the configuration, if the client can be asked.
@@ -238,62 +223,39 @@ impl Sums {
     }
 
     /// What the client is told after a notification.
-    fn note(&mut self, method: &str, params: &Value, acts: &mut Acts) -> Result<(), AllocError> {
-        let heard = match method {
-            "textDocument/didOpen" => self.documents.did_open(params),
-            "textDocument/didChange" => self.documents.did_change(params),
-            "textDocument/didSave" => self.documents.did_save(params),
-            "textDocument/didClose" => self.documents.did_close(params),
-            "workspace/didChangeConfiguration" => return self.ask_configuration(acts),
-            _ => return Ok(()),
-        };
-        match heard {
-            Ok(made) => self.hear(made, acts),
-            Err(missed) => self.complain(missed, acts),
+    fn note(&mut self, notification: &Notification, acts: &mut Acts) -> Result<(), AllocError> {
+        match self.documents.hear(notification) {
+            Some(Ok(made)) => self.hear(made, acts),
+            Some(Err(missed)) => self.complain(missed.unless_memory()?, acts),
+            None => match notification.method.as_str() {
+                "workspace/didChangeConfiguration" => self.ask_configuration(acts),
+                _ => Ok(()),
+            },
         }
     }
 
     /// What the client is told after a notification that was made: what there is to say of it, and what is wrong with the text.
     fn hear(&mut self, made: Made<'_>, acts: &mut Acts) -> Result<(), AllocError> {
-        if let Some(remark) = made.remark {
-            self.log(2, Some(made.uri), &remark, acts)?;
+        if made.remark.is_some() {
+            self.log(2, &made, acts)?;
         }
-        self.texts.forget(made.uri);
         self.check(made.uri, acts)
     }
 
     /// What the client is told after a notification that was not made: why, and no marks of a text that was lost by it. Each may
     /// be, if no URI is named.
     fn complain(&mut self, missed: NotMade<'_>, acts: &mut Acts) -> Result<(), AllocError> {
-        if matches!(missed.fault, DocumentFault::Memory) {
-            return Err(AllocError);
-        }
-        self.log(1, missed.uri, &missed.fault, acts)?;
+        self.log(1, &missed, acts)?;
         match missed.uri {
-            None => {
-                self.texts.forget_all();
-                self.mark_all(acts)
-            }
-            Some(uri) if missed.lost => {
-                self.texts.forget(uri);
-                self.check(uri, acts)
-            }
+            None => self.mark_all(acts),
+            Some(uri) if missed.lost => self.check(uri, acts),
             Some(_) => Ok(()),
         }
     }
 
-    /// Has the client log what there is to say of a text, or of all.
-    fn log<D: Display>(
-        &self,
-        kind: u32,
-        uri: Option<&str>,
-        what: &D,
-        acts: &mut Acts,
-    ) -> Result<(), AllocError> {
-        let line = match uri {
-            Some(uri) => format!(in self.alloc; "{uri}: {what}")?,
-            None => format!(in self.alloc; "{what}")?,
-        };
+    /// Has the client log this.
+    fn log<D: Display>(&self, kind: u32, what: &D, acts: &mut Acts) -> Result<(), AllocError> {
+        let line = format!(in self.alloc; "{what}")?;
         acts.push(Act::log(self.alloc, kind, line.as_str())?)?;
         Ok(())
     }
@@ -365,34 +327,28 @@ impl Sums {
 
     /// A text as the server holds it, or null.
     fn text(&self, params: &Value) -> Result<Value, AllocError> {
-        match self.document_in(params) {
+        match uri_in(params).and_then(|uri| self.documents.get(uri)) {
             Some(document) => Value::try_from_str(self.alloc, document.text().as_str()),
             None => Ok(Value::Null),
         }
     }
 
-    /// The document that params name, if its text is known.
-    fn document_in(&self, params: &Value) -> Option<&TextDocument> {
-        self.documents.get(uri_in(params)?)
-    }
-
     /// The name at a place of a text and its value, or null (LSP 3.17, "Hover Request").
     fn hover(&self, params: &Value) -> Result<Value, AllocError> {
-        match (self.document_in(params), place_in(params)) {
-            (Some(document), Some(place)) => self.hover_at(document.text(), place),
-            _ => Ok(Value::Null),
+        let Some((document, offset)) = self.place_in(params) else {
+            return Ok(Value::Null);
+        };
+        let text = document.text();
+        match word_at(self.alloc, text, offset)? {
+            Some(word) => self.shown(text, word),
+            None => Ok(Value::Null),
         }
     }
 
-    fn hover_at(&self, text: &Text, place: Position) -> Result<Value, AllocError> {
-        let offset = text.offset_at(place, self.documents.encoding());
-        let words = words_of(self.alloc, text, place.line)?;
-        for word in words.iter() {
-            if word.start <= offset && offset < word.end() {
-                return self.shown(text, *word);
-            }
-        }
-        Ok(Value::Null)
+    /// The place that params name, if the text is known.
+    fn place_in(&self, params: &Value) -> Option<(&TextDocument, usize)> {
+        let position = position_in(params.get("position")?)?;
+        self.documents.place(uri_in(params)?, position)
     }
 
     /// What is shown of a word, if it has a value.
@@ -413,10 +369,8 @@ impl Sums {
 
     /// Where a word stands, as the client counts it.
     fn range_of(&self, text: &Text, word: Word<'_>) -> Result<Value, AllocError> {
-        let encoding = self.documents.encoding();
-        let start = text.position_at(word.start, encoding);
-        let end = text.position_at(word.end(), encoding);
-        tree(to_value(self.alloc, &Range { start, end }))
+        let range = self.documents.range_of(text, word.start..word.end());
+        tree(to_value(self.alloc, &range))
     }
 }
 
@@ -460,10 +414,6 @@ fn id_of(request: Request) -> RequestId {
 
 fn uri_in(params: &Value) -> Option<&str> {
     params.pointer("/textDocument/uri")?.as_str()
-}
-
-fn place_in(params: &Value) -> Option<Position> {
-    position_in(params.get("position")?)
 }
 
 fn query_in(params: &Value) -> Option<&str>

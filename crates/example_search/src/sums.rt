@@ -92,6 +92,17 @@ pub fn words_of(alloc: Global, text: &Text, line: u32) -> Result<Vec<Word<'_>>, 
     Ok(words)
 }
 
+/// The word at a place of a text, which is given in bytes.
+pub fn word_at(alloc: Global, text: &Text, offset: usize) -> Result<Option<Word<'_>>, AllocError> {
+    let line = text.position_at(offset, PositionEncoding::Utf8).line;
+    for word in words_of(alloc, text, line)? {
+        if word.start <= offset && offset < word.end() {
+            return Ok(Some(word));
+        }
+    }
+    Ok(None)
+}
+
 /// Whether names and numbers may have the character.
 fn of_name(letter: char) -> bool {
     letter.is_alphanumeric() || letter == '_'

@@ -1,7 +1,8 @@
 -- What notifications make of what is kept of one URI, beside the client's own document.
-use Rattle.std.proofs.Common.{◌≡◌, ℕ, ℤ, Bool, true, false, ◌||◌, List, [], ◌∷◌, ◌++◌, Option, Some, None, refl, sym, ap, subst, ◌∙◌, arith, inl, inr, is_none, option_and_then, option_map}
-use Rattle.std.specs.Prelude.{if◌then◌else◌, not, ◌&&◌, is_some, unwrap_or, IfSome, ◌<◌, length}
+use Rattle.std.proofs.Common.{◌≡◌, ℕ, ℤ, Bool, true, false, ◌||◌, List, [], ◌∷◌, ◌++◌, Option, Some, None, refl, sym, ap, subst, ◌∙◌, arith, inl, inr, is_none, option_and_then, option_map, append_assoc}
+use Rattle.std.specs.Prelude.{if◌then◌else◌, not, ◌&&◌, is_some, unwrap_or, IfSome, Result, Ok, Err, OnErr, ◌<◌, length}
 use Rattle.std.specs.Str.{bytes_eq}
+use Rattle.std.proofs.lemmas.List.{append-nil}
 use Rattle.std.proofs.lemmas.Slice.Eq.{bytes_eq-Decides}
 use Rattle.lsp_text.specs.Documents.{Document, Change}
 use Rattle.lsp_text.specs.Edits.{edited, edited_by}
@@ -268,3 +269,30 @@ whole_more w b None rest h = none_value (sym h)
 whole_more w b (Some c) None h = refl
 whole_more true b (Some c) (Some cs) h = refl
 whole_more false b (Some c) (Some cs) h = ap (λ x. Some (x || has_whole cs)) (sym (some_value h))
+
+-- ---- changes, read one after another
+
+-- one more was read
+pub change_more : (done : List Change) (c : Change) (first : Option Change) (rest : Option (List Change)) → first ≡ Some c →
+    option_map (λ cs. done ++ cs) (option_and_then (λ c. option_map (λ cs. c ∷ cs) rest) first) ≡ option_map (λ cs. (done ++ (c ∷ [])) ++ cs) rest
+change_more done c None rest h = none_value h
+change_more done c (Some d) None h = refl
+change_more done c (Some d) (Some cs) h = ap (λ x. Some (done ++ (x ∷ cs))) (some_value h) ∙ ap Some (sym (append_assoc done (c ∷ []) cs))
+
+-- the next is none
+pub change_none : (done : List Change) (first : Option Change) (rest : Option (List Change)) → first ≡ None → None ≡ option_map (λ cs. done ++ cs) (option_and_then (λ c. option_map (λ cs. c ∷ cs) rest) first)
+change_none done None rest h = refl
+change_none done (Some c) rest h = none_value (sym h)
+
+-- all were read
+pub change_all : (done : List Change) (vs : List Value) → vs ≡ [] → Some done ≡ option_map (λ cs. done ++ cs) (changes_in (items_view vs))
+change_all done vs h = rw h (ap Some (sym (append-nil done)))
+
+-- none was read yet
+pub change_first : (done : List Change) (all : Option (List Change)) → done ≡ [] → all ≡ option_map (λ cs. done ++ cs) all
+change_first done None h = refl
+change_first done (Some cs) h = rw h refl
+
+pub at_error : {T E Q : Type 0} (r : Result T E) → Q → OnErr r Q
+at_error (Ok x) q = tt
+at_error (Err e) q = q

@@ -1,5 +1,5 @@
 -- Wrong runs that the definitions of the law refuse: each supposes one, and leads to a contradiction.
-use Rattle.std.proofs.Common.{◌≡◌, ℕ, ℤ, Bool, true, false, List, [], ◌∷◌, Option, Some, None, refl, sym, ap, ◌∙◌, arith, inl, inr, option_and_then, option_map}
+use Rattle.std.proofs.Common.{◌≡◌, ℕ, ℤ, Bool, true, false, List, [], Option, Some, None, refl, sym, ap, ◌∙◌, arith, inl, inr, option_and_then, option_map}
 use Rattle.std.specs.Prelude.{is_some, if◌then◌else◌}
 use Rattle.std.specs.Str.{bytes_eq}
 use Rattle.lsp_text.specs.Documents.{Document, Change}
@@ -9,8 +9,7 @@ use Rattle.lsp_documents.specs.declared.kept.Open.{Open}
 use Rattle.lsp_documents.specs.declared.kept.Open.TheVariants.{Known, Lost}
 use Rattle.lsp_documents.specs.declared.fault.DocumentFault.{DocumentFault}
 use Rattle.lsp_documents.specs.declared.fault.DocumentFault.TheVariants.{OutOfStep, Memory}
-use Rattle.lsp_documents.specs.declared.fault.Remark.TheVariants.{OpenAlready}
-use Rattle.lsp_documents.specs.Notices.{NoticeKind, NoticeKind.opened, NoticeKind.changed, NoticeKind.saved, NoticeKind.closed, Notice, Sent.made, Sent.unmade, Sent.unread, Documents, Takes, Took, Refused, after, missed, changed_in, change_fault, fault_of, needs_memory, remark_of, has_whole, has_changes, shown, opens, edits, saves, closes, document}
+use Rattle.lsp_documents.specs.Notices.{NoticeKind, NoticeKind.opened, NoticeKind.changed, NoticeKind.saved, NoticeKind.closed, Notice, Sent.made, Sent.unmade, Sent.unread, Documents, Takes, Took, Refused, after, missed, changed_in, fault_of, needs_memory, remark_of, has_whole, shown, opens, edits, saves, closes, document}
 
 never : {P : Type 0} → false ≡ true → P
 never h = grind (arith, h)

@@ -1,7 +1,9 @@
--- What a fault and a remark print.
-use Rattle.std.specs.Prelude.{ℕ, List, Option, Some, codes}
+-- What a fault and a remark print, and what a notification prints that was made, or not.
+use Rattle.std.specs.Prelude.{ℕ, List, ◌++◌, Option, Some, None, option_map, codes}
 use Rattle.lsp_documents.specs.declared.fault.DocumentFault.{DocumentFault}
 use Rattle.lsp_documents.specs.declared.fault.DocumentFault.TheVariants.{Params, NotOpen, OutOfStep, Memory}
+use Rattle.lsp_documents.specs.declared.fault.Made.{Made}
+use Rattle.lsp_documents.specs.declared.fault.NotMade.{NotMade}
 use Rattle.lsp_documents.specs.declared.fault.Remark.{Remark}
 use Rattle.lsp_documents.specs.declared.fault.Remark.TheVariants.{OpenAlready, VersionNotHigher}
 
@@ -14,3 +16,21 @@ fault_text Memory = Some (codes "out of memory")
 abbrev pub remark_text : Remark → Option (List ℕ)
 remark_text OpenAlready = Some (codes "the document was open already")
 remark_text VersionNotHigher = Some (codes "the version is not higher")
+
+-- a URI and what is said of it
+abbrev pub said_of : List ℕ → List ℕ → List ℕ
+said_of uri text = uri ++ (codes ": " ++ text)
+
+abbrev pub remarked : List ℕ → Option Remark → Option (List ℕ)
+remarked uri None = Some uri
+remarked uri (Some remark) = option_map (said_of uri) (remark_text remark)
+
+abbrev pub made_text : Made → Option (List ℕ)
+made_text made = remarked made.uri.now made.remark
+
+abbrev pub faulted : Option (List ℕ) → DocumentFault → Option (List ℕ)
+faulted None fault = fault_text fault
+faulted (Some uri) fault = option_map (said_of uri) (fault_text fault)
+
+abbrev pub not_made_text : NotMade → Option (List ℕ)
+not_made_text missed = faulted (option_map (λ uri. uri.now) missed.uri) missed.fault

@@ -1,24 +1,33 @@
 // The documents that a client has opened, by their URIs.
-ghost use Rattle.std.specs.Prelude.{◌≡◌, ℕ, List, Option, Some, None, true, false, not, ◌&&◌, is_some, option_map, option_and_then, OnOk, OnErr, IfOk, IfErr, IsSomeAnd};
+ghost use Rattle.std.specs.Prelude.{◌≡◌, ℕ, ◌<◌, ◌^◌, List, length, Option, Some, None, true, false, not, ◌&&◌, is_some, option_map, option_and_then, string_bytes, OnOk, OnErr, IfOk, IfErr, IfSome, IsSomeAnd, MatchOption};
 ghost use Rattle.std.specs.Option.{option_copied};
 ghost use Rattle.std.specs.Str.{bytes_eq};
+ghost use Rattle.std.specs.String.Boundary.{IsSplitPoint};
 ghost use Rattle.serde_json.specs.View.{view};
-ghost use Rattle.lsp_documents.specs.Held.{documents_of, has_known, loses};
+ghost use Rattle.lsp_text.specs.Columns.{offset_of, IsPlace};
+ghost use Rattle.lsp_documents.specs.Heard.{Answers};
+ghost use Rattle.lsp_documents.specs.Held.{documents_of, known_of, texts_of, has_known, loses};
+ghost use Rattle.lsp_documents.specs.Known.{copied};
+ghost use Rattle.lsp_documents.specs.Methods.{method_named};
 ghost use Rattle.lsp_documents.specs.Notices.{document, opens, edits, closes, saves, shown, lost, missed, is_not_higher as not_higher, changed_in, saved_in, change_fault, has_whole as has_whole_text, has_changes, is_known, MissesAll, Took, Refused, Failed, FailedSave};
 ghost use Rattle.lsp_documents.specs.declared.kept.Open.TheVariants.{Known};
 ghost use Rattle.lsp_documents.specs.declared.fault.DocumentFault.TheVariants.{Params};
 ghost use Rattle.lsp_documents.specs.Params.{uri_in, did_open_in, did_change_in, did_save_in, did_close_in};
+ghost use Rattle.lsp_documents.specs.Places.{position_of};
 
 use crate::fault::{DocumentFault, Made, NotMade, Remark};
 use crate::kept::Open;
+use crate::known::{KnownDocuments, OpenText};
 use crate::lost::LostDocument;
+use crate::method::DocumentMethod;
 use crate::params;
-use lsp_text::{ContentChange, PositionEncoding, TextDocument};
+use lsp_message::Notification;
+use lsp_text::{ContentChange, Position, PositionEncoding, Range, Text, TextDocument};
 use serde_json::Value;
 use std::alloc::{AllocError, Global};
 use std::collections::BTreeMap;
 use std::collections::btree_map::Iter;
-use std::mem;
+use std::{mem, ops};
 
 /// The documents that a client has opened, by their URIs. Two URIs are the same if they are the same text. If something that
 /// the client told of a document was missed, its text is lost, and not to be had until the client tells it whole. Contracts see
@@ -72,6 +81,57 @@ impl TextDocuments {
         ensures { result ≡ self.now.documents.entries }
     {
         self.documents.iter()
+    }
+
+    /// The documents whose text is known, each beside its URI, in the order of these.
+    pub fn known(&self) -> KnownDocuments<'_>
+        ensures { result ≡ known_of self.now }
+    {
+        KnownDocuments { open: self.iter() }
+    }
+
+    /// A copy of each text that is known, with its URI, in the order of these: for a job, which goes on while the documents
+    /// change.
+    pub fn snapshot(&self) -> Result<Vec<OpenText>, AllocError>
+        ensures { IfOk result (λ texts. copied texts.items ≡ texts_of self.now) }
+    {
+        let mut texts = Vec::new(self.alloc);
+        for (uri, document) in self.known() {
+            let text = document.text().as_str();
+            texts.push(OpenText::new(self.alloc, uri, text)?)?;
+        }
+        Ok(texts)
+    }
+
+    /// The document of a URI, if its text is known, and where a position is in the text, in bytes of UTF-8, by the encoding that
+    /// was agreed on. A position past an end counts as `Text::offset_at` says.
+    pub fn place(&self, uri: &str, position: Position) -> Option<(&TextDocument, usize)>
+        ensures document { option_map (λ found. found.0.now) result
+            ≡ option_and_then shown ((documents_of self.now).held uri.now) }
+        ensures offset { IfSome result (λ found. found.1
+            ≡ offset_of self.now.encoding found.0.now.text position.line position.character) }
+        ensures boundary { IfSome result (λ found. IsSplitPoint found.0.now.text found.1) }
+    {
+        let document = self.get(uri)?;
+        Some((document, document.text().offset_at(position, self.encoding)))
+    }
+
+    /// The range of a part of a text, which is given in bytes of UTF-8, by the encoding that was agreed on. An end past the text's
+    /// counts as that.
+    pub fn range_of(&self, text: &Text, part: ops::Range<usize>) -> Range
+        ensures start { result.start ≡ position_of self.now.encoding text.now part.start }
+        ensures end { result.end ≡ position_of self.now.encoding text.now part.end }
+        ensures start_again { IsPlace text.now part.start → length text.now < 2 ^ 30
+            → offset_of self.now.encoding text.now result.start.line result.start.character
+            ≡ part.start }
+        ensures end_again { IsPlace text.now part.end → length text.now < 2 ^ 30
+            → offset_of self.now.encoding text.now result.end.line result.end.character
+            ≡ part.end }
+    {
+        Range {
+            start: text.position_at(part.start, self.encoding),
+            end: text.position_at(part.end, self.encoding),
+        }
     }
 
     /// Whether the text of a URI is known.
@@ -312,6 +372,37 @@ impl TextDocuments {
         ensures encoding { self.new.encoding ≡ self.old.encoding }
     {
         self.documents.remove(uri)
+    }
+
+    /// Hears a notification of a document: `did_open`, `did_change`, `did_save` or `did_close` by its method
+    /// (`textDocument/didOpen` and so on). One of another method gives `None`, and nothing is changed.
+    pub fn hear<'v>(
+        &mut self,
+        notification: &'v Notification,
+    ) -> Option<Result<Made<'v>, NotMade<'v>>>
+        ensures { MatchOption (method_named (string_bytes notification.now.method))
+            ((result ≡ None) × (self.new ≡ self.old))
+            (λ method. IsSomeAnd result (λ heard.
+            Answers method self.old (view notification.now.params) heard self.new)) }
+    {
+        let method = DocumentMethod::named(notification.method.as_str())?;
+        Some(self.hear_as(method, &notification.params))
+    }
+
+    /// Hears a notification of this method, by its params.
+    fn hear_as<'v>(
+        &mut self,
+        method: DocumentMethod,
+        params: &'v Value,
+    ) -> Result<Made<'v>, NotMade<'v>>
+        ensures { Answers method self.old (view params.now) result self.new }
+    {
+        match method {
+            DocumentMethod::DidOpen => self.did_open(params),
+            DocumentMethod::DidChange => self.did_change(params),
+            DocumentMethod::DidSave => self.did_save(params),
+            DocumentMethod::DidClose => self.did_close(params),
+        }
     }
 
     /// Opens the document that the params of `textDocument/didOpen` tell of (LSP 3.17, `DidOpenTextDocumentParams`), as `open` does.

@@ -72,6 +72,8 @@ impl fmt::Display for Remark {
 }
 
 /// A notification that was made.
+///
+/// It prints its URI and the remark, as `file:///a: the version is not higher`, or the URI alone.
 #[derive(Clone, Copy, Debug, PartialEq, Eq, Drop)]
 pub struct Made<'v> {
     /// The document's URI.
@@ -80,7 +82,23 @@ pub struct Made<'v> {
     pub remark: Option<Remark>,
 }
 
+impl fmt::Display for Made<'_> {
+    ghost use Rattle.lsp_documents.specs.Fault.{made_text};
+
+    ghost output = { made_text };
+
+    fn fmt<W: fmt::Write>(&self, f: &mut fmt::Formatter<W>) -> fmt::Result {
+        let uri = self.uri;
+        match self.remark {
+            Some(remark) => write!(f, "{uri}: {remark}"),
+            None => write!(f, "{uri}"),
+        }
+    }
+}
+
 /// A notification that was not made.
+///
+/// It prints its URI and the fault, as `file:///a: the document is not open`, or the fault alone if no URI is named.
 #[derive(Clone, Copy, Debug, PartialEq, Eq, Drop)]
 pub struct NotMade<'v> {
     /// The document's URI, if the params name one.
@@ -89,4 +107,35 @@ pub struct NotMade<'v> {
     pub fault: DocumentFault,
     /// Whether the text was known and is lost now. If no URI is named, that may be each document's.
     pub lost: bool,
+}
+
+impl<'v> NotMade<'v> {
+    ghost use Rattle.std.specs.Prelude.{◌≡◌, IfOk, OnOk, OnErr};
+    ghost use Rattle.lsp_documents.specs.declared.fault.DocumentFault.TheVariants.{Memory};
+
+    /// The same, unless memory ran out: a server that writes `missed.unless_memory()?` gives up then.
+    pub fn unless_memory(self) -> Result<NotMade<'v>, AllocError>
+        ensures same { IfOk result (λ missed. missed ≡ self.entry) }
+        ensures ok { OnOk result (¬ (self.entry.fault ≡ Memory)) }
+        ensures err { OnErr result (self.entry.fault ≡ Memory) }
+    {
+        match self.fault {
+            DocumentFault::Memory => Err(AllocError),
+            _ => Ok(self),
+        }
+    }
+}
+
+impl fmt::Display for NotMade<'_> {
+    ghost use Rattle.lsp_documents.specs.Fault.{not_made_text};
+
+    ghost output = { not_made_text };
+
+    fn fmt<W: fmt::Write>(&self, f: &mut fmt::Formatter<W>) -> fmt::Result {
+        let fault = self.fault;
+        match self.uri {
+            Some(uri) => write!(f, "{uri}: {fault}"),
+            None => write!(f, "{fault}"),
+        }
+    }
 }

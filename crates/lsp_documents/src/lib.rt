@@ -4,12 +4,15 @@
 mod documents;
 mod fault;
 mod kept;
+mod known;
 pub mod laws;
 mod lost;
+mod method;
 mod params;
 
 pub use documents::TextDocuments;
 pub use fault::{DocumentFault, Made, NotMade, Remark};
 pub use kept::Open;
+pub use known::{KnownDocuments, OpenText};
 pub use lost::LostDocument;
 pub use params::{position_encoding, position_in, range_in};

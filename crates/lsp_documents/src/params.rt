@@ -144,7 +144,6 @@ pub fn whole_in(params: &Value) -> Option<bool>
 }
 
 /// The changes of a list, if each value is one. For none no memory is needed.
-#[tactic(auto, using(crate::proofs::NoticeLemmas::some_changes))]
 fn changes_in(alloc: Global, values: &[Value]) -> Result<Option<Vec<ContentChange>>, AllocError>
     ensures value { IfOk result (λ o.
         option_map (λ v. v.items) o ≡ changes_of (items_view values.now)) }

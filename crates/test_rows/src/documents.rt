@@ -1,13 +1,16 @@
 // Open documents, as rows of notifications tell of them: a message with a method and params.
 //
-// `initialize` begins anew, in the encoding that its params agree on. For any other message the line has `ok`, with what is to be said
-// of it, or what is wrong, and whether a text is lost by it, and then each document that was open once: its URI, its version, its
+// `initialize` begins anew, in the encoding that its params agree on. For a notification the line has `made`, its URI and what is to be
+// said of it, or what is wrong, and whether a text is lost by it, and then each document that was open once: its URI, its version, its
 // language, its text, and how many lines it has and the position of each place where a character begins. One that is closed shows
 // `-`, and one whose text is lost `?`. A body that is no message has `unread`: it may have told of any document, so each text is lost.
+// `known` has each URI whose text is known, with its version, and then with a copy of the text. `place` has where a position of a
+// document is, in bytes, and the range from there to the text's end.
 use crate::messages::text_in;
 use crate::said::Said;
 use crate::types::say_written;
-use lsp_documents::{DocumentFault, Made, NotMade, TextDocuments, position_encoding};
+use lsp_documents::{Made, NotMade, TextDocuments, position_encoding, position_in};
+use lsp_message::Notification;
 use lsp_text::{PositionEncoding, Text, TextDocument};
 use serde_json::Value;
 use std::alloc::{AllocError, Global};
@@ -81,46 +84,54 @@ impl Documents {
     }
 
     fn hear_message(&mut self, said: &mut Said, message: &Value) {
+        let method = text_in(message.get("method"));
         let none = Value::Null;
         let params = message.get("params").unwrap_or(&none);
-        self.hear_params(said, text_in(message.get("method")), params);
+        match method {
+            "initialize" => {
+                self.begin(position_encoding(params));
+                said.push(self.documents.encoding().name());
+            }
+            "known" => self.show_known(said),
+            "place" => self.show_place(said, params),
+            _ => self.hear_params(said, method, params),
+        }
         drop(none);
     }
 
     fn hear_params(&mut self, said: &mut Said, method: &str, params: &Value) {
-        let heard = match method {
-            "initialize" => {
-                self.begin(position_encoding(params));
-                return said.push(self.documents.encoding().name());
-            }
-            "textDocument/didOpen" => self.documents.did_open(params),
-            "textDocument/didChange" => self.documents.did_change(params),
-            "textDocument/didSave" => self.documents.did_save(params),
-            _ => self.documents.did_close(params),
+        let copy: Result<Value, AllocError> = params.clone();
+        let notification = Notification {
+            method: said.text_of(method),
+            params: said.made(copy, Value::Null),
         };
-        self.say(said, heard);
-        self.show(said);
+        if !said.is_short {
+            let heard = self.documents.hear(&notification);
+            self.say(said, heard);
+            self.show(said);
+        }
+        drop(notification);
     }
 
     /// What came of a notification.
-    fn say(&mut self, said: &mut Said, heard: Result<Made<'_>, NotMade<'_>>) {
+    fn say(&mut self, said: &mut Said, heard: Option<Result<Made<'_>, NotMade<'_>>>) {
         match heard {
-            Ok(Made { uri, remark }) => {
-                said.push("ok");
-                if let Some(remark) = remark {
-                    said.push(": ");
-                    said.show(remark);
-                }
-                let seen = self.see(uri);
+            None => said.push("no notification of documents"),
+            Some(Ok(made)) => {
+                said.push("made ");
+                said.show(made);
+                let seen = self.see(made.uri);
                 said.note(seen);
             }
-            Err(NotMade { fault, lost, .. }) => {
-                said.is_short = said.is_short || matches!(fault, DocumentFault::Memory);
-                said.show(fault);
-                if lost {
-                    said.push(", its text is lost");
+            Some(Err(missed)) => match missed.unless_memory() {
+                Ok(missed) => {
+                    said.show(missed);
+                    if missed.lost {
+                        said.push(", its text is lost");
+                    }
                 }
-            }
+                Err(_) => said.is_short = true,
+            },
         }
     }
 
@@ -160,6 +171,45 @@ impl Documents {
         said.push(" ");
         said.show(text.line_count());
         self.show_places(said, text);
+    }
+
+    /// Each URI whose text is known with its version, and then with a copy of the text.
+    fn show_known(&self, said: &mut Said) {
+        said.push("known");
+        for (uri, document) in self.documents.known() {
+            said.push(" ");
+            said.push(uri);
+            said.push(" ");
+            said.debug(document.version());
+        }
+        match self.documents.snapshot() {
+            Ok(copies) => {
+                for copy in copies {
+                    said.push("\t");
+                    said.push(copy.uri.as_str());
+                    said.push(" ");
+                    say_written(said, &copy.text.as_str());
+                }
+            }
+            Err(_) => said.is_short = true,
+        }
+    }
+
+    /// Where a position is in a document, in bytes, and the range from there to the text's end.
+    fn show_place(&self, said: &mut Said, params: &Value) {
+        let uri = text_in(params.get("uri"));
+        let found = params.get("position").and_then(position_in);
+        let found = found.and_then(|position| self.documents.place(uri, position));
+        match found {
+            Some((document, offset)) => {
+                let text = document.text();
+                let part = offset..text.as_str().len();
+                said.show(offset);
+                said.push(" ");
+                say_written(said, &self.documents.range_of(text, part));
+            }
+            None => said.push("no place"),
+        }
     }
 
     fn show_places(&self, said: &mut Said, text: &Text) {

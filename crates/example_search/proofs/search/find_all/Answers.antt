@@ -3,18 +3,17 @@ use Rattle.std.proofs.lemmas.List.Elements.{All-append}
 use Rattle.std.specs.List.{Any}
 use Rattle.serde_json.specs.View.{view}
 use Rattle.example_search.specs.Found.{IsFoundIn}
-use Rattle.example_search.proofs.Words.{found_in_same}
 use Rattle.example_search.proofs.search.find_all.Goals as goal
 
 pub loop-number-preserved : goal.loop-number-preserved
 loop-number-preserved g c =
     rw c.in_ok-append.ensures.items (All-append
-    (λ symbol. Any (λ source. IsFoundIn (string_bytes source.value.uri) source.value.text c.args.word.now (view symbol)) c.args.sources.now)
+    (λ symbol. Any (λ source. IsFoundIn (string_bytes source.uri) source.text c.args.word.now (view symbol)) c.args.sources.now)
     _ _ c.loop-number.invariant
     (λ k d h. (
       c.loop-number.number,
       c.index-sources-number.result,
       omega arith,
       sym c.index-sources-number.is,
-      found_in_same _ _ _ _ c.deref-in-loop-number.ensures (c.in_ok-headings.ensures k d h),
+      c.in_ok-headings.ensures k d h,
     )))

@@ -1,0 +1,25 @@
+-- The documents whose text is known, and copies of their texts.
+use Rattle.std.specs.Prelude.{ℕ, List, Option, option_map, map, string_bytes}
+use Rattle.std.specs.List.{filter_map}
+use Rattle.std.specs.declared.alloc.Global.{Global}
+use Rattle.std.specs.declared.string.String.{String}
+use Rattle.lsp_text.specs.Documents.{Document}
+use Rattle.lsp_documents.specs.Notices.{shown}
+use Rattle.lsp_documents.specs.declared.kept.Open.{Open}
+use Rattle.lsp_documents.specs.declared.known.OpenText.{OpenText}
+
+-- the URI and the document of an entry, if its text is known
+abbrev pub known_at : String Global × Open → Option (List ℕ × Document)
+known_at entry = option_map (λ d. (string_bytes entry.0, d)) (shown entry.1)
+
+-- the same of each entry, in their order
+abbrev pub known_in : List (String Global × Open) → List (List ℕ × Document)
+known_in entries = filter_map known_at entries
+
+-- the URIs and the texts of documents
+abbrev pub texts_in : List (List ℕ × Document) → List (List ℕ × List ℕ)
+texts_in known = map (λ k. (k.0, k.1.text)) known
+
+-- the URIs and the texts of copies
+abbrev pub copied : List OpenText → List (List ℕ × List ℕ)
+copied copies = map (λ copy. (string_bytes copy.uri, copy.text)) copies

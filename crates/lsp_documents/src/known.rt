@@ -1,0 +1,65 @@
+// The documents whose text is known.
+ghost use Rattle.std.specs.Iterator.{YieldsFirstBy, item_count};
+
+use crate::kept::Open;
+use lsp_text::{Text, TextDocument};
+use std::alloc::{AllocError, Global};
+use std::collections::btree_map::Iter;
+use std::marker::Model;
+
+/// Goes over the documents whose text is known, each beside its URI, in the order of these. Contracts see the list of those that
+/// are left.
+#[derive(Drop)]
+pub struct KnownDocuments<'d> {
+    pub(crate) open: Iter<'d, String, Open>,
+}
+
+impl<'d> Model for KnownDocuments<'d> {
+    ghost use Rattle.std.specs.Prelude.{ℕ, List};
+    ghost use Rattle.lsp_text.specs.Documents.{Document};
+    ghost use Rattle.lsp_documents.specs.Known.{known_in};
+
+    ghost Value = { List (List ℕ × Document) };
+
+    ghost view = { λ it. known_in it.open };
+}
+
+impl<'d> Iterator for KnownDocuments<'d> {
+    type Item = (&'d str, &'d TextDocument);
+
+    ghost next_gives = { YieldsFirstBy (λ item. (item.0.now, item.1.now)) (λ rest. rest) };
+
+    ghost remaining = { item_count (λ rest. rest) };
+
+    fn next(&mut self) -> Option<(&'d str, &'d TextDocument)> {
+        while let Some((uri, open)) = self.open.next() {
+            if let Some(document) = open.document() {
+                return Some((uri.as_str(), document));
+            }
+        }
+        None
+    }
+}
+
+/// The text of a document as it was, and the document's URI.
+#[derive(Drop)]
+pub struct OpenText {
+    /// The document's URI.
+    pub uri: String,
+    /// The whole text.
+    pub text: Text,
+}
+
+impl OpenText {
+    ghost use Rattle.std.specs.Prelude.{◌≡◌, IfOk, string_bytes};
+
+    /// A copy of a URI and of a text.
+    pub fn new(alloc: Global, uri: &str, text: &str) -> Result<OpenText, AllocError>
+        ensures uri { IfOk result (λ copy. string_bytes copy.uri ≡ uri.now) }
+        ensures text { IfOk result (λ copy. copy.text ≡ text.now) }
+    {
+        let uri = String::from_str(alloc, uri)?;
+        let text = Text::new(alloc, text)?;
+        Ok(OpenText { uri, text })
+    }
+}
