@@ -89,8 +89,12 @@ impl Replies {
 
     /// Hands a reply to the job that waits under this number. If none does, the reply is dropped.
     pub fn hand<T: Wait>(&self, rt: &T, number: u64, reply: Reply) {
-        if let Some(waiter) = self.remove(rt, number) {
-            let _ = waiter.reply.send(rt, reply);
+        match self.remove(rt, number) {
+            Some(waiter) => {
+                drop(waiter.reply.send(rt, reply));
+                drop(waiter);
+            }
+            None => drop(reply),
         }
     }
 

@@ -264,12 +264,17 @@ impl<J: AnyJob<R>, R: Drop> JobSender<J, R> {
                 id,
                 message: WorkerMessage::Outcome(outcome),
             };
-            if sender.send_as::<Further, T>(&rt, &mut pass, item).is_ok() {
+            if was_sent(sender.send_as::<Further, T>(&rt, &mut pass, item)) {
                 notifier.notify(&rt);
             }
         }
         notifier
     }
+}
+
+/// Whether it was sent. What was not is dropped.
+fn was_sent<E: Drop>(sent: Result<(), E>) -> bool {
+    sent.is_ok()
 }
 
 /// What a job may report, and ask the client, picked for each.
@@ -377,9 +382,10 @@ impl<W: Reportable, J: AnyJob<R>, R: Drop> Reports<W, J, R> {
             id,
             message: WorkerMessage::Report(notification),
         };
-        self.sender
-            .try_send_as::<Further, T>(rt, &mut self.pass, item)
-            .is_ok()
+        was_sent(
+            self.sender
+                .try_send_as::<Further, T>(rt, &mut self.pass, item),
+        )
     }
 
     /// Sends a notification, and waits for room. False if nobody takes it any more.
@@ -391,9 +397,7 @@ impl<W: Reportable, J: AnyJob<R>, R: Drop> Reports<W, J, R> {
             id,
             message: WorkerMessage::Report(notification),
         };
-        self.sender
-            .send_as::<Further, T>(rt, &mut self.pass, item)
-            .is_ok()
+        was_sent(self.sender.send_as::<Further, T>(rt, &mut self.pass, item))
     }
 }
 
@@ -414,9 +418,7 @@ impl<W: Reportable, J: AnyJob<R>, R: Drop> Reports<W, J, R> {
             id,
             message: WorkerMessage::Ask(method, params, number),
         };
-        self.sender
-            .send_as::<Further, T>(rt, &mut self.pass, item)
-            .is_ok()
+        was_sent(self.sender.send_as::<Further, T>(rt, &mut self.pass, item))
     }
 }
 

@@ -11,7 +11,7 @@ use crate::channel::{AnyJob, WorkerMessage};
 use crate::job::{Job, Ran};
 use crate::notifier::Notifier;
 use crate::table::JobTable;
-use crate::waiting_jobs::{WaitingJobs, queue_of_jobs};
+use crate::waiting_jobs::{JobSource, WaitingJobs, queue_of_jobs};
 use crate::workers::{QueuedJob, join_all, start_job_workers};
 use crossbeam_channel::{Receiver, bounded};
 use lsp_message::{ErrorCode, Notification, RequestId, ResponseError};
@@ -144,21 +144,35 @@ where
     ensures { IfOk result (λ pool. pending_jobs pool ≡ no_jobs) }
 {
     let mut notifier = notifier;
-    let Ok(tokens) = CancellationToken::new(alloc) else {
-        return Err(StartFault::Memory);
+    let (mut pool, taken) = match pool_without_workers(*rt, alloc, size.waiting) {
+        Ok(made) => made,
+        Err(_) => return Err(StartFault::Memory),
     };
-    let Ok(table) = JobTable::new(alloc) else {
-        return Err(StartFault::Memory);
-    };
-    let room = size.waiting.map(|waiting| waiting.max(1));
-    let Ok((waiting, taken)) = queue_of_jobs(alloc, room) else {
-        return Err(StartFault::Memory);
-    };
-    let Ok(replies) = Replies::new(alloc) else {
-        return Err(StartFault::Memory);
-    };
-    let mut pool = JobPool {
-        rt: *rt,
+    let workers = size.workers.max(1);
+    match start_job_workers(rt, workers, taken, &mut notifier, &mut pool.workers) {
+        Ok(()) => Ok(pool),
+        Err(fault) => {
+            pool.end();
+            Err(fault)
+        }
+    }
+}
+
+/// A pool in which so many jobs may wait, and the end of its queue at which workers take them.
+fn pool_without_workers<T: Wait + Drop, J: Job, K: Drop>(
+    rt: T,
+    alloc: Global,
+    waiting: Option<usize>,
+) -> Result<(JobPool<T, J, K>, JobSource<QueuedJob<J, Ran>>), AllocError>
+    ensures { IfOk result (λ made. pending_jobs made.0 ≡ no_jobs) }
+{
+    let room = waiting.map(|waiting| waiting.max(1));
+    let tokens = CancellationToken::new(alloc)?;
+    let replies = Replies::new(alloc)?;
+    let (waiting, taken) = queue_of_jobs(alloc, room)?;
+    let table = JobTable::new(alloc)?;
+    let pool = JobPool {
+        rt,
         alloc,
         tokens,
         table,
@@ -166,19 +180,7 @@ where
         replies,
         workers: Vec::new(alloc),
     };
-    match start_job_workers(
-        rt,
-        size.workers.max(1),
-        taken,
-        &mut notifier,
-        &mut pool.workers,
-    ) {
-        Ok(()) => Ok(pool),
-        Err(fault) => {
-            pool.end();
-            Err(fault)
-        }
-    }
+    Ok((pool, taken))
 }
 
 impl<T: Wait + Drop, J: Job, K: Drop> JobPool<T, J, K> {
