@@ -203,7 +203,15 @@ impl<I: Input> Source for Members<'_, I> {
 }
 
 /// Reads an object.
-pub fn read_object<T: ReadMembers, I: Input>(alloc: Global, from: &mut I) -> Result<T, I::Error> {
+pub fn read_object<T: ReadMembers, F: Format>(
+    alloc: Global,
+    from: &mut Deserializer<'_, '_, F>,
+) -> Result<T, F::Error> {
+    read_from(alloc, from)
+}
+
+/// Reads an object of any input. A call from a type's own impl would be dear, since it would have to say how a `Deserializer` is one.
+fn read_from<T: ReadMembers, I: Input>(alloc: Global, from: &mut I) -> Result<T, I::Error> {
     let begin = from.begin();
     let mut members = Members {
         alloc,
