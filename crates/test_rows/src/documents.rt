@@ -197,10 +197,7 @@ impl Documents {
 
     /// Where a position is in a document, in bytes, and the range from there to the text's end.
     fn show_place(&self, said: &mut Said, params: &Value) {
-        let uri = text_in(params.get("uri"));
-        let found = params.get("position").and_then(position_in);
-        let found = found.and_then(|position| self.documents.place(uri, position));
-        match found {
+        match self.place_in(params) {
             Some((document, offset)) => {
                 let text = document.text();
                 let part = offset..text.as_str().len();
@@ -210,6 +207,12 @@ impl Documents {
             }
             None => said.push("no place"),
         }
+    }
+
+    /// The document that params name, if its text is known, and where their position is in it.
+    fn place_in(&self, params: &Value) -> Option<(&TextDocument, usize)> {
+        let position = position_in(params.get("position")?)?;
+        self.documents.place(text_in(params.get("uri")), position)
     }
 
     fn show_places(&self, said: &mut Said, text: &Text) {
