@@ -1,15 +1,20 @@
 #!/usr/bin/env python3
 """Clients of servers that serve one after another, over a socket: what goes wrong with one is a line on standard error, and the next is
-served as ever. Some come and go, send no message, reset, or leave without `shutdown`; and one comes while the program has no descriptors.
+served as ever. Some come and go, send no message, reset, or leave without `shutdown`; one comes while the program has no descriptors, and one reads late
+while the program is stopped and goes on.
 
-Then the same servers are started with `--stdio`, and at addresses where nobody may listen. It ends in status 1 at the first difference.
+Then the same servers are started with the words of LSP 3.17 ("Implementation Considerations"): over standard input and output, by a client
+that listens at a port or at a socket file itself, with words that are refused, and at addresses where nobody may listen. It ends in status 1
+at the first difference.
 """
 import resource
+import signal
 import socket
 import struct
 import subprocess
 import sys
 import tempfile
+import threading
 import time
 from pathlib import Path
 
@@ -133,7 +138,34 @@ def comes_without_descriptors(server):
     server.lines_seen = len(server.lines())
 
 
-CLIENTS = [comes_and_goes, sends_no_message, resets, leaves, comes_without_descriptors]
+def reads_late(server):
+    """While a write of the server's waits for room, the program is stopped and goes on. No reply is lost."""
+    contents = [
+        b'{"jsonrpc":"2.0","id":1,"method":"initialize","params":{"processId":null,"rootUri":null,"capabilities":{}}}',
+        b'{"jsonrpc":"2.0","method":"initialized","params":{}}',
+    ]
+    ids = [f"{at}{'x' * 200_000}" for at in range(50)]
+    contents += [b'{"jsonrpc":"2.0","id":"%s","method":"demo/noSuchMethod"}' % id.encode() for id in ids]
+    sent = b"".join(b"Content-Length: %d\r\n\r\n%s" % (len(content), content) for content in contents)
+    with server.stream() as stream, stream.makefile("rb") as source, stream.makefile("wb") as sink:
+        sender = threading.Thread(target=stream.sendall, args=[sent])
+        sender.start()
+        for _ in range(4):
+            time.sleep(0.5)
+            server.process.send_signal(signal.SIGSTOP)
+            time.sleep(0.1)
+            server.process.send_signal(signal.SIGCONT)
+        editor = Editor(source, sink)
+        for id in [1, *ids]:
+            while "method" in (reply := editor.receive("a reply")):
+                pass
+            expect("whether it is the reply that comes next", reply["id"] == id, True)
+        sender.join()
+        expect("the reply to shutdown", editor.ask("shutdown")["result"], None)
+        editor.notify("exit")
+
+
+CLIENTS = [comes_and_goes, sends_no_message, resets, leaves, comes_without_descriptors, reads_late]
 
 
 def serves_all(way):
@@ -145,14 +177,77 @@ def serves_all(way):
 
 
 def is_started_with_stdio(way):
-    """The word asks for standard input and output, where it ends with its session."""
+    """Words that ask for standard input and output, where it ends with its session. An option that LSP does not have is named."""
     pipe = subprocess.PIPE
-    process = subprocess.Popen([*command(way), "--stdio"], stdin=pipe, stdout=pipe)
+    for words, line in [
+        (["--stdio"], b""),
+        (["--stdio", "--clientProcessId=4711"], b""),
+        (["--clientProcessId", "4711"], b""),
+        (["--strange=1", "--stdio"], b"unknown option: --strange=1\n"),
+    ]:
+        process = subprocess.Popen([*command(way), *words], stdin=pipe, stdout=pipe, stderr=pipe)
+        try:
+            session(Editor(process.stdout, process.stdin))
+            expect(f"the exit status at {words}", process.wait(timeout=PATIENCE), 0)
+            expect(f"standard error at {words}", process.stderr.read(), line)
+        finally:
+            process.kill()
+
+
+def session_of(way, words, listener):
+    """A session of a program that connects to the client, and ends with it."""
+    listener.settimeout(PATIENCE)
+    process = subprocess.Popen([*command(way), *words], stdin=subprocess.DEVNULL, stdout=subprocess.PIPE, stderr=subprocess.PIPE)
     try:
-        session(Editor(process.stdout, process.stdin))
-        expect("the exit status", process.wait(timeout=PATIENCE), 0)
+        stream, _ = listener.accept()
+        stream.settimeout(PATIENCE)
+        with stream, stream.makefile("rb") as source, stream.makefile("wb") as sink:
+            session(Editor(source, sink))
+        expect(f"the exit status at {words}", process.wait(timeout=PATIENCE), 0)
+        expect(f"what it prints at {words}", (process.stdout.read(), process.stderr.read()), (b"", b""))
     finally:
         process.kill()
+
+
+def connects_to_a_port(way):
+    with socket.create_server(("127.0.0.1", 0)) as listener:
+        port = listener.getsockname()[1]
+        for words in [
+            [f"--socket={port}"],
+            [f"--port={port}", "--clientProcessId=4711"],
+            ["--socket", str(port)],
+            ["--stdio", "--socket", f"--port={port}"],
+        ]:
+            session_of(way, words, listener)
+
+
+def connects_to_a_file(way):
+    with tempfile.TemporaryDirectory() as folder, socket.socket(socket.AF_UNIX) as listener:
+        name = f"{folder}/client"
+        listener.bind(name)
+        listener.listen()
+        for words in [[f"--pipe={name}"], ["--clientProcessId=4711", "--pipe", name]]:
+            session_of(way, words, listener)
+
+
+def is_refused(way):
+    """Words that ask for what can't be had, and ends of a client that are not there."""
+    no_port = b"Error: no port number behind `--socket` or `--port`\n"
+    for words, line in [
+        (["--node-ipc"], b"Error: `--node-ipc` is for programs under node\n"),
+        (["--pipe"], b"Error: no name behind `--pipe`\n"),
+        (["--socket"], no_port),
+        (["--socket", "--stdio"], no_port),
+        (["--port=words"], no_port),
+        (["--socket=65536"], no_port),
+        ([f"--socket={free_address().rpartition(':')[2]}"], None),
+        (["--pipe=/nowhere/client"], None),
+    ]:
+        ran = subprocess.run([*command(way), *words], stdin=subprocess.DEVNULL, capture_output=True, timeout=PATIENCE)
+        expect(f"the status at {words}", (ran.returncode, ran.stdout), (1, b""))
+        if line:
+            expect(f"standard error at {words}", ran.stderr, line)
+        expect(f"whether it says why at {words}", ran.stderr.startswith(b"Error: ") and ran.stderr.count(b"\n") == 1, True)
 
 
 def can_not_listen(way):
@@ -169,7 +264,7 @@ def can_not_listen(way):
 def main():
     try:
         for way in WAYS:
-            for check in [serves_all, is_started_with_stdio, can_not_listen]:
+            for check in [serves_all, is_started_with_stdio, connects_to_a_port, connects_to_a_file, is_refused, can_not_listen]:
                 check(way)
                 print(" ".join(way), check.__name__.replace("_", " "))
     except (Difference, OSError, subprocess.TimeoutExpired) as fault:

@@ -186,7 +186,6 @@ UNREADABLE = [
     ("a text that is a number", {"textDocument": {"uri": NOTE, "version": 5}, "contentChanges": [{"text": 1}]}),
     ("changes that are no list", {"textDocument": {"uri": NOTE, "version": 5}, "contentChanges": {"text": "x = 1\n"}}),
     ("no changes", {"textDocument": {"uri": NOTE, "version": 5}}),
-    ("a version that is a string", {"textDocument": {"uri": NOTE, "version": "5"}, "contentChanges": [{"text": "x = 1\n"}]}),
     (
         "a range without an end",
         {"textDocument": {"uri": NOTE, "version": 5}, "contentChanges": [{"range": {"start": {"line": 0, "character": 0}}, "text": ""}]},

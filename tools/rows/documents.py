@@ -21,9 +21,8 @@ GREATEST = 4294967295
 
 def lines(text):
     """The lines of a text, each as what stands before its end, and its end."""
-    found = re.findall(r"([^\r\n]*)(\r\n|\n|\r)", text)
-    rest = text[sum(len(a) + len(b) for a, b in found):]
-    return found + [(rest, "")]
+    parts = re.split(r"(\r\n|\n|\r)", text)
+    return list(zip(parts[::2], [*parts[1::2], ""]))
 
 
 def place(text, position, encoding):
@@ -49,6 +48,15 @@ def position(text, index, encoding):
         if index < start + len(row) + len(end) or end == "":
             return number, sum(UNITS[encoding](c) for c in row[: index - start])
         start += len(row) + len(end)
+
+
+def is_past(text, position, encoding):
+    """Whether a position lies past its line's end, or past the place behind the last line, which LSP 3.17 takes for these ends."""
+    line, character = position
+    rows = lines(text)
+    if line >= len(rows):
+        return position != (len(rows), 0)
+    return character > sum(UNITS[encoding](it) for it in rows[line][0])
 
 
 def edited(text, span, new, encoding):
@@ -106,10 +114,9 @@ def agreed(params):
 
 
 def version_member(item):
-    """A version. None may be given, and null is none."""
+    """A version. None may be given, and any other value is none (docs/DECISIONS.md)."""
     version = item.get("version")
-    shape(version is None or whole(version, -(2**31), 2**31 - 1))
-    return version
+    return version if whole(version, -(2**31), 2**31 - 1) else None
 
 
 def is_unread(text):
@@ -142,7 +149,21 @@ class Documents:
             return [self.known()]
         if method == "place":
             return [self.place(params)]
+        if method in ("long", "often"):
+            return [self.length(method, params)]
         return [self.row(method, params)]
+
+    def length(self, method, params):
+        """What comes of a call about a great text or many changes, and how long the text is then, in bytes and lines."""
+        uri, text, remark = params["uri"], params["text"] * params["count"], "None"
+        if method == "often":
+            _, language, before = self.open[uri]
+            self.open[uri] = (None, language, text + before)
+        else:
+            remark = "Some(OpenAlready)" if uri in self.open else "None"
+            self.open[uri] = (None, "", text)
+        text = self.open[uri][2]
+        return f"{remark} {len(text.encode())} {len(lines(text))}"
 
     def unread(self):
         """A body that is no message may have told of any document."""
@@ -151,10 +172,10 @@ class Documents:
         return "\t".join(["unread"] + [self.shown(it) for it in self.seen])
 
     def known(self):
-        """The documents whose text is known, by the bytes of their URIs, and then the copies of their texts."""
+        """The documents whose text is known, by the bytes of their URIs, and then their copies."""
         known = sorted((it for it in self.open if self.is_known(it)), key=lambda it: it.encode())
         named = [f" {it} {shown_version(self.open[it][0])}" for it in known]
-        copies = [f"\t{it} {json.dumps(self.open[it][2], ensure_ascii=False)}" for it in known]
+        copies = [f"\t{it} {self.open[it][1]} {shown_version(self.open[it][0])} {json.dumps(self.open[it][2], ensure_ascii=False)}" for it in known]
         return "known" + "".join(named + copies)
 
     def place(self, params):
@@ -213,12 +234,16 @@ class Documents:
             return f"{uri}: the document is not open"
         if method == "textDocument/didClose":
             del self.open[uri]
-        elif not self.is_known(uri) and isinstance(params.get("text"), str):
-            self.open[uri] = (None, self.open[uri][1], params["text"])
+        elif isinstance(params.get("text"), str):
+            if not self.is_known(uri):
+                self.open[uri] = (None, self.open[uri][1], params["text"])
+            elif self.open[uri][2] != params["text"]:
+                return f"made {uri}: the saved text is another one"
         return f"made {uri}"
 
     def hears_open(self, uri, item):
-        language, version, text = text_member(item, "languageId"), version_member(item), text_member(item, "text")
+        language = item["languageId"] if isinstance(item.get("languageId"), str) else ""
+        version, text = version_member(item), text_member(item, "text")
         answer = f"made {uri}: the document was open already" if uri in self.open else f"made {uri}"
         self.open[uri] = (version, language, text)
         return answer
@@ -227,14 +252,21 @@ class Documents:
         version, changes = version_member(params["textDocument"]), params.get("contentChanges")
         shape(isinstance(changes, list))
         changes = [(text_member(change, "text"), span_of(change)) for change in changes]
-        if uri not in self.open:
+        is_open, is_whole = uri in self.open, any(span is None for _, span in changes)
+        if not is_open and not is_whole:
             return f"{uri}: the document is not open"
-        before, language, text = self.open[uri]
-        if text is None and all(span for _, span in changes):
+        before, language, text = self.open.get(uri, (None, "", None))
+        if text is None and not is_whole:
             return f"{uri}: the document is out of step"
+        past, is_known = False, text is not None
         for new, span in changes:
+            past = past or is_known and span is not None and any(is_past(text, it, self.encoding) for it in span)
             text = new if span is None else text if text is None else edited(text, span, new, self.encoding)
         self.open[uri] = (version, language, text)
+        if not is_open:
+            return f"made {uri}: the document was not open"
+        if past:
+            return f"made {uri}: a position is past the end"
         is_higher = None in (version, before) or version > before
         return f"made {uri}" if is_higher else f"made {uri}: the version is not higher"
 
@@ -319,6 +351,12 @@ FIXED = [
     ("utf-16", "a\rb", [(((1, 0), (1, 1)), "\n")]), ("utf-16", "a\nb", [(((0, 1), (0, 1)), "\r")]),
     ("utf-16", "\nb", [(((0, 0), (0, 0)), "\r")]), ("utf-16", "a\rX\nb", [(((1, 0), (1, 1)), "")]),
     ("utf-16", "a\r\nb\r\nc", [(((0, 1), (2, 0)), "")]), ("utf-16", "\u2028\x85\x0b\x0c", []),
+    # Places that a client has which sees no end in a lone carriage return, and the place behind the last line, which each client has.
+    ("utf-16", "a\nb\r\nc", [(((1, 2), (1, 2)), "+")]), ("utf-16", "a\rb\nc", [(((0, 3), (0, 3)), "+"), (((0, 0), (0, 0)), "-")]),
+    ("utf-16", "a\nb", [(((1, 0), (2, 0)), "")]), ("utf-16", "a\nb", [(((2, 1), (2, 1)), "c")]), ("utf-16", "a\nb", [(((3, 0), (3, 0)), "c")]),
+    ("utf-16", "ab", [(((0, 2), (0, 2)), "c"), (((0, 3), (0, 3)), "d"), (((0, 5), (0, 5)), "e")]),
+    ("utf-16", "\u00e9\U00010400", [(((0, 3), (0, 3)), "c")]), ("utf-16", "\u00e9\U00010400", [(((0, 5), (0, 5)), "c")]),
+    ("utf-8", "\u00e9\U00010400", [(((0, 6), (0, 6)), "c")]), ("utf-8", "\u00e9\U00010400", [(((0, 7), (0, 7)), "c")]),
     # Whole texts, several edits in one notification, and ranges that stand the other way round.
     ("utf-16", "foobar", [(None, "foo\nbar")]), ("utf-16", "foobar", [(((0, 5), (0, 2)), "x")]),
     ("utf-16", "abc\ndef", [(((1, 2), (0, 1)), "x")]), ("utf-16", "a\nb", [(((9, 0), (0, 0)), "x")]),
@@ -371,6 +409,7 @@ def wrong(table):
     table.saves(a)
     table.saves(b, text=5)
     table.saves(b, text="not taken: the text is known")
+    table.saves(b, text="x\r\ny")
     item = {"uri": a, "version": 7}
     at = lambda line, character: {"textDocument": item, "contentChanges": [{"text": "y", "range": {"start": {"line": line, "character": character}, "end": {"line": line, "character": character}}}]}
     for method, params in [
@@ -383,6 +422,8 @@ def wrong(table):
         ("didOpen", {"textDocument": {"uri": a, "languageId": "l", "version": 1.5, "text": ""}}),
         ("didOpen", {"textDocument": {"uri": a, "languageId": "l", "version": 1}}),
         ("didChange", {"contentChanges": []}), ("didChange", {"textDocument": {"uri": a, "version": "8"}, "contentChanges": []}),
+        ("didChange", {"textDocument": {"uri": a, "version": 2**31}, "contentChanges": [{"text": "whole"}]}),
+        ("didOpen", {"textDocument": {"uri": a, "languageId": None, "version": None, "text": "o"}}), ("didOpen", {"textDocument": {"uri": "u", "text": ""}}),
         ("didChange", {"textDocument": item}), ("didChange", {"textDocument": item, "contentChanges": {}}),
         ("didChange", {"textDocument": item, "contentChanges": [1]}),
         ("didChange", {"textDocument": item, "contentChanges": [{"text": "x"}, {"range": SPAN}]}),
@@ -403,7 +444,9 @@ def wrong(table):
     table.tell("textDocument/didChange", {"textDocument": item, "contentChanges": [{"text": "w", "range": None}, {"text": "y", "range": SPAN, "rangeLength": 9}]})
     table.closes(a)
     table.closes(a)
-    table.changes(a, 8, [(None, "no")])
+    table.changes(a, 8, [(((0, 0), (0, 0)), "no")])
+    table.changes(a, 8, [(((0, 0), (0, 0)), "-"), (None, "yes"), (((0, 9), (0, 9)), "!")])
+    table.changes(a, 9, [(((0, 4), (0, 4)), "!")])
     table.opens(a, "anew", 1)
 
 
@@ -427,6 +470,16 @@ def unread(table):
             way()
             table.looks(a, (0, 1))
             table.changes(b, 10, [(((0, 1), (0, 1)), "+")])
+
+
+def large(table):
+    """Texts and notifications past any size at which a server might give up: LSP 3.17 has no such size."""
+    for encoding in ["utf-16", "utf-8"]:
+        table.begin(encoding)
+        for uri, text, count in [("l", "0123456789abcde\n", 131072), ("l", "\u00e9\U00010400", 350000), ("s", "", 0)]:
+            table.tell("long", {"uri": uri, "text": text, "count": count})
+        for uri, text, count in [("s", "a\n", 1200), ("s", "\u00e9", 1200), ("l", "x", 3)]:
+            table.tell("often", {"uri": uri, "text": text, "count": count})
 
 
 LETTERS = ["a", "b", " ", "\n", "\r", "\r\n", "\n", "\u00e9", "\u00df", "e\u0301", "\u6f22", "\uffff", "\U0001F600",
@@ -502,6 +555,7 @@ def rows(seed, sessions):
         table.begin(encoding, {} if params is None else params)
     wrong(table)
     unread(table)
+    large(table)
     for _ in range(sessions):
         session(table, source, 24)
     return [f"document {it}" for it in table.asked]

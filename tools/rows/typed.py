@@ -7,6 +7,7 @@ import json
 import re
 from urllib.parse import quote, unquote_to_bytes
 
+from documents import agreed
 from rules import is_whole, ordered
 
 
@@ -87,6 +88,28 @@ def nullable(read):
     return or_null
 
 
+def if_fits(read):
+    """A member that only informs. One that does not fit is as if it were missing (docs/DECISIONS.md)."""
+
+    def or_none(value):
+        try:
+            return None if value is None else read_as(read, value)
+        except Misfit:
+            return None
+
+    return or_none
+
+
+def those_that_fit(read):
+    """A list, without the items that do not fit (docs/DECISIONS.md)."""
+
+    def items(value):
+        fits(isinstance(value, list))
+        return [it for it in map(if_fits(read), value) if it is not None]
+
+    return items
+
+
 def progress(value):
     """LSP 3.17, "Work Done Progress": what its `kind` says."""
     fits(isinstance(value, dict) and value.get("kind") in ("begin", "report", "end"))
@@ -103,8 +126,8 @@ TYPES = {
     "Range": {"start": "Position", "end": "Position"},
     "Location": {"uri": TEXT, "range": "Range"},
     "TextDocumentIdentifier": {"uri": TEXT},
-    "VersionedTextDocumentIdentifier": {"uri": TEXT, "version": INTEGER},
-    "TextDocumentItem": {"uri": TEXT, "languageId": TEXT, "version": INTEGER, "text": TEXT},
+    "VersionedTextDocumentIdentifier": {"uri": TEXT, "version?": if_fits(INTEGER)},
+    "TextDocumentItem": {"uri": TEXT, "languageId": TEXT, "version?": if_fits(INTEGER), "text": TEXT},
     "DidOpenTextDocumentParams": {"textDocument": "TextDocumentItem"},
     "TextDocumentContentChangeEvent": {"range?": "Range", "text": TEXT},
     "DidChangeTextDocumentParams": {
@@ -117,11 +140,11 @@ TYPES = {
     "TextDocumentRangeParams": PART,
     "ReferenceContext": {"includeDeclaration": TRUTH},
     "ReferenceParams": {**PLACE, "context": "ReferenceContext"},
-    "WorkspaceFolder": {"uri": TEXT, "name": TEXT},
+    "WorkspaceFolder": {"uri": TEXT, "name?": if_fits(TEXT)},
     "ServerInfo": {"name": TEXT, "version?": TEXT},
     "InitializeParams": {
-        "processId": nullable(INTEGER),
-        "clientInfo?": "ServerInfo",
+        "processId": nullable(if_fits(INTEGER)),
+        "clientInfo?": if_fits("ServerInfo"),
         "rootUri": nullable(TEXT),
         "workspaceFolders?": some("WorkspaceFolder"),
         "initializationOptions?": ANY,
@@ -173,7 +196,7 @@ TYPES = {
         "data?": ANY,
     },
     "PublishDiagnosticsParams": {"uri": TEXT, "version?": INTEGER, "diagnostics": some("Diagnostic")},
-    "CodeActionContext": {"diagnostics": some("Diagnostic"), "only?": some(TEXT), "triggerKind?": among(1, 2)},
+    "CodeActionContext": {"diagnostics": those_that_fit("Diagnostic"), "only?": some(TEXT), "triggerKind?": if_fits(among(1, 2))},
     "CodeActionParams": {**PART, "context": "CodeActionContext"},
     "CodeAction": {
         "title": TEXT,
@@ -250,7 +273,9 @@ def read_as(how, value):
         if key == "children" and given is None:
             given = []
         if given is not None or is_kept:
-            found[key] = read_as(member, given)
+            taken = read_as(member, given)
+            if taken is not None or is_kept or member is ANY:
+                found[key] = taken
         else:
             fits(name.endswith("?") or key in value and member is ANY)
             if member is ANY and not name.endswith("?"):
@@ -271,7 +296,16 @@ def result_answer(value):
     return {"capabilities": {}, "serverInfo": read_as("ServerInfo", value)}
 
 
-OTHERS = {"ServerCapabilities": capabilities_answer, "InitializeResult": result_answer}
+def document_capabilities_answer(params):
+    """LSP 3.17, "PositionEncodingKind" and "TextDocumentSyncOptions", of a server that hears of the parts that changed (2)."""
+    return {"positionEncoding": agreed(params), "textDocumentSync": {"openClose": True, "change": 2, "save": {"includeText": True}}}
+
+
+OTHERS = {
+    "ServerCapabilities": capabilities_answer,
+    "InitializeResult": result_answer,
+    "DocumentCapabilities": document_capabilities_answer,
+}
 
 
 def typed_answer(text):
@@ -316,6 +350,12 @@ def path_answer(uri):
         return ["NotUtf8"]
 
 
+def names_answer(rest):
+    """RFC 3986, section 2.3 and 6.2.2: URIs that differ in their escapes alone name the same."""
+    uri, _, path = rest.partition(" ")
+    return ["true" if path_answer(uri) == [quoted(json.loads(path))] else "false"]
+
+
 def folders_answer(text):
     """LSP 3.17, "Initialize Request": `workspaceFolders`, or `rootUri` of a client that has no such list."""
     params = json.loads(text)
@@ -349,4 +389,4 @@ def offset_answer(rest):
     return [str(len(before.encode()))]
 
 
-ROWS = {"typed": typed_answer, "uri": uri_answer, "path": path_answer, "folders": folders_answer, "tokens": tokens_answer, "offset": offset_answer}
+ROWS = {"typed": typed_answer, "uri": uri_answer, "path": path_answer, "names": names_answer, "folders": folders_answer, "tokens": tokens_answer, "offset": offset_answer}

@@ -203,7 +203,8 @@ fn insert(
 ) -> Result<(), AllocError> {
     let start = Position { line, character };
     let range = Range { start, end: start };
-    text.apply(alloc, Some(range), UTF16, new)
+    text.apply(alloc, Some(range), UTF16, new)?;
+    Ok(())
 }
 
 /// The sum of so many offsets, each by way of its position.

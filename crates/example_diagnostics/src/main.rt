@@ -7,11 +7,15 @@
 //! they can be cancelled.
 #![tactic(auto)]
 
+ghost use Rattle.lsp_session.specs.StreamTransports.{IsUnused, Serves};
+ghost use Rattle.lsp_service.specs.QueuedServer.{ServerSession};
+ghost use Rattle.lsp_service.specs.Stated.{unwoken};
+
 use anyhow::{Result as Answer, bail};
-use lsp_server::clients::serve_clients;
+use lsp_server::clients::{ClientOptions, serve_clients};
 use lsp_server::{
-    Act, EndSession, Notification, Request, ResponseError, Server, SessionEnd, read_as,
-    session_with, write_as,
+    Act, EndSession, Notification, Request, ResponseError, Server, SessionEnd, SessionFault,
+    StreamTransport, read_as, session_with_over, write_as,
 };
 use lsp_types::{
     ConfigurationParams, Diagnostic, DiagnosticSeverity, DidChangeTextDocumentParams,
@@ -22,6 +26,7 @@ use lsp_types::{
 };
 use serde_json::Value;
 use std::alloc::{AllocError, Global};
+use std::io::{BufRead, Write};
 use std::{env, mem};
 
 /// What documents are checked against, and which hovers wait.
@@ -43,7 +48,7 @@ struct Checker {
 #[derive(Drop)]
 struct Document {
     uri: String,
-    version: i32,
+    version: Option<i32>,
     text: String,
 }
 
@@ -277,7 +282,7 @@ impl Checker {
     fn mark(&self, acts: &mut Acts, document: &Document) -> Result<(), AllocError> {
         let params = PublishDiagnosticsParams {
             uri: document.uri.clone()?,
-            version: Some(document.version),
+            version: document.version,
             diagnostics: long_lines(self.alloc, document.text.as_str(), self.longest)?,
         };
         acts.push(self.publish(params)?)?;
@@ -358,19 +363,27 @@ fn heading_above(text: &str, line: u32) -> Option<u32> {
     heading
 }
 
+/// Serves the client of a transport. Of whatever reader and writer, also of standard input and output or a socket: the bytes that were taken are
+/// frames of messages, and those that were given are frames of what a session of a `Checker` sends for them, each before the next byte is taken.
+fn serve<R: BufRead, W: Write>(
+    alloc: Global,
+    transport: &mut StreamTransport<'_, R, W, EndSession>,
+    checker: Checker,
+) -> (Checker, Result<SessionEnd, SessionFault>)
+    requires { IsUnused transport.old }
+    ensures { Serves (ServerSession (unwoken ⟦<Checker as Server>⟧) checker result.0) transport.old result.1 transport.new }
+{
+    session_with_over(alloc, transport, checker)
+}
+
 fn main(rt: HostRuntime) -> Answer<()> {
     let alloc: Global = rt.alloc();
     let words: Vec<String> = env::args(&rt)?.skip(1).collect(alloc)?;
-    let served = serve_clients(&rt, words.as_slice(), |mut reader, mut writer| {
-        let server = Checker::new(alloc);
-        let (_server, answer) = session_with(
-            alloc,
-            &mut reader,
-            &mut writer,
-            server,
-            &mut EndSession,
-            u64::MAX,
-        );
+    let options = ClientOptions::new();
+    let served = serve_clients(&rt, words.as_slice(), options, |mut client| {
+        let mut bad_bodies = EndSession;
+        let mut transport = client.transport(alloc, &mut bad_bodies, u64::MAX);
+        let (_checker, answer) = serve(alloc, &mut transport, Checker::new(alloc));
         answer
     })?;
     match served? {

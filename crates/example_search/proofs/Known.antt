@@ -1,7 +1,9 @@
 -- What the law of a server's sessions gives its author.
+use Rattle.std.proofs.Common.{subst}
 use Rattle.std.specs.Prelude.{List, Option}
 use Rattle.lsp_message.specs.Message.{Message}
-use Rattle.lsp_service.specs.Law.{KeepsLaws}
+use Rattle.lsp_service.proofs.Counting.{used_once}
+use Rattle.lsp_service.specs.Law.{IsWhole, KeepsLaws}
 use Rattle.lsp_service.specs.QueuedServer.{ServerSession, held_by}
 use Rattle.lsp_service.specs.Stated.{Stated}
 use Rattle.lsp_session.specs.Session.{Exchange, SessionAnswer, Stop}
@@ -14,4 +16,10 @@ pub answers_once : {S P : Type 0} (may : Stated S P) (first last : S)
     → ServerSession may first last xs stop shutdown_reply answer → AnswersOnce may first last xs stop shutdown_reply answer
 answers_once may first last law xs stop shutdown_reply answer session =
     let laws = law first last xs stop shutdown_reply answer session in
-    record { session = session; no_more = laws.never_more; answered = laws.once }
+    record {
+      session = session;
+      no_more = laws.never_more;
+      answered = λ whole id one.
+          used_once id xs laws.all stop (held_by may session) answer laws.to_send whole (laws.never_more id)
+          (laws.once (λ out. subst (λ (s : Stop). IsWhole s) out whole) id) one;
+    }

@@ -25,8 +25,8 @@ mod sessions;
 mod sums;
 
 use anyhow::{Result, bail};
-use lsp_server::clients::serve_clients;
-use lsp_server::{SessionEnd, StartFault, Threaded};
+use lsp_server::clients::{ClientOptions, serve_clients};
+use lsp_server::{EndSession, SessionEnd, StartFault, Threaded};
 use server::Sums;
 use sessions::{serve, serve_in_threads, serve_with_jobs};
 use std::alloc::Global;
@@ -37,17 +37,21 @@ fn main(rt: HostRuntime) -> Result<()> {
     let words: Vec<String> = env::args(&rt)?.skip(1).collect(alloc)?;
     let served = match words.as_slice() {
         [word, rest @ ..] if word.as_str() == "threads" => {
-            serve_clients(&rt, rest, |reader, writer| {
-                end_of(serve_in_threads(&rt, alloc, reader, writer, Sums::new(alloc)))
+            serve_clients(&rt, rest, ClientOptions::new(), |client| {
+                let sums = Sums::new(alloc);
+                end_of(serve_in_threads(&rt, alloc, client.reader, client.writer, sums))
             })
         }
         [word, rest @ ..] if word.as_str() == "jobs" => {
-            serve_clients(&rt, rest, |reader, writer| {
-                end_of(serve_with_jobs(&rt, alloc, reader, writer, Sums::new(alloc)))
+            serve_clients(&rt, rest, ClientOptions::new(), |client| {
+                let sums = Sums::new(alloc);
+                end_of(serve_with_jobs(&rt, alloc, client.reader, client.writer, sums))
             })
         }
-        words => serve_clients(&rt, words, |mut reader, mut writer| {
-            let (sums, answer) = serve(alloc, &mut reader, &mut writer, Sums::new(alloc));
+        words => serve_clients(&rt, words, ClientOptions::new(), |mut client| {
+            let mut bad_bodies = EndSession;
+            let mut transport = client.transport(alloc, &mut bad_bodies, u64::MAX);
+            let (sums, answer) = serve(alloc, &mut transport, Sums::new(alloc));
             drop(sums);
             Ok(answer?)
         }),

@@ -1,7 +1,8 @@
 // A session of the server: on one thread, with a thread that reads and one that writes, and with threads that search.
-ghost use Rattle.std.specs.Prelude.{true, IfOk, IfSome};
+ghost use Rattle.std.specs.Prelude.{true, [], Some, IfOk, IfSome};
 ghost use Rattle.lsp_message.specs.Frame.{no_limit};
-ghost use Rattle.lsp_session.specs.SessionBytes.{Gives};
+ghost use Rattle.lsp_session.specs.StreamTransports.{IsUnused, Serves};
+ghost use Rattle.lsp_threads.specs.Passing.{GivenTo, OfTaken, TakenFrom, noted};
 ghost use Rattle.lsp_threads.specs.Threads.{ThreadsGive, ThreadsGiveOver};
 ghost use Rattle.lsp_jobs.specs.JobLaw.{LawfulJobSession};
 ghost use Rattle.lsp_service.specs.Stated.{unwoken};
@@ -13,8 +14,8 @@ use lsp_jobs::laws::session_with_jobs_keeps_laws;
 use lsp_jobs::{Job, JobServer, PoolSize, run_jobs};
 use lsp_server::laws::server_keeps_laws;
 use lsp_server::{
-    EndSession, Server, SessionEnd, SessionFault, StartFault, ThreadOptions, Threaded,
-    run_threads_with, session_with,
+    EndSession, Server, SessionEnd, SessionFault, StartFault, StreamTransport, ThreadOptions,
+    Threaded, run_threads_with, session_with_over,
 };
 use std::alloc::Global;
 use std::io::{BufRead, Write};
@@ -27,21 +28,22 @@ use std::thread::Threads;
 /// replies under an id than it sent requests. A request whose id it used once has exactly one reply. Or it has none: the server keeps it, as a
 /// `sums/solved` whose text still has an error; or the session ended at it, since the lifecycle does not allow it. If a write or an
 /// allocation failed, replies may be missing.
+///
+/// This is of whatever reader and writer, also of standard input and output or a socket: the transcript of the transport tells the bytes that
+/// were taken and given.
 pub fn serve<R: BufRead, W: Write>(
     alloc: Global,
-    reader: &mut R,
-    writer: &mut W,
+    transport: &mut StreamTransport<'_, R, W, EndSession>,
     sums: Sums,
 ) -> (Sums, Result<SessionEnd, SessionFault>)
-    ensures { IfSome (R.remaining reader.old) (λ text.
-        Gives no_limit (AnswersOnce (unwoken ⟦<Sums as Server>⟧) sums result.0)
-        text (R.remaining reader.new) (W.contents writer.old) (W.contents writer.new) result.1) }
+    requires { IsUnused transport.old }
+    ensures { Serves (AnswersOnce (unwoken ⟦<Sums as Server>⟧) sums result.0) transport.old result.1 transport.new }
 {
     server_keeps_laws::<Sums>();
-    session_with(alloc, reader, writer, sums, &mut EndSession, u64::MAX)
+    session_with_over(alloc, transport, sums)
 }
 
-/// `serve` with a thread that reads and one that writes. Its author knows the same of it.
+/// `serve` with a thread that reads and one that writes. Its author knows the same of it, but for the order between reading and writing.
 pub fn serve_in_threads<T, R, W>(
     rt: &T,
     alloc: Global,
@@ -53,9 +55,11 @@ where
     T: Threads + Wait + Copy + Drop + Send + 'static,
     R: BufRead + Drop + Send + 'static,
     W: Write + Drop + Send + 'static,
-    ensures { IfSome (R.remaining reader) (λ text. IfOk result.1 (λ done.
+    ensures told { IfOk result.1 (λ done. OfTaken done.taken.parts (λ text.
         ThreadsGive no_limit (AnswersOnce (unwoken ⟦<Sums as Server>⟧) sums result.0)
-        text (W.contents writer) (W.contents done.writer) done.answer)) }
+        text (Some []) (noted done.given) done.answer)) }
+    ensures passed { IfOk result.1 (λ done. TakenFrom (R.remaining reader) done.taken.parts
+        × GivenTo (W.contents writer) done.given.parts (W.contents done.writer)) }
 {
     server_keeps_laws::<Sums>();
     let options = ThreadOptions::new();
@@ -81,14 +85,16 @@ where
     T: Threads + Wait + Copy + Drop + Send + 'static,
     R: BufRead + Drop + Send + 'static,
     W: Write + Drop + Send + 'static,
-    ensures { IfSome (R.remaining reader) (λ text. IfOk result.1 (λ done.
+    ensures told { IfOk result.1 (λ done. OfTaken done.taken.parts (λ text.
         ThreadsGiveOver true no_limit (LawfulJobSession T ⟦<Sums as Server>⟧
         (record {
           gives = ⟦<Sums as JobServer<Search>>⟧.gives;
           starts = ⟦<Sums as JobServer<Search>>⟧.starts;
           finishes = ⟦<Sums as JobServer<Search>>⟧.finishes;
         }) ⟦<Search as Job>⟧ sums result.0)
-        text (W.contents writer) (W.contents done.writer) done.answer)) }
+        text (Some []) (noted done.given) done.answer)) }
+    ensures passed { IfOk result.1 (λ done. TakenFrom (R.remaining reader) done.taken.parts
+        × GivenTo (W.contents writer) done.given.parts (W.contents done.writer)) }
 {
     session_with_jobs_keeps_laws::<T, Sums, Search>();
     let options = ThreadOptions::new();

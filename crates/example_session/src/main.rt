@@ -1,12 +1,20 @@
 //! A whole server over standard input and output that answers requests: it knows how many documents its client has open.
 #![tactic(auto)]
 
+ghost use Rattle.serde_json.specs.View.{view};
+ghost use Rattle.lsp_session.specs.HandlerSession.{of_handler};
+ghost use Rattle.lsp_session.specs.Session.{SessionOut};
+ghost use Rattle.lsp_session.specs.StreamTransports.{IsUnused, Serves};
+
 use anyhow::{Result, bail};
-use lsp_server::{Handler, Notification, Request, ResponseError, SessionEnd, session};
+use lsp_server::{
+    ClientStreams, EndSession, Handler, Notification, Request, ResponseError, SessionEnd,
+    SessionFault, StreamTransport,
+};
 use serde_json::{Value, json};
 use std::alloc::{AllocError, Global};
 use std::io;
-use std::io::BufReader;
+use std::io::{BufRead, BufReader, Write};
 
 /// The documents of a client.
 #[derive(Drop)]
@@ -44,6 +52,21 @@ impl Handler for Documents {
     }
 }
 
+/// Serves the client of a transport. Of whatever reader and writer, also of standard input and output: the bytes that were taken are frames of
+/// messages, and those that were given are frames of what a session of `Documents` sends for them, each before the next byte is taken.
+fn serve<R: BufRead, W: Write>(
+    transport: &mut StreamTransport<'_, R, W, EndSession>,
+    capabilities: Value,
+    documents: &mut Documents,
+) -> Result<SessionEnd, SessionFault>
+    requires { IsUnused transport.old }
+    ensures { Serves
+        (SessionOut (of_handler ⟦<Documents as Handler>⟧.answers ⟦<Documents as Handler>⟧.notes (view capabilities))
+        documents.old documents.new) transport.old result transport.new }
+{
+    transport.serve_handler(capabilities, documents)
+}
+
 fn main(rt: HostRuntime) -> Result<()> {
     let alloc = rt.alloc();
     // The client is to tell what it opens and closes.
@@ -52,15 +75,11 @@ fn main(rt: HostRuntime) -> Result<()> {
         alloc,
         open_count: 0,
     };
-    let mut reader = BufReader::new(alloc, rt.reader())?;
-    let mut writer = io::writer(&rt);
-    match session(
-        alloc,
-        &mut reader,
-        &mut writer,
-        capabilities,
-        &mut documents,
-    )? {
+    let reader = BufReader::new(alloc, rt.reader())?;
+    let mut client = ClientStreams::new(reader, io::writer(&rt));
+    let mut bad_bodies = EndSession;
+    let mut transport = client.transport(alloc, &mut bad_bodies, u64::MAX);
+    match serve(&mut transport, capabilities, &mut documents)? {
         SessionEnd::ShutDown => Ok(()),
         SessionEnd::Closed => bail!("the client left without a shutdown"),
     }

@@ -9,6 +9,7 @@ mod report;
 mod serve;
 mod work;
 
+use lsp_message::Passed;
 use lsp_server::keep_freed_memory;
 use pump::pump_words;
 use report::{report, report_usage};
@@ -60,12 +61,16 @@ where
         return Ok(tcp_on(rt, addr, errors));
     }
     let reader = BufReader::with_capacity(rt.alloc(), READ_AHEAD, rt.reader())?;
+    let mut taken = Passed::new();
+    let mut given = Passed::new();
     Ok(pump_words(
         rt,
         rt.alloc(),
         words.as_slice(),
         reader,
         &mut io::writer(rt),
+        &mut taken,
+        &mut given,
         errors,
     ))
 }

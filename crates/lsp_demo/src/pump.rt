@@ -1,14 +1,16 @@
 // The program without its standard streams.
-ghost use Rattle.std.specs.Prelude.{◌≡◌, ◌≤◌, ℕ, Some, None, IfSome};
-ghost use Rattle.lsp_demo.specs.Program.{asked_limit, PumpsTo};
+ghost use Rattle.std.specs.Prelude.{◌≡◌, ◌≤◌, ℕ, [], Some, None, IfSome};
+ghost use Rattle.lsp_demo.specs.Program.{asked_limit, status_of as status_of_spec, PumpsTo};
 ghost use Rattle.lsp_message.specs.HeaderPart.{number};
+ghost use Rattle.lsp_threads.specs.Passing.{OfTaken, noted};
 
 use crate::report::{report, report_usage};
-use lsp_server::pump_within;
+use lsp_message::Passed;
+use lsp_threads::{PumpFault, pump_telling};
 use std::alloc::Global;
 use std::io::{BufRead, Write};
 use std::sync::Wait;
-use std::thread::Threads;
+use std::thread::{Builder, Threads};
 
 /// Runs the program on its words, and gives the exit status.
 ///
@@ -16,12 +18,18 @@ use std::thread::Threads;
 /// status is 0 if all were passed on, and 1 after a fault, whose text goes to `errors`. Other words, and none, are answered
 /// by how the program is called, and status 1.
 /// A fault of `errors` is ignored. `main` comes here with all words that do not ask for the server.
+///
+/// `taken` and `given` are accounts of the bytes that passed, which clauses alone see. `told` is of whatever reader and writer, also of standard
+/// input and output: the bytes that were given are the frames of the messages that the bytes that were taken begin with, as far as the status
+/// says, whatever follows them.
 pub fn pump_words<T, R, W, E>(
     rt: &T,
     alloc: Global,
     words: &[String],
     reader: R,
     writer: &mut W,
+    taken: &mut Passed,
+    given: &mut Passed,
     errors: &mut E,
 ) -> u8
 where
@@ -29,6 +37,8 @@ where
     R: BufRead + Drop + Send + 'static,
     W: Write,
     E: Write,
+    ensures told { (limit : ℕ) → asked_limit words.now ≡ Some limit → OfTaken taken.new.parts (λ text.
+        PumpsTo limit text (Some []) (noted given.new) result) }
     ensures pumped { (limit : ℕ) → asked_limit words.now ≡ Some limit → IfSome (R.remaining reader)
         (λ text. PumpsTo limit text (W.contents writer.old) (W.contents writer.new) result) }
     ensures status { result ≤ 1 }
@@ -38,7 +48,17 @@ where
     let Some(limit) = pump_limit(words) else {
         return report_usage(errors);
     };
-    match pump_within(rt, alloc, reader, writer, limit) {
+    let pumped = pump_telling(rt, Builder::new(), alloc, reader, writer, limit);
+    *taken = pumped.taken;
+    *given = pumped.given;
+    status_of(errors, pumped.answer)
+}
+
+/// The exit status of what came of passing messages on. A fault is printed.
+fn status_of<E: Write>(errors: &mut E, answer: Result<(), PumpFault>) -> u8
+    ensures { result ≡ status_of_spec answer }
+{
+    match answer {
         Ok(()) => 0,
         Err(fault) => report(errors, fault),
     }

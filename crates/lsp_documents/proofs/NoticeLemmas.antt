@@ -9,7 +9,7 @@ use Rattle.lsp_text.specs.Edits.{edited, edited_by}
 use Rattle.lsp_text.specs.declared.position.PositionEncoding.{PositionEncoding}
 use Rattle.lsp_text.specs.declared.position.Range.{Range}
 use Rattle.lsp_documents.specs.declared.fault.DocumentFault.{DocumentFault}
-use Rattle.lsp_documents.specs.declared.fault.DocumentFault.TheVariants.{OutOfStep, Memory}
+use Rattle.lsp_documents.specs.declared.fault.DocumentFault.TheVariants.{NotOpen, OutOfStep, Memory}
 use Rattle.lsp_documents.specs.declared.kept.Open.{Open}
 use Rattle.lsp_documents.specs.declared.kept.Open.TheVariants.{Known, Lost}
 use Rattle.serde_json.specs.View.{view, items_view}
@@ -50,9 +50,20 @@ some_changed : (e : PositionEncoding) (d : Document) (l : List ℕ) (version : O
 some_changed e d l version list true whole = (whole refl, same_version version)
 some_changed e d l version list false whole = tt
 
+none_opened : (e : PositionEncoding) (version : Option ℤ) (list : List Change) (w : Bool) →
+    Agrees (if w then Some (document [] version (edited_by e [] list)) else None) (if w then Some (Known (document [] version (edited_by e [] list))) else None)
+none_opened e version list true = (refl, same_version version)
+none_opened e version list false = tt
+
+some_opened : (e : PositionEncoding) (d : Document) (version : Option ℤ) (list : List Change) (w : Bool) → (w ≡ true → edited_by e [] list ≡ edited_by e d.text list) →
+    Agrees (Some (changed_to e d version list)) (if w then Some (Known (document [] version (edited_by e [] list))) else None)
+some_opened e d version list true whole = (whole refl, same_version version)
+some_opened e d version list false whole = tt
+
 made_step : (e : PositionEncoding) (client : Option Document) (kept : Option Open) (kind : NoticeKind) → SavesOwn client kind → Agrees client kept → Agrees (told e client kind) (after e kept kind)
 made_step e client kept (opened d) s h = (refl, same_version d.version)
-made_step e client None (changed version list) s h = tt
+made_step e None None (changed version list) s h = none_opened e version list (has_whole list)
+made_step e (Some d) None (changed version list) s h = some_opened e d version list (has_whole list) (whole_text e list [] d.text)
 made_step e None (Some (Known k)) (changed version list) s h = absurd h
 made_step e (Some d) (Some (Known k)) (changed version list) s h = (ap (λ t. edited_by e t list) h.0, same_version version)
 made_step e None (Some (Lost l)) (changed version list) s h = none_changed e l version list (has_whole list)
@@ -184,9 +195,13 @@ lost_same : (e : PositionEncoding) (l : List ℕ) (version : Option ℤ) (list :
 lost_same e l version list true fault h = none_is h
 lost_same e l version list false fault h = refl
 
+none_same : (e : PositionEncoding) (version : Option ℤ) (list : List Change) (w : Bool) (fault : DocumentFault) → (if w then None else Some NotOpen) ≡ Some fault → (if w then Some (Known (document [] version (edited_by e [] list))) else None) ≡ None
+none_same e version list true fault h = none_is h
+none_same e version list false fault h = refl
+
 wrong_same : (e : PositionEncoding) (k : Option Open) (kind : NoticeKind) (fault : DocumentFault) → fault_of k kind ≡ Some fault → after e k kind ≡ k
 wrong_same e k (opened d) fault h = none_is h
-wrong_same e None (changed version list) fault h = refl
+wrong_same e None (changed version list) fault h = none_same e version list (has_whole list) fault h
 wrong_same e (Some (Known d)) (changed version list) fault h = none_is h
 wrong_same e (Some (Lost l)) (changed version list) fault h = lost_same e l version list (has_whole list) fault h
 wrong_same e k (saved None) fault h = refl
@@ -220,20 +235,15 @@ none_value h = never (ap is_some h)
 -- ---- changes that can be read
 
 -- they are refused by name
-pub change_refused : (before : Documents) (uris : Option (List ℕ)) (versions : Option (Option ℤ)) (changes : Option (List Change)) (u : List ℕ) (v : Option ℤ) (w : Bool) (fault said : DocumentFault) → uris ≡ Some u → versions ≡ Some v → option_map has_whole changes ≡ Some w →
-    change_fault (before.held u) w ≡ Some fault → said ≡ fault → Failed before (option_and_then (λ uri. option_and_then (λ version. option_map (edits uri version) changes) versions) uris) uris said before
-change_refused before None versions changes u v w fault said hu hv hw hf hs = none_value hu
-change_refused before (Some a) None changes u v w fault said hu hv hw hf hs = none_value hv
-change_refused before (Some a) (Some b) None u v w fault said hu hv hw hf hs = none_value hw
-change_refused before (Some a) (Some b) (Some cs) u v w fault said hu hv hw hf hs =
+pub change_refused : (before : Documents) (uris : Option (List ℕ)) (version : Option ℤ) (changes : Option (List Change)) (u : List ℕ) (w : Bool) (fault said : DocumentFault) → uris ≡ Some u → option_map has_whole changes ≡ Some w →
+    change_fault (before.held u) w ≡ Some fault → said ≡ fault → Failed before (option_and_then (λ uri. option_map (edits uri version) changes) uris) uris said before
+change_refused before None version changes u w fault said hu hw hf hs = none_value hu
+change_refused before (Some a) version None u w fault said hu hw hf hs = none_value hw
+change_refused before (Some a) version (Some cs) u w fault said hu hw hf hs =
     let ea : a ≡ u = some_value hu in
     let ew : has_whole cs ≡ w = some_value hw in
     let f : change_fault (before.held a) (has_whole cs) ≡ Some said = ap (λ x. change_fault (before.held x) (has_whole cs)) ea ∙ ap (change_fault (before.held u)) ew ∙ hf ∙ ap Some (sym hs) in
     inl (f, record { encoding = refl; held = λ q. refl })
-
-needed : (k : Option Open) (w b : Bool) → change_fault k w ≡ None → b ≡ true → is_some k && b ≡ true
-needed None w b h some = none_value (sym h)
-needed (Some o) w b h some = some
 
 more_changes : (c : Option Change) (cs : Option (List Change)) → IfSome (option_and_then (λ c. option_map (λ cs. c ∷ cs) cs) c) (λ cs. has_changes cs ≡ true)
 more_changes None cs = tt
@@ -246,19 +256,18 @@ some_changes [] h = grind (arith, h)
 some_changes (v ∷ vs) h = more_changes (change_in (view v)) (changes_in (items_view vs))
 
 -- no memory was left for them
-pub change_starved : (before now : Documents) (uris : Option (List ℕ)) (versions : Option (Option ℤ)) (changes : Option (List Change)) (u : List ℕ) (v : Option ℤ) (w : Bool) (said : DocumentFault) → uris ≡ Some u → versions ≡ Some v → option_map has_whole changes ≡ Some w →
-    change_fault (before.held u) w ≡ None → said ≡ Memory → IfSome changes (λ cs. has_changes cs ≡ true) → Puts before u (missed (before.held u)) now → Failed before (option_and_then (λ uri. option_and_then (λ version. option_map (edits uri version) changes) versions) uris) uris said now
-change_starved before now None versions changes u v w said hu hv hw hf hs hn m = none_value hu
-change_starved before now (Some a) None changes u v w said hu hv hw hf hs hn m = none_value hv
-change_starved before now (Some a) (Some b) None u v w said hu hv hw hf hs hn m = none_value hw
-change_starved before now (Some a) (Some b) (Some cs) u v w said hu hv hw hf hs hn m =
+pub change_starved : (before now : Documents) (uris : Option (List ℕ)) (version : Option ℤ) (changes : Option (List Change)) (u : List ℕ) (w : Bool) (said : DocumentFault) → uris ≡ Some u → option_map has_whole changes ≡ Some w →
+    change_fault (before.held u) w ≡ None → said ≡ Memory → IfSome changes (λ cs. has_changes cs ≡ true) → Puts before u (missed (before.held u)) now → Failed before (option_and_then (λ uri. option_map (edits uri version) changes) uris) uris said now
+change_starved before now None version changes u w said hu hw hf hs hn m = none_value hu
+change_starved before now (Some a) version None u w said hu hw hf hs hn m = none_value hw
+change_starved before now (Some a) version (Some cs) u w said hu hw hf hs hn m =
     let ea : a ≡ u = some_value hu in
     let ew : has_whole cs ≡ w = some_value hw in
     let f : change_fault (before.held a) (has_whole cs) ≡ None = ap (λ x. change_fault (before.held x) (has_whole cs)) ea ∙ ap (change_fault (before.held u)) ew ∙ hf in
     inr (record {
       why = hs;
       right = f;
-      needed = needed (before.held a) (has_whole cs) (has_changes cs) f hn;
+      needed = hn;
       misses = subst (λ x. Puts before x (missed (before.held x)) now) (sym ea) m;
     })
 

@@ -1,15 +1,16 @@
 -- Wrong runs that the definitions of the law refuse: each supposes one, and leads to a contradiction.
-use Rattle.std.proofs.Common.{◌≡◌, ℕ, ℤ, Bool, true, false, List, [], Option, Some, None, refl, sym, ap, ◌∙◌, arith, inl, inr, option_and_then, option_map}
+use Rattle.std.proofs.Common.{◌≡◌, ℕ, ℤ, Bool, true, false, List, [], Option, Some, None, refl, sym, ap, ◌∙◌, arith, inl, inr, option_and_then}
 use Rattle.std.specs.Prelude.{is_some, if◌then◌else◌}
 use Rattle.std.specs.Str.{bytes_eq}
 use Rattle.lsp_text.specs.Documents.{Document, Change}
-use Rattle.lsp_text.specs.Edits.{edited_by}
+use Rattle.lsp_text.specs.Edits.{edited_by, past_by}
+use Rattle.lsp_documents.specs.declared.fault.Remark.TheVariants.{SavedTextDiffers}
 use Rattle.lsp_text.specs.declared.position.PositionEncoding.{PositionEncoding}
 use Rattle.lsp_documents.specs.declared.kept.Open.{Open}
 use Rattle.lsp_documents.specs.declared.kept.Open.TheVariants.{Known, Lost}
 use Rattle.lsp_documents.specs.declared.fault.DocumentFault.{DocumentFault}
-use Rattle.lsp_documents.specs.declared.fault.DocumentFault.TheVariants.{OutOfStep, Memory}
-use Rattle.lsp_documents.specs.Notices.{NoticeKind, NoticeKind.opened, NoticeKind.changed, NoticeKind.saved, NoticeKind.closed, Notice, Sent.made, Sent.unmade, Sent.unread, Documents, Takes, Took, Refused, after, missed, changed_in, fault_of, needs_memory, remark_of, has_whole, shown, opens, edits, saves, closes, document}
+use Rattle.lsp_documents.specs.declared.fault.DocumentFault.TheVariants.{NotOpen, OutOfStep, Memory}
+use Rattle.lsp_documents.specs.Notices.{NoticeKind, NoticeKind.opened, NoticeKind.changed, NoticeKind.saved, NoticeKind.closed, Notice, Sent.made, Sent.unmade, Sent.unread, Documents, Takes, Took, Refused, after, missed, changed_in, fault_of, needs_memory, remark_of, change_remark, is_not_higher, has_whole, shown, opens, edits, saves, closes, document}
 
 never : {P : Type 0} → false ≡ true → P
 never h = grind (arith, h)
@@ -36,7 +37,12 @@ in_lost e l version list false h = refl
 -- an edit made in an older text: the text is lost, no change is of the whole text, and yet a text is shown
 edited_older : (before now : Documents) (uri l : List ℕ) (version : Option ℤ) (list : List Change) (d : Document) → before.held uri ≡ Some (Lost l) → has_whole list ≡ false → Takes before (made (edits uri version list)) now → now.held uri ≡ Some (Known d) → ⊥
 edited_older before now uri l version list d b w h k =
-    never (sym (in_lost before.encoding l version list (has_whole list) w) ∙ ap shows (ap (λ o. option_map (λ o. changed_in before.encoding o version list) o) (sym b) ∙ sym h.own ∙ k))
+    never (sym (in_lost before.encoding l version list (has_whole list) w) ∙ ap shows (ap (λ o. after before.encoding o (changed version list)) (sym b) ∙ sym h.own ∙ k))
+
+-- a whole text of a URI that is not open, of which nothing is kept
+whole_unopened : (before now : Documents) (uri : List ℕ) (version : Option ℤ) (list : List Change) → before.held uri ≡ None → has_whole list ≡ true → Takes before (made (edits uri version list)) now → now.held uri ≡ None → ⊥
+whole_unopened before now uri version list b w h k =
+    never (ap shows (sym k ∙ h.own ∙ ap (λ o. after before.encoding o (changed version list)) b ∙ ap (λ (t : Bool). if t then Some (Known (document [] version (edited_by before.encoding [] list))) else None) w))
 
 -- a text of another URI: a document is opened, and the text of another one is another
 opened_other : (before now : Documents) (uri q l text : List ℕ) (version : Option ℤ) (d : Document) → before.held q ≡ None → bytes_eq q uri ≡ false → Takes before (made (opens uri l version text)) now → now.held q ≡ Some (Known d) → ⊥
@@ -49,7 +55,7 @@ in_whole e (Lost l) version list w = rw w refl
 -- a document that stays out of step after a whole text
 whole_lost : (before now : Documents) (uri l : List ℕ) (o : Open) (version : Option ℤ) (list : List Change) → before.held uri ≡ Some o → has_whole list ≡ true → Takes before (made (edits uri version list)) now → now.held uri ≡ Some (Lost l) → ⊥
 whole_lost before now uri l o version list b w h k =
-    never (ap shows (sym k ∙ h.own ∙ ap (λ o. option_map (λ o. changed_in before.encoding o version list) o) b) ∙ in_whole before.encoding o version list w)
+    never (ap shows (sym k ∙ h.own ∙ ap (λ o. after before.encoding o (changed version list)) b) ∙ in_whole before.encoding o version list w)
 
 abbrev text_of : Option Open → List ℕ
 text_of None = []
@@ -73,15 +79,29 @@ saved_other before now uri text d o b h k other =
 
 -- a second open of which nothing is said
 opened_unsaid : (before now : Documents) (uri l text : List ℕ) (version : Option ℤ) (o : Open) → before.held uri ≡ Some o → Took before (opens uri l version text) None now → ⊥
-opened_unsaid before now uri l text version o b h = never (ap is_some (h.remarks ∙ ap (λ k. remark_of k (opened (document l version text))) b))
+opened_unsaid before now uri l text version o b h = never (ap is_some (h.remarks ∙ ap (λ k. remark_of before.encoding k (opened (document l version text))) b))
+
+-- a change past an end of the text that is known, of which nothing is said
+past_unsaid : (before now : Documents) (uri : List ℕ) (version : Option ℤ) (list : List Change) (d : Document) → before.held uri ≡ Some (Known d) → past_by before.encoding d.text list ≡ true → Took before (edits uri version list) None now → ⊥
+past_unsaid before now uri version list d b p h =
+    never (ap is_some (h.remarks ∙ ap (λ k. remark_of before.encoding k (changed version list)) b ∙ ap (λ w. change_remark w (is_not_higher version d.version)) p))
+
+-- a saved text that differs from the one that is known, of which nothing is said
+saved_unsaid : (before now : Documents) (uri text : List ℕ) (d : Document) → before.held uri ≡ Some (Known d) → bytes_eq d.text text ≡ false → Took before (saves uri (Some text)) None now → ⊥
+saved_unsaid before now uri text d b p h =
+    never (ap is_some (h.remarks ∙ ap (λ k. remark_of before.encoding k (saved (Some text))) b ∙ ap (λ (w : Bool). if w then None else Some SavedTextDiffers) p))
 
 no_memory_lost : (w : Bool) → (if w then None else Some OutOfStep) ≡ Some Memory → ⊥
 no_memory_lost true h = grind (arith, h)
 no_memory_lost false h = grind (arith, h)
 
+no_memory_open : (w : Bool) → (if w then None else Some NotOpen) ≡ Some Memory → ⊥
+no_memory_open true h = grind (arith, h)
+no_memory_open false h = grind (arith, h)
+
 no_memory : (before : Option Open) (kind : NoticeKind) → fault_of before kind ≡ Some Memory → ⊥
 no_memory before (opened d) h = grind (arith, h)
-no_memory None (changed version list) h = grind (arith, h)
+no_memory None (changed version list) h = no_memory_open (has_whole list) h
 no_memory (Some (Known d)) (changed version list) h = grind (arith, h)
 no_memory (Some (Lost l)) (changed version list) h = no_memory_lost (has_whole list) h
 no_memory None (saved text) h = grind (arith, h)
@@ -101,12 +121,8 @@ closed_memory before now uri h = needless before now (closes uri) refl h
 saved_memory : (before now : Documents) (uri : List ℕ) → Refused before (saves uri None) Memory now → ⊥
 saved_memory before now uri h = needless before now (saves uri None) refl h
 
-without_changes : (before : Option Open) (version : Option ℤ) → needs_memory before (changed version []) ≡ false
-without_changes None version = refl
-without_changes (Some o) version = refl
-
 unchanged_memory : (before now : Documents) (uri : List ℕ) (version : Option ℤ) → Refused before (edits uri version []) Memory now → ⊥
-unchanged_memory before now uri version h = needless before now (edits uri version []) (without_changes (before.held uri) version) h
+unchanged_memory before now uri version h = needless before now (edits uri version []) refl h
 
 -- `Memory` in the place of another fault
 right_memory : (before now : Documents) (n : Notice) (fault : DocumentFault) → fault_of (before.held n.uri) n.kind ≡ Some fault → Refused before n Memory now → ⊥

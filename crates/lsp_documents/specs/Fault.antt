@@ -5,7 +5,7 @@ use Rattle.lsp_documents.specs.declared.fault.DocumentFault.TheVariants.{Params,
 use Rattle.lsp_documents.specs.declared.fault.Made.{Made}
 use Rattle.lsp_documents.specs.declared.fault.NotMade.{NotMade}
 use Rattle.lsp_documents.specs.declared.fault.Remark.{Remark}
-use Rattle.lsp_documents.specs.declared.fault.Remark.TheVariants.{OpenAlready, VersionNotHigher}
+use Rattle.lsp_documents.specs.declared.fault.Remark.TheVariants.{OpenAlready, VersionNotHigher, PastEnd, SavedTextDiffers, WasNotOpen}
 
 abbrev pub fault_text : DocumentFault → Option (List ℕ)
 fault_text Params = Some (codes "params of another shape")
@@ -16,6 +16,9 @@ fault_text Memory = Some (codes "out of memory")
 abbrev pub remark_text : Remark → Option (List ℕ)
 remark_text OpenAlready = Some (codes "the document was open already")
 remark_text VersionNotHigher = Some (codes "the version is not higher")
+remark_text WasNotOpen = Some (codes "the document was not open")
+remark_text PastEnd = Some (codes "a position is past the end")
+remark_text SavedTextDiffers = Some (codes "the saved text is another one")
 
 -- a URI and what is said of it
 abbrev pub said_of : List ℕ → List ℕ → List ℕ

@@ -4,7 +4,7 @@ use Rattle.std.specs.List.{filter_map}
 use Rattle.std.specs.declared.alloc.Global.{Global}
 use Rattle.std.specs.declared.string.String.{String}
 use Rattle.lsp_text.specs.Documents.{Document}
-use Rattle.lsp_documents.specs.Notices.{shown}
+use Rattle.lsp_documents.specs.Notices.{shown, document}
 use Rattle.lsp_documents.specs.declared.kept.Open.{Open}
 use Rattle.lsp_documents.specs.declared.known.OpenText.{OpenText}
 
@@ -23,3 +23,8 @@ texts_in known = map (λ k. (k.0, k.1.text)) known
 -- the URIs and the texts of copies
 abbrev pub copied : List OpenText → List (List ℕ × List ℕ)
 copied copies = map (λ copy. (string_bytes copy.uri, copy.text)) copies
+
+-- the same with the languages and the versions
+abbrev pub copied_whole : List OpenText → List (List ℕ × Document)
+copied_whole copies = map (λ copy.
+    (string_bytes copy.uri, document (string_bytes copy.language_id) copy.version copy.text)) copies

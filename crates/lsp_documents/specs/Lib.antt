@@ -5,4 +5,3 @@ pub mod Held
 pub mod Known
 pub mod Methods
 pub mod Heard
-pub mod Places

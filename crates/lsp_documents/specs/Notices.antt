@@ -4,12 +4,12 @@ use Rattle.std.specs.Prelude.{◌≡◌, ◌⊎◌, ℕ, ℤ, int_le, Bool, true
 use Rattle.std.specs.List.{list_any}
 use Rattle.std.specs.Str.{bytes_eq}
 use Rattle.lsp_text.specs.Documents.{Document, Change}
-use Rattle.lsp_text.specs.Edits.{edited_by}
+use Rattle.lsp_text.specs.Edits.{edited_by, past_by}
 use Rattle.lsp_text.specs.declared.position.PositionEncoding.{PositionEncoding}
 use Rattle.lsp_documents.specs.declared.fault.DocumentFault.{DocumentFault}
 use Rattle.lsp_documents.specs.declared.fault.DocumentFault.TheVariants.{Params, NotOpen, OutOfStep, Memory}
 use Rattle.lsp_documents.specs.declared.fault.Remark.{Remark}
-use Rattle.lsp_documents.specs.declared.fault.Remark.TheVariants.{OpenAlready, VersionNotHigher}
+use Rattle.lsp_documents.specs.declared.fault.Remark.TheVariants.{OpenAlready, VersionNotHigher, PastEnd, SavedTextDiffers, WasNotOpen}
 use Rattle.lsp_documents.specs.declared.kept.Open.{Open}
 use Rattle.lsp_documents.specs.declared.kept.Open.TheVariants.{Known, Lost}
 
@@ -88,6 +88,10 @@ abbrev pub language_of : Open → List ℕ
 language_of (Known d) = d.language_id
 language_of (Lost language_id) = language_id
 
+abbrev pub version_of : Open → Option ℤ
+version_of (Known d) = d.version
+version_of (Lost language_id) = None
+
 -- its text is lost: the language is left
 abbrev pub lost : Open → Open
 lost o = Lost (language_of o)
@@ -106,7 +110,7 @@ saved_in (Lost language_id) text = Known (document language_id None text)
 
 -- why changes cannot be made
 abbrev pub change_fault : Option Open → Bool → Option DocumentFault
-change_fault None whole = Some NotOpen
+change_fault None whole = if whole then None else Some NotOpen
 change_fault (Some (Known d)) whole = None
 change_fault (Some (Lost language_id)) whole = if whole then None else Some OutOfStep
 
@@ -125,20 +129,40 @@ is_not_higher None before = false
 is_not_higher (Some version) None = false
 is_not_higher (Some version) (Some before) = int_le version before
 
--- what LSP 3.17 forbids the client, though it can be made
-abbrev pub remark_of : Option Open → NoticeKind → Option Remark
-remark_of None kind = None
-remark_of (Some o) (opened d) = Some OpenAlready
-remark_of (Some (Known d)) (changed version list) =
-    if is_not_higher version d.version then Some VersionNotHigher else None
-remark_of (Some (Lost language_id)) (changed version list) = None
-remark_of (Some o) (saved text) = None
-remark_of (Some o) closed = None
+-- whether a position of the changes lies past its line's end, or past the place behind the last line, in the text that is known
+abbrev pub is_past : PositionEncoding → Open → List Change → Bool
+is_past e (Known d) list = past_by e d.text list
+is_past e (Lost language_id) list = false
+
+-- what is said of changes that were made: first that the client's text has to be another one
+abbrev pub change_remark : Bool → Bool → Option Remark
+change_remark past not_higher =
+    if past then Some PastEnd else (if not_higher then Some VersionNotHigher else None)
+
+-- what is said of the text that came with a save
+abbrev pub save_remark : Open → List ℕ → Option Remark
+save_remark (Known d) text = if bytes_eq d.text text then None else Some SavedTextDiffers
+save_remark (Lost language_id) text = None
+
+-- what LSP 3.17 forbids the client, though it can be made, or what shows that its text is another one than the text that is kept
+abbrev pub remark_of : PositionEncoding → Option Open → NoticeKind → Option Remark
+remark_of e None (opened d) = None
+remark_of e None (changed version list) = Some WasNotOpen
+remark_of e None (saved text) = None
+remark_of e None closed = None
+remark_of e (Some o) (opened d) = Some OpenAlready
+remark_of e (Some o) (changed version list) =
+    change_remark (is_past e o list) (is_not_higher version (version_of o))
+remark_of e (Some o) (saved None) = None
+remark_of e (Some o) (saved (Some text)) = save_remark o text
+remark_of e (Some o) closed = None
 
 -- what is kept of the URI after a notice of this kind that was made: as it was where something is wrong
 abbrev pub after : PositionEncoding → Option Open → NoticeKind → Option Open
 after e before (opened d) = Some (Known d)
-after e before (changed version list) = option_map (λ o. changed_in e o version list) before
+after e None (changed version list) =
+    if has_whole list then Some (Known (document [] version (edited_by e [] list))) else None
+after e (Some o) (changed version list) = Some (changed_in e o version list)
 after e before (saved None) = before
 after e before (saved (Some text)) = option_map (λ o. saved_in o text) before
 after e before closed = None
@@ -154,7 +178,7 @@ has_changes (c ∷ cs) = true
 -- whether memory is needed to make a notice in which nothing is wrong
 abbrev pub needs_memory : Option Open → NoticeKind → Bool
 needs_memory before (opened d) = true
-needs_memory before (changed version list) = is_some before && has_changes list
+needs_memory before (changed version list) = has_changes list
 needs_memory before (saved None) = false
 needs_memory None (saved (Some text)) = false
 needs_memory (Some (Known d)) (saved (Some text)) = false
@@ -267,7 +291,7 @@ Agrees client kept = IsClients client (option_and_then shown kept)
 pub record Took (before : Documents) (n : Notice) (remark : Option Remark)
     (now : Documents) : Type 0 where
   pub right : fault_of (before.held n.uri) n.kind ≡ None
-  pub remarks : remark ≡ remark_of (before.held n.uri) n.kind
+  pub remarks : remark ≡ remark_of before.encoding (before.held n.uri) n.kind
   pub makes : Makes before n now
 
 -- memory ran out, if nothing was wrong and memory was needed

@@ -35,14 +35,10 @@ is_negative d =
 abbrev pub line_in : Data → Option ℕ
 line_in d = if is_negative (get (codes "line") d) then Some 0 else count_in (codes "line") d
 
--- a version. None may be given, and `null` is none
-abbrev pub given_version : Option Data → Option (Option ℤ)
-given_version None = Some None
-given_version (Some null) = Some None
-given_version (Some d) = option_map Some (option_and_then as_i32 (as_number d))
-
-abbrev pub version_in : Data → Option (Option ℤ)
-version_in d = given_version (get (codes "version") d)
+-- a version, if it is a number that 32 bits hold. Another value is none, as the text does not depend on it
+abbrev pub version_in : Data → Option ℤ
+version_in d =
+    option_and_then as_i32 (option_and_then as_number (get (codes "version") d))
 
 -- ---- changes
 
@@ -83,12 +79,11 @@ document_in params = get (codes "textDocument") params
 abbrev pub uri_in : Data → Option (List ℕ)
 uri_in params = option_and_then (text_in (codes "uri")) (document_in params)
 
--- the document that `textDocument/didOpen` tells of
+-- the document that `textDocument/didOpen` tells of. A language that is no text is the empty one
 abbrev pub item_in : Data → Option Document
-item_in d = option_and_then (λ language_id.
-    option_and_then (λ version.
-    option_map (document language_id version) (text_in (codes "text") d)) (version_in d))
-    (text_in (codes "languageId") d)
+item_in d =
+    option_map (document (unwrap_or (text_in (codes "languageId") d) []) (version_in d))
+    (text_in (codes "text") d)
 
 abbrev pub opened_in : Data → Option Document
 opened_in params = option_and_then item_in (document_in params)
@@ -106,8 +101,8 @@ changes_given params =
 abbrev pub did_change_in : Data → Option Notice
 did_change_in params =
     option_and_then (λ uri.
-    option_and_then (λ version. option_map (edits uri version) (changes_given params))
-    (option_and_then version_in (document_in params))) (uri_in params)
+    option_map (edits uri (option_and_then version_in (document_in params))) (changes_given params))
+    (uri_in params)
 
 abbrev pub did_save_in : Data → Option Notice
 did_save_in params = option_map (λ uri. saves uri (text_in (codes "text") params)) (uri_in params)

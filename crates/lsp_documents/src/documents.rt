@@ -1,19 +1,20 @@
 // The documents that a client has opened, by their URIs.
-ghost use Rattle.std.specs.Prelude.{◌≡◌, ℕ, ◌<◌, ◌^◌, List, length, Option, Some, None, true, false, not, ◌&&◌, is_some, option_map, option_and_then, string_bytes, OnOk, OnErr, IfOk, IfErr, IfSome, IsSomeAnd, MatchOption};
+ghost use Rattle.std.specs.Prelude.{◌≡◌, ℕ, ◌<◌, ◌^◌, List, [], length, map, Option, Some, None, true, false, not, ◌&&◌, is_some, option_map, option_and_then, string_bytes, OnOk, OnErr, IfOk, IfErr, IfSome, IsSomeAnd, MatchOption};
 ghost use Rattle.std.specs.Option.{option_copied};
 ghost use Rattle.std.specs.Str.{bytes_eq};
 ghost use Rattle.std.specs.String.Boundary.{IsSplitPoint};
 ghost use Rattle.serde_json.specs.View.{view};
 ghost use Rattle.lsp_text.specs.Columns.{offset_of, IsPlace};
+ghost use Rattle.lsp_text.specs.Edits.{edited_by};
 ghost use Rattle.lsp_documents.specs.Heard.{Answers};
 ghost use Rattle.lsp_documents.specs.Held.{documents_of, known_of, texts_of, has_known, loses};
-ghost use Rattle.lsp_documents.specs.Known.{copied};
+ghost use Rattle.lsp_documents.specs.Known.{copied, copied_whole};
 ghost use Rattle.lsp_documents.specs.Methods.{method_named};
-ghost use Rattle.lsp_documents.specs.Notices.{document, opens, edits, closes, saves, shown, lost, missed, is_not_higher as not_higher, changed_in, saved_in, change_fault, has_whole as has_whole_text, has_changes, is_known, MissesAll, Took, Refused, Failed, FailedSave};
+ghost use Rattle.lsp_documents.specs.Notices.{document, opens, edits, closes, saves, shown, lost, missed, is_not_higher as is_below, is_past, change_remark as remark_of_change, save_remark as remark_of_save, version_of as kept_version, changed_in, saved_in, change_fault, has_whole as has_whole_text, has_changes, is_known, MissesAll, Took, Refused, Failed, FailedSave};
 ghost use Rattle.lsp_documents.specs.declared.kept.Open.TheVariants.{Known};
 ghost use Rattle.lsp_documents.specs.declared.fault.DocumentFault.TheVariants.{Params};
 ghost use Rattle.lsp_documents.specs.Params.{uri_in, did_open_in, did_change_in, did_save_in, did_close_in};
-ghost use Rattle.lsp_documents.specs.Places.{position_of};
+ghost use Rattle.lsp_text.specs.Places.{position_of};
 
 use crate::fault::{DocumentFault, Made, NotMade, Remark};
 use crate::kept::Open;
@@ -90,15 +91,15 @@ impl TextDocuments {
         KnownDocuments { open: self.iter() }
     }
 
-    /// A copy of each text that is known, with its URI, in the order of these: for a job, which goes on while the documents
+    /// A copy of each document whose text is known, with its URI, in the order of these: for a job, which goes on while the documents
     /// change.
     pub fn snapshot(&self) -> Result<Vec<OpenText>, AllocError>
-        ensures { IfOk result (λ texts. copied texts.items ≡ texts_of self.now) }
+        ensures texts { IfOk result (λ texts. copied texts.items ≡ texts_of self.now) }
+        ensures whole { IfOk result (λ texts. copied_whole texts.items ≡ known_of self.now) }
     {
         let mut texts = Vec::new(self.alloc);
         for (uri, document) in self.known() {
-            let text = document.text().as_str();
-            texts.push(OpenText::new(self.alloc, uri, text)?)?;
+            texts.push(OpenText::new(self.alloc, uri, document)?)?;
         }
         Ok(texts)
     }
@@ -132,6 +133,15 @@ impl TextDocuments {
             start: text.position_at(part.start, self.encoding),
             end: text.position_at(part.end, self.encoding),
         }
+    }
+
+    /// The positions of several places of a text, which are given in bytes of UTF-8, by the encoding that was agreed on. In ascending
+    /// order each line is passed over once, as `Text::positions_at` says.
+    pub fn positions_of(&self, text: &Text, offsets: &[usize]) -> Result<Vec<Position>, AllocError>
+        ensures { IfOk result (λ found.
+            found.items ≡ map (position_of self.now.encoding text.now) offsets.now) }
+    {
+        text.positions_at(self.alloc, offsets, self.encoding)
     }
 
     /// Whether the text of a URI is known.
@@ -197,6 +207,39 @@ impl TextDocuments {
         ensures encoding { self.new.encoding ≡ self.old.encoding }
     {
         let document = TextDocument::new(self.alloc, language_id, version, text)?;
+        self.put(uri, document)
+    }
+
+    /// Puts a document in that changes open, of which one is of the whole text. If memory runs out, nothing is changed.
+    fn insert_changed(
+        &mut self,
+        uri: &str,
+        version: Option<i32>,
+        changes: &[ContentChange],
+    ) -> Result<(), AllocError>
+        ensures own { OnOk result ((documents_of self.new).held uri.now
+            ≡ Some (Known (document [] version
+            (edited_by self.old.encoding [] changes.now)))) }
+        ensures others { OnOk result ((q : List ℕ) → bytes_eq q uri.now ≡ false
+            → (documents_of self.new).held q ≡ (documents_of self.old).held q) }
+        ensures err { OnErr result ((q : List ℕ)
+            → (documents_of self.new).held q ≡ (documents_of self.old).held q) }
+        ensures encoding { self.new.encoding ≡ self.old.encoding }
+    {
+        let mut document = TextDocument::new(self.alloc, "", None, "")?;
+        document.change_in_place(self.alloc, version, self.encoding, changes)?;
+        self.put(uri, document)
+    }
+
+    /// Puts a document in under a URI. If memory runs out, nothing is changed.
+    fn put(&mut self, uri: &str, document: TextDocument) -> Result<(), AllocError>
+        ensures own { OnOk result ((documents_of self.new).held uri.now ≡ Some (Known document)) }
+        ensures others { OnOk result ((q : List ℕ) → bytes_eq q uri.now ≡ false
+            → (documents_of self.new).held q ≡ (documents_of self.old).held q) }
+        ensures err { OnErr result ((q : List ℕ)
+            → (documents_of self.new).held q ≡ (documents_of self.old).held q) }
+        ensures encoding { self.new.encoding ≡ self.old.encoding }
+    {
         let uri = String::from_str(self.alloc, uri)?;
         self.documents.insert(uri, Open::Known(document))?;
         Ok(())
@@ -207,22 +250,18 @@ impl TextDocuments {
         ensures { result ≡ change_fault ((documents_of self.now).held uri.now) whole }
     {
         match self.documents.get(uri) {
+            _ if whole => None,
             None => Some(DocumentFault::NotOpen),
             Some(Open::Known(_)) => None,
-            Some(Open::Lost(_)) => {
-                if whole {
-                    None
-                } else {
-                    Some(DocumentFault::OutOfStep)
-                }
-            }
+            Some(Open::Lost(_)) => Some(DocumentFault::OutOfStep),
         }
     }
 
-    /// Makes the changes of one notification in a document, each in the text that the one before it left. If the version is
-    /// the document's or a lower one the remark is `VersionNotHigher`. Without a document of the URI the fault is `NotOpen`, and
-    /// `OutOfStep` if its text is lost and no change is of the whole text: nothing is changed then. If memory runs out, the
-    /// text is lost. Without a change no memory is needed.
+    /// Makes the changes of one notification in a document, each in the text that the one before it left. If a position of a change
+    /// lies past its line's end, or past the place behind the last line, the remark is `PastEnd`; else, if the version is the
+    /// document's or a lower one, it is `VersionNotHigher`. Without a document of the URI a change of the whole text opens one, with
+    /// the remark `WasNotOpen`. If no change is of the whole text, the fault is `NotOpen` without a document, and `OutOfStep` if its
+    /// text is lost: nothing is changed then. If memory runs out, the text is lost. Without a change no memory is needed.
     pub fn change(
         &mut self,
         uri: &str,
@@ -239,49 +278,49 @@ impl TextDocuments {
         if let Some(fault) = self.refusal(uri, has_whole(changes)) {
             return Err(fault);
         }
-        let remark = if is_not_higher(version, self.version_of(uri)) {
-            Some(Remark::VersionNotHigher)
-        } else {
-            None
-        };
-        self.edit(uri, version, changes)?;
-        Ok(remark)
+        if !self.documents.contains_key(uri) {
+            self.insert_changed(uri, version, changes)?;
+            return Ok(Some(Remark::WasNotOpen));
+        }
+        let not_higher = is_not_higher(version, self.version_of(uri));
+        let past = self.edit(uri, version, changes)?;
+        Ok(change_remark(past, not_higher))
     }
 
     /// The version of a document whose text is known, if it has one.
     fn version_of(&self, uri: &str) -> Option<i32>
         ensures { result
-            ≡ option_and_then (λ d. d.version)
-            (option_and_then shown ((documents_of self.now).held uri.now)) }
+            ≡ option_and_then kept_version ((documents_of self.now).held uri.now) }
     {
         self.get(uri)?.version()
     }
 
     /// Makes changes in the document of a URI, if there is one: in the text that is known, or from the whole text on that is among
-    /// them.
+    /// them. It gives whether a position of them lies past an end of the text that was known.
     fn edit(
         &mut self,
         uri: &str,
         version: Option<i32>,
         changes: &[ContentChange],
-    ) -> Result<(), AllocError>
+    ) -> Result<bool, AllocError>
         requires { change_fault ((documents_of self.old).held uri.now) (has_whole_text changes.now)
             ≡ None }
+        ensures past { IfOk result (λ past. IfSome ((documents_of self.old).held uri.now) (λ o.
+            past ≡ is_past self.old.encoding o changes.now)) }
         ensures own { OnOk result ((documents_of self.new).held uri.now
             ≡ option_map (λ o. changed_in self.old.encoding o version changes.now)
             ((documents_of self.old).held uri.now)) }
         ensures err { OnErr result ((documents_of self.new).held uri.now
             ≡ missed ((documents_of self.old).held uri.now)) }
-        ensures needed { OnErr result (is_some ((documents_of self.old).held uri.now)
-            && has_changes changes.now ≡ true) }
+        ensures needed { OnErr result (has_changes changes.now ≡ true) }
         ensures others { (q : List ℕ) → bytes_eq q uri.now ≡ false
             → (documents_of self.new).held q ≡ (documents_of self.old).held q }
         ensures encoding { self.new.encoding ≡ self.old.encoding }
     {
-        if let Some(open) = self.documents.get_mut(uri) {
-            change_open(self.alloc, open, version, self.encoding, changes)?;
+        match self.documents.get_mut(uri) {
+            Some(open) => change_open(self.alloc, open, version, self.encoding, changes),
+            None => Ok(false),
         }
-        Ok(())
     }
 
     /// Makes the text of the document of a URI unknown, if there is one: something that the client told of it was missed. It comes
@@ -313,23 +352,26 @@ impl TextDocuments {
         });
     }
 
-    /// Hears that a document was saved. A text that is given is taken only if the document's own is lost. Without a document of
-    /// the URI the fault is `NotOpen`, and nothing is changed. If memory runs out, the text stays lost.
-    pub fn save(&mut self, uri: &str, text: Option<&str>) -> Result<(), DocumentFault>
-        ensures ok { OnOk result
-            (Took (documents_of self.old) (saves uri.now (option_map (λ s. s.now) text.entry)) None
+    /// Hears that a document was saved. A text that is given is taken only if the document's own is lost; if it differs from the one
+    /// that is known the remark is `SavedTextDiffers`. Without a document of the URI the fault is `NotOpen`, and nothing is changed.
+    /// If memory runs out, the text stays lost.
+    pub fn save(&mut self, uri: &str, text: Option<&str>) -> Result<Option<Remark>, DocumentFault>
+        ensures ok { IfOk result (λ remark.
+            Took (documents_of self.old) (saves uri.now (option_map (λ s. s.now) text.entry)) remark
             (documents_of self.new)) }
         ensures err { IfErr result (λ fault.
             Refused (documents_of self.old) (saves uri.now (option_map (λ s. s.now) text.entry))
             fault (documents_of self.new)) }
     {
-        if !self.documents.contains_key(uri) {
+        let Some(open) = self.documents.get(uri) else {
             return Err(DocumentFault::NotOpen);
-        }
-        if let Some(text) = text {
-            self.renew(uri, text)?;
-        }
-        Ok(())
+        };
+        let Some(text) = text else {
+            return Ok(None);
+        };
+        let remark = save_remark(open, text);
+        self.renew(uri, text)?;
+        Ok(remark)
     }
 
     /// Puts a text into the document of a URI, if there is one whose text is lost.
@@ -452,9 +494,7 @@ impl TextDocuments {
             return Err(self.missed_all());
         };
         let known = self.knows(uri);
-        let Some(version) = params::version_of(params) else {
-            return Err(self.missed(uri, known, DocumentFault::Params));
-        };
+        let version = params::version_of(params);
         let Some(whole) = params::whole_in(params) else {
             return Err(self.missed(uri, known, DocumentFault::Params));
         };
@@ -489,7 +529,7 @@ impl TextDocuments {
             return Err(not_made(None, DocumentFault::Params, false));
         };
         match self.save(uri, params::saved_text(params)) {
-            Ok(()) => Ok(Made { uri, remark: None }),
+            Ok(remark) => Ok(Made { uri, remark }),
             Err(fault) => Err(not_made(Some(uri), fault, false)),
         }
     }
@@ -567,22 +607,24 @@ fn lose_text(alloc: Global, kept: &mut Open)
     *kept = before.into_lost();
 }
 
-/// Makes changes in what is kept of a document. If memory runs out, its text is lost.
+/// Makes changes in what is kept of a document. If memory runs out, its text is lost. It gives whether a
+/// position of the changes lies past an end of the text that was known.
 fn change_open(
     alloc: Global,
     kept: &mut Open,
     version: Option<i32>,
     encoding: PositionEncoding,
     changes: &[ContentChange],
-) -> Result<(), AllocError>
+) -> Result<bool, AllocError>
     requires { change_fault (Some kept.old) (has_whole_text changes.now) ≡ None }
+    ensures past { IfOk result (λ past. past ≡ is_past encoding kept.old changes.now) }
     ensures ok { OnOk result (kept.new ≡ changed_in encoding kept.old version changes.now) }
     ensures err { OnErr result (kept.new ≡ lost kept.old) }
     ensures needed { OnErr result (has_changes changes.now ≡ true) }
 {
     match kept {
         Open::Known(document) => {
-            let changed = document.change(alloc, version, encoding, changes);
+            let changed = document.change_in_place(alloc, version, encoding, changes);
             if changed.is_err() {
                 lose_text(alloc, kept);
             }
@@ -591,9 +633,9 @@ fn change_open(
         Open::Lost(document) => {
             let language_id = document.language_id();
             let mut known = TextDocument::new(alloc, language_id, None, "")?;
-            known.change(alloc, version, encoding, changes)?;
+            known.change_in_place(alloc, version, encoding, changes)?;
             *kept = Open::Known(known);
-            Ok(())
+            Ok(false)
         }
     }
 }
@@ -613,11 +655,36 @@ fn renew_open(alloc: Global, kept: &mut Open, text: &str) -> Result<(), AllocErr
 
 /// Whether a version is the one before, or below it.
 fn is_not_higher(version: Option<i32>, before: Option<i32>) -> bool
-    ensures { result ≡ not_higher version before }
+    ensures { result ≡ is_below version before }
 {
     match (version, before) {
         (Some(version), Some(before)) => version <= before,
         _ => false,
+    }
+}
+
+/// What is said of changes that were made.
+fn change_remark(past: bool, not_higher: bool) -> Option<Remark>
+    ensures { result ≡ remark_of_change past not_higher }
+{
+    if past {
+        Some(Remark::PastEnd)
+    } else if not_higher {
+        Some(Remark::VersionNotHigher)
+    } else {
+        None
+    }
+}
+
+/// What is said of the text that came with a save.
+fn save_remark(kept: &Open, text: &str) -> Option<Remark>
+    ensures { result ≡ remark_of_save kept.now text.now }
+{
+    match kept {
+        Open::Known(document) if document.text().as_str() != text => {
+            Some(Remark::SavedTextDiffers)
+        }
+        _ => None,
     }
 }
 

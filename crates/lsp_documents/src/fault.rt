@@ -8,9 +8,9 @@ use std::fmt;
 /// It prints `params of another shape`, `the document is not open`, `the document is out of step` or `out of memory`.
 #[derive(Clone, Copy, Debug, PartialEq, Eq)]
 pub enum DocumentFault {
-    /// The params lack a member that LSP 3.17 asks for, or a member is of another type.
+    /// The params lack a member that decides what comes of them, or it is of another type.
     Params,
-    /// No document of the URI is open.
+    /// No document of the URI is open, and no change is of the whole text.
     NotOpen,
     /// The document's text is lost, since something that the client told of it was missed, and none of the changes is of the whole
     /// text.
@@ -47,15 +47,25 @@ impl From<AllocError> for DocumentFault {
     }
 }
 
-/// What LSP 3.17 forbids the client, though it was made: the notification says all that is needed.
+/// What is to be said of a notification that was made: LSP 3.17 forbids it, or it shows that the client's text is another one than
+/// the text that is kept. Where it shows that, `TextDocuments::lose` keeps the server from showing it.
 ///
-/// It prints `the document was open already` or `the version is not higher`.
+/// It prints `the document was open already`, `the document was not open`, `the version is not higher`, `a position is past the end` or
+/// `the saved text is another one`.
 #[derive(Clone, Copy, Debug, PartialEq, Eq)]
 pub enum Remark {
     /// The document was open already. What was opened took its place.
     OpenAlready,
+    /// The document was not open, and a change of the whole text opened it. Nobody said its language, which is the empty text.
+    WasNotOpen,
     /// The version is the document's, or a lower one.
     VersionNotHigher,
+    /// A position of a change lies past its line's end, or past the place behind the last line, in the text that is kept. LSP 3.17
+    /// takes it for that end (`Position`), but a client has no such place in a text that is the same and that it counts in the same
+    /// way. It may have missed an end of a line where LSP 3.17 has one, as at a carriage return alone, or count in another encoding.
+    PastEnd,
+    /// The text that came with a `didSave` differs from the one that is kept, which stays.
+    SavedTextDiffers,
 }
 
 impl fmt::Display for Remark {
@@ -66,7 +76,10 @@ impl fmt::Display for Remark {
     fn fmt<W: fmt::Write>(&self, f: &mut fmt::Formatter<W>) -> fmt::Result {
         match self {
             Remark::OpenAlready => write!(f, "the document was open already"),
+            Remark::WasNotOpen => write!(f, "the document was not open"),
             Remark::VersionNotHigher => write!(f, "the version is not higher"),
+            Remark::PastEnd => write!(f, "a position is past the end"),
+            Remark::SavedTextDiffers => write!(f, "the saved text is another one"),
         }
     }
 }

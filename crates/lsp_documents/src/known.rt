@@ -41,11 +41,15 @@ impl<'d> Iterator for KnownDocuments<'d> {
     }
 }
 
-/// The text of a document as it was, and the document's URI.
+/// A document as it was: its URI, its language, its version and its text.
 #[derive(Drop)]
 pub struct OpenText {
     /// The document's URI.
     pub uri: String,
+    /// The language, as the client names it.
+    pub language_id: String,
+    /// The version, if the client gave one.
+    pub version: Option<i32>,
     /// The whole text.
     pub text: Text,
 }
@@ -53,13 +57,22 @@ pub struct OpenText {
 impl OpenText {
     ghost use Rattle.std.specs.Prelude.{◌≡◌, IfOk, string_bytes};
 
-    /// A copy of a URI and of a text.
-    pub fn new(alloc: Global, uri: &str, text: &str) -> Result<OpenText, AllocError>
+    /// A copy of a URI and of a document.
+    pub fn new(alloc: Global, uri: &str, document: &TextDocument) -> Result<OpenText, AllocError>
         ensures uri { IfOk result (λ copy. string_bytes copy.uri ≡ uri.now) }
-        ensures text { IfOk result (λ copy. copy.text ≡ text.now) }
+        ensures language { IfOk result (λ copy.
+            string_bytes copy.language_id ≡ document.now.language_id) }
+        ensures version { IfOk result (λ copy. copy.version ≡ document.now.version) }
+        ensures text { IfOk result (λ copy. copy.text ≡ document.now.text) }
     {
         let uri = String::from_str(alloc, uri)?;
-        let text = Text::new(alloc, text)?;
-        Ok(OpenText { uri, text })
+        let language_id = String::from_str(alloc, document.language_id())?;
+        let text = Text::new(alloc, document.text().as_str())?;
+        Ok(OpenText {
+            uri,
+            language_id,
+            version: document.version(),
+            text,
+        })
     }
 }

@@ -51,18 +51,12 @@ fn line_in(position: &Value) -> Option<u32>
     }
 }
 
-/// The version of a document, if one is given.
-fn version_in(document: &Value) -> Option<Option<i32>>
+/// The version of a document, if one is given that is a number of 32 bits.
+fn version_in(document: &Value) -> Option<i32>
     ensures { result ≡ version_from (view document.now) }
 {
-    match document.get("version") {
-        None | Some(Value::Null) => Some(None),
-        Some(Value::Number(number)) => {
-            let version = i32::try_from(number.as_i128()?).ok()?;
-            Some(Some(version))
-        }
-        Some(_) => None,
-    }
+    let number = document.get("version")?.as_number()?;
+    i32::try_from(number.as_i128()?).ok()
 }
 
 /// A position (LSP 3.17, `Position`), if the value is one: its numbers are whole ones that 32 bits hold, and a negative line is 0.
@@ -184,7 +178,7 @@ pub fn uri_in(params: &Value) -> Option<&str>
 }
 
 /// The version of the document that params tell of, if they give one.
-pub fn version_of(params: &Value) -> Option<Option<i32>>
+pub fn version_of(params: &Value) -> Option<i32>
     ensures { result ≡ option_and_then version_from (document_of (view params.now)) }
 {
     version_in(params.get("textDocument")?)
@@ -209,8 +203,8 @@ pub fn item_in(params: &Value) -> Option<Item<'_>>
 {
     let document = params.get("textDocument")?;
     Some(Item {
-        language_id: text_in(document, "languageId")?,
-        version: version_in(document)?,
+        language_id: text_in(document, "languageId").unwrap_or(""),
+        version: version_in(document),
         text: text_in(document, "text")?,
     })
 }

@@ -237,13 +237,13 @@ pub(crate) fn sender_for<J: AnyJob<R>, R: Drop>(
 impl<J: AnyJob<R>, R: Drop> JobSender<J, R> {
     /// Performs the job, and sends what it says. It waits while there is no room for the outcome; nothing is sent if nobody waits
     /// for it any more.
-    pub fn perform<T: Wait + Copy + Drop, M: Drop>(
+    pub fn perform<T: Wait + Copy + Drop, N: Notifier>(
         self,
         rt: T,
         token: &CancellationToken,
         asker: Asker,
-        notifier: Notifier<M>,
-    ) -> Notifier<M> {
+        notifier: N,
+    ) -> N {
         let JobSender {
             job,
             ticket,
@@ -255,7 +255,7 @@ impl<J: AnyJob<R>, R: Drop> JobSender<J, R> {
             unread,
         } = self;
         let ends = (report_sender, report_pass);
-        let (outcome, id, unread, mut notifier) = perform_telling::<Brand, T, J, R, M>(
+        let (outcome, id, unread, mut notifier) = perform_telling::<Brand, T, J, R, N>(
             job, token, ends, unread, rt, ticket, id, asker, notifier,
         );
         if unread.add(&rt) {
@@ -294,7 +294,7 @@ impl Reportable for Brand {
 }
 
 /// Performs a job, and sends what it reports meanwhile.
-fn perform_telling<W: Reportable, T: Wait + Drop, J: AnyJob<R>, R: Drop, M: Drop>(
+fn perform_telling<W: Reportable, T: Wait + Drop, J: AnyJob<R>, R: Drop, N: Notifier>(
     job: J,
     token: &CancellationToken,
     ends: (ItemSender<J, R>, ItemPass<J, R>),
@@ -303,8 +303,8 @@ fn perform_telling<W: Reportable, T: Wait + Drop, J: AnyJob<R>, R: Drop, M: Drop
     ticket: u64,
     id: RequestId,
     asker: Asker,
-    notifier: Notifier<M>,
-) -> (R, RequestId, Unread, Notifier<M>)
+    notifier: N,
+) -> (R, RequestId, Unread, N)
     requires seat { IsSeatAt (sends_on ends.0) ends.1 }
     requires job { knows ends.1 ≡ One ticket «job» }
     requires reports { (method : List ℕ) (params : Data) → J.reports «job» method params
@@ -424,16 +424,16 @@ impl<W: Reportable, J: AnyJob<R>, R: Drop> Reports<W, J, R> {
 
 /// Tells how far a job is while it is performed, and asks the client.
 #[derive(Drop)]
-struct Reporter<W: Reportable, T: Wait + Drop, J: AnyJob<R>, R: Drop, M: Drop> {
+struct Reporter<W: Reportable, T: Wait + Drop, J: AnyJob<R>, R: Drop, N: Notifier> {
     rt: T,
     id: RequestId,
     unread: Unread,
     asker: Asker,
-    notifier: Notifier<M>,
+    notifier: N,
     reports: Reports<W, J, R>,
 }
 
-impl<W: Reportable, T: Wait + Drop, J: AnyJob<R>, R: Drop, M: Drop> Reporter<W, T, J, R, M> {
+impl<W: Reportable, T: Wait + Drop, J: AnyJob<R>, R: Drop, N: Notifier> Reporter<W, T, J, R, N> {
     /// Counts a message that is sent now, or was not sent.
     fn counted(&mut self, is_sent: bool) -> bool {
         if is_sent {
@@ -445,8 +445,8 @@ impl<W: Reportable, T: Wait + Drop, J: AnyJob<R>, R: Drop, M: Drop> Reporter<W, 
     }
 }
 
-impl<W: Reportable, T: Wait + Drop, J: AnyJob<R>, R: Drop, M: Drop> Progress
-    for Reporter<W, T, J, R, M> {
+impl<W: Reportable, T: Wait + Drop, J: AnyJob<R>, R: Drop, N: Notifier> Progress
+    for Reporter<W, T, J, R, N> {
     ghost may = { W.what };
 
     ghost may_ask = { W.asked };

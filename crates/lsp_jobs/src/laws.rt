@@ -18,8 +18,8 @@ use std::sync::Wait;
 
 /// A session that was run by `run_jobs`, with a limit or without one, and that passes over nothing. At each wake nothing is sent, or one
 /// notification or request of a job that waits, or an outcome of a job that waits: see `AnswersByJobs`. And it keeps the laws of
-/// `lsp_service::laws::server_keeps_laws`: under no id more replies than requests, whatever jobs come to and when; one reply for a request whose id was used once, unless it is still held
-/// or the session ended at it; and before `initialized` nothing but errors and the result of `initialize`, nothing after the reply to `shutdown`.
+/// `lsp_service::laws::server_keeps_laws`: under no id more replies than requests, whatever jobs come to and when; one reply for the last
+/// request under an id, unless it is still held or the session ended at it, and one for each that was cancelled; and before `initialized` nothing but errors and the result of `initialize`, nothing after the reply to `shutdown`.
 pub fn session_with_jobs_keeps_laws<T: Wait + Drop, S: JobServer<J>, J: Job>()
     ensures exchanges { (first last : S) (exchanges : List Exchange) (stop : Stop)
         (shutdown_reply : Option Message) (answer : SessionAnswer)

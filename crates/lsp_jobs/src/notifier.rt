@@ -1,36 +1,38 @@
 // How the thread that works tells the one that waits.
 use crossbeam_channel::Sender;
 use lsp_relay::RelayWaker;
+use lsp_threads::{Contents, ContentsPlan};
 use std::alloc::AllocError;
 use std::sync::Wait;
 
-/// Tells whoever waits for jobs that one said something.
-#[derive(Drop)]
-pub(crate) enum Notifier<M: Drop> {
-    /// By a wake of the relay at which it waits, for each message.
-    Wakes(RelayWaker<M>),
-    /// By a signal in a channel that has room for one, which stands for all messages since it was last taken.
-    Signals(Sender<()>),
-}
-
-impl<M: Drop> Notifier<M> {
+/// Tells whoever waits for jobs that one said something. A worker is started for any such type, since the check finds that it may own one
+/// only if it need not look into its type.
+pub(crate) trait Notifier: Drop {
     /// A notifier for another thread. The error means that an allocation failed.
-    pub fn another(&mut self) -> Result<Notifier<M>, AllocError> {
-        match self {
-            Notifier::Wakes(waker) => Ok(Notifier::Wakes(waker.another()?)),
-            Notifier::Signals(signals) => Ok(Notifier::Signals(signals.clone()?)),
-        }
-    }
+    fn another(&mut self) -> Result<Self, AllocError>;
 
     /// Says that a job said something, behind what it said. It waits for room for a wake.
-    pub fn notify<T: Wait>(&mut self, rt: &T) {
-        match self {
-            Notifier::Wakes(waker) => {
-                let _ = waker.wake(rt);
-            }
-            Notifier::Signals(signals) => {
-                let _ = signals.try_send(rt, ());
-            }
-        }
+    fn notify<T: Wait>(&mut self, rt: &T);
+}
+
+/// By a wake of the relay at which it waits, for each message.
+impl Notifier for RelayWaker<Contents, ContentsPlan> {
+    fn another(&mut self) -> Result<RelayWaker<Contents, ContentsPlan>, AllocError> {
+        RelayWaker::another(self)
+    }
+
+    fn notify<T: Wait>(&mut self, rt: &T) {
+        let _ = self.wake(rt);
+    }
+}
+
+/// By a signal in a channel that has room for one, which stands for all messages since it was last taken.
+impl Notifier for Sender<()> {
+    fn another(&mut self) -> Result<Sender<()>, AllocError> {
+        self.clone()
+    }
+
+    fn notify<T: Wait>(&mut self, rt: &T) {
+        let _ = self.try_send(rt, ());
     }
 }

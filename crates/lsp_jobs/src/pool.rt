@@ -100,8 +100,7 @@ where
         let Ok((signals, signalled)) = bounded(alloc, 1) else {
             return Err(StartFault::Memory);
         };
-        let notifier: Notifier<()> = Notifier::Signals(signals);
-        match start_pool::<T, J, K, ()>(rt, alloc, size, notifier) {
+        match start_pool(rt, alloc, size, signals) {
             Ok(pool) => Ok((pool, signalled)),
             Err(fault) => Err(fault),
         }
@@ -130,17 +129,17 @@ where
 }
 
 /// `JobPool::start`, with a notifier.
-pub(crate) fn start_pool<T, J, K, M>(
+pub(crate) fn start_pool<T, J, K, N>(
     rt: &T,
     alloc: Global,
     size: PoolSize,
-    notifier: Notifier<M>,
+    notifier: N,
 ) -> Result<JobPool<T, J, K>, StartFault>
 where
     T: Threads + Wait + Copy + Drop + Send + 'static,
     J: Job + Send + 'static,
     K: Drop,
-    M: Drop + Send + 'static,
+    N: Notifier + Send + 'static,
     ensures { IfOk result (λ pool. pending_jobs pool ≡ no_jobs) }
 {
     let mut notifier = notifier;

@@ -1,17 +1,19 @@
 // A session of a server whose long requests are jobs, in threads.
-ghost use Rattle.std.specs.Prelude.{true, IfOk, IfSome};
+ghost use Rattle.std.specs.Prelude.{true, [], Some, IfOk, IfSome};
+ghost use Rattle.lsp_threads.specs.Passing.{GivenTo, OfTaken, TakenFrom, noted};
 ghost use Rattle.lsp_threads.specs.Threads.{ThreadsTellOver};
 ghost use Rattle.lsp_jobs.specs.JobSession.{JobSession};
 
 use crate::job::Job;
 use crate::job_server::JobServer;
-use crate::notifier::Notifier;
 use crate::pool::{PoolSize, start_pool};
 use crate::pooled_server::PooledServer;
 use lsp_relay::relay;
 use lsp_service::WokenQueuedServer;
 use lsp_session::Listener;
-use lsp_threads::{Contents, StartFault, ThreadOptions, Threaded, run_threads_of_service_over};
+use lsp_threads::{
+    Contents, ContentsPlan, StartFault, ThreadOptions, Threaded, run_threads_of_service_over,
+};
 use std::alloc::Global;
 use std::io::{BufRead, Write};
 use std::sync::Wait;
@@ -36,6 +38,9 @@ const ROOM: usize = 256;
 ///   from `initialized` up to `shutdown`. If it reads on, nothing is answered, the server is not told, and the next frame follows. Where
 ///   it ends the session, and before and after in any case, such a part is `SessionFault::Read`.
 /// - At the end all tokens are cancelled and all threads joined: it returns only when the jobs that run do.
+///
+/// `told` is of whatever reader and writer, also of standard input and output or a socket. It says of the bytes that the session took, with
+/// whatever follows them, and of those that were given, what `session` says where the reader's bytes are known.
 pub fn run_jobs<T, R, W, S, J, L>(
     rt: &T,
     alloc: Global,
@@ -53,18 +58,24 @@ where
     S: JobServer<J> + Drop,
     J: Job + Send + 'static,
     L: Listener,
-    ensures { IfSome (R.remaining reader) (λ text. IfOk result.1 (λ done.
+    ensures told { IfOk result.1 (λ done. OfTaken done.taken.parts (λ text.
+        ThreadsTellOver true L.hears options.limit
+        (JobSession T S.Server S.JobServer.own J.Job server result.0) text
+        bad_bodies.old bad_bodies.new (Some []) (noted done.given) done.answer)) }
+    ensures passed { IfOk result.1 (λ done. TakenFrom (R.remaining reader) done.taken.parts
+        × GivenTo (W.contents writer) done.given.parts (W.contents done.writer)) }
+    ensures session { IfSome (R.remaining reader) (λ text. IfOk result.1 (λ done.
         ThreadsTellOver true L.hears options.limit
         (JobSession T S.Server S.JobServer.own J.Job server result.0) text
         bad_bodies.old bad_bodies.new (W.contents writer) (W.contents done.writer) done.answer)) }
 {
-    let Ok((mut tx, rx)) = relay::<Contents>(alloc, ROOM) else {
+    let Ok((mut tx, rx)) = relay::<Contents, ContentsPlan>(alloc, ROOM) else {
         return (server, Err(StartFault::Memory));
     };
     let Ok(waker) = tx.waker() else {
         return (server, Err(StartFault::Memory));
     };
-    let pool = match start_pool(rt, alloc, size, Notifier::Wakes(waker)) {
+    let pool = match start_pool(rt, alloc, size, waker) {
         Ok(pool) => pool,
         Err(fault) => return (server, Err(fault)),
     };

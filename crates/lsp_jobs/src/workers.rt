@@ -16,7 +16,7 @@ pub(crate) trait Work: Drop {
     fn is_wanted(&self) -> bool;
 
     /// Runs it to its end, and tells the notifier whenever it said something.
-    fn run<T: Wait + Copy + Drop, M: Drop>(self, rt: T, notifier: Notifier<M>) -> Notifier<M>;
+    fn run<T: Wait + Copy + Drop, N: Notifier>(self, rt: T, notifier: N) -> N;
 }
 
 /// A job for a worker.
@@ -32,7 +32,7 @@ impl<J: AnyJob<R>, R: Drop> Work for QueuedJob<J, R> {
         !self.token.is_cancelled()
     }
 
-    fn run<T: Wait + Copy + Drop, M: Drop>(self, rt: T, notifier: Notifier<M>) -> Notifier<M> {
+    fn run<T: Wait + Copy + Drop, N: Notifier>(self, rt: T, notifier: N) -> N {
         let QueuedJob {
             job_sender,
             token,
@@ -43,11 +43,7 @@ impl<J: AnyJob<R>, R: Drop> Work for QueuedJob<J, R> {
 }
 
 /// Runs jobs until no more come.
-fn run_queued<T: Wait + Copy + Drop, E: Work, M: Drop>(
-    rt: T,
-    jobs: JobSource<E>,
-    notifier: Notifier<M>,
-) {
+fn run_queued<T: Wait + Copy + Drop, E: Work, N: Notifier>(rt: T, jobs: JobSource<E>, notifier: N) {
     let mut notifier = notifier;
     for _ in rt.forever() {
         let Some(job) = jobs.next(&rt) else {
@@ -60,15 +56,15 @@ fn run_queued<T: Wait + Copy + Drop, E: Work, M: Drop>(
 }
 
 /// Starts a worker.
-fn start_worker<T, E, M>(
+fn start_worker<T, E, N>(
     rt: &T,
     jobs: &JobSource<E>,
-    notifier: &mut Notifier<M>,
+    notifier: &mut N,
 ) -> Result<JoinHandle<()>, StartFault>
 where
     T: Threads + Wait + Copy + Drop + Send + 'static,
     E: Work + Send + 'static,
-    M: Drop + Send + 'static,
+    N: Notifier + Send + 'static,
 {
     let Ok(jobs) = jobs.another() else {
         return Err(StartFault::Memory);
@@ -85,17 +81,17 @@ where
 
 /// Starts this many workers. Those that were started before a fault are left in `workers`, which has room for all before the first
 /// starts.
-pub(crate) fn start_workers<T, E, M>(
+pub(crate) fn start_workers<T, E, N>(
     rt: &T,
     count: usize,
     jobs: JobSource<E>,
-    notifier: &mut Notifier<M>,
+    notifier: &mut N,
     workers: &mut Vec<JoinHandle<()>>,
 ) -> Result<(), StartFault>
 where
     T: Threads + Wait + Copy + Drop + Send + 'static,
     E: Work + Send + 'static,
-    M: Drop + Send + 'static,
+    N: Notifier + Send + 'static,
 {
     if workers.try_reserve(count).is_err() {
         return Err(StartFault::Memory);
@@ -110,19 +106,19 @@ where
 }
 
 /// The same, of jobs.
-pub(crate) fn start_job_workers<T, J, M>(
+pub(crate) fn start_job_workers<T, J, N>(
     rt: &T,
     count: usize,
     waiting: JobSource<QueuedJob<J, Ran>>,
-    notifier: &mut Notifier<M>,
+    notifier: &mut N,
     workers: &mut Vec<JoinHandle<()>>,
 ) -> Result<(), StartFault>
 where
     T: Threads + Wait + Copy + Drop + Send + 'static,
     J: Job + Send + 'static,
-    M: Drop + Send + 'static,
+    N: Notifier + Send + 'static,
 {
-    start_workers::<T, QueuedJob<J, Ran>, M>(rt, count, waiting, notifier, workers)
+    start_workers::<T, QueuedJob<J, Ran>, N>(rt, count, waiting, notifier, workers)
 }
 
 /// Joins threads.

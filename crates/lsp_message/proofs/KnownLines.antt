@@ -4,11 +4,12 @@ use Rattle.std.proofs.lemmas.Bool.{ltb-true}
 use Rattle.std.specs.List.{ends_with}
 use Rattle.std.specs.Option.{ok_or}
 use Rattle.std.specs.Str.{is_utf8, all_ascii_digits}
+use Rattle.std.specs.declared.io.ErrorKind.{ErrorKind}
 use Rattle.std.specs.Str.Parse.{without_leading_plus, digits_value}
 use Rattle.lsp_message.specs.Frame.{no_limit}
 use Rattle.lsp_message.specs.HeaderPart.{number, name_and_value, same_name, field, parted, header_text, header_line, fields, after_fields, length_in, or_else, content_length, at_last_line, header_end, header_of, lines}
 use Rattle.lsp_message.specs.declared.frame.ReadFault.{ReadFault}
-use Rattle.lsp_message.specs.declared.frame.ReadFault.TheVariants.{LineNotText, LineEnd, NoSeparator, BadLength, Memory, TooLong}
+use Rattle.lsp_message.specs.declared.frame.ReadFault.TheVariants.{Input, LineNotText, LineEnd, NoSeparator, BadLength, Memory, TooLong}
 use Rattle.lsp_message.specs.declared.frame.header.HeaderLine.{HeaderLine}
 use Rattle.lsp_message.specs.declared.frame.header.HeaderLine.TheVariants.{Blank, Length, Other}
 
@@ -68,6 +69,10 @@ line_known line = at (not (is_utf8 line)) (not (ends_with nat_eq line (13 ∷ 10
 -- the test of a line takes no memory
 pub line_tested : (line : List ℕ) → header_line line ≢ Err Memory
 line_tested line is = subst IsKnownLine is (line_known line)
+
+-- nor does it read
+pub line_is_no_input : (line : List ℕ) (kind : ErrorKind) → header_line line ≢ Err (Input kind)
+line_is_no_input line kind is = subst IsKnownLine is (line_known line)
 
 lengths_known : (ls : List (List ℕ)) → IsKnownLength (content_length ls)
 lengths_known [] = tt

@@ -1,6 +1,7 @@
 pub mod Choices
 pub mod ContentParts
 pub mod Contents
+pub mod FramesBack
 pub mod FrontOfFrame
 mod FrontSteps
 mod HeaderSteps
@@ -22,6 +23,10 @@ mod Shown
 mod Suffixes
 mod Takings
 mod Texts
+pub mod Told
+mod ToldHeaders
+mod ToldLines
+mod ToldWrites
 mod TreeLaws
 mod Unique
 mod Within

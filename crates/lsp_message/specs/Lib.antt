@@ -22,6 +22,8 @@ pub mod Reading
 pub mod ReadingSteps
 pub mod RequestId
 pub mod Text
+pub mod Told
+pub mod ToldSteps
 pub mod Tree
 pub mod View
 pub mod Written

@@ -1,9 +1,13 @@
 -- A message as it is written (LSP 3.17, "Base Protocol").
-use Rattle.std.specs.Prelude.{◌≡◌, ℕ, List, [], ◌∷◌, ◌++◌, length, codes, Option, Result, Ok, Err}
+use Rattle.serde_json.specs.Read.{max_depth}
+use Rattle.std.specs.Prelude.{◌≡◌, ◌≤◌, ℕ, List, [], ◌∷◌, ◌++◌, length, codes, Option, Result, Ok, Err}
 use Rattle.std.specs.Fmt.{decimal}
 use Rattle.std.specs.Io.KnownBytes.{Keeps, Appends}
+use Rattle.lsp_message.specs.Frame.{body_means}
 use Rattle.lsp_message.specs.Message.{Message}
+use Rattle.lsp_message.specs.Ranges.{nesting}
 use Rattle.lsp_message.specs.Text.{IsBodyOf}
+use Rattle.lsp_message.specs.Tree.{without_null_details}
 use Rattle.lsp_message.specs.declared.frame.WriteFault.{WriteFault}
 use Rattle.lsp_message.specs.declared.frame.WriteFault.TheVariants.{Output, Memory}
 
@@ -11,9 +15,13 @@ use Rattle.lsp_message.specs.declared.frame.WriteFault.TheVariants.{Output, Memo
 abbrev pub frame_text : List ℕ → List ℕ
 frame_text body = codes "Content-Length: " ++ (decimal (length body) ++ 13 ∷ 10 ∷ 13 ∷ 10 ∷ body)
 
--- a frame of a message; there is one, but for the digits of numbers with fractions
+-- a content part that means the message, if that nests at most 127 levels
+abbrev pub MeansAgain : Message → List ℕ → Type 0
+MeansAgain m body = nesting m ≤ max_depth → body_means body ≡ Ok (without_null_details m)
+
+-- a frame of a message, which is read back; there is one, but for the digits of numbers with fractions
 abbrev pub IsFrameOf : Message → List ℕ → Type 0
-IsFrameOf m text = (body : List ℕ) × IsBodyOf m body × (text ≡ frame_text body)
+IsFrameOf m text = (body : List ℕ) × IsBodyOf m body × (text ≡ frame_text body) × MeansAgain m body
 
 -- frames of these messages, in order, and nothing else
 abbrev pub AreFramesOf : List Message → List ℕ → Type 0

@@ -13,6 +13,7 @@ pub(crate) mod body;
 pub(crate) mod content;
 pub(crate) mod header;
 pub(crate) mod line;
+pub(crate) mod passed;
 pub(crate) mod place;
 pub(crate) mod read;
 pub(crate) mod scan;

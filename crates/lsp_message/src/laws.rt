@@ -5,7 +5,8 @@ ghost use Rattle.lsp_message.specs.Front.{front_of};
 ghost use Rattle.lsp_message.specs.Id.{printed, number as number_id, text as text_id};
 ghost use Rattle.lsp_message.specs.Message as plain;
 ghost use Rattle.lsp_message.specs.Text.{IsBodyOf, IsMemberText};
-ghost use Rattle.lsp_message.specs.Written.{frame_text};
+ghost use Rattle.lsp_message.specs.Readable.{AreReadBack};
+ghost use Rattle.lsp_message.specs.Written.{frame_text, AreFramesOf};
 ghost use Rattle.lsp_message.specs.View.{error_view, request_view, notification_view, response_view, message_view};
 
 use crate::frame::Front;
@@ -69,4 +70,12 @@ pub fn front_of_frame()
         → front_of (frame_text body ++ rest) ≡ Front.Whole (length (frame_text body)) }
     ensures part { (body : List ℕ) (count : ℕ) → length body < 2 ^ 64
         → count < length (frame_text body) → front_of (take count (frame_text body)) ≡ Front.More }
+{}
+
+/// Who reads frames gets the messages that were written, in order, whatever follows the frames (LSP 3.17, "Base Protocol"), up to the
+/// first message that nests more than 127 levels. The data of an error comes back as absent if it is null. The frames are shorter than 2^64
+/// bytes in all.
+pub fn frames_are_read_back()
+    ensures { (sent : List plain.Message) (frames behind : List ℕ) → AreFramesOf sent frames
+        → length frames < 2 ^ 64 → AreReadBack sent (frames ++ behind) }
 {}

@@ -8,9 +8,10 @@ pub mod laws;
 mod msg;
 
 pub use error::ExtractError;
-pub use frame::content::read_content_within;
+pub use frame::content::{read_content_telling, read_content_within};
+pub use frame::passed::Passed;
 pub use frame::scan::front;
-pub use frame::write::write_frames;
+pub use frame::write::{write_frames, write_frames_telling};
 pub use frame::{Front, ReadFault, WriteFault};
 pub use msg::{
     ErrorCode, Message, Notification, Request, RequestId, Response, ResponseError, read_as,

@@ -1,4 +1,5 @@
--- A relay between two threads: what was taken, and then the parcels that are held, is what was sent.
+-- A relay between two threads: what was taken, and then the parcels that are held, is what was sent, and that follows a plan, if there is
+-- one.
 use Rattle.std.specs.List.{filter_map}
 use Rattle.std.specs.Prelude.{◌≡◌, ℕ, ◌+◌, Bool, true, false, List, [], ◌∷◌, ◌++◌, map, Option, Some, None}
 use mathlib.Core.Option.{some}
@@ -13,13 +14,23 @@ use Rattle.lsp_relay.specs.declared.ends.Taken as front
 use Rattle.lsp_relay.specs.declared.ends.Taken.TheVariants as taken
 use Rattle.lsp_relay.specs.declared.account.Account.{Account}
 
+-- what a relay's plan is made of: bytes, if they are known, and a bound
+abbrev pub Source : Type 0
+Source = Option (List ℕ) × ℕ
+
 -- which relay an end belongs to
 abbrev pub Relay : Type 0 → Type 0
 Relay M = TableId × Badge (Key (Option (Parcel M)))
 
 module _ {M : Type 0} where
-  abbrev pub sender_account : List (Parcel M) → Bool → Account M
-  sender_account sent wakeable =
+  -- These parcels may be sent, by a plan. Of a relay without one nothing is said.
+  abbrev pub Follows : (Source → List (Parcel M) → Type 0) → Option Source → List (Parcel M)
+      → Type 0
+  Follows may_send source parcels = (known : Source) → source ≡ Some known
+      → may_send known parcels
+
+  abbrev pub sender_account : List (Parcel M) → Bool → Option Source → Account M
+  sender_account sent wakeable source =
       record {
         sends = true;
         takes = false;
@@ -29,10 +40,11 @@ module _ {M : Type 0} where
         wakes =
             0;
         wakeable = wakeable;
+        source = source;
       }
 
-  abbrev pub receiver_account : List (Parcel M) → ℕ → Account M
-  receiver_account taken wakes =
+  abbrev pub receiver_account : List (Parcel M) → ℕ → Bool → Option Source → Account M
+  receiver_account taken wakes wakeable source =
       record {
         sends = false;
         takes = true;
@@ -41,11 +53,12 @@ module _ {M : Type 0} where
         taken = taken;
         wakes =
             wakes;
-        wakeable = false;
+        wakeable = wakeable;
+        source = source;
       }
 
-  abbrev pub both_account : List (Parcel M) → List (Parcel M) → ℕ → Bool → Account M
-  both_account sent taken wakes wakeable =
+  abbrev pub both_account : List (Parcel M) → List (Parcel M) → ℕ → Bool → Option Source → Account M
+  both_account sent taken wakes wakeable source =
       record {
         sends = true;
         takes = true;
@@ -55,6 +68,7 @@ module _ {M : Type 0} where
         wakes =
             wakes;
         wakeable = wakeable;
+        source = source;
       }
 
   abbrev pub waker_account : ℕ → Account M
@@ -68,6 +82,7 @@ module _ {M : Type 0} where
         wakes =
             given;
         wakeable = false;
+        source = None;
       }
 
   abbrev pub no_account : Account M
@@ -80,6 +95,7 @@ module _ {M : Type 0} where
         [];
     wakes = 0;
     wakeable = false;
+    source = None;
   }
 
   -- the parcels among what a channel holds: the others are wakes
@@ -100,14 +116,22 @@ module _ {M : Type 0} where
   wakes_with None count = count + 1
   wakes_with (Some parcel) count = count
 
+  -- Of a relay with a plan: these parcels were taken, which follow it, and so many wakes, of wakers that were made before.
+  abbrev pub IsLearned : (Source → List (Parcel M) → Type 0) → Option Source → Bool
+      → List (Parcel M) → ℕ → Type 0
+  IsLearned may_send source wakeable taken wakes = Follows may_send source taken
+      × ((known : Source) → source ≡ Some known → wakeable ≡ false → wakes ≡ 0)
+
   -- a take tells that the parcel joined what was taken, or that a wake was taken
-  abbrev pub takes_one : Account M → Option (Parcel M) → Account M → Type 0
-  takes_one before item after =
-      after ≡ record before {
+  abbrev pub takes_one : (Source → List (Parcel M) → Type 0) → Account M → Option (Parcel M)
+      → Account M → Type 0
+  takes_one may_send before item after =
+      (after ≡ record before {
         taken = before.taken ++ parcels_of (item ∷ []);
         wakes =
             wakes_with item before.wakes;
-      }
+      })
+      × IsLearned may_send after.source after.wakeable after.taken after.wakes
 
   -- what a take found, and what was taken before and after it: a parcel joined that, a wake did not
   abbrev pub TakenIs : front.Taken M → List (Parcel M) → List (Parcel M) → Type 0
@@ -126,18 +150,20 @@ module _ {M : Type 0} where
   HoldsNoWake (Some parcel ∷ rest) = HoldsNoWake rest
 
   -- One pass at most may send, and its account has what was sent, and whether a waker was made; the same for takes, and how many wakes
-  -- were taken. A pass may wake only if a waker was made.
-  abbrev pub Agrees : ℕ → ℕ → List (Parcel M) → List (Parcel M) → ℕ → Bool → ℕ → Account M → Type 0
-  Agrees sender receiver sent taken wakes wakeable pass account =
+  -- were taken. Both have the plan, and if there is one, both have whether a waker was made. A pass may wake only if a waker was made.
+  abbrev pub Agrees : ℕ → ℕ → List (Parcel M) → List (Parcel M) → ℕ → Bool → Option Source → ℕ
+      → Account M → Type 0
+  Agrees sender receiver sent taken wakes wakeable source pass account =
       (account.sends ≡ true → (pass ≡ sender) × (account.sent ≡ sent)
-      × (account.wakeable ≡ wakeable))
+      × (account.wakeable ≡ wakeable) × (account.source ≡ source))
       × (account.takes ≡ true → (pass ≡ receiver) × (account.taken ≡ taken)
-      × (account.wakes ≡ wakes))
+      × (account.wakes ≡ wakes) × (account.source ≡ source)
+      × ((known : Source) → account.source ≡ Some known → account.wakeable ≡ wakeable))
       × (account.may_wake ≡ true → wakeable ≡ true)
 
   -- The rule of a relay: what was taken, and then the parcels that are held, is what was sent. If no waker was made, no wake is held,
   -- and none was taken.
-  pub record TakenThenHeldIsSent (held : List (Option (Parcel M))) (accounts : List (Account M)) :
+  pub record TakenThenHeldIsSent (may_send : Source → List (Parcel M) → Type 0) (held : List (Option (Parcel M))) (accounts : List (Account M)) :
       Type 0 where
     pub sender : ℕ
     pub receiver : ℕ
@@ -145,10 +171,13 @@ module _ {M : Type 0} where
     pub taken : List (Parcel M)
     pub wakes : ℕ
     pub wakeable : Bool
+    pub source : Option Source
+    pub kept : (before after : List (Parcel M)) → sent ≡ before ++ after
+        → Follows may_send source before
     pub whole : sent ≡ taken ++ parcels_of held
     pub unwoken : wakeable ≡ false → (wakes ≡ 0) × HoldsNoWake held
     pub agree : (pass : ℕ) (account : Account M) → get_elem? accounts pass ≡ some account
-        → Agrees sender receiver sent taken wakes wakeable pass account
+        → Agrees sender receiver sent taken wakes wakeable source pass account
 
   -- no End was sent
   abbrev pub IsOpen : List (Parcel M) → Type 0
@@ -179,17 +208,20 @@ module _ {M : Type 0} where
   abbrev pub relay_of : Pass (Option (Parcel M)) (Account M) → Relay M
   relay_of pass = (pass.table_id, pass.me.0.of)
 
--- the sender's end, as callers see it: also, whether a waker was ever made
+-- the sender's end, as callers see it: also, whether a waker was ever made, and what its plan is made of
 pub record Sending (M : Type 0) : Type 0 where
   pub relay : Relay M
   pub sent : List (Parcel M)
   pub wakeable : Bool
+  pub source : Option Source
 
--- the receiver's end, as callers see it
+-- The receiver's end, as callers see it. If there is a plan, it also knows whether a waker was made before.
 pub record Taking (M : Type 0) : Type 0 where
   pub relay : Relay M
   pub taken : List (Parcel M)
   pub wakes : ℕ
+  pub wakeable : Bool
+  pub source : Option Source
 
 -- a waker, as callers see it
 pub record Waking (M : Type 0) : Type 0 where

@@ -2,6 +2,7 @@
 use crate::ends::Parcel;
 use crossbeam_channel::protocol::{Join, Lesson, Outcome, Protocol, Split};
 use std::collections::LinkedList;
+use std::marker::{Brand, PhantomData};
 
 /// What a pass knows: whether it may send and take, and what was sent and taken with it. No value of it is made.
 pub struct Account<M> {
@@ -17,21 +18,40 @@ pub struct Account<M> {
     pub taken: LinkedList<Parcel<M>>,
     /// How many wakes were sent or taken with it.
     pub wakes: u64,
-    /// Whether a waker was ever made, if it may send.
+    /// Whether a waker was ever made, if it may send; and if it may take and knows a plan.
     pub wakeable: bool,
+    /// What the relay's plan is made of, if it has one: bytes, if they are known, and a bound.
+    pub source: Option<(Option<LinkedList<u8>>, u64)>,
+}
+
+/// What may be sent on a relay, of these bytes and under this bound.
+pub trait Plan<M> {
+    ghost use Rattle.std.specs.Prelude.{ℕ, List, Option};
+    ghost use Rattle.lsp_relay.specs.declared.ends.Parcel.{Parcel as AnyParcel};
+
+    ghost may_send: { Option (List ℕ) × ℕ → List (AnyParcel M) → Type 0 };
+}
+
+/// Anything may be sent.
+pub struct AnyPlan;
+
+impl<M> Plan<M> for AnyPlan {
+    ghost may_send = { λ source sent. Unit {0} };
 }
 
 /// The rule of a relay: what was taken, and then the parcels that are held, is what was sent; and where no waker was made, there are no
 /// wakes. The channel holds `None` for a wake.
-pub(crate) struct InOrder;
+pub(crate) struct InOrder<P> {
+    plan: PhantomData<P>,
+}
 
-impl<M> Protocol<Option<Parcel<M>>, Account<M>> for InOrder {
+impl<M, P: Plan<M>> Protocol<Option<Parcel<M>>, Account<M>> for InOrder<P> {
     ghost use Rattle.lsp_relay.specs.Relay.{both_account, TakenThenHeldIsSent};
-    ghost use Rattle.std.specs.Prelude.{[], false};
+    ghost use Rattle.std.specs.Prelude.{[], None, false};
 
-    ghost holds = { TakenThenHeldIsSent };
+    ghost holds = { TakenThenHeldIsSent P.may_send };
 
-    ghost first = { both_account [] [] 0 false };
+    ghost first = { both_account [] [] 0 false None };
 }
 
 /// The two roles are given to two passes, and come together again.
@@ -40,15 +60,15 @@ pub(crate) struct Roles;
 impl<M> Split<Account<M>> for Roles {
     ghost use Rattle.lsp_relay.specs.Relay.{sender_account, receiver_account};
 
-    ghost left = { λ v. sender_account v.sent v.wakeable };
+    ghost left = { λ v. sender_account v.sent v.wakeable v.source };
 
-    ghost right = { λ v. receiver_account v.taken v.wakes };
+    ghost right = { λ v. receiver_account v.taken v.wakes v.wakeable v.source };
 }
 
 impl<M> Join<Account<M>> for Roles {
     ghost use Rattle.lsp_relay.specs.Relay.{both_account, no_account};
 
-    ghost both = { λ v w. both_account v.sent w.taken w.wakes v.wakeable };
+    ghost both = { λ v w. both_account v.sent w.taken w.wakes v.wakeable v.source };
 
     ghost spent = { no_account };
 }
@@ -61,7 +81,34 @@ impl<M> Split<Account<M>> for Lend {
 
     ghost left = { λ v. no_account };
 
-    ghost right = { λ v. receiver_account v.taken v.wakes };
+    ghost right = { λ v. receiver_account v.taken v.wakes v.wakeable v.source };
+}
+
+/// What a relay's plan is made of, picked for each.
+pub trait Source {
+    ghost use Rattle.std.specs.Prelude.{ℕ, List, Option};
+
+    ghost source: { Option (List ℕ) × ℕ };
+}
+
+impl Source for Brand {
+    ghost use Rattle.std.specs.Prelude.{None};
+
+    ghost source = { (None, 0) };
+}
+
+/// The two roles are given to two passes, which know what may be sent.
+pub(crate) struct Plans<W> {
+    what: PhantomData<W>,
+}
+
+impl<M, W: Source> Split<Account<M>> for Plans<W> {
+    ghost use Rattle.std.specs.Prelude.{Some};
+    ghost use Rattle.lsp_relay.specs.Relay.{sender_account, receiver_account};
+
+    ghost left = { λ v. sender_account v.sent v.wakeable (Some W.source) };
+
+    ghost right = { λ v. receiver_account v.taken v.wakes v.wakeable (Some W.source) };
 }
 
 /// A waker is made by the sender, which knows it.
@@ -114,25 +161,30 @@ impl<M> Lesson<Option<Parcel<M>>, Account<M>> for Woken {
 }
 
 /// The parcel or the wake at the front was taken.
-pub(crate) struct Received;
-
-impl<M> Outcome<Option<Parcel<M>>, Account<M>> for Received {
-    ghost use Rattle.lsp_relay.specs.Relay.{takes_one};
-
-    ghost then = { takes_one };
+pub(crate) struct Received<P> {
+    plan: PhantomData<P>,
 }
 
-impl<M> Lesson<Option<Parcel<M>>, Account<M>> for Received {
+impl<M, P: Plan<M>> Outcome<Option<Parcel<M>>, Account<M>> for Received<P> {
+    ghost use Rattle.lsp_relay.specs.Relay.{takes_one};
+
+    ghost then = { takes_one P.may_send };
+}
+
+impl<M, P> Lesson<Option<Parcel<M>>, Account<M>> for Received<P> {
     ghost fact = { λ v items. Unit {0} };
 }
 
-/// What was sent is what was taken and the parcels that are held. If no waker was made, no wake was taken.
-pub(crate) struct Whole;
+/// What was sent is what was taken and the parcels that are held, and what was taken follows the plan. If no waker was made, no wake was
+/// taken.
+pub(crate) struct Whole<P> {
+    plan: PhantomData<P>,
+}
 
-impl<M> Lesson<Option<Parcel<M>>, Account<M>> for Whole {
+impl<M, P: Plan<M>> Lesson<Option<Parcel<M>>, Account<M>> for Whole<P> {
     ghost use Rattle.std.specs.Prelude.{◌≡◌, ◌++◌, false};
-    ghost use Rattle.lsp_relay.specs.Relay.{parcels_of};
+    ghost use Rattle.lsp_relay.specs.Relay.{parcels_of, Follows};
 
     ghost fact = { λ v items. (v.sent ≡ v.taken ++ parcels_of items)
-        × (v.wakeable ≡ false → v.wakes ≡ 0) };
+        × (v.wakeable ≡ false → v.wakes ≡ 0) × Follows P.may_send v.source v.taken };
 }

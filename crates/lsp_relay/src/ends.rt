@@ -1,11 +1,12 @@
 //! The two ends of a relay: a bounded channel with one sender and one receiver, each of which keeps account of its parcels. The
 //! channel holds a parcel as `Some`, and a wake as `None`. The account of the one that takes, and of each waker, counts wakes.
 ghost use Rattle.std.specs.Bool.{MatchBool};
-ghost use Rattle.std.specs.Prelude.{◌≡◌, ◌<◌, ◌≤◌, ◌+◌, [], ◌∷◌, ◌++◌, false, IfErr, IfNone, IfOk, IfSome, OnErr, OnOk};
+ghost use Rattle.std.specs.Prelude.{◌≡◌, ◌<◌, ◌≤◌, ◌+◌, [], ◌∷◌, ◌++◌, false, None, Some, true, IfErr, IfNone, IfOk, IfSome, OnErr, OnOk};
 ghost use mathlib.Core.List.{IsPrefix};
 
 use crate::account::{
-    Account, CopyWaker, InOrder, Lend, MakeWaker, Received, Roles, Sent, Whole, Woken,
+    Account, AnyPlan, CopyWaker, InOrder, Lend, MakeWaker, Plan, Plans, Received, Roles, Sent,
+    Source, Whole, Woken,
 };
 use crossbeam_channel::{Pass, RuledReceiver, RuledSender, bounded_with};
 use std::alloc::{AllocError, Global};
@@ -36,14 +37,14 @@ pub enum Taken<M> {
 /// ever made.
 #[derive(Drop)]
 #[derive_where(Debug)]
-pub struct RelayTx<M: Drop> {
+pub struct RelayTx<M: Drop, P: Plan<M> = AnyPlan> {
     #[derive_where(skip)]
-    sender: RuledSender<Option<Parcel<M>>, Account<M>, InOrder>,
+    sender: RuledSender<Option<Parcel<M>>, Account<M>, InOrder<P>>,
     #[derive_where(skip)]
     pass: Pass<Option<Parcel<M>>, Account<M>>,
 }
 
-impl<M: Drop> Model for RelayTx<M> {
+impl<M: Drop, P: Plan<M>> Model for RelayTx<M, P> {
     ghost use Rattle.std.specs.Prelude.{◌≡◌};
     ghost use Rattle.crossbeam_channel.specs.Claims.{IsSeatAt};
     ghost use Rattle.crossbeam_channel.specs.Ends.{sends_on};
@@ -55,10 +56,12 @@ impl<M: Drop> Model for RelayTx<M> {
       relay = relay_of t.pass;
       sent = (account_of t.pass).sent;
       wakeable = (account_of t.pass).wakeable;
+      source = (account_of t.pass).source;
     } };
 
     ghost invariant = { λ t. IsSeatAt (sends_on t.sender) t.pass
-        × (account_of t.pass ≡ sender_account (account_of t.pass).sent (account_of t.pass).wakeable)
+        × (account_of t.pass ≡ sender_account (account_of t.pass).sent (account_of t.pass).wakeable
+        (account_of t.pass).source)
         × EndsAtMostOnce (account_of t.pass).sent };
 }
 
@@ -66,18 +69,18 @@ impl<M: Drop> Model for RelayTx<M> {
 /// were.
 #[derive(Drop)]
 #[derive_where(Debug)]
-pub struct RelayRx<M: Drop> {
+pub struct RelayRx<M: Drop, P: Plan<M> = AnyPlan> {
     #[derive_where(skip)]
-    receiver: RuledReceiver<Option<Parcel<M>>, Account<M>, InOrder>,
+    receiver: RuledReceiver<Option<Parcel<M>>, Account<M>, InOrder<P>>,
     #[derive_where(skip)]
     pass: Pass<Option<Parcel<M>>, Account<M>>,
 }
 
-impl<M: Drop> Model for RelayRx<M> {
+impl<M: Drop, P: Plan<M>> Model for RelayRx<M, P> {
     ghost use Rattle.std.specs.Prelude.{◌≡◌};
     ghost use Rattle.crossbeam_channel.specs.Claims.{IsSeatAt};
     ghost use Rattle.crossbeam_channel.specs.Ends.{receives_on};
-    ghost use Rattle.lsp_relay.specs.Relay.{Taking, account_of, relay_of, receiver_account};
+    ghost use Rattle.lsp_relay.specs.Relay.{Taking, account_of, relay_of, receiver_account, IsLearned};
 
     ghost Value = { Taking M };
 
@@ -85,24 +88,29 @@ impl<M: Drop> Model for RelayRx<M> {
       relay = relay_of r.pass;
       taken = (account_of r.pass).taken;
       wakes = (account_of r.pass).wakes;
+      wakeable = (account_of r.pass).wakeable;
+      source = (account_of r.pass).source;
     } };
 
     ghost invariant = { λ r. IsSeatAt (receives_on r.receiver) r.pass
         × (account_of r.pass
-        ≡ receiver_account (account_of r.pass).taken (account_of r.pass).wakes) };
+        ≡ receiver_account (account_of r.pass).taken (account_of r.pass).wakes (account_of r.pass).wakeable
+        (account_of r.pass).source)
+        × IsLearned P.may_send (account_of r.pass).source (account_of r.pass).wakeable (account_of r.pass).taken
+        (account_of r.pass).wakes };
 }
 
 /// Wakes the thread that takes from a relay. Contracts see which relay it belongs to, and how many wakes it gave. It sends no parcel.
 #[derive(Drop)]
 #[derive_where(Debug)]
-pub struct RelayWaker<M: Drop> {
+pub struct RelayWaker<M: Drop, P: Plan<M> = AnyPlan> {
     #[derive_where(skip)]
-    sender: RuledSender<Option<Parcel<M>>, Account<M>, InOrder>,
+    sender: RuledSender<Option<Parcel<M>>, Account<M>, InOrder<P>>,
     #[derive_where(skip)]
     pass: Pass<Option<Parcel<M>>, Account<M>>,
 }
 
-impl<M: Drop> Model for RelayWaker<M> {
+impl<M: Drop, P: Plan<M>> Model for RelayWaker<M, P> {
     ghost use Rattle.std.specs.Prelude.{◌≡◌};
     ghost use Rattle.crossbeam_channel.specs.Claims.{IsSeatAt};
     ghost use Rattle.crossbeam_channel.specs.Ends.{sends_on};
@@ -117,11 +125,15 @@ impl<M: Drop> Model for RelayWaker<M> {
 }
 
 /// Makes a relay with room for this many parcels and wakes, at least one. The error means that an allocation failed.
-pub fn relay<M: Drop>(alloc: Global, room: usize) -> Result<(RelayTx<M>, RelayRx<M>), AllocError>
+pub fn relay<M: Drop, P: Plan<M>>(
+    alloc: Global,
+    room: usize,
+) -> Result<(RelayTx<M, P>, RelayRx<M, P>), AllocError>
     requires { 0 < room }
     ensures one_relay { IfOk result (λ ends. ends.1.relay ≡ ends.0.relay) }
     ensures empty { IfOk result (λ ends. (ends.0.sent ≡ []) × (ends.1.taken ≡ [])) }
     ensures unwoken { IfOk result (λ ends. (ends.1.wakes ≡ 0) × (ends.0.wakeable ≡ false)) }
+    ensures unplanned { IfOk result (λ ends. ends.0.source ≡ None) }
 {
     let (sender, receiver, mut sends) = bounded_with(alloc, room)?;
     let takes = sender.another::<Roles>(&mut sends);
@@ -136,17 +148,19 @@ pub fn relay<M: Drop>(alloc: Global, room: usize) -> Result<(RelayTx<M>, RelayRx
     Ok((tx, rx))
 }
 
-impl<M: Drop> RelayTx<M> {
+impl<M: Drop, P: Plan<M>> RelayTx<M, P> {
     ghost use Rattle.std.specs.Prelude.{true};
-    ghost use Rattle.lsp_relay.specs.Relay.{IsOpen};
+    ghost use Rattle.lsp_relay.specs.Relay.{Follows, IsOpen};
 
     /// Adds the parcel at the back in one step. It waits while the relay is full. Send nothing after `Parcel::End`.
     ///
     /// The error gives the parcel back, and nothing has changed. It comes if the receiver's end is gone.
     pub fn send<R: Wait>(&mut self, rt: &R, parcel: Parcel<M>) -> Result<(), Parcel<M>>
         requires open { IsOpen self.old.sent }
+        requires planned { Follows P.may_send self.old.source (self.old.sent ++ parcel ∷ []) }
         ensures relay { self.new.relay ≡ self.old.relay }
         ensures wakeable { self.new.wakeable ≡ self.old.wakeable }
+        ensures source { self.new.source ≡ self.old.source }
         ensures sent { OnOk result (self.new.sent ≡ self.old.sent ++ parcel ∷ []) }
         ensures refused { IfErr result (λ back. (back ≡ parcel) × (self.new.sent ≡ self.old.sent)) }
     {
@@ -163,11 +177,17 @@ impl<M: Drop> RelayTx<M> {
     }
 
     /// Makes a waker of the thread that takes. The error means that an allocation failed.
-    pub fn waker(&mut self) -> Result<RelayWaker<M>, AllocError>
+    pub fn waker(&mut self) -> Result<RelayWaker<M, P>, AllocError>
+        requires unplanned { self.old.source ≡ None }
         ensures relay { IfOk result (λ waker.
             waker ≡ record { relay = self.old.relay; given = 0 }) }
         ensures made { OnOk result
-            (self.new ≡ record { relay = self.old.relay; sent = self.old.sent; wakeable = true }) }
+            (self.new ≡ record {
+              relay = self.old.relay;
+              sent = self.old.sent;
+              wakeable = true;
+              source = None;
+            }) }
         ensures same { OnErr result (self.new ≡ self.old) }
     {
         let sender = self.sender.try_clone()?;
@@ -176,9 +196,9 @@ impl<M: Drop> RelayTx<M> {
     }
 }
 
-impl<M: Drop> RelayWaker<M> {
+impl<M: Drop, P: Plan<M>> RelayWaker<M, P> {
     /// Makes another one, for another thread. The error means that an allocation failed.
-    pub fn another(&mut self) -> Result<RelayWaker<M>, AllocError>
+    pub fn another(&mut self) -> Result<RelayWaker<M, P>, AllocError>
         ensures relay { IfOk result (λ waker.
             waker ≡ record { relay = self.old.relay; given = 0 }) }
         ensures same { self.new ≡ self.old }
@@ -205,9 +225,16 @@ impl<M: Drop> RelayWaker<M> {
     }
 }
 
-impl<M: Drop> RelayRx<M> {
+impl<M: Drop, P: Plan<M>> RelayRx<M, P> {
     ghost use Rattle.std.specs.Prelude.{true};
-    ghost use Rattle.lsp_relay.specs.Relay.{TakenIs, has_end, wakes_after};
+    ghost use Rattle.lsp_relay.specs.Relay.{IsLearned, TakenIs, has_end, wakes_after};
+
+    /// What was taken follows the plan, if there is one, and each wake was given by a waker that was made before.
+    pub fn learn(&self)
+        ensures { IsLearned P.may_send self.now.source self.now.wakeable self.now.taken self.now.wakes }
+    {
+        let _pass = &self.pass;
+    }
 
     /// Takes the parcel at the front in one step. It waits while the relay is empty, and passes over wakes.
     ///
@@ -215,6 +242,7 @@ impl<M: Drop> RelayRx<M> {
     /// says so.
     pub fn take<R: Wait>(&mut self, rt: &R) -> Option<Parcel<M>>
         ensures relay { self.new.relay ≡ self.old.relay }
+        ensures source { (self.new.source ≡ self.old.source) × (self.new.wakeable ≡ self.old.wakeable) }
         ensures some { IfSome result (λ parcel. self.new.taken ≡ self.old.taken ++ parcel ∷ []) }
         ensures none { IfNone result (self.new.taken ≡ self.old.taken) }
         ensures wakes { self.old.wakes ≤ self.new.wakes }
@@ -233,10 +261,11 @@ impl<M: Drop> RelayRx<M> {
     /// taken, and no other answer takes one. `Taken::Nothing` comes if `take` gives `None`.
     pub fn take_or_wake<R: Wait>(&mut self, rt: &R) -> Taken<M>
         ensures relay { self.new.relay ≡ self.old.relay }
+        ensures source { (self.new.source ≡ self.old.source) × (self.new.wakeable ≡ self.old.wakeable) }
         ensures taken { TakenIs result self.old.taken self.new.taken }
         ensures wakes { self.new.wakes ≡ wakes_after result self.old.wakes }
     {
-        match self.receiver.recv_as::<Received, R>(rt, &mut self.pass) {
+        match self.receiver.recv_as::<Received<P>, R>(rt, &mut self.pass) {
             Ok(Some(parcel)) => Taken::Parcel(parcel),
             Ok(None) => Taken::Wake,
             Err(_) => Taken::Nothing,
@@ -246,10 +275,14 @@ impl<M: Drop> RelayRx<M> {
     /// As `take_or_wake`, but it doesn't wait. `Taken::Nothing` comes if nothing stands at the front.
     pub fn try_take<R: Wait>(&mut self, rt: &R) -> Taken<M>
         ensures relay { self.new.relay ≡ self.old.relay }
+        ensures source { (self.new.source ≡ self.old.source) × (self.new.wakeable ≡ self.old.wakeable) }
         ensures taken { TakenIs result self.old.taken self.new.taken }
         ensures wakes { self.new.wakes ≡ wakes_after result self.old.wakes }
     {
-        match self.receiver.try_recv_as::<Received, R>(rt, &mut self.pass) {
+        match self
+            .receiver
+            .try_recv_as::<Received<P>, R>(rt, &mut self.pass)
+        {
             Ok(Some(parcel)) => Taken::Parcel(parcel),
             Ok(None) => Taken::Wake,
             Err(_) => Taken::Nothing,
@@ -259,6 +292,7 @@ impl<M: Drop> RelayRx<M> {
     /// Takes without waiting. `None` means that no parcel was taken: nothing or a wake stood at the front.
     fn take_at_once<R: Wait>(&mut self, rt: &R) -> Option<Parcel<M>>
         ensures relay { self.new.relay ≡ self.old.relay }
+        ensures source { (self.new.source ≡ self.old.source) × (self.new.wakeable ≡ self.old.wakeable) }
         ensures some { IfSome result (λ parcel. self.new.taken ≡ self.old.taken ++ parcel ∷ []) }
         ensures none { IfNone result (self.new.taken ≡ self.old.taken) }
         ensures wakes { self.old.wakes ≤ self.new.wakes }
@@ -273,7 +307,7 @@ impl<M: Drop> RelayRx<M> {
     /// was sent, in order, and all of it if `Parcel::End` was taken. If no waker was ever made, no wake was taken.
     ///
     /// `None` means that no parcel was taken. It comes if the relay is empty, and where a wake stood at the front, which is taken then.
-    pub fn settle<R: Wait>(&mut self, rt: &R, tx: &mut RelayTx<M>) -> Option<Parcel<M>>
+    pub fn settle<R: Wait>(&mut self, rt: &R, tx: &mut RelayTx<M, P>) -> Option<Parcel<M>>
         requires same_relay { self.old.relay ≡ tx.old.relay }
         ensures relay { self.new.relay ≡ self.old.relay }
         ensures some { IfSome result (λ parcel. self.new.taken ≡ self.old.taken ++ parcel ∷ []) }
@@ -287,15 +321,40 @@ impl<M: Drop> RelayRx<M> {
         let front = self.take_at_once(rt);
         let takes = tx.sender.another::<Lend>(&mut self.pass);
         tx.sender.absorb::<Roles>(&mut tx.pass, takes);
-        tx.sender.learn_as::<Whole>(&mut tx.pass);
+        tx.sender.learn_as::<Whole<P>>(&mut tx.pass);
         self.pass = tx.sender.another::<Roles>(&mut tx.pass);
         front
     }
 }
 
+/// Gives a fresh relay a plan: from now on the sender sends only what it says, and makes no waker, and the receiver knows both.
+pub fn plan<M: Drop, P: Plan<M>, W: Source>(tx: &mut RelayTx<M, P>, rx: &mut RelayRx<M, P>)
+    requires same_relay { rx.old.relay ≡ tx.old.relay }
+    requires fresh { tx.old.sent ≡ [] }
+    requires begins { P.may_send W.source [] }
+    ensures sender { tx.new ≡ record {
+      relay = tx.old.relay;
+      sent = [];
+      wakeable = tx.old.wakeable;
+      source = Some W.source;
+    } }
+    ensures receiver { rx.new ≡ record {
+      relay = rx.old.relay;
+      taken = rx.old.taken;
+      wakes = rx.old.wakes;
+      wakeable = tx.old.wakeable;
+      source = Some W.source;
+    } }
+{
+    let takes = tx.sender.another::<Lend>(&mut rx.pass);
+    tx.sender.absorb::<Roles>(&mut tx.pass, takes);
+    tx.sender.learn_as::<Whole<P>>(&mut tx.pass);
+    rx.pass = tx.sender.another::<Plans<W>>(&mut tx.pass);
+}
+
 /// Settles a relay whose ends are in one thread again, and drops both. What was taken is a beginning of what was sent. If no waker was
 /// ever made, no wake was taken.
-pub fn settle_all<R: Wait, M: Drop>(rt: &R, rx: RelayRx<M>, tx: RelayTx<M>)
+pub fn settle_all<R: Wait, M: Drop, P: Plan<M>>(rt: &R, rx: RelayRx<M, P>, tx: RelayTx<M, P>)
     requires { rx.relay ≡ tx.relay }
     ensures settled { IsPrefix rx.taken tx.sent }
     ensures unwoken { tx.wakeable ≡ false → rx.wakes ≡ 0 }

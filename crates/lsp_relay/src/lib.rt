@@ -5,4 +5,5 @@
 mod account;
 mod ends;
 
-pub use ends::{Parcel, RelayRx, RelayTx, RelayWaker, Taken, relay, settle_all};
+pub use account::{AnyPlan, Plan, Source};
+pub use ends::{Parcel, RelayRx, RelayTx, RelayWaker, Taken, plan, relay, settle_all};

@@ -1,9 +1,9 @@
 -- Frames that are gathered, and written together.
-use Rattle.std.proofs.Common.{◌≡◌, ◌⊎◌, inl, inr, ℕ, ◌<◌, arith, List, [], ◌∷◌, ◌++◌, ◌∙◌, ap, sym, subst, refl, codes, length, length-append, append_assoc, append-nil, Option, Result, Ok, Err, OnOk, IfErr}
+use Rattle.std.proofs.Common.{◌≡◌, inl, inr, ℕ, ◌<◌, arith, List, [], ◌∷◌, ◌++◌, ◌∙◌, ap, sym, subst, refl, length, append_assoc, append-nil, Option, Result, Ok, Err}
 use Rattle.std.proofs.KnownBytes.{Appends-nil, Appends-trans}
-use Rattle.std.specs.Io.KnownBytes.{Appends, Keeps}
+use Rattle.std.specs.Io.KnownBytes.{Appends}
 use Rattle.lsp_message.specs.Message.{Message}
-use Rattle.lsp_message.specs.Written.{AppendsBeginning, AreFramesOf, GetsFrames, GetsFramesAndPart, IsFrameOf, IsOutput, frame_text}
+use Rattle.lsp_message.specs.Written.{AppendsBeginning, AreFramesOf, GetsFrames, IsFrameOf, IsOutput}
 use Rattle.lsp_message.specs.declared.frame.WriteFault.{WriteFault}
 use Rattle.lsp_message.specs.declared.frame.WriteFault.TheVariants.{Output, Memory}
 use Rattle.lsp_session.proofs.Handing.{Appends-Keeps, AreFramesOf-push}
@@ -58,7 +58,7 @@ module _ (frame left : List ℕ) (a b c : Option (List ℕ)) (so_far : Gathered 
 
 -- ---- a message, and others behind it
 frame_has_bytes : (m : Message) (frame more : List ℕ) → IsFrameOf m frame → 0 < length (frame ++ more)
-frame_has_bytes m frame more (body, is, same) = rw same omega arith
+frame_has_bytes m frame more (body, is, same, means) = rw same omega arith
 
 pub from_behind : (m : Message) (frame : List ℕ) (a b : Option (List ℕ)) (result : Result (Unit {0}) WriteFault) → IsFrameOf m frame → WritesBehind frame a result b → WritesFrom m a result b
 from_behind m frame a b (Ok done) is (text, (behind, frames, are, same), got) = (behind, (text, (frame, frames, is, are, same), got))

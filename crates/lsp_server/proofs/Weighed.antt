@@ -1,5 +1,5 @@
 -- A message that is read once there is room for it.
-use Rattle.std.proofs.Common.{◌≡◌, ℕ, List, [], Option, Some, None, IfSome, Ok, ◌∙◌, ap, sym}
+use Rattle.std.proofs.Common.{ℕ, List, [], Option, Some, None, IfSome, Ok, ◌∙◌, ap, sym}
 use Rattle.lsp_message.specs.Frame.{body_means, content_within, reading_within}
 use Rattle.lsp_message.specs.Reading.{Answers, StopsWithin}
 use Rattle.lsp_message.proofs.ContentParts.{same_rest}

@@ -1,22 +1,31 @@
--- The clients that a program serves: that of its standard input and output, or those of a socket.
-use Rattle.std.specs.Prelude.{ℕ, List, [], ◌∷◌, Bool, true, false, Option, Some, None, if◌then◌else◌, codes}
-use Rattle.std.specs.Str.{bytes_eq}
+-- The clients that a program serves: that of its standard input and output, those of a socket, or one that listens itself.
+use Rattle.std.specs.Prelude.{Option, Some, None}
+use Rattle.lsp_server.specs.Words.{Channel, standard, address, port, pipe, refused}
 use Rattle.lsp_server.specs.declared.clients.ClientReader.{ClientReader}
-use Rattle.lsp_server.specs.declared.clients.ClientReader.TheVariants.{Standard as ReaderStandard, Socket as ReaderSocket}
+use Rattle.lsp_server.specs.declared.clients.ClientReader.TheVariants.{Standard as ReaderStandard, Socket as ReaderSocket, Pipe as ReaderPipe}
 use Rattle.lsp_server.specs.declared.clients.ClientWriter.{ClientWriter}
-use Rattle.lsp_server.specs.declared.clients.ClientWriter.TheVariants.{Standard as WriterStandard, Socket as WriterSocket}
+use Rattle.lsp_server.specs.declared.clients.ClientWriter.TheVariants.{Standard as WriterStandard, Socket as WriterSocket, Pipe as WriterPipe}
 
--- the address in the words of a command line: the first word that is not `--stdio`
-abbrev pub address_in : List (List ℕ) → Option (List ℕ)
-address_in [] = None
-address_in (word ∷ words) = if bytes_eq word (codes "--stdio") then address_in words else Some word
+-- what a session is held over
+pub data Medium : Type 0 where
+  streams : Medium
+  socket : Medium
+  file : Medium
 
--- a reader of standard input
-abbrev pub reads_standard : {I S : Type 0} → ClientReader I S → Bool
-reads_standard (ReaderStandard input) = true
-reads_standard (ReaderSocket stream) = false
+-- where one client is served, and its outcome handed on, the medium of its session
+abbrev pub medium_of : Channel → Option Medium
+medium_of standard = Some streams
+medium_of (address text) = None
+medium_of (port text) = Some socket
+medium_of (pipe name) = Some file
+medium_of refused = None
 
--- a writer to standard output
-abbrev pub writes_standard : {R S : Type 0} → ClientWriter R S → Bool
-writes_standard (WriterStandard output) = true
-writes_standard (WriterSocket stream) = false
+abbrev pub reader_medium : {I S : Type 0} → ClientReader I S → Medium
+reader_medium (ReaderStandard input) = streams
+reader_medium (ReaderSocket stream) = socket
+reader_medium (ReaderPipe stream) = file
+
+abbrev pub writer_medium : {R S : Type 0} → ClientWriter R S → Medium
+writer_medium (WriterStandard output) = streams
+writer_medium (WriterSocket stream) = socket
+writer_medium (WriterPipe stream) = file

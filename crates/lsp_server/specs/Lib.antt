@@ -84,4 +84,5 @@ pub mod Clients
 pub mod IoFault
 pub mod Unread
 pub mod Weighing
+pub mod Words
 pub mod Writing

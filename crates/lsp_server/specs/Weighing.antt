@@ -1,5 +1,5 @@
 -- What the thread that reads does. For private clauses.
-use Rattle.std.specs.Prelude.{⊤, ℕ, List, Option}
+use Rattle.std.specs.Prelude.{ℕ, List, Option}
 use Rattle.lsp_message.specs.Message.{Message}
 use Rattle.lsp_message.specs.View.{message_view}
 use Rattle.lsp_server.specs.declared.reading.Weighed.{Weighed}

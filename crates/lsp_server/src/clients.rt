@@ -1,17 +1,21 @@
-//! The clients of a program: that of its standard input and output, or those of a socket, one after another.
-ghost use Rattle.std.specs.Prelude.{◌≡◌, true, None, map, option_map, IfOk, IfErr, IsErr, OnOk, string_bytes};
+//! The clients of a program: that of its standard input and output, one that listens itself, or those of a socket, one after another.
+ghost use Rattle.std.specs.Prelude.{◌≡◌, Some, map, IfOk, IfErr, IsErr, IsErrAnd, IsSomeAnd, string_bytes};
+ghost use Rattle.std.specs.Duration.{as_nanos};
 ghost use Rattle.std.specs.IoError.{error_kind};
-ghost use Rattle.std.specs.declared.io.ErrorKind.TheVariants.{OutOfMemory};
+ghost use Rattle.std.specs.declared.io.ErrorKind.TheVariants.{InvalidInput, OutOfMemory};
 ghost use Rattle.std.specs.Io.Buffered.{reader_inner};
-ghost use Rattle.lsp_server.specs.Clients.{address_in as first_address, reads_standard, writes_standard};
+ghost use Rattle.lsp_server.specs.Words.{channel_of, standard, refused as asks_in_vain};
+ghost use Rattle.lsp_server.specs.Clients.{medium_of, reader_medium, writer_medium, streams, socket as by_socket, file as by_file};
 
 use crate::connection::READ_AHEAD;
-use crate::socket::{WriteHalf, halves};
+use crate::pipe::PipeStream;
+use crate::socket::{ReadHalf, WriteHalf, halves};
 use crate::stdio::StandardOutput;
-use lsp_session::SessionEnd;
+use crate::words::{Channel, NO_PORT, channel_in, is_unknown};
+use lsp_session::{ClientStreams, SessionEnd};
 use std::fmt::Display;
-use std::io::{BufReader, Read, Write};
-use std::net::{Net, OpenListener, OpenStream, TcpListener};
+use std::io::{BufReader, ErrorKind, Read, Write};
+use std::net::{Ipv4Addr, Net, OpenListener, OpenStream, Shutdown, TcpListener, TcpStream};
 use std::sync::Wait;
 use std::time::{Clock, Duration};
 use std::{io, thread};
@@ -20,20 +24,46 @@ use std::{io, thread};
 /// descriptors left would try without end.
 const PAUSE_SECONDS: u64 = 1;
 
+/// How many seconds a client of an address may be silent at first, if the options say nothing else.
+const SILENT_SECONDS: u64 = 30;
+
+/// How the clients of an address are served.
+#[derive(Drop)]
+pub struct ClientOptions {
+    /// How long a client may be connected before it sends its first bytes. Then it is given up, so that the next is served: for its
+    /// session a read failed. Afterwards it may be silent as long as it likes, as an editor whose user is away. Without a time it may
+    /// be silent from the start. A time of zero gives up every client.
+    pub silence: Option<Duration>,
+}
+
+impl ClientOptions {
+    /// Half a minute.
+    pub fn new() -> ClientOptions
+        ensures { IsSomeAnd result.silence (λ time. as_nanos time ≡ 30000000000) }
+    {
+        ClientOptions {
+            silence: Some(Duration::from_secs(SILENT_SECONDS)),
+        }
+    }
+}
+
 /// What a client sends.
 #[derive(Drop)]
 pub enum ClientReader<I, S> {
     /// Over standard input.
     Standard(I),
     /// Over a socket.
-    Socket(S),
+    Socket(ReadHalf<S>),
+    /// Over a socket file.
+    Pipe(ReadHalf<PipeStream>),
 }
 
-impl<I: Read, S: Read> Read for ClientReader<I, S> {
+impl<I: Read, S: OpenStream + Read> Read for ClientReader<I, S> {
     fn read(&mut self, buf: &mut [u8]) -> io::Result<usize> {
         match self {
             ClientReader::Standard(input) => input.read(buf),
             ClientReader::Socket(stream) => stream.read(buf),
+            ClientReader::Pipe(stream) => stream.read(buf),
         }
     }
 }
@@ -45,6 +75,8 @@ pub enum ClientWriter<R, S: OpenStream + Drop> {
     Standard(StandardOutput<R>),
     /// Over a socket.
     Socket(WriteHalf<S>),
+    /// Over a socket file.
+    Pipe(WriteHalf<PipeStream>),
 }
 
 impl<R: Print, S: OpenStream + Drop + Write> Write for ClientWriter<R, S> {
@@ -52,6 +84,7 @@ impl<R: Print, S: OpenStream + Drop + Write> Write for ClientWriter<R, S> {
         match self {
             ClientWriter::Standard(output) => output.write(buf),
             ClientWriter::Socket(stream) => stream.write(buf),
+            ClientWriter::Pipe(stream) => stream.write(buf),
         }
     }
 
@@ -59,82 +92,89 @@ impl<R: Print, S: OpenStream + Drop + Write> Write for ClientWriter<R, S> {
         match self {
             ClientWriter::Standard(output) => output.flush(),
             ClientWriter::Socket(stream) => stream.flush(),
+            ClientWriter::Pipe(stream) => stream.flush(),
         }
     }
 }
 
-/// Serves the client of standard input and output. If the words have an address, as `127.0.0.1:9257`, it serves the clients that connect
-/// there, one after another, until the program is stopped.
+/// Serves the client that the words of the command line name. `words` are those behind the program's name, or behind your own first
+/// words. The first word that asks for a channel decides (LSP 3.17, "Implementation Considerations"):
 ///
-/// `words` are those of the command line behind the program's name, or behind your own first words. The address is the first that is
-/// not `--stdio`: many clients pass that word, which asks for what comes without an address (LSP 3.17, "Implementation
-/// Considerations"). `serve` runs the session of one client, for example by `session_with`:
+/// - `--socket=PORT`, `--port=PORT`: the client listens at this port of the machine, and the program connects to 127.0.0.1.
+/// - `--pipe=NAME`: the client listens at this socket file, and the program connects to it.
+/// - an address, as `127.0.0.1:9257`, which is a word that does not begin with `-`: clients connect there, one after another, until the
+///   program is stopped.
+/// - `--node-ipc` is refused: only programs under node can be reached so.
+///
+/// Where no word decides, the client is at standard input and output: `--stdio` says just that, and is passed over. So is
+/// `--clientProcessId=PID`: a client that is gone shows at the end of its stream. The value of an option may also be the next word. An
+/// option that LSP does not have is named on standard error and passed over, since editors give one list of words to many servers, and a
+/// server that ends at a word can't be used at all.
+///
+/// `serve` runs the session of one client, whose streams it is given: over a transport of them, for example by `session_with_over`, or in
+/// threads that own the reader and the writer.
 ///
 /// <!-- from crates/example_diagnostics/src/main.rt -->
 /// ```rust
-/// let served = serve_clients(&rt, words.as_slice(), |mut reader, mut writer| {
-///     let server = Checker::new(alloc);
-///     let (_server, answer) = session_with(
-///         alloc,
-///         &mut reader,
-///         &mut writer,
-///         server,
-///         &mut EndSession,
-///         u64::MAX,
-///     );
+/// let options = ClientOptions::new();
+/// let served = serve_clients(&rt, words.as_slice(), options, |mut client| {
+///     let mut bad_bodies = EndSession;
+///     let mut transport = client.transport(alloc, &mut bad_bodies, u64::MAX);
+///     let (_checker, answer) = serve(alloc, &mut transport, Checker::new(alloc));
 ///     answer
 /// })?;
 /// ```
 ///
-/// Without an address the result is what `serve` gave, or the error `OutOfMemory`: there was no memory for a buffer, and `serve` was not
-/// called. With an address nothing but an error is given: the text is no address with a port, or nobody may listen there, for example
-/// since the port is in use.
+/// For one client the result is what `serve` gave, or an error, and `serve` was not called. Over standard input and output the error is
+/// `OutOfMemory`: there was no memory for a buffer. Where the client listens, it may also be that nobody does. It is `InvalidInput` at
+/// `--node-ipc`, and where a port or a name is missing. With an address nothing but an error is given: the text is no address with a port,
+/// or nobody may listen there, for example since the port is in use.
 ///
-/// What goes wrong with one client is a line on standard error, and the next one is served: an error of `serve`, a client that left
+/// What goes wrong with one client of an address is a line on standard error, and the next one is served: an error of `serve`, a client that left
 /// without `shutdown`, or one that the system refused, for example since the program has no descriptors left. After such a refusal a
 /// second passes.
 ///
-/// A client that waits for the one before it gets no reply until that one is gone. One that reads nothing for half a minute is
-/// given up. Whoever reaches the address is served, so `serve` should have a limit where strangers do.
+/// A client that waits for the one before it gets no reply until that one is gone. One that says nothing at all is given up as `options` say,
+/// and one that reads nothing, or very little, after half a minute. Once a session has ended, its client is cut off. Whoever reaches the
+/// address is served, so `serve` should have a limit where strangers do.
 pub fn serve_clients<R, F, E>(
     rt: &R,
     words: &[String],
+    options: ClientOptions,
     serve: F,
 ) -> io::Result<Result<SessionEnd, E>>
 where
     R: Net + Wait + Clock + AllocGlobal + Input + Print + Eprint + Copy + Drop,
     F: Fn(
-        BufReader<ClientReader<R::Reader, R::Stream>>,
-        ClientWriter<R, R::Stream>,
+        ClientStreams<BufReader<ClientReader<R::Reader, R::Stream>>, ClientWriter<R, R::Stream>>,
     ) -> Result<SessionEnd, E>
         + Drop,
     E: Display + Drop,
     requires { F.IsAlwaysCallable serve }
-    ensures address { OnOk result (first_address (map string_bytes words.now) ≡ None) }
     ensures outcome { IfOk result (λ outcome.
-        (reader : _) × (writer : _) × F.post serve reader writer outcome
-        × (reads_standard (reader_inner reader) ≡ true) × (writes_standard writer ≡ true)) }
-    ensures memory { IfErr result (λ error. first_address (map string_bytes words.now) ≡ None
+        (client : _) × F.post serve client outcome
+        × (medium_of (channel_of (map string_bytes words.now)) ≡ Some (reader_medium (reader_inner client.reader)))
+        × (medium_of (channel_of (map string_bytes words.now)) ≡ Some (writer_medium client.writer))) }
+    ensures memory { IfErr result (λ error. channel_of (map string_bytes words.now) ≡ standard
         → error_kind error ≡ OutOfMemory) }
+    ensures refused { channel_of (map string_bytes words.now) ≡ asks_in_vain
+        → IsErrAnd result (λ error. error_kind error ≡ InvalidInput) }
 {
-    match address_in(words) {
-        Some(address) => serve_socket(rt, address, &serve),
-        None => serve_standard(rt, &serve),
+    name_unknown(rt, words);
+    match channel_in(words) {
+        Channel::Standard => serve_standard(rt, &serve),
+        Channel::Address(address) => serve_socket(rt, address, &options, &serve),
+        Channel::Port(port) => serve_port(rt, port, &serve),
+        Channel::Pipe(name) => serve_pipe(rt, name, &serve),
+        Channel::Refused(reason) => Err(io::Error::new(ErrorKind::InvalidInput, reason)),
     }
 }
 
-/// The address in the words of a command line: the first word that is not `--stdio`.
-fn address_in(words: &[String]) -> Option<&str>
-    ensures { option_map (λ s. s.now) result ≡ first_address (map string_bytes words.now) }
-{
-    match words {
-        [] => None,
-        [word, rest @ ..] => {
-            if word.as_str() == "--stdio" {
-                address_in(rest)
-            } else {
-                Some(word.as_str())
-            }
+/// Prints the options that LSP does not have.
+fn name_unknown<R: Eprint>(rt: &R, words: &[String]) {
+    for word in words {
+        if is_unknown(word.as_str()) {
+            let _ = eprintln!(rt; "unknown option: {word}");
         }
     }
 }
@@ -144,29 +184,72 @@ fn serve_standard<R, F, E>(rt: &R, serve: &F) -> io::Result<Result<SessionEnd, E
 where
     R: Net + AllocGlobal + Input + Print + Copy + Drop,
     F: Fn(
-        BufReader<ClientReader<R::Reader, R::Stream>>,
-        ClientWriter<R, R::Stream>,
+        ClientStreams<BufReader<ClientReader<R::Reader, R::Stream>>, ClientWriter<R, R::Stream>>,
     ) -> Result<SessionEnd, E>,
     E: Drop,
     requires { F.IsAlwaysCallable serve.now }
     ensures outcome { IfOk result (λ outcome.
-        (reader : _) × (writer : _) × F.post serve.now reader writer outcome
-        × (reads_standard (reader_inner reader) ≡ true) × (writes_standard writer ≡ true)) }
+        (client : _) × F.post serve.now client outcome
+        × (reader_medium (reader_inner client.reader) ≡ streams) × (writer_medium client.writer ≡ streams)) }
     ensures memory { IfErr result (λ error. error_kind error ≡ OutOfMemory) }
 {
     let input = ClientReader::Standard(rt.reader());
     let reader = BufReader::with_capacity(rt.alloc(), READ_AHEAD, input)?;
     let writer = ClientWriter::Standard(StandardOutput::new(*rt));
-    Ok(serve(reader, writer))
+    Ok(serve(ClientStreams::new(reader, writer)))
+}
+
+/// Serves the client that listens at a port of this machine.
+fn serve_port<R, F, E>(rt: &R, port: &str, serve: &F) -> io::Result<Result<SessionEnd, E>>
+where
+    R: Net + AllocGlobal + Input + Print + Copy + Drop,
+    F: Fn(
+        ClientStreams<BufReader<ClientReader<R::Reader, R::Stream>>, ClientWriter<R, R::Stream>>,
+    ) -> Result<SessionEnd, E>,
+    E: Drop,
+    requires { F.IsAlwaysCallable serve.now }
+    ensures { IfOk result (λ outcome.
+        (client : _) × F.post serve.now client outcome
+        × (reader_medium (reader_inner client.reader) ≡ by_socket) × (writer_medium client.writer ≡ by_socket)) }
+{
+    let Ok(port) = port.parse::<u16>() else {
+        return Err(io::Error::new(ErrorKind::InvalidInput, NO_PORT));
+    };
+    let stream = TcpStream::connect(rt, (Ipv4Addr::LOCALHOST, port))?;
+    let (input, output) = socket_ends(rt, stream, None)?;
+    Ok(serve(ClientStreams::new(input, output)))
+}
+
+/// Serves the client that listens at a socket file.
+fn serve_pipe<R, F, E>(rt: &R, name: &str, serve: &F) -> io::Result<Result<SessionEnd, E>>
+where
+    R: Net + AllocGlobal + Input + Print + Copy + Drop,
+    F: Fn(
+        ClientStreams<BufReader<ClientReader<R::Reader, R::Stream>>, ClientWriter<R, R::Stream>>,
+    ) -> Result<SessionEnd, E>,
+    E: Drop,
+    requires { F.IsAlwaysCallable serve.now }
+    ensures { IfOk result (λ outcome.
+        (client : _) × F.post serve.now client outcome
+        × (reader_medium (reader_inner client.reader) ≡ by_file) × (writer_medium client.writer ≡ by_file)) }
+{
+    let (reader, writer) = halves(PipeStream::connect(rt, name)?, None)?;
+    let reader = BufReader::with_capacity(rt.alloc(), READ_AHEAD, ClientReader::Pipe(reader))?;
+    let writer = ClientWriter::Pipe(writer);
+    Ok(serve(ClientStreams::new(reader, writer)))
 }
 
 /// Serves the clients that connect to an address. It returns only if nobody may listen there.
-fn serve_socket<R, F, E>(rt: &R, address: &str, serve: &F) -> io::Result<Result<SessionEnd, E>>
+fn serve_socket<R, F, E>(
+    rt: &R,
+    address: &str,
+    options: &ClientOptions,
+    serve: &F,
+) -> io::Result<Result<SessionEnd, E>>
 where
     R: Net + Wait + Clock + AllocGlobal + Input + Print + Eprint + Copy + Drop,
     F: Fn(
-        BufReader<ClientReader<R::Reader, R::Stream>>,
-        ClientWriter<R, R::Stream>,
+        ClientStreams<BufReader<ClientReader<R::Reader, R::Stream>>, ClientWriter<R, R::Stream>>,
     ) -> Result<SessionEnd, E>,
     E: Display + Drop,
     requires { F.IsAlwaysCallable serve.now }
@@ -175,7 +258,7 @@ where
     let listener = TcpListener::bind(rt, address)?;
     for _ in rt.forever() {
         match listener.accept() {
-            Ok((stream, _peer)) => serve_stream(rt, stream, serve),
+            Ok((stream, _peer)) => serve_stream(rt, stream, options, serve),
             Err(error) => {
                 let _ = eprintln!(rt; "{error}");
                 thread::sleep(rt, Duration::from_secs(PAUSE_SECONDS));
@@ -186,47 +269,55 @@ where
 }
 
 /// Serves the client at the other end of a stream, and prints what went wrong with it.
-fn serve_stream<R, F, E>(rt: &R, stream: R::Stream, serve: &F)
+fn serve_stream<R, F, E>(rt: &R, stream: R::Stream, options: &ClientOptions, serve: &F)
 where
     R: Net + AllocGlobal + Input + Print + Eprint + Copy + Drop,
     F: Fn(
-        BufReader<ClientReader<R::Reader, R::Stream>>,
-        ClientWriter<R, R::Stream>,
+        ClientStreams<BufReader<ClientReader<R::Reader, R::Stream>>, ClientWriter<R, R::Stream>>,
     ) -> Result<SessionEnd, E>,
     E: Display + Drop,
     requires { F.IsAlwaysCallable serve.now }
 {
-    let (reader, writer) = match ends_of(rt, stream) {
+    let ends = stream.try_clone().and_then(|whole| Ok((
+        whole,
+        socket_ends(rt, stream, options.silence)?,
+    )));
+    let (whole, (reader, writer)) = match ends {
         Ok(ends) => ends,
         Err(error) => {
             let _ = eprintln!(rt; "{error}");
             return;
         }
     };
-    let _ = match serve(reader, ClientWriter::Socket(writer)) {
+    let _ = match serve(ClientStreams::new(reader, writer)) {
         Ok(SessionEnd::ShutDown) => Ok(()),
         Ok(SessionEnd::Closed) => eprintln!(rt; "the client left without a shutdown"),
         Err(error) => eprintln!(rt; "{error:#}"),
     };
+    // A thread that reads still may hold the stream of a client that stays.
+    let _ = whole.shutdown(Shutdown::Both);
 }
 
 /// The reader and the writer of a stream.
-fn ends_of<R>(
+fn socket_ends<R>(
     rt: &R,
     stream: R::Stream,
+    silence: Option<Duration>,
 ) -> io::Result<
     (
         BufReader<ClientReader<R::Reader, R::Stream>>,
-        WriteHalf<R::Stream>,
+        ClientWriter<R, R::Stream>,
     ),
 >
 where
-    R: Net + AllocGlobal + Input,
+    R: Net + AllocGlobal + Input + Print + Drop,
+    ensures { IfOk result (λ ends.
+        (reader_medium (reader_inner ends.0) ≡ by_socket) × (writer_medium ends.1 ≡ by_socket)) }
 {
-    let (reader, writer) = halves(stream)?;
+    let (reader, writer) = halves(stream, silence)?;
     let reader = ClientReader::Socket(reader);
     Ok((
         BufReader::with_capacity(rt.alloc(), READ_AHEAD, reader)?,
-        writer,
+        ClientWriter::Socket(writer),
     ))
 }

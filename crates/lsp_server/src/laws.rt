@@ -12,18 +12,19 @@ ghost use Rattle.lsp_threads.specs.Threads.{ThreadsGive, ThreadsTell};
 pub use lsp_dispatch::laws::replies_once;
 pub use lsp_message::laws::{
     clone_of_error, clone_of_message, clone_of_notification, clone_of_request, clone_of_response,
-    front_of_frame, kinds_print_apart, one_text_without_floats,
+    frames_are_read_back, front_of_frame, kinds_print_apart, one_text_without_floats,
 };
 pub use lsp_peers::laws as peers;
 pub use lsp_queue::laws::pending_is_last_registered;
 use lsp_service::Server;
 pub use lsp_service::laws::{
-    call_sends_its_acts, lost_client_is_owed_what_is_held, queued_server_runs_its_server,
-    server_keeps_laws, server_over_boxes_keeps_laws, server_that_asks_keeps_laws,
-    woken_call_sends_its_acts, woken_queued_server_runs_its_server, woken_server_keeps_laws,
+    call_sends_its_acts, id_used_once_is_answered_once, lost_client_is_owed_what_is_held,
+    queued_server_runs_its_server, server_keeps_laws, server_over_a_transport_keeps_laws,
+    server_over_boxes_keeps_laws, server_that_asks_keeps_laws, woken_call_sends_its_acts,
+    woken_queued_server_runs_its_server, woken_server_keeps_laws,
 };
 use lsp_session::Listener;
-pub use lsp_session::laws::{dialogs, listeners, sessions, streams, turns};
+pub use lsp_session::laws::{clients, dialogs, listeners, sessions, streams, turns};
 pub use lsp_threads::laws::{
     nothing_is_passed_over_in_threads, threads_answer_requests, threads_keep_order,
     threads_that_ask_answer_requests, threads_that_ask_keep_order,

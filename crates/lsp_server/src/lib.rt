@@ -13,6 +13,7 @@ mod io_threads;
 pub mod laws;
 mod memory;
 mod outlet;
+mod pipe;
 mod places;
 mod reading;
 mod relays;
@@ -22,36 +23,114 @@ mod socket;
 mod stdio;
 mod transport;
 mod unread;
+mod words;
 mod writing;
 mod written;
 
 pub use connection::Connection;
 pub use io_fault::IoFault;
-pub use io_threads::{CHANNEL_ROOM, IoThreads};
-pub use lsp_message::{
-    ErrorCode, ExtractError, Front, Message, Notification, ReadFault, Request, RequestId, Response,
-    ResponseError, WriteFault, front, read_as, write_as, write_frames,
-};
-pub use lsp_peers::{Link, Outcome, Side, Step, World, WorldFault};
-pub use lsp_queue::{Incoming, Outgoing, RegisterFault, ReqQueue};
-pub use lsp_service::{
-    Act, Output, QueuedServer, Server, Service, WokenQueuedServer, WokenServer, serve_service,
-    session_of_service, session_with,
-};
-pub use lsp_session::{
-    Arrival, CallGate, EndSession, Event, FaultCounts, FrameOutbox, Gate, Handler, HandlerService,
-    Ignore, Inbox, ListGate, ListInbox, ListOutbox, Listener, OpenGate, Outbox, ProtocolError,
-    ReadEnd, SendFault, Served, SessionEnd, SessionFault, StopReason, StreamInbox, StreamLine,
-    TolerantInbox, WriteEnd, finish, finish_within, is_of_body, read_loop, read_loop_within, serve,
-    serve_line, session, session_within, shutdown, start_within, wait_within, write_loop,
-};
-pub use lsp_threads::{
-    PumpFault, StartFault, ThreadOptions, Threaded, UNREAD_BYTES, pump, pump_within, run_threads,
-    run_threads_of_service, run_threads_within,
-};
+pub use io_threads::CHANNEL_ROOM;
+pub use io_threads::IoThreads;
+pub use lsp_message::ErrorCode;
+pub use lsp_message::ExtractError;
+pub use lsp_message::Front;
+pub use lsp_message::Message;
+pub use lsp_message::Notification;
+pub use lsp_message::ReadFault;
+pub use lsp_message::Request;
+pub use lsp_message::RequestId;
+pub use lsp_message::Response;
+pub use lsp_message::ResponseError;
+pub use lsp_message::WriteFault;
+pub use lsp_message::front;
+pub use lsp_message::read_as;
+pub use lsp_message::write_as;
+pub use lsp_message::write_frames;
+pub use lsp_peers::Link;
+pub use lsp_peers::Outcome;
+pub use lsp_peers::Side;
+pub use lsp_peers::Step;
+pub use lsp_peers::World;
+pub use lsp_peers::WorldFault;
+pub use lsp_queue::Incoming;
+pub use lsp_queue::Outgoing;
+pub use lsp_queue::RegisterFault;
+pub use lsp_queue::ReqQueue;
+pub use lsp_service::Act;
+pub use lsp_service::Output;
+pub use lsp_service::QueuedServer;
+pub use lsp_service::Server;
+pub use lsp_service::Service;
+pub use lsp_service::WokenQueuedServer;
+pub use lsp_service::WokenServer;
+pub use lsp_service::serve_service;
+pub use lsp_service::session_of_service;
+pub use lsp_service::session_with;
+pub use lsp_service::session_with_over;
+pub use lsp_session::Arrival;
+pub use lsp_session::CallGate;
+pub use lsp_session::ClientStreams;
+pub use lsp_session::EndSession;
+pub use lsp_session::Event;
+pub use lsp_session::FaultCounts;
+pub use lsp_session::FrameOutbox;
+pub use lsp_session::Gate;
+pub use lsp_session::Handler;
+pub use lsp_session::HandlerService;
+pub use lsp_session::Ignore;
+pub use lsp_session::Inbox;
+pub use lsp_session::ListGate;
+pub use lsp_session::ListInbox;
+pub use lsp_session::ListOutbox;
+pub use lsp_session::Listener;
+pub use lsp_session::OpenGate;
+pub use lsp_session::Outbox;
+pub use lsp_session::ProtocolError;
+pub use lsp_session::ReadEnd;
+pub use lsp_session::SendFault;
+pub use lsp_session::Served;
+pub use lsp_session::SessionEnd;
+pub use lsp_session::SessionFault;
+pub use lsp_session::StopReason;
+pub use lsp_session::StreamInbox;
+pub use lsp_session::StreamTransport;
+pub use lsp_session::TolerantInbox;
+pub use lsp_session::Transcript;
+pub use lsp_session::WakingInbox;
+pub use lsp_session::WriteEnd;
+pub use lsp_session::finish;
+pub use lsp_session::finish_within;
+pub use lsp_session::is_of_body;
+pub use lsp_session::read_loop;
+pub use lsp_session::read_loop_within;
+pub use lsp_session::serve;
+pub use lsp_session::serve_transport;
+pub use lsp_session::session;
+pub use lsp_session::session_transcribed;
+pub use lsp_session::session_within;
+pub use lsp_session::shutdown;
+pub use lsp_session::start_within;
+pub use lsp_session::wait_within;
+pub use lsp_session::write_loop;
+pub use lsp_threads::PumpFault;
+pub use lsp_threads::Pumped;
+pub use lsp_threads::StartFault;
+pub use lsp_threads::ThreadOptions;
+pub use lsp_threads::Threaded;
+pub use lsp_threads::UNREAD_BYTES;
+pub use lsp_threads::pump;
+pub use lsp_threads::pump_telling;
+pub use lsp_threads::pump_within;
+pub use lsp_threads::run_threads;
+pub use lsp_threads::run_threads_of_service;
+pub use lsp_threads::run_threads_within;
 pub use memory::keep_freed_memory;
-pub use relays::{Parcel, RelayRx, RelayTx, relay};
+pub use relays::Parcel;
+pub use relays::RelayRx;
+pub use relays::RelayTx;
+pub use relays::relay;
 pub use servers::run_threads_with;
-pub use serving_thread::{spawn, spawn_with};
+pub use serving_thread::spawn;
+pub use serving_thread::spawn_with;
 pub use stdio::StandardOutput;
 pub use unread::UNREAD_WEIGHT;

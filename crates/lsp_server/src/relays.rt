@@ -1,5 +1,5 @@
 // The relay of `lsp_relay`, which carries anything, for messages.
-ghost use Rattle.std.specs.Prelude.{◌≡◌, ◌<◌, [], false, IfOk};
+ghost use Rattle.std.specs.Prelude.{◌≡◌, ◌<◌, [], false, IfOk, None};
 
 use lsp_message::Message;
 use std::alloc::{AllocError, Global};
@@ -21,6 +21,7 @@ pub fn relay(alloc: Global, room: usize) -> Result<(RelayTx, RelayRx), AllocErro
     ensures one_relay { IfOk result (λ ends. ends.1.relay ≡ ends.0.relay) }
     ensures empty { IfOk result (λ ends. (ends.0.sent ≡ []) × (ends.1.taken ≡ [])) }
     ensures unwoken { IfOk result (λ ends. (ends.1.wakes ≡ 0) × (ends.0.wakeable ≡ false)) }
+    ensures unplanned { IfOk result (λ ends. ends.0.source ≡ None) }
 {
     lsp_relay::relay(alloc, room)
 }

@@ -1,7 +1,8 @@
 // A session of a server, whose reader and writer run in threads of their own.
-ghost use Rattle.std.specs.Prelude.{IfOk, IfSome};
+ghost use Rattle.std.specs.Prelude.{[], Some, IfOk, IfSome};
 ghost use Rattle.lsp_service.specs.QueuedServer.{ServerSession};
 ghost use Rattle.lsp_service.specs.Stated.{unwoken};
+ghost use Rattle.lsp_threads.specs.Passing.{GivenTo, OfTaken, TakenFrom, noted};
 ghost use Rattle.lsp_threads.specs.Threads.{ThreadsTell};
 
 use lsp_service::{QueuedServer, Server};
@@ -20,6 +21,9 @@ use std::thread::Threads;
 /// allocation failed, and nothing was read or written then. At a content part that is no message (`is_of_body`) the listener `bad_bodies`
 /// is asked, at once and on your thread, from `initialized` up to `shutdown`. If it reads on, nothing is answered, the server is not told,
 /// and the next frame follows. Where it ends the session, and before and after in any case, such a part is `SessionFault::Read`.
+///
+/// `told` is of whatever reader and writer, also of standard input and output or a socket. It says of the bytes that the session took, with
+/// whatever follows them, and of those that were given, what `session` says where the reader's bytes are known.
 pub fn run_threads_with<T, R, W, S, L>(
     rt: &T,
     alloc: Global,
@@ -35,7 +39,12 @@ where
     W: Write + Drop + Send + 'static,
     S: Server,
     L: Listener,
-    ensures { IfSome (R.remaining reader) (λ text. IfOk result.1 (λ done.
+    ensures told { IfOk result.1 (λ done. OfTaken done.taken.parts (λ text.
+        ThreadsTell L.hears options.limit (ServerSession (unwoken S.Server) server result.0) text
+        bad_bodies.old bad_bodies.new (Some []) (noted done.given) done.answer)) }
+    ensures passed { IfOk result.1 (λ done. TakenFrom (R.remaining reader) done.taken.parts
+        × GivenTo (W.contents writer) done.given.parts (W.contents done.writer)) }
+    ensures session { IfSome (R.remaining reader) (λ text. IfOk result.1 (λ done.
         ThreadsTell L.hears options.limit (ServerSession (unwoken S.Server) server result.0) text
         bad_bodies.old bad_bodies.new (W.contents writer) (W.contents done.writer) done.answer)) }
 {

@@ -1,5 +1,7 @@
 //! A connection over TCP.
 ghost use Rattle.std.specs.Prelude.{◌≡◌, true, IfErr};
+ghost use Rattle.std.specs.Io.{WritesAtMost};
+ghost use Rattle.std.specs.Io.KnownBytes.{WriteAppends};
 ghost use Rattle.std.specs.IoError.{error_kind};
 ghost use Rattle.lsp_server.specs.IoFault.{is_connect_fault};
 ghost use Rattle.lsp_server.specs.declared.io_fault.IoFault.TheVariants.{Socket};
@@ -8,14 +10,15 @@ use crate::connection::Connection;
 use crate::io_fault::IoFault;
 use crate::io_threads::IoThreads;
 use std::io;
-use std::io::Write;
+use std::io::{ErrorKind, Read, Write};
 use std::net::{Net, OpenListener, OpenStream, Shutdown, TcpListener, TcpStream, ToSocketAddrs};
 use std::sync::Wait;
 use std::thread::Threads;
 use std::time::{Clock, Duration};
 
 /// How many seconds one write waits for room. The system takes what it can of a frame first, so it is two or three times as
-/// long before a peer that reads nothing is given up.
+/// long before a peer that reads nothing is given up. One that reads very little is given up too: a writer waits until there is room for
+/// a good part of the system's buffer.
 const WRITE_SECONDS: u64 = 10;
 
 impl Connection {
@@ -28,7 +31,7 @@ impl Connection {
     /// - `Socket`: the text is not an address with a port, or nobody listens there. The kind inside tells more.
     /// - `Memory`: an allocation failed.
     ///
-    /// If the peer reads nothing for half a minute, a write fails, and `IoThreads::join` answers write fault 1.
+    /// If the peer reads nothing, or very little, for half a minute, a write fails, and `IoThreads::join` answers write fault 1.
     pub fn connect<R, A>(rt: &R, addr: A) -> Result<(Connection, IoThreads), IoFault>
     where
         R: Net + Threads + Wait + Clock + AllocGlobal + Copy + Drop + Send + 'static,
@@ -104,7 +107,7 @@ impl Connection {
         R::Stream: Send + 'static,
         ensures { IfErr result (λ fault. is_connect_fault fault ≡ true) }
     {
-        let (reader, writer) = halves(stream).map_err(socket_fault)?;
+        let (reader, writer) = halves(stream, None).map_err(socket_fault)?;
         Connection::over(rt, reader, writer, limit)
     }
 }
@@ -115,13 +118,40 @@ fn socket_fault(error: io::Error) -> IoFault
     IoFault::Socket(error.kind())
 }
 
-/// What reads from a stream, and what writes to it.
-pub(crate) fn halves<S: OpenStream + Drop>(stream: S) -> io::Result<(S, WriteHalf<S>)> {
+/// What reads from a stream, and what writes to it. With a time, a read fails if the peer sends nothing for that long, until its first
+/// bytes came.
+pub(crate) fn halves<S: OpenStream + Drop>(
+    stream: S,
+    silence: Option<Duration>,
+) -> io::Result<(ReadHalf<S>, WriteHalf<S>)> {
     // What waits is one write, so holding it back gathers nothing. If the option is refused, frames are only slower.
     let _ = stream.set_nodelay(true);
     stream.set_write_timeout(Some(Duration::from_secs(WRITE_SECONDS)))?;
-    let reader = stream.try_clone()?;
+    stream.set_read_timeout(silence)?;
+    let reader = ReadHalf {
+        stream: stream.try_clone()?,
+        has_time: silence.is_some(),
+    };
     Ok((reader, WriteHalf { stream }))
+}
+
+/// A stream as the thread that reads holds it.
+#[derive(Drop)]
+pub struct ReadHalf<S> {
+    stream: S,
+    /// Whether a read fails after a time.
+    has_time: bool,
+}
+
+impl<S: OpenStream + Read> Read for ReadHalf<S> {
+    fn read(&mut self, buf: &mut [u8]) -> io::Result<usize> {
+        let count = self.stream.read(buf)?;
+        if self.has_time {
+            self.stream.set_read_timeout(None)?;
+            self.has_time = false;
+        }
+        Ok(count)
+    }
 }
 
 /// A stream as the thread that writes holds it. Its outgoing direction ends with this value: the peer reads the end then,
@@ -142,7 +172,7 @@ impl<S: OpenStream + Write> Write for WriteHalf<S> {
     ghost contents = { λ half. S.contents half.stream };
 
     fn write(&mut self, buf: &[u8]) -> io::Result<usize> {
-        let written = self.stream.write(buf);
+        let written = write_again(&mut self.stream, buf);
         if written.is_err() {
             let _ = self.stream.shutdown(Shutdown::Both);
         }
@@ -152,4 +182,19 @@ impl<S: OpenStream + Write> Write for WriteHalf<S> {
     fn flush(&mut self) -> io::Result<()> {
         self.stream.flush()
     }
+}
+
+/// Writes as `write` does, and again if a signal came before anything was written. While a write has a time, a stop of the process and its
+/// continuation are such a signal (signal(7)).
+fn write_again<W: Write>(writer: &mut W, buf: &[u8]) -> io::Result<usize>
+    ensures bound { WritesAtMost result buf.now }
+    ensures bytes { WriteAppends (W.contents writer.old) (W.contents writer.new) result buf.now }
+{
+    for _ in 0..u64::MAX {
+        match writer.write(buf) {
+            Err(error) if error.kind() == ErrorKind::Interrupted => {}
+            written => return written,
+        }
+    }
+    writer.write(buf)
 }

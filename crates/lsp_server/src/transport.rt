@@ -4,7 +4,7 @@ ghost use Rattle.lsp_session.specs.Boxes.{handed_back};
 
 use crossbeam_channel::{Receiver, RecvTimeoutError, SendError, Sender};
 use lsp_message::Message;
-use lsp_session::{Arrival, Event, Inbox, Outbox, SendFault};
+use lsp_session::{Event, Inbox, Outbox, SendFault};
 use std::sync::Wait;
 use std::time::{Clock, Duration};
 
@@ -36,10 +36,6 @@ impl<'a, R: Wait + Clock> Inbox for ChannelInbox<'a, R> {
             Ok(message) => Event::Message(message),
             Err(_) => Event::Closed,
         }
-    }
-
-    fn receive_or_woken(&mut self) -> Arrival {
-        Arrival::from_event(self.receive())
     }
 }
 

@@ -21,7 +21,7 @@ module _ {P : Type 0} where
   sent_one d (tells method params) = refl
   sent_one d act = grind (arith, append-nil)
 
-  sent_all : (d : Queues P) (acts : List (Act P)) → (does_all d acts).sent ≡ d.sent ++ all_sends d acts
+  pub sent_all : (d : Queues P) (acts : List (Act P)) → (does_all d acts).sent ≡ d.sent ++ all_sends d acts
   sent_all d [] = sym (append-nil d.sent)
   sent_all d (act ∷ acts) =
       sent_all (does d act) acts ∙ ap (λ (l : List Message). l ++ all_sends (does d act) acts) (sent_one d act) ∙ append_assoc d.sent (sends_by d act) (all_sends (does d act) acts)

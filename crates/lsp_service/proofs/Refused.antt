@@ -6,22 +6,23 @@ use Rattle.lsp_message.specs.Message.{Message, ErrorObject, request, notificatio
 use Rattle.lsp_message.specs.Methods.{is_initialize}
 use Rattle.lsp_queue.specs.Queue.{Pending}
 use Rattle.lsp_service.proofs.Acting.{acts_at}
-use Rattle.lsp_service.specs.Acts.{Act, asks, tells, Queues}
-use Rattle.lsp_service.specs.Law.{one_if, acts_of, all_sent, kept_under, was_given, is_reply_under, is_request_under, how_many, held_under, NeverMore, OnceOrEnded, Call, TakesCalls, GivesOwnPayloads, KeepsLaws}
+use Rattle.lsp_service.specs.Acts.{Act, asks, tells, Queues, cancelled_by, does, empty_queues}
+use Rattle.lsp_service.specs.Law.{one_if, acts_of, all_sent, kept_under, was_given, is_reply_under, is_request_under, how_many, held_under, AnswersCancelled, AnswersLast, NeverMore, OnceOrEnded, WasToSend, Call, SendsActs, TakesCalls, TakesPart, GivesOwnPayloads, KeepsLaws}
 use Rattle.lsp_service.specs.QueuedServer.{with_queues, ServerSession, WorksSending}
 use Rattle.lsp_service.specs.Stated.{Stated, unwoken}
-use Rattle.lsp_service.specs.SentByActs.{all_sends}
+use Rattle.lsp_service.specs.SentByActs.{all_sends, acts_done_at, cancelled_answer, queues_at}
 use Rattle.lsp_service.specs.View.{seen}
 use Rattle.lsp_service.specs.declared.queued_server.QueuedServer.{QueuedServer}
 use Rattle.lsp_service.specs.declared.server.Server.{Ghosts}
 use Rattle.lsp_session.proofs.Ran.{Ran, StepCase, row, at_initialize, at_initialized, at_served, at_woken, idle, reaches_ran, no_one}
 use Rattle.lsp_session.proofs.Refused.{served_first}
-use Rattle.lsp_session.specs.Session.{Exchange, sends_of, SessionAnswer, Stop, exhausted, Phase, starting}
+use Rattle.lsp_session.specs.Session.{Exchange, messages_of, sends_of, SessionAnswer, Stop, decided, exhausted, Phase, starting}
 use Rattle.lsp_session.specs.declared.loops.handler.SessionEnd.{SessionEnd}
+use Rattle.lsp_session.specs.declared.loops.handler.SessionEnd.TheVariants.{Closed}
 use Rattle.serde_json.specs.Data.{Data}
-use Rattle.std.proofs.Common.{◌≡◌, refl, sym, ◌∙◌, ap, subst, inl, inr, ℕ, ◌+◌, ◌≤◌, Bool, true, false, List, [], ◌∷◌, ◌++◌, arith, Option, Some, None}
+use Rattle.std.proofs.Common.{◌≡◌, refl, sym, ◌∙◌, ap, subst, inl, inr, ℕ, ◌+◌, ◌≤◌, Bool, true, false, List, [], ◌∷◌, ◌++◌, append_assoc, arith, Option, Some, None}
 use Rattle.std.specs.Ordering.{eq_by_cmp}
-use Rattle.std.specs.Prelude.{Result, Ok, pos, ◌||◌, if◌then◌else◌}
+use Rattle.std.specs.Prelude.{Result, Ok, codes, pos, ◌||◌, if◌then◌else◌}
 
 -- an id is itself
 same : (id : Id) → eq_by_cmp id_cmp id id ≡ true
@@ -78,6 +79,26 @@ pub replies_again : (id : Id) (exchanges : List Exchange) (stop : Stop) (held : 
     → how_many (is_reply_under id) (sends_of exchanges) ≡ 2 → OnceOrEnded id exchanges stop held answer → ⊥
 replies_again id exchanges stop held answer two (inl one) = let e : 2 ≡ 1 = sym two ∙ one in cc (e)
 replies_again id exchanges stop held answer two (inr rest) = let e : 2 ≡ 0 = sym two ∙ rest.0 in cc (e)
+
+-- the last request under an id has no reply, it is not held, and the session ended well, whether or not the id was used before
+pub drops_last : (id : Id) (method : List ℕ) (params : Data) (sent : List Message) (before since : List Exchange) (stop : Stop) (held : Pending (Unit {0})) (end : SessionEnd)
+    → how_many (is_request_under id) (messages_of since) ≡ 0 → how_many (is_reply_under id) (sends_of (asked id method params sent ∷ since)) ≡ 0
+    → held_under id held ≡ 0 → AnswersLast id (before ++ asked id method params sent ∷ since) stop held (Ok end) → ⊥
+drops_last id method params sent before since stop held end none silent free answers =
+    never_replies id (asked id method params sent ∷ since) stop held end silent free (answers before (asked id method params sent) since refl (same id) none)
+
+-- a request is cancelled, it has no reply after that, and the session ended well
+pub leaves_cancelled : (id : Id) (method given : List ℕ) (params cancel : Data) (before later : List Exchange) (stop : Stop) (end : SessionEnd)
+    → cancelled_by given cancel ≡ Some id
+    → AnswersCancelled id (before ++ asked id method params [] ∷ record { came = Some (notification given cancel); sent = [] } ∷ later) stop (Ok end) → ⊥
+leaves_cancelled id method given params cancel before later stop end cancels answers =
+    elim (answers (before ++ asked id method params [] ∷ []) cancelling later (sym (append_assoc before (asked id method params [] ∷ []) (cancelling ∷ later))) cancels before (asked id method params []) [] refl (same id) refl) [
+      | inl one ↦ cc (one)
+      | inr ends ↦ ends.1
+    ]
+  where
+    cancelling : Exchange
+    cancelling = record { came = Some (notification given cancel); sent = [] }
 
 -- ---- replies of the client
 
@@ -147,6 +168,34 @@ module _ {S P : Type 0} (may : Stated S P) where
         let out = session.out in
         silent_among stop before after starting out.last session.old out.after (reaches_ran (with_queues may) stop starting out.last session.old out.after _ out.reached)
 
+-- ---- acts that are not sent, or not in their place
+
+module _ {S P : Type 0} (may : Stated S P) (method : List ℕ) (params : Data) (more : List (Act P)) where
+  -- what is done first is sent first
+  done_first : (came : Option Message) → (rest : List (Act P)) × (acts_done_at came (tells method params ∷ more) ≡ tells method params ∷ rest)
+  done_first None = (more, refl)
+  done_first (Some (request i name given)) = (more, refl)
+  done_first (Some (notification name given)) = (more ++ cancelled_answer (cancelled_by name given), refl)
+  done_first (Some (response i outcome)) = (more, refl)
+
+  -- the server tells something at a message or a wake, and nothing is sent there, whatever is sent later
+  pub tells_too_late : (old new : S × Queues P) (came : Option Message) (call : Call P) (calls : List (Call P)) (xs : List Exchange)
+      → call.acts ≡ tells method params ∷ more → SendsActs may old (call ∷ calls) (record { came = came; sent = [] } ∷ xs) new → ⊥
+  tells_too_late old new came call calls xs did sends =
+      let at = sends.1 in
+      let first = done_first came in
+      let acts : at.acts ≡ tells method params ∷ more = sym (ap (λ (c : Call P). c.acts) sends.2) ∙ did in
+      let done : acts_done_at came at.acts ≡ tells method params ∷ first.0 = ap (acts_done_at came) acts ∙ first.1 in
+      no_one old.1.sent (all_sends (does (queues_at old.1 came at.payload) (tells method params)) first.0) (notification method params)
+      (sym (at.sent ∙ ap (λ l. old.1.sent ++ all_sends (queues_at old.1 came at.payload) l) done))
+
+  -- the server tells something at `initialized`, and nothing is sent there
+  pub opens_silently : (start last : S) (opening : Exchange) (later : List Exchange) → opening.sent ≡ []
+      → (part : TakesPart may start last opening later) → part.begun ≡ tells method params ∷ more → ⊥
+  opens_silently start last opening later silent part did =
+      let e : [] ≡ notification method params ∷ all_sends (does empty_queues (tells method params)) more = sym silent ∙ part.opened ∙ ap (all_sends empty_queues) did in
+      cc (e)
+
 -- a server that waits for nothing did something at a wake
 pub acts_unwoken : {S P : Type 0} (may : Ghosts S P) (count : ℕ) (old new : S) (payload : Option P) (act : Act P) (acts : List (Act P)) (more : List (Call P))
     → TakesCalls (unwoken may) count old (record { came = None; payload = payload; acts = act ∷ acts } ∷ more) new → ⊥
@@ -159,6 +208,28 @@ module _ {S P : Type 0} (may : Stated S P) (first last : S) (held : Pending (Uni
   pub serves_first : (id : Id) (method : List ℕ) (params result : Data) → is_initialize (request id method params) ≡ false
       → KeepsLaws may first last held (asked id method params (response id (Ok result) ∷ []) ∷ more) stop shutdown_reply answer → ⊥
   serves_first id method params result other laws = served_first stop shutdown_reply answer id method params result more other laws.order
+
+  -- a request gets its result, a second one under the same id gets nothing and is not held, and then `exit` comes
+  pub drops_reused : (id : Id) (method : List ℕ) (params result given : Data) → held_under id held ≡ 0 → stop ≡ decided → answer ≡ Ok Closed
+      → KeepsLaws may first last held (more ++ asked id method params (response id (Ok result) ∷ []) ∷ asked id method params []
+      ∷ record { came = Some (notification (codes "exit") given); sent = [] } ∷ []) stop shutdown_reply answer → ⊥
+  drops_reused id method params result given free decides closes laws =
+      drops_last id method params [] (more ++ answered ∷ []) (exit ∷ []) decided held Closed refl refl free
+      (subst (λ l. AnswersLast id l decided held (Ok Closed)) cut
+      (subst (λ by. AnswersLast id laws.all decided held by) closes (subst (λ by. AnswersLast id laws.all by held answer) decides (laws.once enough id))))
+    where
+      answered : Exchange
+      answered = asked id method params (response id (Ok result) ∷ [])
+
+      exit : Exchange
+      exit = record { came = Some (notification (codes "exit") given); sent = [] }
+
+      enough : stop ≡ exhausted → ⊥
+      enough out = let e : decided ≡ exhausted = sym decides ∙ out in cc (e)
+
+      cut : laws.all ≡ (more ++ answered ∷ []) ++ asked id method params [] ∷ exit ∷ []
+      cut = subst (λ by. WasToSend by (more ++ answered ∷ asked id method params [] ∷ exit ∷ []) laws.all) decides laws.to_send
+          ∙ sym (append_assoc more (answered ∷ []) (asked id method params [] ∷ exit ∷ []))
 
   -- the server is left in a state that its last exchange did not lead to
   pub forgets : (stop ≡ exhausted → ⊥) → (laws : KeepsLaws may first last held exchanges stop shutdown_reply answer) → (last ≡ laws.after → ⊥) → ⊥

@@ -12,7 +12,7 @@ use Rattle.lsp_message.specs.Message.{Message, ErrorObject, request, notificatio
 use Rattle.lsp_queue.specs.Queue.{Asked, pending_of, count_of}
 use Rattle.lsp_session.specs.Session.{Exchange, came_of, sends_of}
 use Rattle.lsp_service.specs.Acts.{Act, tells, asks, cancelled_by, Queues, is_spent, sends_request, does, does_all, ids_after}
-use Rattle.lsp_service.specs.Law.{came_with, is_reply_under, Sent, Call, requests_in, request_of, ids_after_all, sent_by, all_sent, kept_under, acts_of, was_given, brings, GivesOwnPayloads, TakesCalls}
+use Rattle.lsp_service.specs.Law.{came_with, is_reply_under, Sent, Call, requests_in, request_of, ids_after_all, sent_by, all_sent, kept_under, acts_of, was_given, brings, GivesOwnPayloads, SendsActs, TakesCalls}
 use Rattle.lsp_service.specs.QueuedServer.{WorksSending}
 use Rattle.lsp_service.specs.View.{seen, queues_of}
 use Rattle.lsp_service.specs.declared.queued_server.QueuedServer.{QueuedServer}
@@ -231,6 +231,7 @@ module _ {S P : Type 0} (may : Stated S P) where
     pub took : TakesCalls may (count_of (queues_of w.queues).asked) w.server calls w'.server
     pub sent : requests_in (sends_of xs) ≡ map_list request_of (all_sent (count_of (queues_of w.queues).asked) (acts_of calls))
     pub fits : Fits (count_of (queues_of w.queues).asked) asked before calls
+    pub acted : SendsActs may (seen w) calls xs (seen w')
 
   pub call_all : (w w' : QueuedServer S P) (xs : List Exchange) (sent : List (Sent P)) (before : List (Call P)) → (queues_of w.queues).sent ≡ []
       → Agrees sent before (queues_of w.queues).asked → GivesAll w xs w' → Turned w w' xs sent before
@@ -240,6 +241,7 @@ module _ {S P : Type 0} (may : Stated S P) where
     took = ap (λ (x : QueuedServer S P). x.server) all;
     sent = refl;
     fits = tt;
+    acted = ap (λ (x : QueuedServer S P). seen x) all;
   }
   call_all w w' (x ∷ xs) sent before silent agrees all =
       let mid = all.0 in
@@ -275,4 +277,5 @@ module _ {S P : Type 0} (may : Stated S P) where
           fits_one sent before d x.came a.payload a.acts a.brought agrees,
           subst (λ k. Fits k (sent ++ all_sent n a.acts) (before ++ call ∷ []) rest.calls) count rest.fits,
         );
+        acted = (seen mid, a, refl, rest.acted);
       }

@@ -1,5 +1,5 @@
 -- A server takes part in its session, by its stated meaning, and the session keeps the laws.
-use Rattle.std.proofs.Common.{◌≡◌, refl, sym, ◌∙◌, ap, subst, inl, inr, ◌⊎◌, Bool, true, false, List, [], ◌∷◌, ◌++◌, append_assoc, append-nil, Option, Some, None}
+use Rattle.std.proofs.Common.{◌≡◌, refl, sym, ◌∙◌, ap, subst, inl, inr, Bool, true, false, List, [], ◌∷◌, ◌++◌, append-nil, Option, Some, None}
 use Rattle.std.proofs.lemmas.List.Folds.{list_all-append}
 use Rattle.std.specs.Bool.{MatchBool}
 use Rattle.std.specs.List.{list_all}
@@ -10,159 +10,107 @@ use Rattle.lsp_queue.specs.Queue.{count_of}
 use Rattle.lsp_message.specs.Id.{Id}
 use Rattle.lsp_message.specs.Message.{Message, ErrorObject, request, response}
 use Rattle.lsp_message.specs.Methods.{is_initialize, is_initialized, is_exit}
-use Rattle.lsp_session.proofs.Ran.{part_none, part_one, Ran, reaches_ran, early_request, early_note, unasked as unasked_for, uninvited, shuts, leaves as goes, exits, stays, StepCase, at_initialize, at_initialized, at_served, at_woken, idle, row, IsWhole as IsSent}
+use Rattle.lsp_session.proofs.Ran.{sends_both, early_request, early_note, unasked as unasked_for, uninvited, shuts, leaves as goes, exits, stays, StepCase, at_initialize, at_initialized, at_served, at_woken, idle, row}
 use Rattle.lsp_session.specs.ProtocolError.{expected_initialize, expected_initialized, unexpected_in_shutdown}
 use Rattle.lsp_session.specs.Replies.{null_reply, IsEarlyReply}
-use Rattle.lsp_session.specs.Session.{Exchange, came_of, sends_of, SessionAnswer, Stop, refused, Phase, starting, replied as in_reply, serving, asked, ended, phase_after, is_served, Fails, Leaves, Step, SessionOut}
+use Rattle.lsp_session.specs.Session.{Exchange, came_of, sends_of, SessionAnswer, Stop, Phase, starting, replied as in_reply, serving, asked, ended, phase_after, is_served, Fails, Leaves, Step, Steps, SessionOut}
 use Rattle.lsp_session.specs.SessionLaws.{is_refusal}
 use Rattle.lsp_session.specs.declared.loops.handler.SessionEnd.TheVariants.{Closed, ShutDown}
-use Rattle.lsp_service.specs.Acts.{Queues, TakesBack, does_all, empty_queues, unsent}
-use Rattle.lsp_service.specs.Law.{IsWhole, requests_in, request_of, ids_after_all, all_sent, acts_of, is_call, IsUnserved, TakesCalls, TakesPart, GivesPayloads, GoesOn, Initializes, KeepsLaws, LawfulSession}
+use Rattle.lsp_service.specs.Acts.{Queues, TakesBack, cleared, does_all, empty_queues, unsent}
+use Rattle.lsp_service.specs.Law.{requests_in, request_of, ids_after_all, all_sent, acts_of, is_call, IsUnserved, SendsActs, TakesCalls, TakesPart, GivesPayloads, GoesOn, Initializes, KeepsLaws, LawfulSession}
 use Rattle.lsp_service.specs.QueuedServer.{with_queues, woken_with_queues, held_by, OpensSending, ServerSession, WorksSending}
 use Rattle.lsp_service.specs.declared.queued_server.QueuedServer.{QueuedServer}
 use Rattle.lsp_service.specs.declared.queued_server.WokenQueuedServer.{WokenQueuedServer}
+use Rattle.lsp_service.proofs.Acting.{sent_all as acts_sent}
 use Rattle.lsp_service.proofs.Holding.{session_held}
-use Rattle.lsp_service.proofs.Counting.{Fresh, kept_to_last, never_more, answered_once}
+use Rattle.lsp_service.proofs.Counting.{Fresh, kept_to_last, never_more, answered_last, answers_cancelled, all_steps}
 use Rattle.lsp_service.proofs.Returning.{requests-append, ids_all, sent-append, sent_all, Agrees, agrees_start, agrees_acts, Fits, own_payloads, GivesAll, call_all}
 use Rattle.lsp_service.specs.View.{queues_of, seen}
 use Rattle.lsp_service.specs.Stated.{Stated}
 use Rattle.lsp_session.proofs.Ordering.{keeps_order}
 
-whole_sent : (stop : Stop) → IsWhole stop → IsSent stop
-whole_sent (refused fault) whole = whole
-whole_sent stop whole = tt
-
-module _ {S P : Type 0} (may : Stated S P) (stop : Stop) where
+module _ {S P : Type 0} (may : Stated S P) where
   abbrev Runs_from : Phase → QueuedServer S P → List Exchange → Phase → QueuedServer S P → Type 0
-  Runs_from = Ran (with_queues may) stop
+  Runs_from = Steps (with_queues may)
 
   -- ---- from `initialized` on
 
   over : (xs : List Exchange) (shutdown_reply : Option Message) (by : SessionAnswer) (q : Phase) (w w' : QueuedServer S P) → Runs_from (ended shutdown_reply by) w xs q w' → (xs ≡ []) × (w' ≡ w)
   over [] shutdown_reply by q w w' run = (refl, run.1)
-  over (x ∷ xs) shutdown_reply by q w w' run = absurd run.6
+  over (x ∷ xs) shutdown_reply by q w w' run = absurd run.2
 
   -- after the reply to `shutdown` nothing is sent, and the server stays
   quiet : (xs : List Exchange) (i : Id) (q : Phase) (w w' : QueuedServer S P) → Runs_from (asked i) w xs q w' → (sends_of xs ≡ []) × (w' ≡ w)
   quiet [] i q w w' run = (refl, run.1)
-  quiet (x ∷ xs) i q w w' run = by x.came run.6
+  quiet (x ∷ xs) i q w w' run = by x.came run.2
     where
-      none : (by : SessionAnswer) → run.5 ≡ w → run.0 ≡ [] → run.4 ≡ ended (Some (null_reply i)) by → (x.sent ++ sends_of xs ≡ []) × (w' ≡ w)
+      none : (by : SessionAnswer) → run.1 ≡ w → x.sent ≡ [] → run.0 ≡ ended (Some (null_reply i)) by → (x.sent ++ sends_of xs ≡ []) × (w' ≡ w)
       none by same silent next =
-          let rest = over xs (Some (null_reply i)) by q run.5 w' (rw next at run.8) in
-          (rw (part_none x.sent run.1 run.0 run.2 silent, rest.0) refl, rest.1 ∙ same)
+          let rest = over xs (Some (null_reply i)) by q run.1 w' (rw next at run.3) in
+          (rw (silent, rest.0) refl, rest.1 ∙ same)
 
-      at : (b : Bool) → MatchBool b ((run.0 ≡ []) × (run.4 ≡ ended (Some (null_reply i)) (Ok ShutDown))) (Fails unexpected_in_shutdown (asked i) run.0 run.4)
-          → run.5 ≡ w → (x.sent ++ sends_of xs ≡ []) × (w' ≡ w)
+      at : (b : Bool) → MatchBool b ((x.sent ≡ []) × (run.0 ≡ ended (Some (null_reply i)) (Ok ShutDown))) (Fails unexpected_in_shutdown (asked i) x.sent run.0)
+          → run.1 ≡ w → (x.sent ++ sends_of xs ≡ []) × (w' ≡ w)
       at true step same = none (Ok ShutDown) same step.0 step.1
       at false step same = none (Err (unexpected_in_shutdown step.0)) same step.1 step.2
 
-      by : (came : Option Message) → Step (with_queues may) (asked i) w came run.0 run.4 run.5 → (x.sent ++ sends_of xs ≡ []) × (w' ≡ w)
+      by : (came : Option Message) → Step (with_queues may) (asked i) w came x.sent run.0 run.1 → (x.sent ++ sends_of xs ≡ []) × (w' ≡ w)
       by None step = absurd step
       by (Some m) step = at (is_exit m) step.0 step.1
 
   -- the server's calls, and what came after them
   record Served (w w' : QueuedServer S P) (xs : List Exchange) : Type 0 where
     served : List Exchange
-    rest : List (Option Message)
+    rest : List Exchange
     given : GivesAll may w served w'
     all_served : list_all is_call (came_of served) ≡ true
-    unserved : IsUnserved rest
-    cut : came_of xs ≡ came_of served ++ rest
-    more : List Message
-    sent : requests_in (sends_of served) ≡ requests_in (sends_of xs) ++ more
-    whole : IsWhole stop → more ≡ []
+    unserved : IsUnserved (came_of rest)
+    cut : xs ≡ served ++ rest
+    silent : requests_in (sends_of rest) ≡ []
 
   -- `shutdown` or `exit` comes, or nothing
   abbrev serve_left : (w w' : QueuedServer S P) (xs : List Exchange) → IsUnserved (came_of xs) → (requests_in (sends_of xs) ≡ []) × (w' ≡ w) → Served w w' xs
-  serve_left w w' xs unserved (silent, same) = record {
-    served = [];
-    rest = came_of xs;
-    given = same;
-    all_served = refl;
-    unserved = unserved;
-    cut = refl;
-    more = [];
-    sent = rw silent refl;
-    whole = λ is. refl;
-  }
-
-  -- What is sent at one more call, and then at the later ones: if a part of that is left, there are none.
-  record Sends (mid w' : QueuedServer S P) (xs : List Exchange) (full : List Message) (output : List Message) : Type 0 where
-    later : Served mid w' xs
-    more : List Message
-    sent : requests_in full ++ requests_in (sends_of later.served) ≡ requests_in (output ++ sends_of xs) ++ more
-    whole : IsWhole stop → more ≡ []
-
-  sends_more : (mid w' : QueuedServer S P) (xs : List Exchange) (full output more : List Message) → output ++ more ≡ full
-      → (more ≡ []) ⊎ ((xs ≡ []) × (IsSent stop → ⊥)) → (xs ≡ [] → w' ≡ mid) → Served mid w' xs → Sends mid w' xs full output
-  sends_more mid w' xs full output more cut (inl none) ends later = record {
-    later = later;
-    more = later.more;
-    sent = (λ i. requests_in (same i) ++ later.sent i) ∙ sym (append_assoc (requests_in output) (requests_in (sends_of xs)) later.more)
-        ∙ ap (λ (l : List Message). l ++ later.more) (sym (requests-append output (sends_of xs)));
-    whole = later.whole;
-  }
-    where
-      same : full ≡ output
-      same = sym cut ∙ ap (λ (l : List Message). output ++ l) none ∙ append-nil output
-  sends_more mid w' xs full output more cut (inr last) ends later = record {
-    later = serve_left mid w' xs (rw last.0 tt) (rw last.0 refl, ends last.0);
-    more = requests_in more;
-    sent = append-nil (requests_in full) ∙ ap requests_in (sym cut) ∙ requests-append output more
-        ∙ ap (λ (l : List Message). requests_in l ++ requests_in more) (sym (append-nil output))
-        ∙ ap (λ (l : List Exchange). requests_in (output ++ sends_of l) ++ requests_in more) (sym last.0);
-    whole = λ is. absurd (last.1 (whole_sent stop is));
-  }
+  serve_left w w' xs unserved (silent, same) = record { served = []; rest = xs; given = same; all_served = refl; unserved = unserved; cut = refl; silent = silent }
 
   -- one more call comes first
-  serve_more : (w mid w' : QueuedServer S P) (x : Exchange) (xs : List Exchange) (full : List Message) → is_call x.came ≡ true
-      → WorksSending may (seen w) x.came full (seen mid) → Sends mid w' xs full x.sent → Served w w' (x ∷ xs)
-  serve_more w mid w' x xs full call gives s = record {
-    served = record { came = x.came; sent = full } ∷ s.later.served;
-    rest = s.later.rest;
-    given = (mid, gives, s.later.given);
-    all_served = rw call s.later.all_served;
-    unserved = s.later.unserved;
-    cut = ap (λ (l : List (Option Message)). x.came ∷ l) s.later.cut;
-    more = s.more;
-    sent = requests-append full (sends_of s.later.served) ∙ s.sent;
-    whole = s.whole;
+  serve_more : (w mid w' : QueuedServer S P) (x : Exchange) (xs : List Exchange) → is_call x.came ≡ true
+      → WorksSending may (seen w) x.came x.sent (seen mid) → Served mid w' xs → Served w w' (x ∷ xs)
+  serve_more w mid w' x xs call gives s = record {
+    served = x ∷ s.served;
+    rest = s.rest;
+    given = (mid, gives, s.given);
+    all_served = rw call s.all_served;
+    unserved = s.unserved;
+    cut = ap (λ (l : List Exchange). x ∷ l) s.cut;
+    silent = s.silent;
   }
 
-  left_silent : (w w' : QueuedServer S P) (q next : Phase) (m : Message) (full output more : List Message) (xs : List Exchange) → Leaves m full next → output ++ more ≡ full → (output ≡ [] → full ≡ [])
+  left_silent : (w w' : QueuedServer S P) (q next : Phase) (m : Message) (output : List Message) (xs : List Exchange) → Leaves m output next
       → Runs_from next w xs q w' → (requests_in (output ++ sends_of xs) ≡ []) × (w' ≡ w)
-  left_silent w w' q next (request i method params) full output more xs leaves cut none run =
+  left_silent w w' q next (request i method params) output xs leaves run =
       let rest = quiet xs i q w w' (rw leaves.1 at run) in
-      (rw (part_one output more full (null_reply i) cut none leaves.0, rest.0) refl, rest.1)
-  left_silent w w' q next m full output more xs leaves cut none run =
+      (rw (leaves.0, rest.0) refl, rest.1)
+  left_silent w w' q next m output xs leaves run =
       let rest = over xs None (Ok Closed) q w w' (rw leaves.1 at run) in
-      (rw (part_none output more full cut leaves.0, rest.0) refl, rest.1)
-
-  -- if no more messages come, the server stays
-  at_end : (xs : List Exchange) (p q : Phase) (w w' : QueuedServer S P) → Runs_from p w xs q w' → xs ≡ [] → w' ≡ w
-  at_end [] p q w w' run none = run.1
-  at_end (x ∷ xs) p q w w' run none = absurd (cc (none))
+      (rw (leaves.0, rest.0) refl, rest.1)
 
   serve_all : (xs : List Exchange) (q : Phase) (w w' : QueuedServer S P) → Runs_from serving w xs q w' → Served w w' xs
   serve_all [] q w w' run = serve_left w w' [] tt (refl, run.1)
-  serve_all (x ∷ xs) q w w' run = by (λ rest. serve_all xs q run.5 w' rest) x.came refl run.6
+  serve_all (x ∷ xs) q w w' run = by (λ rest. serve_all xs q run.1 w' rest) x.came refl run.2
     where
-      call : (Runs_from serving run.5 xs q w' → Served run.5 w' xs) → is_call x.came ≡ true
-          → WorksSending may (seen w) x.came run.0 (seen run.5) × (run.4 ≡ serving) → Served w w' (x ∷ xs)
-      call later is step =
-          serve_more w run.5 w' x xs run.0 is step.0
-          (sends_more run.5 w' xs run.0 x.sent run.1 run.2 run.7 (at_end xs run.4 q run.5 w' run.8) (later (rw step.1 at run.8)))
+      call : (Runs_from serving run.1 xs q w' → Served run.1 w' xs) → is_call x.came ≡ true
+          → WorksSending may (seen w) x.came x.sent (seen run.1) × (run.0 ≡ serving) → Served w w' (x ∷ xs)
+      call later is step = serve_more w run.1 w' x xs is step.0 (later (rw step.1 at run.3))
 
-      at : (Runs_from serving run.5 xs q w' → Served run.5 w' xs) → (m : Message) → x.came ≡ Some m → (b : Bool) → is_served m ≡ b
-          → MatchBool b ((with_queues may).outputs w m run.0 run.5 × (run.4 ≡ serving)) (Leaves m run.0 run.4 × (run.5 ≡ w))
+      at : (Runs_from serving run.1 xs q w' → Served run.1 w' xs) → (m : Message) → x.came ≡ Some m → (b : Bool) → is_served m ≡ b
+          → MatchBool b ((with_queues may).outputs w m x.sent run.1 × (run.0 ≡ serving)) (Leaves m x.sent run.0 × (run.1 ≡ w))
           → Served w w' (x ∷ xs)
       at later m there true e step = call later (rw (there, e) refl) (rw there step)
       at later m there false e step =
-          let left = left_silent run.5 w' q run.4 m run.0 x.sent run.1 xs step.0 run.2 run.3 run.8 in
+          let left = left_silent run.1 w' q run.0 m x.sent xs step.0 run.3 in
           serve_left w w' (x ∷ xs) (rw (there, e) refl) (left.0, left.1 ∙ step.1)
 
-      by : (Runs_from serving run.5 xs q w' → Served run.5 w' xs) → (came : Option Message) → x.came ≡ came → Step (with_queues may) serving w came run.0 run.4 run.5
+      by : (Runs_from serving run.1 xs q w' → Served run.1 w' xs) → (came : Option Message) → x.came ≡ came → Step (with_queues may) serving w came x.sent run.0 run.1
           → Served w w' (x ∷ xs)
       by later None none step = call later (rw none refl) (rw none step)
       by later (Some m) there step = at later m there (is_served m) refl step
@@ -170,55 +118,69 @@ module _ {S P : Type 0} (may : Stated S P) (stop : Stop) where
   -- ---- from the result of `initialize` on
 
   -- The server's part: what it sent at `initialized`, its calls, and what came after these.
-  takes_part : (w mid w' : QueuedServer S P) (xs : List Exchange) (full output : List Message) → Fresh may w → OpensSending may (seen w) full (seen mid)
-      → Sends mid w' xs full output → TakesPart may w.server w'.server (came_of xs) stop (requests_in (output ++ sends_of xs))
-  takes_part w mid w' xs full output fresh opens s =
-      let opened : OpensSending may (w.server, empty_queues) full (seen mid) = subst (λ (d : Queues P). OpensSending may (w.server, d) full (seen mid)) fresh opens in
+  takes_part : (w mid w' : QueuedServer S P) (x : Exchange) (xs : List Exchange) → Fresh may w → OpensSending may (seen w) x.sent (seen mid)
+      → Served mid w' xs → TakesPart may w.server w'.server x xs
+  takes_part w mid w' x xs fresh opens s =
+      let opened : OpensSending may (w.server, empty_queues) x.sent (seen mid) = subst (λ (d : Queues P). OpensSending may (w.server, d) x.sent (seen mid)) fresh opens in
       let begun = opened.1.0 in
       let asked : (queues_of mid.queues).asked ≡ (does_all empty_queues begun).asked =
       ap (λ (x : S × Queues P). x.1.asked) opened.3 ∙ ap (λ (x : Queues P). x.asked) opened.1.4 in
       let count : count_of (queues_of mid.queues).asked ≡ ids_after_all 0 begun = ap count_of asked ∙ ids_all empty_queues begun in
-      let first : requests_in full ≡ map_list request_of (all_sent 0 begun) =
+      let first : requests_in x.sent ≡ map_list request_of (all_sent 0 begun) =
       ap requests_in opened.2 ∙ ap (λ (x : Queues P). requests_in x.sent) opened.1.4 ∙ sent_all empty_queues begun in
-      let t = call_all may mid w' s.later.served (all_sent 0 begun) [] (ap (λ (x : S × Queues P). x.1.sent) opened.3)
-      (subst (Agrees (all_sent 0 begun) []) (sym asked) (agrees_acts [] [] empty_queues begun agrees_start)) s.later.given in
-      let later : map_list request_of (all_sent (ids_after_all 0 begun) (acts_of t.calls)) ≡ requests_in (sends_of s.later.served) =
+      let t = call_all may mid w' s.served (all_sent 0 begun) [] (ap (λ (x : S × Queues P). x.1.sent) opened.3)
+      (subst (Agrees (all_sent 0 begun) []) (sym asked) (agrees_acts [] [] empty_queues begun agrees_start)) s.given in
+      let later : map_list request_of (all_sent (ids_after_all 0 begun) (acts_of t.calls)) ≡ requests_in (sends_of s.served) =
       sym (t.sent ∙ ap (λ k. map_list request_of (all_sent k (acts_of t.calls))) count) in
+      let sends : requests_in (x.sent ++ sends_of xs) ≡ requests_in x.sent ++ requests_in (sends_of s.served) =
+      requests-append x.sent (sends_of xs)
+      ∙ ap (λ l. requests_in x.sent ++ l) (ap (λ l. requests_in (sends_of l)) s.cut ∙ ap requests_in (sends_both s.served s.rest)
+      ∙ requests-append (sends_of s.served) (sends_of s.rest) ∙ ap (λ l. requests_in (sends_of s.served) ++ l) s.silent ∙ append-nil (requests_in (sends_of s.served))) in
+      let start : seen mid ≡ (mid.server, cleared (does_all empty_queues begun)) =
+      ap (λ (d : Queues P). (mid.server, d)) (ap (λ (x : S × Queues P). x.1) opened.3 ∙ ap (λ (d : Queues P). cleared d) opened.1.4) in
       record {
         begun = begun;
         calls = t.calls;
-        rest = s.later.rest;
-        cut = s.later.cut ∙ ap (λ l. l ++ s.later.rest) (sym t.came_are);
-        served = rw t.came_are s.later.all_served;
-        ended = s.later.unserved;
+        at_calls = s.served;
+        rest = s.rest;
+        cut = s.cut;
+        came = sym t.came_are;
+        served = s.all_served;
+        ended = s.unserved;
         did = opened.1.1;
         first = mid.server;
         began = opened.1.2;
         took_back = subst (λ (v : S). TakesBack may.takes_back opened.1.1 (unsent 0 begun) v) (sym (ap (λ (x : S × Queues P). x.0) opened.3)) opened.1.3;
         took_calls = subst (λ k. TakesCalls may k mid.server t.calls w'.server) count t.took;
-        not_sent = s.more;
+        opened = opened.2 ∙ ap (λ (d : Queues P). d.sent) opened.1.4 ∙ acts_sent empty_queues begun;
+        queues = queues_of w'.queues;
+        acted = subst (λ (a : S × Queues P). SendsActs may a t.calls s.served (seen w')) start t.acted;
         sent = ap (λ l. map_list request_of l) (sent-append 0 begun (acts_of t.calls))
             ∙ map-append request_of (all_sent 0 begun) (all_sent (ids_after_all 0 begun) (acts_of t.calls))
-            ∙ (λ i. sym first i ++ later i) ∙ s.sent;
-        all = s.whole;
+            ∙ (λ i. sym first i ++ later i) ∙ sym sends;
         payloads = own_payloads begun t.calls (subst (λ k. Fits k (all_sent 0 begun) [] t.calls) count t.fits);
       }
 
-  after_result : (xs : List Exchange) (q : Phase) (w w' : QueuedServer S P) → Fresh may w → Runs_from in_reply w xs q w' → GoesOn may w.server w'.server xs stop
+  after_result : (xs : List Exchange) (q : Phase) (w w' : QueuedServer S P) → Fresh may w → Runs_from in_reply w xs q w' → GoesOn may w.server w'.server xs
   after_result [] q w w' fresh run = ap (λ (x : QueuedServer S P). x.server) run.1
-  after_result (x ∷ xs) q w w' fresh run = by x.came refl run.6
+  after_result (x ∷ xs) q w w' fresh run = by x.came refl run.2
     where
-      at : (m : Message) → x.came ≡ Some m → (b : Bool) → is_initialized m ≡ b
-          → MatchBool b ((with_queues may).at_initialized w run.0 run.5 × (run.4 ≡ serving)) (Fails expected_initialized in_reply run.0 run.4 × (run.5 ≡ w))
-          → GoesOn may w.server w'.server (x ∷ xs) stop
-      at m there true e step =
-          rw (there, e) (takes_part w run.5 w' xs run.0 x.sent fresh step.0
-          (sends_more run.5 w' xs run.0 x.sent run.1 run.2 run.7 (at_end xs run.4 q run.5 w' run.8) (serve_all xs q run.5 w' (rw step.1 at run.8))))
-      at m there false e step =
-          let rest = over xs None (Err (expected_initialized step.0.0)) q run.5 w' (rw step.0.2 at run.8) in
-          rw (there, e) (rw (part_none x.sent run.1 run.0 run.2 step.0.1, rest.0) refl, ap (λ (x : QueuedServer S P). x.server) (rest.1 ∙ step.1))
+      -- what follows, as the message tells
+      Next : Bool → Type 0
+      Next b = MatchBool b (TakesPart may w.server w'.server x xs) ((sends_of (x ∷ xs) ≡ []) × (w'.server ≡ w.server))
 
-      by : (came : Option Message) → x.came ≡ came → Step (with_queues may) in_reply w came run.0 run.4 run.5 → GoesOn may w.server w'.server (x ∷ xs) stop
+      goes_on : (m : Message) → x.came ≡ Some m → (b : Bool) → is_initialized m ≡ b → Next b → GoesOn may w.server w'.server (x ∷ xs)
+      goes_on m there b e next = subst (λ (came : Option Message). IsSomeAnd came (λ m. Next (is_initialized m))) (sym there) (subst (λ (b : Bool). Next b) (sym e) next)
+
+      at : (m : Message) → x.came ≡ Some m → (b : Bool) → is_initialized m ≡ b
+          → MatchBool b ((with_queues may).at_initialized w x.sent run.1 × (run.0 ≡ serving)) (Fails expected_initialized in_reply x.sent run.0 × (run.1 ≡ w))
+          → GoesOn may w.server w'.server (x ∷ xs)
+      at m there true e step = goes_on m there true e (takes_part w run.1 w' x xs fresh step.0 (serve_all xs q run.1 w' (rw step.1 at run.3)))
+      at m there false e step =
+          let rest = over xs None (Err (expected_initialized step.0.0)) q run.1 w' (rw step.0.2 at run.3) in
+          goes_on m there false e (rw (step.0.1, rest.0) refl, ap (λ (x : QueuedServer S P). x.server) (rest.1 ∙ step.1))
+
+      by : (came : Option Message) → x.came ≡ came → Step (with_queues may) in_reply w came x.sent run.0 run.1 → GoesOn may w.server w'.server (x ∷ xs)
       by None none step = absurd step
       by (Some m) there step = at m there (is_initialized m) refl step
 
@@ -228,23 +190,23 @@ module _ {S P : Type 0} (may : Stated S P) (stop : Stop) where
   abbrev Begun : S → Option Message → List Message → S → Type 0
   Begun s came output s' = IsSomeAnd came (λ m. MatchBool (is_initialize m) (Initializes may s m output s') (s' ≡ s))
 
-  begun_one : (w w' : QueuedServer S P) (m : Option Message) (full output : List Message) (next : Phase) → ((r : Message) → full ≡ r ∷ [] → output ≡ r ∷ [])
-      → Step (with_queues may) starting w m full next w' → Begun w.server m output w'.server
-  begun_one w w' (Some (request i method params)) full output next one step = at (is_initialize (request i method params)) step
+  begun_one : (w w' : QueuedServer S P) (m : Option Message) (output : List Message) (next : Phase)
+      → Step (with_queues may) starting w m output next w' → Begun w.server m output w'.server
+  begun_one w w' (Some (request i method params)) output next step = at (is_initialize (request i method params)) step
     where
       at : (b : Bool)
-          → MatchBool b ((outcome : Result Data ErrorObject) × (with_queues may).initializes w params outcome w' × (full ≡ response i outcome ∷ []) × (next ≡ phase_after outcome))
-          ((reply : Message) × IsEarlyReply i reply × (full ≡ reply ∷ []) × (next ≡ starting) × (w' ≡ w))
+          → MatchBool b ((outcome : Result Data ErrorObject) × (with_queues may).initializes w params outcome w' × (output ≡ response i outcome ∷ []) × (next ≡ phase_after outcome))
+          ((reply : Message) × IsEarlyReply i reply × (output ≡ reply ∷ []) × (next ≡ starting) × (w' ≡ w))
           → MatchBool b (Initializes may w.server (request i method params) output w'.server) (w'.server ≡ w.server)
       at true step =
-          record { id = i; method = method; params = params; outcome = step.0; came = refl; gave = step.1.0; told = one (response i step.0) step.2 }
+          record { id = i; method = method; params = params; outcome = step.0; came = refl; gave = step.1.0; told = step.2 }
       at false step = ap (λ (x : QueuedServer S P). x.server) step.4
-  begun_one w w' (Some m) full output next one step = ap (λ (x : QueuedServer S P). x.server) step.1
-  begun_one w w' None full output next one step = step
+  begun_one w w' (Some m) output next step = ap (λ (x : QueuedServer S P). x.server) step.1
+  begun_one w w' None output next step = step
 
   -- one more error comes first, or a message without a reply
   payloads_more : (s mid last : S) (x : Exchange) (xs : List Exchange) → list_all is_refusal x.sent ≡ true → Begun s x.came x.sent mid
-      → GivesPayloads may mid last xs stop → GivesPayloads may s last (x ∷ xs) stop
+      → GivesPayloads may mid last xs → GivesPayloads may s last (x ∷ xs)
   payloads_more s mid last x xs errors begun payloads = elim payloads [
     | inl none ↦ inl (list_all-append is_refusal x.sent (sends_of xs) ∙ (rw (errors, none.0) refl), (mid, begun, none.1))
     | inr p ↦ inr (
@@ -268,25 +230,19 @@ module _ {S P : Type 0} (may : Stated S P) (stop : Stop) where
   ]
 
   payloads_from : (xs : List Exchange) (q : Phase) (w w' : QueuedServer S P) → Fresh may w
-      → Runs_from starting w xs q w' → GivesPayloads may w.server w'.server xs stop
+      → Runs_from starting w xs q w' → GivesPayloads may w.server w'.server xs
   payloads_from [] q w w' fresh run = inl (refl, ap (λ (x : QueuedServer S P). x.server) run.1)
   payloads_from (x ∷ xs) q w w' fresh run =
-      by (λ fresh rest. payloads_from xs q run.5 w' fresh rest) (row (with_queues may) starting run.4 w run.5 x.came run.0 run.6)
+      by (λ fresh rest. payloads_from xs q run.1 w' fresh rest) (row (with_queues may) starting run.0 w run.1 x.came x.sent run.2)
     where
-      one : (r : Message) → run.0 ≡ r ∷ [] → x.sent ≡ r ∷ []
-      one r e = part_one x.sent run.1 run.0 r run.2 run.3 e
+      begun : Begun w.server x.came x.sent run.1.server
+      begun = begun_one w run.1 x.came x.sent run.0 run.2
 
-      none : run.0 ≡ [] → x.sent ≡ []
-      none e = part_none x.sent run.1 run.0 run.2 e
+      more : list_all is_refusal x.sent ≡ true → GivesPayloads may run.1.server w'.server xs → GivesPayloads may w.server w'.server (x ∷ xs)
+      more errors rest = payloads_more w.server run.1.server w'.server x xs errors begun rest
 
-      begun : Begun w.server x.came x.sent run.5.server
-      begun = begun_one w run.5 x.came run.0 x.sent run.4 one run.6
-
-      more : list_all is_refusal x.sent ≡ true → GivesPayloads may run.5.server w'.server xs stop → GivesPayloads may w.server w'.server (x ∷ xs) stop
-      more errors rest = payloads_more w.server run.5.server w'.server x xs errors begun rest
-
-      by : (Fresh may run.5 → Runs_from starting run.5 xs q w' → GivesPayloads may run.5.server w'.server xs stop)
-          → StepCase (with_queues may) starting w x.came run.0 run.4 run.5 → GivesPayloads may w.server w'.server (x ∷ xs) stop
+      by : (Fresh may run.1 → Runs_from starting run.1 xs q w' → GivesPayloads may run.1.server w'.server xs)
+          → StepCase (with_queues may) starting w x.came x.sent run.0 run.1 → GivesPayloads may w.server w'.server (x ∷ xs)
       by later (at_initialize i method params (Ok result) first is e init sent next) = inr (
         x ∷ [],
         xs,
@@ -298,25 +254,25 @@ module _ {S P : Type 0} (may : Stated S P) (stop : Stop) where
           params = params;
           result = result;
           asks = e;
-          cut = λ j. record { came = is j; sent = one (response i (Ok result)) sent j } ∷ [];
+          cut = λ j. record { came = is j; sent = sent j } ∷ [];
         },
         refl,
-        run.5.server,
-        (run.5.server, begun, refl),
-        after_result xs q run.5 w' (init.1 ∙ fresh) (rw next at run.8),
+        run.1.server,
+        (run.1.server, begun, refl),
+        after_result xs q run.1 w' (init.1 ∙ fresh) (rw next at run.3),
       )
       by later (at_initialize i method params (Err error) first is e init sent next) =
-          more (rw (one (response i (Err error)) sent) refl)
-          (later (init.1 ∙ fresh) (rw next at run.8))
+          more (rw sent refl)
+          (later (init.1 ∙ fresh) (rw next at run.3))
       by later (at_initialized m first there e opened next) = absurd (cc (first))
       by later (at_served m first there e gives next) = absurd (cc (first))
       by later (at_woken first none woken next) = absurd (cc (first))
       by later (idle m there same any (early_request i method params reply first is replies sent next)) =
-          more (rw (one reply sent, replies.is) refl) (later (rw same fresh) (rw next at run.8))
-      by later (idle m there same any (early_note first mute e sent next)) = more (rw (none sent) refl) (later (rw same fresh) (rw next at run.8))
+          more (rw (sent, replies.is) refl) (later (rw same fresh) (rw next at run.3))
+      by later (idle m there same any (early_note first mute e sent next)) = more (rw sent refl) (later (rw same fresh) (rw next at run.3))
       by later (idle m there same any (unasked_for shown first mute other sent next)) =
-          let rest = over xs None (Err (expected_initialize shown)) q run.5 w' (rw next at run.8) in
-          inl (rw (none sent, rest.0) refl, (run.5.server, begun, rw rest.0 (ap (λ (x : QueuedServer S P). x.server) rest.1)))
+          let rest = over xs None (Err (expected_initialize shown)) q run.1 w' (rw next at run.3) in
+          inl (rw (sent, rest.0) refl, (run.1.server, begun, rw rest.0 (ap (λ (x : QueuedServer S P). x.server) rest.1)))
       by later (idle m there same any (uninvited shown first e sent next)) = absurd (cc (first))
       by later (idle m there same any (shuts i method params first is e sent next)) = absurd (cc (first))
       by later (idle m there same any (goes first e sent next)) = absurd (cc (first))
@@ -344,15 +300,17 @@ module _ {S P : Type 0} (may : Stated S P) where
     keeps_laws session =
         let out = session.out in
         let fresh : queues_of session.old.queues ≡ empty_queues = ap (λ (x : S × Queues P). x.1) session.from_first in
+        let all = all_steps (with_queues may) stop starting out.last session.old out.after xs out.reached in
         record {
           never_more = λ id. never_more may id stop session.old out.after xs out.last out.reached fresh;
-          once = λ whole id one.
-              answered_once may id stop answer session.old out.after session.new xs out.last out.reached out.stopped fresh whole one;
           order = keeps_order (with_queues may) session.old session.new xs stop shutdown_reply answer out;
+          all = all.0;
+          to_send = all.1;
+          once = λ enough id. answered_last may id stop answer session.old out.after session.new all.0 out.last all.2 out.stopped fresh enough;
+          cancelled = λ id. answers_cancelled may id stop answer session.old out.after session.new all.0 out.last all.2 out.stopped fresh;
           after = out.after.server;
-          payloads = subst (λ (s : S). GivesPayloads may s out.after.server xs stop) (ap (λ (x : S × Queues P). x.0) session.from_first)
-              (payloads_from may stop xs out.last session.old out.after fresh
-              (reaches_ran (with_queues may) stop starting out.last session.old out.after xs out.reached));
+          payloads = subst (λ (s : S). GivesPayloads may s out.after.server all.0) (ap (λ (x : S × Queues P). x.0) session.from_first)
+              (payloads_from may all.0 out.last session.old out.after fresh all.2);
           kept = elim (kept_to_last (with_queues may) out.last out.after session.new stop answer out.stopped) [
             | inl e ↦ inl e
             | inr e ↦ inr (session.to_last ∙ ap (λ (x : QueuedServer S P). x.server) e)

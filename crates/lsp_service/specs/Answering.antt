@@ -2,7 +2,7 @@
 use Rattle.serde.specs.Event.{Event}
 use Rattle.serde_json.specs.Data.{Data, object, member, no_members, string, number, unsigned}
 use Rattle.std.specs.Prelude.{◌≡◌, ◌++◌, ℕ, List, [], ◌∷◌, Option, codes}
-use Rattle.std.specs.Prelude.{Result, Ok, Err, IfErr, MatchResult}
+use Rattle.std.specs.Prelude.{Result, Err, IfErr, MatchResult}
 use Rattle.lsp_message.specs.Converted.{IsFault, IsOutcomeOf}
 use Rattle.lsp_message.specs.Id.{Id}
 use Rattle.lsp_message.specs.Message.{ErrorObject}

@@ -3,7 +3,7 @@
 use Rattle.serde_json.specs.Data.{Data}
 use Rattle.std.specs.FinMap as map
 use Rattle.std.specs.Ordering.{eq_by_cmp}
-use Rattle.std.specs.Prelude.{◌≡◌, ◌≤◌, ◌⊎◌, ◌+◌, ◌||◌, ◌&&◌, ℕ, pos, Bool, true, false, List, [], ◌∷◌, ◌++◌, map as map_list, fold, Option, Some, None, is_some, IsSomeAnd, Result, IsErrAnd, if◌then◌else◌}
+use Rattle.std.specs.Prelude.{◌≡◌, ◌≢◌, ◌≤◌, ◌⊎◌, ◌+◌, ◌||◌, ◌&&◌, ℕ, pos, Bool, true, false, List, [], ◌∷◌, ◌++◌, map as map_list, fold, Option, Some, None, is_some, IsSomeAnd, Result, Ok, Err, IsErrAnd, if◌then◌else◌}
 use Rattle.std.specs.Bool.{MatchBool}
 use Rattle.std.specs.List.{list_all}
 use Rattle.lsp_message.specs.Id.{Id, id_cmp, number}
@@ -11,11 +11,13 @@ use Rattle.lsp_message.specs.Message.{Message, ErrorObject, request, notificatio
 use Rattle.lsp_message.specs.Methods.{is_initialize}
 use Rattle.lsp_queue.specs.Queue.{Pending}
 use Rattle.lsp_session.specs.Finish.{is_initialized}
-use Rattle.lsp_session.specs.ProtocolError.{ShowsUnallowed}
+use Rattle.lsp_session.specs.ProtocolError.{ShowsUnallowed, is_disconnected}
 use Rattle.lsp_session.specs.Session.{Exchange, came_of, messages_of, sends_of, SessionAnswer, SessionPart, Stop, decided, refused, exhausted, is_served}
 use Rattle.lsp_session.specs.SessionLaws.{EndsWithResult, KeepsOrder, AllRefused}
-use Rattle.lsp_service.specs.Acts.{Act, asks, is_spent, ids_after, unsent, TakesBack}
+use Rattle.lsp_service.specs.Acts.{Act, Queues, asks, cancelled_by, cleared, does_all, empty_queues, is_spent, ids_after, unsent, TakesBack}
 use Rattle.lsp_service.specs.QueuedServer.{ServerSession, held_by}
+use Rattle.lsp_service.specs.SentByActs.{ActsAt, all_sends}
+pub use Rattle.lsp_service.specs.SentByActs.{Handed}
 use Rattle.lsp_service.specs.Stated.{Stated}
 
 abbrev pub one_if : Bool → ℕ
@@ -29,6 +31,11 @@ is_request_under id m = false
 abbrev pub is_reply_under : Id → Message → Bool
 is_reply_under id (response i outcome) = eq_by_cmp id_cmp id i
 is_reply_under id m = false
+
+-- a message came, and it has the property
+abbrev pub came_with : (Message → Bool) → Option Message → Bool
+came_with p None = false
+came_with p (Some m) = p m
 
 -- how many of the messages have the property
 abbrev pub how_many : (Message → Bool) → List Message → ℕ
@@ -54,13 +61,61 @@ EndsAtRequest id exchanges stop answer =
     × IsSomeAnd last.came (λ m. is_request_under id m ≡ true))
     × (stop ≡ decided) × IsErrAnd answer ShowsUnallowed
 
--- A request under this id, which the client used once, has exactly one reply. Or it has none: it is still held, or the session
+-- Of exchanges in which one request came under this id: it has exactly one reply. Or it has none: it is still held, or the session
 -- ended at it, since the lifecycle does not allow it.
 abbrev pub OnceOrEnded : Id → List Exchange → Stop → Pending (Unit {0}) → SessionAnswer → Type 0
 OnceOrEnded id exchanges stop held answer =
     (how_many (is_reply_under id) (sends_of exchanges) ≡ 1)
     ⊎ ((how_many (is_reply_under id) (sends_of exchanges) ≡ 0)
     × ((held_under id held ≡ 1) ⊎ EndsAtRequest id exchanges stop answer))
+
+-- This holds of the exchanges from the last request under this id on, if one came.
+abbrev pub SinceLast : Id → (List Exchange → Type 0) → List Exchange → Type 0
+SinceLast id P exchanges =
+    (before : List Exchange) (last : Exchange) (since : List Exchange)
+    → exchanges ≡ before ++ last ∷ since → came_with (is_request_under id) last.came ≡ true
+    → how_many (is_request_under id) (messages_of since) ≡ 0 → P (last ∷ since)
+
+abbrev pub AnswersLast : Id → List Exchange → Stop → Pending (Unit {0}) → SessionAnswer → Type 0
+AnswersLast id exchanges stop held answer =
+    SinceLast id (λ since. OnceOrEnded id since stop held answer) exchanges
+
+-- the message cancels the request with this id (LSP 3.17, "Cancellation Support")
+abbrev pub Cancels : Id → Option Message → Type 0
+Cancels id (Some (notification method params)) = cancelled_by method params ≡ Some id
+Cancels id came = ⊥
+
+-- When the last request under this id was cancelled, it has exactly one reply once that exchange is over. Or the session ended at the
+-- cancellation, since the lifecycle does not allow it there.
+abbrev pub AnswersCancelled : Id → List Exchange → Stop → SessionAnswer → Type 0
+AnswersCancelled id exchanges stop answer =
+    (earlier : List Exchange) (cancel : Exchange) (later : List Exchange)
+    → exchanges ≡ earlier ++ cancel ∷ later → Cancels id cancel.came
+    → SinceLast id (λ since.
+    (how_many (is_reply_under id) (sends_of (since ++ cancel ∷ [])) ≡ 1)
+    ⊎ ((stop ≡ decided) × IsErrAnd answer ShowsUnallowed)) earlier
+
+-- What was to be sent at these exchanges: what was sent. Or, if the outbox refused a message, that and what was to follow it for the same
+-- message or wake, which was lost.
+abbrev pub WasToSend : Stop → List Exchange → List Exchange → Type 0
+WasToSend (refused fault) exchanges all =
+    (earlier : List Exchange) × (came : Option Message) × (sent : List Message)
+    × (lost : List Message)
+    × (exchanges ≡ earlier ++ record { came = came; sent = sent } ∷ [])
+    × (all ≡ earlier ++ record { came = came; sent = sent ++ lost } ∷ [])
+WasToSend stop exchanges all = all ≡ exchanges
+
+-- The client is gone: the session ended well, or it ended since the client was lost.
+abbrev pub IsGone : SessionAnswer → Type 0
+IsGone (Ok end) = Unit {0}
+IsGone (Err fault) = is_disconnected fault ≡ true
+
+-- The last request under this id has exactly one reply, or none and it is held.
+abbrev pub IsOwedWhatIsHeld : Id → List Exchange → Pending (Unit {0}) → Type 0
+IsOwedWhatIsHeld id exchanges held =
+    SinceLast id (λ since.
+    (how_many (is_reply_under id) (sends_of since) ≡ 1)
+    ⊎ ((how_many (is_reply_under id) (sends_of since) ≡ 0) × (held_under id held ≡ 1))) exchanges
 
 -- the outbox refused no message, and memory did not run out
 abbrev pub IsWhole : Stop → Type 0
@@ -82,11 +137,6 @@ pub record Call (P : Type 0) : Type 0 where
   pub came : Option Message
   pub payload : Option P
   pub acts : List (Act P)
-
--- a message came, and it has the property
-abbrev pub came_with : (Message → Bool) → Option Message → Bool
-came_with p None = false
-came_with p (Some m) = p m
 
 abbrev pub requests_in : List Message → List Message
 requests_in [] = []
@@ -158,53 +208,55 @@ IsUnserved [] = Unit {0}
 IsUnserved (came ∷ rest) = is_call came ≡ false
 
 module _ {S P : Type 0} (may : Stated S P) where
-  -- The server is handed a message, a reply with a payload, or woken, and does this: what it stated, at each of them.
-  abbrev pub Handed : S → Option Message → Option P → List (Act P) → S → Type 0
-  Handed old (Some (request id method params)) payload acts new =
-      may.requested old id method params acts new × (payload ≡ None)
-  Handed old (Some (notification method params)) payload acts new =
-      may.notified old method params acts new × (payload ≡ None)
-  Handed old (Some (response id outcome)) (Some payload) acts new =
-      may.replied old payload outcome acts new
-  Handed old (Some (response id outcome)) None acts new = (new ≡ old) × (acts ≡ [])
-  Handed old None payload acts new = may.wakes old acts new × (payload ≡ None)
-
   -- calls take the server from old to new, if so many ids were given out before
   abbrev pub TakesCalls : ℕ → S → List (Call P) → S → Type 0
   TakesCalls count old [] new = new ≡ old
   TakesCalls count old (call ∷ calls) new =
-      (did : S) × (mid : S) × Handed old call.came call.payload call.acts did
+      (did : S) × (mid : S) × Handed may old call.came call.payload call.acts did
       × TakesBack may.takes_back did (unsent count call.acts) mid
       × TakesCalls (ids_after_all count call.acts) mid calls new
 
+  -- The calls take the server and its queues from old to new, each at its exchange: what its acts send, in their order, is all that is
+  -- sent there.
+  abbrev pub SendsActs : S × Queues P → List (Call P) → List Exchange → S × Queues P → Type 0
+  SendsActs old [] [] new = new ≡ old
+  SendsActs old (call ∷ calls) (x ∷ exchanges) new =
+      (mid : S × Queues P) × (at : ActsAt may old x.came x.sent mid)
+      × (call ≡ record { came = x.came; payload = at.payload; acts = at.acts })
+      × SendsActs mid calls exchanges new
+  SendsActs old calls exchanges new = ⊥
+
   -- The server's part of a session from `initialized` on, from its state at the result to its last: it did this, then took these calls
-  -- at what came up to `shutdown` or `exit`, by its stated meaning. These are the requests that it sent, or the first of them if
-  -- the outbox refused a message.
-  pub record TakesPart (start last : S) (came : List (Option Message)) (stop : Stop)
-      (requests : List Message) : Type 0 where
+  -- at what came up to `shutdown` or `exit`, by its stated meaning. What its acts send is all that is sent, each in its place. These are
+  -- the requests that it sent.
+  pub record TakesPart (start last : S) (opening : Exchange) (later : List Exchange) : Type 0 where
     pub begun : List (Act P)
     pub calls : List (Call P)
-    pub rest : List (Option Message)
-    pub cut : came ≡ map_list (λ (call : Call P). call.came) calls ++ rest
-    pub served : list_all is_call (map_list (λ (call : Call P). call.came) calls) ≡ true
-    pub ended : IsUnserved rest
+    pub at_calls : List Exchange
+    pub rest : List Exchange
+    pub cut : later ≡ at_calls ++ rest
+    pub came : came_of at_calls ≡ map_list (λ (call : Call P). call.came) calls
+    pub served : list_all is_call (came_of at_calls) ≡ true
+    pub ended : IsUnserved (came_of rest)
     pub did : S
     pub first : S
     pub began : may.at_initialized start begun did
     pub took_back : TakesBack may.takes_back did (unsent 0 begun) first
     pub took_calls : TakesCalls (ids_after_all 0 begun) first calls last
-    pub not_sent : List Message
-    pub sent : map_list request_of (all_sent 0 (begun ++ acts_of calls)) ≡ requests ++ not_sent
-    pub all : IsWhole stop → not_sent ≡ []
+    pub opened : opening.sent ≡ all_sends empty_queues begun
+    pub queues : Queues P
+    pub acted : SendsActs (first, cleared (does_all empty_queues begun)) calls at_calls
+        (last, queues)
+    pub sent : map_list request_of (all_sent 0 (begun ++ acts_of calls))
+        ≡ requests_in (sends_of (opening ∷ later))
     pub payloads : GivesOwnPayloads begun calls
 
   -- What follows the result of `initialize`: `initialized`, and the server takes part from then on. Or nothing more is sent.
-  abbrev pub GoesOn : S → S → List Exchange → Stop → Type 0
-  GoesOn start last [] stop = last ≡ start
-  GoesOn start last (x ∷ later) stop =
+  abbrev pub GoesOn : S → S → List Exchange → Type 0
+  GoesOn start last [] = last ≡ start
+  GoesOn start last (x ∷ later) =
       IsSomeAnd x.came (λ m.
-      MatchBool (is_initialized m)
-      (TakesPart start last (came_of later) stop (requests_in (sends_of (x ∷ later))))
+      MatchBool (is_initialized m) (TakesPart start last x later)
       ((sends_of (x ∷ later) ≡ []) × (last ≡ start)))
 
   -- the server answers this `initialize` by its stated meaning
@@ -226,12 +278,12 @@ module _ {S P : Type 0} (may : Stated S P) where
       × AnswersInitialize mid xs new
 
   -- Nothing but errors is sent. Or errors first, then the result of `initialize`, and the session goes on from there.
-  abbrev pub GivesPayloads : S → S → List Exchange → Stop → Type 0
-  GivesPayloads first last exchanges stop =
+  abbrev pub GivesPayloads : S → S → List Exchange → Type 0
+  GivesPayloads first last exchanges =
       (AllRefused exchanges × AnswersInitialize first exchanges last)
       ⊎ ((early : List Exchange) × (rest : List Exchange) × (exchanges ≡ early ++ rest)
       × (ends : EndsWithResult early) × AllRefused ends.before
-      × (start : S) × AnswersInitialize first early start × GoesOn start last rest stop)
+      × (start : S) × AnswersInitialize first early start × GoesOn start last rest)
 
   -- the laws of a session, in whose end these requests are held
   pub record KeepsLaws (first last : S) (held : Pending (Unit {0})) (exchanges : List Exchange)
@@ -239,14 +291,19 @@ module _ {S P : Type 0} (may : Stated S P) where
       : Type 0 where
     -- under no id are there ever more replies than requests that came before: no reply goes to anything else, and none comes twice
     pub never_more : (id : Id) → NeverMore id exchanges
-    pub once : IsWhole stop → (id : Id) → how_many (is_request_under id) (messages_of exchanges) ≡ 1
-        → OnceOrEnded id exchanges stop held answer
     -- before `initialized` nothing is sent but one reply for each request, and nothing follows the reply to `shutdown`
     pub order : KeepsOrder exchanges stop shutdown_reply answer
-    -- Each reply of the client comes to the server with the payload of its own request, once, from the server's first state to the one
-    -- after the last exchange. That is its last state, unless an allocation failed at the message that came next.
+    -- these exchanges with all that was to be sent at them, of which the rest is said
+    pub all : List Exchange
+    pub to_send : WasToSend stop exchanges all
+    -- The last request under an id has one reply, or it is held or ended the session; it has one when it was cancelled.
+    pub once : stop ≢ exhausted → (id : Id) → AnswersLast id all stop held answer
+    pub cancelled : (id : Id) → AnswersCancelled id all stop answer
+    -- Each reply of the client comes to the server with the payload of its own request, once, and each act is sent in its place, from the
+    -- server's first state to the one after the last exchange. That is its last state, unless an allocation failed at the message that
+    -- came next.
     pub after : S
-    pub payloads : GivesPayloads first after exchanges stop
+    pub payloads : GivesPayloads first after all
     pub kept : (stop ≡ exhausted) ⊎ (last ≡ after)
 
   -- a session of a server, which keeps the laws

@@ -5,7 +5,6 @@ use Rattle.lsp_message.specs.Id.{Id, number}
 use Rattle.lsp_message.specs.Message.{Message, request, notification, response}
 use Rattle.lsp_queue.specs.Queue.{pending_of, count_of}
 use Rattle.lsp_service.specs.Acts.{Act, tells, asks, replies, cancels, Queues, is_spent, does, does_all, unsent, holds, given, canceled, cancelled_by, cancel_method, cancel_params, cleared, TakesBack}
-use Rattle.lsp_service.specs.Law.{Handed}
 use Rattle.lsp_service.specs.Stated.{Stated}
 
 module _ {P : Type 0} where
@@ -48,6 +47,17 @@ module _ {P : Type 0} where
   acts_done_at came acts = acts
 
 module _ {S P : Type 0} (may : Stated S P) where
+  -- The server is handed a message, a reply with a payload, or woken, and does this: what it stated, at each of them.
+  abbrev pub Handed : S → Option Message → Option P → List (Act P) → S → Type 0
+  Handed old (Some (request id method params)) payload acts new =
+      may.requested old id method params acts new × (payload ≡ None)
+  Handed old (Some (notification method params)) payload acts new =
+      may.notified old method params acts new × (payload ≡ None)
+  Handed old (Some (response id outcome)) (Some payload) acts new =
+      may.replied old payload outcome acts new
+  Handed old (Some (response id outcome)) None acts new = (new ≡ old) × (acts ≡ [])
+  Handed old None payload acts new = may.wakes old acts new × (payload ≡ None)
+
   -- At a message or a wake the server, which stated what it may do, did this, and what these acts send is all that is sent. These are
   -- the queues afterwards, and the server, which took back what found no id.
   pub record ActsAt (old : S × Queues P) (came : Option Message) (output : List Message) (new : S
@@ -56,7 +66,7 @@ module _ {S P : Type 0} (may : Stated S P) where
     pub acts : List (Act P)
     pub did : S
     pub brought : payload ≡ brought_by old.1 came
-    pub handed : Handed may old.0 came payload acts did
+    pub handed : Handed old.0 came payload acts did
     pub back : TakesBack may.takes_back did (unsent (count_of old.1.asked) acts) new.0
     pub sent : output ≡ old.1.sent
         ++ all_sends (queues_at old.1 came payload) (acts_done_at came acts)

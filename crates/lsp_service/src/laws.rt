@@ -1,17 +1,18 @@
 //! What a session of a server does, in its user's words.
-ghost use Rattle.std.specs.Prelude.{◌≡◌, ◌⊎◌, ℕ, true, List, Option, Result, Err};
+ghost use Rattle.std.specs.Prelude.{◌≡◌, ℕ, List, Option, Result};
 ghost use Rattle.lsp_message.specs.Id.{Id};
 ghost use Rattle.lsp_message.specs.Message.{Message};
 ghost use Rattle.lsp_queue.specs.Queue.{Pending};
 ghost use Rattle.lsp_session.specs.PassingBytes.{GivesAndTells, PassesNothingOver};
-ghost use Rattle.lsp_session.specs.ProtocolError.{ProtocolFault, is_disconnected};
-ghost use Rattle.lsp_session.specs.Session.{Exchange, SessionAnswer, SessionOut, Stop, sends_of};
+ghost use Rattle.lsp_session.specs.Session.{Exchange, SessionAnswer, SessionOut, Stop, messages_of};
 ghost use Rattle.lsp_session.specs.SessionBytes.{Gives};
 ghost use Rattle.lsp_session.specs.SessionRun.{Runs};
+ghost use Rattle.lsp_session.specs.StreamTransports.{Serves};
 ghost use Rattle.lsp_session.specs.declared.loops.handler.SessionEnd.{SessionEnd as EndOfSession};
 ghost use Rattle.lsp_session.specs.declared.loops.stream_session.SessionFault.{SessionFault as FaultOfSession};
+ghost use Rattle.lsp_session.specs.declared.loops.stream_transport.StreamTransport.{StreamTransport as TransportOf};
 ghost use Rattle.lsp_service.specs.Acts.{Queues, empty_queues};
-ghost use Rattle.lsp_service.specs.Law.{is_reply_under, how_many, held_under, OnceOrEnded, KeepsLaws, LawfulSession};
+ghost use Rattle.lsp_service.specs.Law.{is_request_under, how_many, AnswersLast, IsGone, IsOwedWhatIsHeld, IsWhole, KeepsLaws, LawfulSession, NeverMore, OnceOrEnded, WasToSend};
 ghost use Rattle.lsp_service.specs.SentByActs.{ActsAt};
 ghost use Rattle.lsp_service.specs.Stated.{unwoken, with_wakes};
 ghost use Rattle.lsp_service.specs.QueuedServer.{with_queues, woken_with_queues, ServerSession, WorksSending, held_by};
@@ -21,20 +22,23 @@ ghost use Rattle.lsp_service.specs.declared.queued_server.WokenQueuedServer.{Wok
 
 use crate::server::{Server, WokenServer};
 use lsp_session::{Inbox, Listener, Outbox};
+use std::io::{BufRead, Write};
 
 /// What a session of a server says of its exchanges implies the laws: a fact of each session that was run by `session_with`, with a
 /// limit or without one. `server_that_asks_keeps_laws` has it in bytes with a listener, `server_over_boxes_keeps_laws` over boxes,
 /// `woken_server_keeps_laws` of a server that is woken, and `lsp_server::laws` in threads.
 ///
 /// In each beginning of the session the replies under an id are no more than the client's requests under it: no reply goes to
-/// anything else, and none comes twice. A request whose id the client used once has exactly one reply. Or it has none: it is still
-/// held, or the session ended at it, since the lifecycle does not allow it, and the fault shows it. Up to `initialized` nothing is
-/// sent but one reply for each request. Nothing follows the reply to `shutdown`. If the outbox refused a message, or an allocation
-/// failed, a request may be left without a reply; the rest holds there too.
+/// anything else, and none comes twice. Since the last request under an id came, it got exactly one reply. Or it got none: it is still
+/// held, or the session ended at it, since the lifecycle does not allow it, and the fault shows it. A request that was cancelled has its
+/// reply when the exchange of its cancellation is over. Up to `initialized` nothing is sent but one reply for each request. Nothing follows
+/// the reply to `shutdown`. If the outbox refused a message, what was to follow it for the same message or wake is lost too; if an allocation
+/// failed, a request may be left without a reply. The rest holds there too.
 ///
-/// Each reply of the client comes to the server with the payload of its own request, once: what was kept with the request that
-/// was sent under its id. A reply under an id that is not pending reaches nobody. This is told of the server's states, from the first
-/// to the last (unless an allocation failed), each by what the server stated.
+/// Each act is sent in its place: what the server stated of a message, of a wake and of `initialized` is what it did, and what those acts
+/// send, in their order, is all that is sent there (`ActsAt`). Each reply of the client comes to the server with the payload of its own
+/// request, once: what was kept with the request that was sent under its id. A reply under an id that is not pending reaches nobody. This
+/// is told of the server's states, from the first to the last (unless an allocation failed), each by what the server stated.
 pub fn server_keeps_laws<S: Server>()
     ensures exchanges { (first last : S) (exchanges : List Exchange) (stop : Stop)
         (shutdown_reply : Option Message) (answer : SessionAnswer)
@@ -67,6 +71,15 @@ pub fn server_that_asks_keeps_laws<S: Server, L: Listener>()
         → Gives limit (ServerSession (unwoken S.Server) first last) text left before after answer }
 {}
 
+/// `server_keeps_laws` of a session over a transport, of whatever reader and writer: a fact of each session that was run by
+/// `session_with_over`.
+pub fn server_over_a_transport_keeps_laws<R: BufRead, W: Write, L: Listener, S: Server>()
+    ensures { (first last : S) (before after : TransportOf R W L)
+        (answer : Result EndOfSession FaultOfSession)
+        → Serves (ServerSession (unwoken S.Server) first last) before answer after
+        → Serves (LawfulSession (unwoken S.Server) first last) before answer after }
+{}
+
 /// `server_keeps_laws` of a session over boxes: a fact of each session of a `QueuedServer` (`queued_server_runs_its_server`) that was run by
 /// `serve_service`.
 pub fn server_over_boxes_keeps_laws<I: Inbox, O: Outbox, S: Server>()
@@ -93,7 +106,7 @@ pub fn woken_server_keeps_laws<I: Inbox, O: Outbox, S: WokenServer>()
 {}
 
 /// A session of a server beside its queues is one of the server: a fact of each session of a `QueuedServer`, which `serve_service` and
-/// `serve_line` run over boxes and `session_of_service` over bytes. The queues are empty at first (`QueuedServer::new`), and
+/// `serve_transport` run over boxes and `session_of_service` over bytes. The queues are empty at first (`QueuedServer::new`), and
 /// `QueuedServer::into_server` gives the server back.
 pub fn queued_server_runs_its_server<I: Inbox, O: Outbox, S: Server, L: Listener>()
     ensures exchanges { (old new : QueuedOf S S.Payload) (server : S) (exchanges : List Exchange)
@@ -168,11 +181,21 @@ pub fn woken_call_sends_its_acts<S: WokenServer>()
         → ActsAt (with_wakes S.Server S.wakes) old came sent new }
 {}
 
-/// Of a client that is gone, a request whose id was used once has its reply, or is still held: a fact of each session that
-/// keeps the laws.
+/// Of a client that is gone, the last request under each id has exactly one reply, or it has none and is still held: a fact of each
+/// session that keeps the laws, unless memory ran out. `all` are the exchanges with all that was to be sent at them. If the outbox refused
+/// a message, that one and what was to follow it, for the same message or wake, are lost with it. Else they are the exchanges themselves.
 pub fn lost_client_is_owed_what_is_held()
-    ensures { (id : Id) (exchanges : List Exchange) (stop : Stop) (held : Pending (Unit {0}))
-        (fault : ProtocolFault) → is_disconnected fault ≡ true
-        → OnceOrEnded id exchanges stop held (Err fault)
-        → (how_many (is_reply_under id) (sends_of exchanges) ≡ 1) ⊎ (held_under id held ≡ 1) }
+    ensures { (id : Id) (all : List Exchange) (stop : Stop) (held : Pending (Unit {0}))
+        (answer : SessionAnswer) → IsGone answer → AnswersLast id all stop held answer
+        → IsOwedWhatIsHeld id all held }
+{}
+
+/// A request whose id was used once has exactly one reply. Or it has none: it is still held, or the session ended at it, since the lifecycle
+/// does not allow it. A fact of each session that keeps the laws, if the outbox refused no message and memory did not run out.
+pub fn id_used_once_is_answered_once()
+    ensures { (id : Id) (exchanges all : List Exchange) (stop : Stop) (held : Pending (Unit {0}))
+        (answer : SessionAnswer) → WasToSend stop exchanges all → IsWhole stop
+        → NeverMore id exchanges → AnswersLast id all stop held answer
+        → how_many (is_request_under id) (messages_of exchanges) ≡ 1
+        → OnceOrEnded id exchanges stop held answer }
 {}

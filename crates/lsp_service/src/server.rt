@@ -108,7 +108,7 @@ pub trait WokenServer: Server {
     /// At a wake it may do this, and change so.
     ghost wakes: { Self → List (PlainAct Self.Payload) → Self → Type 0 };
 
-    /// Something that it waits for is ready, and the inbox told so (`Inbox::receive_or_woken`). It comes after `initialized` and before
+    /// Something that it waits for is ready, and the inbox told so (`WakingInbox::receive_or_woken`). It comes after `initialized` and before
     /// `shutdown`, and nowhere else. What it gives are acts, as at a message.
     fn woken(&mut self, alloc: Global) -> Result<Vec<Act<Self::Payload>>, AllocError>
         ensures { IfOk result (λ acts. wakes self.old (map act_view acts.items) self.new) };

@@ -1,20 +1,20 @@
 // A session of a server: it takes the server, and gives it back.
 ghost use Rattle.std.specs.Prelude.{IfSome};
 ghost use Rattle.lsp_session.specs.PassingBytes.{GivesAndTells};
+ghost use Rattle.lsp_session.specs.StreamTransports.{IsUnused, Serves};
 ghost use Rattle.lsp_service.specs.Stated.{unwoken};
 ghost use Rattle.lsp_service.specs.QueuedServer.{ServerSession};
 
 use crate::queued_server::QueuedServer;
 use crate::server::Server;
-use lsp_session::{Listener, SessionEnd, SessionFault, session_of_service};
+use lsp_session::{Listener, SessionEnd, SessionFault, StreamTransport, session_of_service};
 use std::alloc::Global;
 use std::io::{BufRead, Write};
 
 /// Runs a session of a server that speaks, from a reader's bytes to a writer's (LSP 3.17, "Base Protocol" and "Server lifecycle"),
 /// and gives the server back with the answer. The server is given the messages after `initialized`, and what it does at each is
-/// written before the next is read. This contract says what is read and what is written, and not in which order, since a reader and a
-/// writer are two values. Over one value, a `StreamLine`, `serve_line` runs the same session of a `QueuedServer`, and its contract has the
-/// order.
+/// written before the next is read. This contract speaks of readers whose bytes are known, as a slice's. `session_with_over` is the same session
+/// over a transport, with a contract for every reader and writer.
 ///
 /// The lifecycle, the faults, the limit, and what is left in the reader are those of `session_of_service`. So is what comes of a content
 /// part that is no message: the listener `bad_bodies` is asked whether to read on, and with `EndSession` such a part ends the session. The
@@ -41,5 +41,21 @@ pub fn session_with<R: BufRead, W: Write, S: Server, L: Listener>(
 {
     let mut queued = QueuedServer::new(alloc, server);
     let answer = session_of_service(alloc, reader, writer, &mut queued, bad_bodies, limit);
+    (queued.into_server(), answer)
+}
+
+/// `session_with` over a transport that was not used yet. The contract is of whatever reader and writer, also of such as do not say which bytes
+/// they have, as standard input and output, a file or a socket: the transcript of the transport tells which bytes were taken for each message
+/// and which were given for each, and that all that is sent for a message is given before the next byte is taken.
+pub fn session_with_over<R: BufRead, W: Write, S: Server, L: Listener>(
+    alloc: Global,
+    transport: &mut StreamTransport<'_, R, W, L>,
+    server: S,
+) -> (S, Result<SessionEnd, SessionFault>)
+    requires { IsUnused transport.old }
+    ensures { Serves (ServerSession (unwoken S.Server) server result.0) transport.old result.1 transport.new }
+{
+    let mut queued = QueuedServer::new(alloc, server);
+    let answer = transport.serve(&mut queued);
     (queued.into_server(), answer)
 }

@@ -1,4 +1,4 @@
--- Over a line that keeps an account, a session acts in order: what it sends for a message stands before what it reads next.
+-- Over a transport that keeps an account, a session acts in order: what it sends for a message stands before what it reads next.
 use Rattle.lsp_message.specs.Message.{Message}
 use Rattle.lsp_session.specs.Account.{Act, gave, took, sending, KeepsAccount, Awaited, AreActsOfOne, AreActsOf, EndsInOrder, InOrder}
 use Rattle.lsp_session.specs.Boxes.{Sends, Receives, Takes, WaitsFor}

@@ -1,5 +1,5 @@
 -- An inbox and an outbox that were lent as one value: its waits, and a session over it.
-use Rattle.lsp_session.proofs.LineRuns.{line_runs}
+use Rattle.lsp_session.proofs.TransportRuns.{transport_runs}
 use Rattle.lsp_session.specs.BothEnds.{SameBoxes, BothReceive, BothSend}
 use Rattle.lsp_session.specs.Boxes.{Sends, Receives, WaitsFor}
 use Rattle.lsp_session.specs.Event.{Event}
@@ -32,7 +32,7 @@ module _ {I O : Type 0} (receives : Receives I) where
       → (new.inbox.ghost_name ≡ old.inbox.ghost_name → i' ≡ new.inbox.now) → (new.outbox.ghost_name ≡ old.outbox.ghost_name → o' ≡ new.outbox.now)
       → Talks (BothReceive receives) (BothReceive listens) (BothSend sends) phase P old answer new → Runs receives sends P (old.inbox.now, old.outbox.now) answer (i', o')
   both_run listens sends phase P old new answer i' o' inbox outbox talks =
-      let run = line_runs receives sends (BothReceive receives) (BothReceive listens) (BothSend sends)
+      let run = transport_runs receives sends (BothReceive receives) (BothReceive listens) (BothSend sends)
       (λ (b : BothEnds I O). (b.inbox.now, b.outbox.now)) (λ (b : BothEnds I O). (b.inbox.ghost_name, b.outbox.ghost_name))
       (λ a event b gives. (gives.0, gives.1, rw (gives.2.0, gives.2.1) refl))
       (λ a m outcome b takes. (takes.0, takes.1, rw (takes.2.0, takes.2.1) refl)) phase P old answer new talks in

@@ -121,7 +121,7 @@ module _ {S : Type 0} (may : Behavior S) where
     first_acts : (xs : List Exchange) (q : Phase) (s' : S) (acts rest : List Act) → Steps may starting start xs q s' → AreActsOf xs acts → Never xs rest → Never [] (acts ++ rest)
     first_acts xs q s' acts rest steps exchanged more = acts_on [] xs starting q start s' acts rest (refl, refl) steps exchanged more
 
-    -- after the reply to `shutdown` one event is awaited, if the line took it
+    -- after the reply to `shutdown` one event is awaited, if the transport took it
     last_event : (got sent : List Message) (event : Event) → goes_on sent got ≡ true → NeverBothWait goes_on sent got (gave event ∷ [])
     last_event got sent (message m) ready = (ready, tt)
     last_event got sent timeout ready = (ready, tt)

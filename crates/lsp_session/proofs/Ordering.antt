@@ -8,8 +8,8 @@ use Rattle.lsp_session.specs.Answered.{IsReplied, RepliesTo, RepliesToEach, requ
 use Rattle.lsp_session.specs.HandlerSession.{Handles, of_handler}
 use Rattle.lsp_session.specs.ProtocolError.{ProtocolFault, ShowsUnallowed, expected_initialize, expected_initialized, unexpected_in_shutdown, is_disconnected}
 use Rattle.lsp_session.specs.Replies.{null_reply}
-use Rattle.lsp_session.specs.Session.{Behavior, Exchange, messages_of, sends_of, SessionAnswer, Stop, decided, no_more, timed_out, refused, exhausted, Phase, starting, replied as in_reply, serving, asked, ended, shutdown_reply_of, phase_after, is_served, Stops, SessionOut, request_id}
-use Rattle.lsp_session.specs.SessionLaws.{IsInvited, IsUnopened, AfterShutdown, EndsWithShutdown, HasNoShutdown, KeepsOrder, IsUnstarted, comes_early, IsRefusedEarly, StopsAt, StopsBefore, is_refusal, AllRefused, is_reply, OpenedBy}
+use Rattle.lsp_session.specs.Session.{Behavior, Exchange, messages_of, sends_of, SessionAnswer, Stop, decided, no_more, timed_out, refused, exhausted, Phase, starting, replied as in_reply, serving, asked, ended, shutdown_reply_of, phase_after, is_served, Reaches, Stops, SessionOut, request_id}
+use Rattle.lsp_session.specs.SessionLaws.{IsInvited, IsOpened, IsUnopened, AfterShutdown, EndsWithShutdown, HasNoShutdown, KeepsOrder, WasOffered, IsUnstarted, comes_early, IsRefusedEarly, StopsAt, StopsBefore, is_refusal, AllRefused, AllEarly, is_reply, OpenedBy}
 use Rattle.lsp_session.specs.declared.lifecycle.SendFault.{SendFault}
 use Rattle.lsp_session.specs.declared.loops.handler.SessionEnd.TheVariants.{Closed, ShutDown}
 use Rattle.serde_json.specs.Data.{Data}
@@ -64,16 +64,21 @@ module _ {S : Type 0} (may : Behavior S) (stop : Stop) (shutdown_reply : Option 
   abbrev Later : List Exchange → Type 0
   Later xs = HasNoShutdown xs stop shutdown_reply answer ⊎ EndsWithShutdown xs stop shutdown_reply answer
 
+  -- what is said of the exchanges from the start on, but of a message that was refused
+  abbrev Starting : List Exchange → Type 0
+  Starting xs = (early : List Exchange) × (rest : List Exchange) × (xs ≡ early ++ rest) × AllReplied early
+      × (IsOpened early rest stop shutdown_reply answer ⊎ (AllRefused early × AllEarly early × IsUnstarted rest stop answer × (shutdown_reply ≡ None)))
+
   -- what is said of the exchanges from a phase on
   abbrev Order : Phase → List Exchange → Type 0
-  Order starting xs = KeepsOrder xs stop shutdown_reply answer
+  Order starting xs = Starting xs
   Order in_reply xs = (IsInvited xs × Later xs) ⊎ (IsUnopened xs stop answer × (shutdown_reply ≡ None))
   Order serving xs = Later xs
   Order (asked i) xs = AfterShutdown i xs stop answer × (shutdown_reply ≡ Some (null_reply i))
   Order (ended n by) xs = (xs ≡ []) × (shutdown_reply ≡ n) × (stop ≡ decided) × (answer ≡ by)
 
   order_end : (p : Phase) (s s' : S) → Stops may p s stop answer s' → shutdown_reply ≡ shutdown_reply_of p → Order p []
-  order_end starting s s' stops none = record { early = []; rest = []; cut = refl; replied = tt; opened = inr (refl, tt, stops_at may starting s s' stop answer stops, none) }
+  order_end starting s s' stops none = ([], [], refl, tt, inr (refl, tt, stops_at may starting s s' stop answer stops, none))
   order_end in_reply s s' stops none = inr (stops_at may in_reply s s' stop answer stops, none)
   order_end serving s s' stops none = inl (inl (refl, stops_at may serving s s' stop answer stops), none)
   order_end (asked i) s s' stops none = (stops_at may (asked i) s s' stop answer stops, none)
@@ -81,13 +86,13 @@ module _ {S : Type 0} (may : Behavior S) (stop : Stop) (shutdown_reply : Option 
 
   -- one more exchange comes first
   early_before : (x : Exchange) (xs : List Exchange) → IsReplied x → list_all is_refusal x.sent ≡ true → IsSomeAnd x.came (λ m. comes_early m ≡ true)
-      → IsRefusedEarly x.came x.sent → KeepsOrder xs stop shutdown_reply answer → KeepsOrder (x ∷ xs) stop shutdown_reply answer
-  early_before x xs one errors early coded rest = record {
-    early = x ∷ rest.early;
-    rest = rest.rest;
-    cut = ap (λ (l : List Exchange). x ∷ l) rest.cut;
-    replied = (one, rest.replied);
-    opened = elim rest.opened [
+      → IsRefusedEarly x.came x.sent → Starting xs → Starting (x ∷ xs)
+  early_before x xs one errors early coded (first, rest, cut, replied, then) = (
+    x ∷ first,
+    rest,
+    ap (λ (l : List Exchange). x ∷ l) cut,
+    (one, replied),
+    elim then [
       | inl opened ↦ inl (record {
         ends = record {
           before = x ∷ opened.ends.before;
@@ -102,29 +107,29 @@ module _ {S : Type 0} (may : Behavior S) (stop : Stop) (shutdown_reply : Option 
         came = (early, coded, opened.came);
         later = opened.later;
       })
-      | inr unopened ↦ inr (refused_more x rest.early errors unopened.0, (early, coded, unopened.1), unopened.2, unopened.3)
-    ];
-  }
+      | inr unopened ↦ inr (refused_more x first errors unopened.0, (early, coded, unopened.1), unopened.2, unopened.3)
+    ],
+  )
 
   -- the message that decided is the last
-  early_ended : (x : Exchange) (xs : List Exchange) → IsUnstarted (x ∷ xs) stop answer → shutdown_reply ≡ None → KeepsOrder (x ∷ xs) stop shutdown_reply answer
-  early_ended x xs unstarted none = record { early = []; rest = x ∷ xs; cut = refl; replied = tt; opened = inr (refl, tt, unstarted, none) }
+  early_ended : (x : Exchange) (xs : List Exchange) → IsUnstarted (x ∷ xs) stop answer → shutdown_reply ≡ None → Starting (x ∷ xs)
+  early_ended x xs unstarted none = ([], x ∷ xs, refl, tt, inr (refl, tt, unstarted, none))
 
   -- the result of `initialize`, and what follows it
   result_before : (x : Exchange) (xs : List Exchange) (i : Id) (method : List ℕ) (params result : Data) → x.came ≡ Some (request i method params)
-      → is_initialize (request i method params) ≡ true → x.sent ≡ response i (Ok result) ∷ [] → Order in_reply xs → KeepsOrder (x ∷ xs) stop shutdown_reply answer
-  result_before x xs i method params result is asks output rest = record {
-    early = x ∷ [];
-    rest = xs;
-    cut = refl;
-    replied = one_reply x i method params _ is output (_, refl);
-    opened = inl (record {
+      → is_initialize (request i method params) ≡ true → x.sent ≡ response i (Ok result) ∷ [] → Order in_reply xs → Starting (x ∷ xs)
+  result_before x xs i method params result is asks output rest = (
+    x ∷ [],
+    xs,
+    refl,
+    one_reply x i method params _ is output (_, refl),
+    inl (record {
       ends = record { before = []; id = i; method = method; params = params; result = result; asks = asks; cut = λ j. record { came = is j; sent = output j } ∷ [] };
       refused = refl;
       came = tt;
       later = rest;
-    });
-  }
+    }),
+  )
 
   -- one more exchange from `initialized` on, in which no `shutdown` comes
   later_before : (x : Exchange) (xs : List Exchange) → list_all is_served (messages_of (x ∷ [])) ≡ true → Later xs → Later (x ∷ xs)
@@ -212,7 +217,7 @@ module _ {S : Type 0} (may : Behavior S) (stop : Stop) (shutdown_reply : Option 
     order_case : StepCase may p s x.came full q s' → Order p (x ∷ xs)
     order_case (at_initialize i method params outcome here is asks given output next) = rw here (first outcome (one _ output) (rw next at rest))
       where
-        first : (outcome : Result Data ErrorObject) → x.sent ≡ response i outcome ∷ [] → Order (phase_after outcome) xs → KeepsOrder (x ∷ xs) stop shutdown_reply answer
+        first : (outcome : Result Data ErrorObject) → x.sent ≡ response i outcome ∷ [] → Order (phase_after outcome) xs → Starting (x ∷ xs)
         first (Ok result) output rest = result_before x xs i method params result is asks output rest
         first (Err error) output rest = early_before x xs (one_reply x i method params _ is output (_, refl)).0 (rw output refl) (rw is refl)
             (rw is (λ other. let e : true ≡ false = sym asks ∙ other in absurd (cc (e)))) rest
@@ -228,11 +233,17 @@ module _ {S : Type 0} (may : Behavior S) (stop : Stop) (shutdown_reply : Option 
       order_case p run.4 s run.5 x run.0 xs (λ r e. part_one x.sent run.1 run.0 r run.2 run.3 e) (λ e. part_none x.sent run.1 run.0 run.2 e)
       (order run.4 q run.5 after s' xs run.8 stops kept) (row may p run.4 s run.5 x.came run.0 run.6)
 
+-- a message that was refused was offered
+offered : {S : Type 0} (may : Behavior S) (stop : Stop) (p q : Phase) (s s' : S) (xs : List Exchange) → Reaches may stop p s xs q s' → WasOffered stop xs
+offered may (refused fault) p q s s' xs off = (off.earlier, off.came, off.part, off.not_sent, off.cut)
+offered may stop p q s s' xs steps = tt
+
 -- a session keeps its order
 pub keeps_order : {S : Type 0} (may : Behavior S) (s s' : S) (xs : List Exchange) (stop : Stop) (shutdown_reply : Option Message) (answer : SessionAnswer)
     → SessionOut may s s' xs stop shutdown_reply answer → KeepsOrder xs stop shutdown_reply answer
 keeps_order may s s' xs stop shutdown_reply answer out =
-    order may stop shutdown_reply answer starting out.last s out.after s' xs (reaches_ran may stop starting out.last s out.after xs out.reached) out.stopped out.shutdown_reply_is
+    let so = order may stop shutdown_reply answer starting out.last s out.after s' xs (reaches_ran may stop starting out.last s out.after xs out.reached) out.stopped out.shutdown_reply_is in
+    record { early = so.0; rest = so.1; cut = so.2; replied = so.3; opened = so.4; offered = offered may stop starting out.last s out.after xs out.reached }
 
 -- ---- a client that is gone
 

@@ -385,7 +385,7 @@ module _ {L : Type 0} (hears : L → ReadFault → L → Type 0) (never : Passes
   -- so the session passes over nothing
   pub none_passed : (P : SessionPart) (text : List ℕ) (left : Option (List ℕ)) (first last : L) (before after : Option (List ℕ)) (result : Result SessionEnd SessionFault)
       → GivesAndTells hears limit P text left first last before after result → SessionGives limit P text left before after result
-  none_passed P text left first last before after result g = record {
+  none_passed P text left first last held written result g = record {
     exchanges = g.exchanges;
     at = g.at.0;
     read = reads_messages (came_of g.exchanges) (text, first) g.at g.read;
@@ -400,13 +400,13 @@ module _ {L : Type 0} (hears : L → ReadFault → L → Type 0) (never : Passes
   -- if the bytes are known
   pub untold : (P : SessionPart) (known left : Option (List ℕ)) (first last : L) (before after : Option (List ℕ)) (result : Result SessionEnd SessionFault)
       → IfSome known (λ text. GivesAndTells hears limit P text left first last before after result) → IfSome known (λ text. SessionGives limit P text left before after result)
-  untold P None left first last before after result gives = tt
-  untold P (Some text) left first last before after result g = none_passed P text left first last before after result g
+  untold P None left first last held written result gives = tt
+  untold P (Some text) left first last held written result g = none_passed P text left first last held written result g
 
 -- A session that is described otherwise, if the bytes are known.
 pub told_as : (P Q : SessionPart)
     (to : (xs : List Exchange) (stop : Stop) (shutdown_reply : Option Message) (answer : SessionAnswer) → P xs stop shutdown_reply answer → Q xs stop shutdown_reply answer)
     {L : Type 0} (hears : L → ReadFault → L → Type 0) (limit : ℕ) (known left : Option (List ℕ)) (first last : L) (before after : Option (List ℕ)) (result : Result SessionEnd SessionFault)
     → IfSome known (λ text. GivesAndTells hears limit P text left first last before after result) → IfSome known (λ text. GivesAndTells hears limit Q text left first last before after result)
-told_as P Q to hears limit None left first last before after result gives = tt
-told_as P Q to hears limit (Some text) left first last before after result gives = over_as P Q to (ReadsFrame hears limit) (text, first) _ _ gives
+told_as P Q to hears limit None left first last held written result gives = tt
+told_as P Q to hears limit (Some text) left first last held written result gives = over_as P Q to (ReadsFrame hears limit) (text, first) _ _ gives

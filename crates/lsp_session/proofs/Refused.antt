@@ -17,6 +17,7 @@ use Rattle.std.proofs.Common.{◌≡◌, refl, sym, ◌∙◌, ap, subst, inl, i
 use Rattle.std.proofs.lemmas.List.Folds.{list_all-append}
 use Rattle.std.specs.List.{FoldsTo, list_all}
 use Rattle.std.specs.Prelude.{Ok, Err, IsSomeAnd, codes, is_some, ◌&&◌}
+use Rattle.lsp_session.specs.declared.lifecycle.SendFault.{SendFault}
 use Rattle.lsp_session.specs.declared.lifecycle.SendFault.TheVariants.{Closed as Lost, Memory}
 use Rattle.lsp_session.specs.declared.loops.handler.SessionEnd.{SessionEnd}
 use Rattle.lsp_session.specs.declared.loops.handler.SessionEnd.TheVariants.{ShutDown}
@@ -82,6 +83,11 @@ waits_for_exit i exhausted stops = cc (stops)
 never_last : (before : List Exchange) (y : Exchange) → ◌≡◌ {A = List Exchange} [] (before ++ y ∷ []) → ⊥
 never_last [] y e = cc (e)
 never_last (b ∷ before) y e = cc (e)
+
+-- nor have no messages
+no_message : (part : List Message) (m : Message) → ◌≡◌ {A = List Message} [] (part ++ m ∷ []) → ⊥
+no_message [] m e = cc (e)
+no_message (n ∷ part) m e = cc (e)
 
 -- not all are errors
 mixed : (x : Exchange) (xs : List Exchange) → list_all is_refusal x.sent ≡ false → AllRefused (x ∷ xs) → ⊥
@@ -389,6 +395,26 @@ module _ (stop : Stop) (shutdown_reply : Option Message) (answer : SessionAnswer
           ⊎ (AllRefused order.early × AllEarly order.early × IsUnstarted rest stop answer × (shutdown_reply ≡ None)) → ⊥
       at rest (inl opened) = later rest opened.later
       at rest (inr stops) = unstarted rest stops.2
+
+-- The answer is that the outbox refused a message, and the last exchange was offered none: a request was dropped.
+pub drops_request : (before : List Exchange) (came : Option Message) (fault : SendFault) (shutdown_reply : Option Message) (answer : SessionAnswer)
+    → KeepsOrder (before ++ record { came = came; sent = [] } ∷ []) (cut_off fault) shutdown_reply answer → ⊥
+drops_request before came fault shutdown_reply answer order =
+    let off = order.offered in
+    offered_one before off.0 off.2 off.1 off.3 off.4
+  where
+    offered_one : (xs ys : List Exchange) (part : List Message) (arrived : Option Message) (not_sent : Message)
+        → xs ++ record { came = came; sent = [] } ∷ [] ≡ ys ++ record { came = arrived; sent = part ++ not_sent ∷ [] } ∷ [] → ⊥
+    offered_one [] [] part arrived not_sent e =
+        let one : ◌≡◌ {A = Exchange} (record { came = came; sent = [] }) (record { came = arrived; sent = part ++ not_sent ∷ [] }) = cc (e) in
+        no_message part not_sent (ap (λ (x : Exchange). x.sent) one)
+    offered_one [] (y ∷ ys) part arrived not_sent e = let rest : [] ≡ ys ++ record { came = arrived; sent = part ++ not_sent ∷ [] } ∷ [] = cc (e) in never_last ys _ rest
+    offered_one (x ∷ xs) [] part arrived not_sent e =
+        let rest : xs ++ record { came = came; sent = [] } ∷ [] ≡ [] = cc (e) in
+        never_last xs _ (sym rest)
+    offered_one (x ∷ xs) (y ∷ ys) part arrived not_sent e =
+        let rest : xs ++ record { came = came; sent = [] } ∷ [] ≡ ys ++ record { came = arrived; sent = part ++ not_sent ∷ [] } ∷ [] = cc (e) in
+        offered_one xs ys part arrived not_sent rest
 
 -- After a whole handshake a request that the lifecycle allows gets no reply, and the answer is that it came in the place of `initialized`.
 pub refuses_allowed : (i k : Id) (params result given asked : Data) (method : List ℕ) (opening : List Message) (stop : Stop) (shutdown_reply : Option Message) (shown : List ℕ)

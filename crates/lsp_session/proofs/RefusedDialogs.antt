@@ -28,7 +28,7 @@ same_length (i ∷ is) (m ∷ ms) all = ap suc (same_length is ms all.1)
 pub patient_waits : WaitsForReplies patient
 patient_waits sent got replies = eq-eqb (length (requests_of sent)) (length got) (same_length (requests_of sent) got replies)
 
--- the line took whatever was sent
+-- the transport took whatever was sent
 abbrev is_kept : Act → Bool
 is_kept (lost m) = false
 is_kept act = true

@@ -1,4 +1,4 @@
--- Runs over one value that are no session: over a line that is the account of its acts, in order, whatever comes later, and whatever
+-- Runs over one value that are no session: over a transport that is the account of its acts, in order, whatever comes later, and whatever
 -- is said of its wakes.
 use Rattle.lsp_message.specs.Id.{Id}
 use Rattle.lsp_message.specs.Message.{Message, ErrorObject, request, response}
@@ -17,12 +17,12 @@ use Rattle.std.specs.List.{FoldsTo, list_all}
 use Rattle.std.specs.Prelude.{Result, Ok, Err}
 use Rattle.std.specs.Str.{bytes_eq}
 
--- what a line does: it gives this event, or it is sent this message and answers so
+-- what a transport does: it gives this event, or it is sent this message and answers so
 pub data Act : Type 0 where
   gave : Event → Act
   got : Message → Result (Unit {0}) SendFault → Act
 
--- a line that is the account of what it did
+-- a transport that is the account of what it did
 abbrev pub Gives : Receives (List Act)
 Gives old event new = new ≡ old ++ gave event ∷ []
 

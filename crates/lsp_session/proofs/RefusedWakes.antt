@@ -1,7 +1,7 @@
--- A session that passes over a wake, over a line of events to come: its `receive` passes over wakes, and its other wait over none.
+-- A session that passes over a wake, over a transport of events to come: its `receive` passes over wakes, and its other wait over none.
 use Rattle.lsp_message.specs.Messages.{is_exit}
 use Rattle.lsp_message.specs.Message.{Message}
-use Rattle.lsp_session.proofs.Line.{ends_at_exit}
+use Rattle.lsp_session.proofs.Transport.{ends_at_exit}
 use Rattle.lsp_session.proofs.Waiting.{waits_none}
 use Rattle.lsp_session.specs.Boxes.{Sends, Receives, Takes}
 use Rattle.lsp_session.specs.Event.{Event, message, woken}
@@ -83,7 +83,7 @@ sent_leaves : (ms : List Message) (old new : List Event) → FoldsTo (Takes Leav
 sent_leaves [] old new run = run
 sent_leaves (m ∷ ms) old new run = sym run.1 ∙ sent_leaves ms run.0 new run.2
 
--- From `initialized` on, what the line gave are the messages and wakes of the exchanges, each in its place.
+-- From `initialized` on, what the transport gave are the messages and wakes of the exchanges, each in its place.
 pub tells_each : (xs : List Exchange) (old new : Phase × List Event) → old.0 ≡ serving → FoldsTo (Meets Skips TakesNext LeavesEvents) old xs new
     → old.1 ≡ map event_of (came_of xs) ++ new.1
 tells_each [] old new at run = ap (λ (a : Phase × List Event). a.1) run

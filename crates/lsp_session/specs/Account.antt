@@ -1,4 +1,4 @@
--- What a line did in a session, act after act: it reads a message, takes all that is to be sent for it, and only then reads again.
+-- What a transport did in a session, act after act: it reads a message, takes all that is to be sent for it, and only then reads again.
 use Rattle.std.specs.List.{list_all}
 use Rattle.std.specs.Prelude.{◌≡◌, ◌≤◌, ◌-◌, ◌^◌, ◌⊎◌, ℕ, true, List, [], ◌∷◌, ◌++◌, length, map, Option, Some, None, Result, Ok, Err}
 use Rattle.lsp_message.specs.Message.{Message}
@@ -8,13 +8,13 @@ use Rattle.lsp_session.specs.Prompt.{event_of, StopsAfterShutdown}
 use Rattle.lsp_session.specs.Session.{Exchange, SessionPart, is_shutdown, Stop, decided, no_more, timed_out, refused, exhausted}
 use Rattle.lsp_session.specs.declared.lifecycle.SendFault.{SendFault}
 
--- one act of a line
+-- one act of a transport
 pub data Act : Type 0 where
   -- this was received: a message that came, for one
   gave : Event → Act
-  -- the message was sent, and the line took it
+  -- the message was sent, and the transport took it
   took : Message → Act
-  -- the message was sent, and the line refused it
+  -- the message was sent, and the transport refused it
   lost : Message → Act
 
 -- the act of a send
@@ -22,7 +22,7 @@ abbrev pub sending : Message → Result (Unit {0}) SendFault → Act
 sending m (Ok done) = took m
 sending m (Err fault) = lost m
 
--- The line keeps an account: each act is added when it is done, and no other.
+-- The transport keeps an account: each act is added when it is done, and no other.
 pub record KeepsAccount {L : Type 0} (receives : Receives L) (sends : Sends L) (account : L
     → List Act) : Type 0 where
   pub receiving : (old : L) (event : Event) (new : L) → receives old event new
@@ -36,7 +36,7 @@ pub record Awaited (event : Event) (acts : List Act) : Type 0 where
   pub only_timeouts : list_all is_timeout passed ≡ true
   pub are : acts ≡ map gave (passed ++ event ∷ [])
 
--- A message or a wake came, and then the line took all that was to be sent for it, in order. Nothing else was awaited in between.
+-- A message or a wake came, and then the transport took all that was to be sent for it, in order. Nothing else was awaited in between.
 pub record AreActsOfOne (x : Exchange) (acts : List Act) : Type 0 where
   pub waits : List Act
   pub awaited : Awaited (event_of x.came) waits
@@ -48,7 +48,7 @@ AreActsOf [] acts = acts ≡ []
 AreActsOf (x ∷ xs) acts = (first : List Act) × (more : List Act) × AreActsOfOne x first
     × AreActsOf xs more × (acts ≡ first ++ more)
 
--- A last message or wake came, and the line took what was to be sent for it up to a message that it refused. Nothing more was done.
+-- A last message or wake came, and the transport took what was to be sent for it up to a message that it refused. Nothing more was done.
 pub record BreaksActs (last : List Exchange) (acts : List Act) : Type 0 where
   pub came : Option Message
   pub part : List Message
@@ -58,7 +58,7 @@ pub record BreaksActs (last : List Exchange) (acts : List Act) : Type 0 where
   pub awaited : Awaited (event_of came) waits
   pub are : acts ≡ waits ++ (map took part ++ lost not_sent ∷ [])
 
--- `shutdown` came, then its reply was sent, whatever the line answered, and only then one event was awaited, the last one.
+-- `shutdown` came, then its reply was sent, whatever the transport answered, and only then one event was awaited, the last one.
 pub record ShutdownReplyInOrder (shutdown_reply : Message) (stop : Stop) (last : List Exchange)
     (acts : List Act) : Type 0 where
   pub ask : Message

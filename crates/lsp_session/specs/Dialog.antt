@@ -10,8 +10,9 @@ use Rattle.lsp_session.specs.Session.{Behavior, Exchange, messages_of, sends_of,
 abbrev pub Client : Type 0
 Client = List Message → List Message → Bool
 
--- Each time that the session awaited something, the client was not waiting, after it had sent these messages and got those. So the two
--- never wait for each other. It ends at a message that the line refused: after one the client gets nothing more.
+-- Each time that the session awaited something, the client was not waiting, if it had sent the messages that the session had read, and got
+-- those that the session had sent. So the two never wait for each other; what the client sent besides is under way. It ends at a message
+-- that the transport refused: after one the client gets nothing more.
 abbrev pub NeverBothWait : Client → List Message → List Message → List Act → Type 0
 NeverBothWait goes_on sent got [] = Unit {0}
 NeverBothWait goes_on sent got (gave (message m) ∷ acts) = (goes_on sent got ≡ true)

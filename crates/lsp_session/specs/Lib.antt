@@ -1,8 +1,10 @@
 pub mod Account
 pub mod AccountItems
+pub mod ActBytes
 pub mod Answered
 pub mod BothEnds
 pub mod Boxes
+pub mod ClientReads
 pub mod Dialog
 pub mod Event
 pub mod FaultCounts
@@ -10,7 +12,7 @@ pub mod Finish
 pub mod FrameBoxes
 pub mod HandlerService
 pub mod HandlerSession
-pub mod LineParts
+pub mod TransportParts
 pub mod Lists
 pub mod OutputView
 pub mod Outputs
@@ -31,7 +33,9 @@ pub mod SessionRun
 pub mod Shutdown
 pub mod Start
 pub mod StreamBoxes
-pub mod StreamLines
+pub mod StreamTransports
 pub mod Streams
+pub mod Transcripts
 pub mod Turns
+pub mod Unwoken
 pub mod WriteLoop

@@ -1,7 +1,7 @@
 -- A session over one value with both ends: all that is to be sent for a message is sent before anything else is awaited. So a client may
 -- wait for it before it sends on. Of `initialize`, of each request before it and of `shutdown` it is the reply; of a request in between
 -- it is the reply if the service answers at once, as `AnswersRequests` says. From `initialized` up to `shutdown` the session waits
--- for wakes too, as its line says. Of two values, each with one end, this says neither.
+-- for wakes too, as its transport says. Of two values, each with one end, this says neither.
 use Rattle.std.specs.List.{FoldsTo}
 use Rattle.std.specs.Prelude.{◌≡◌, ◌≤◌, ◌-◌, ◌^◌, ◌⊎◌, ◌&&◌, if◌then◌else◌, ℕ, Bool, true, false, List, [], ◌∷◌, ◌++◌, length, Option, Some, None, Ok, Err}
 use Rattle.lsp_message.specs.Message.{Message, response}
@@ -42,7 +42,7 @@ next_phase replied x = serving
 next_phase phase x = phase
 
 module _ {L : Type 0} (receives listens : Receives L) where
-  -- what the line says besides of a wait in this phase: from `initialized` up to `shutdown` it also gives wakes
+  -- what the transport says besides of a wait in this phase: from `initialized` up to `shutdown` it also gives wakes
   abbrev pub ListensIn : Phase → L → Event → L → Type 0
   ListensIn serving old event new = listens old event new
   ListensIn phase old event new = Unit {0}
@@ -73,7 +73,7 @@ module _ {L : Type 0} (receives listens : Receives L) where
       pub taken : FoldsTo (Takes sends) met part mid
       pub refuses : sends mid not_sent (Err fault) new
 
-    -- `shutdown` comes, then its reply is sent, whatever the line answers, and only then one event is received, the last one.
+    -- `shutdown` comes, then its reply is sent, whatever the transport answers, and only then one event is received, the last one.
     pub record OffersShutdownReplyFirst (phase : Phase) (shutdown_reply : Message) (stop : Stop)
         (last : List Exchange) (old new : L) : Type 0 where
       pub ask : Message

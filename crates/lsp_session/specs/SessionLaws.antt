@@ -163,9 +163,17 @@ pub record IsOpened (early rest : List Exchange) (stop : Stop) (shutdown_reply :
       ⊎ EndsWithShutdown rest stop shutdown_reply answer))
       ⊎ (IsUnopened rest stop answer × (shutdown_reply ≡ None))
 
+-- If the outbox refused a message, the last exchange was offered one: that is the last of its messages.
+abbrev pub WasOffered : Stop → List Exchange → Type 0
+WasOffered (refused fault) exchanges =
+    (earlier : List Exchange) × (came : Option Message) × (part : List Message)
+    × (not_sent : Message)
+    × (exchanges ≡ earlier ++ record { came = came; sent = part ++ not_sent ∷ [] } ∷ [])
+WasOffered stop exchanges = Unit {0}
+
 -- Up to and with `initialize` each request gets one reply, and nothing else is sent: errors, and last its result. The errors of other
 -- requests have the code -32002. Neither `exit` nor a response comes before that result, unless it is the last message and decides. Each
--- end has the answer of its phase.
+-- end has the answer of its phase. If a message was refused, one was offered.
 pub record KeepsOrder (exchanges : List Exchange) (stop : Stop) (shutdown_reply : Option Message)
     (answer : SessionAnswer) : Type 0 where
   pub early : List Exchange
@@ -174,6 +182,7 @@ pub record KeepsOrder (exchanges : List Exchange) (stop : Stop) (shutdown_reply 
   pub replied : AllReplied early
   pub opened : IsOpened early rest stop shutdown_reply answer
       ⊎ (AllRefused early × AllEarly early × IsUnstarted rest stop answer × (shutdown_reply ≡ None))
+  pub offered : WasOffered stop exchanges
 
 abbrev pub is_reply : Message → Bool
 is_reply (response i outcome) = true

@@ -10,12 +10,12 @@ mod loops;
 pub use error::ProtocolError;
 pub use lifecycle::{
     Arrival, CallGate, Event, Gate, Inbox, ListGate, ListInbox, ListOutbox, OpenGate, Outbox,
-    SendFault, finish, finish_within, is_exit, shutdown, start_within, wait_within,
+    SendFault, WakingInbox, finish, finish_within, is_exit, shutdown, start_within, wait_within,
 };
 pub use loops::{
-    EndSession, FaultCounts, FrameOutbox, Handler, HandlerService, Ignore, Listener, Output,
-    ReadEnd, Served, Service, SessionEnd, SessionFault, StopReason, StreamInbox, StreamLine,
-    TolerantInbox, WriteEnd, initialize_result, is_of_body, read_loop, read_loop_within, serve,
-    serve_line, serve_service, session, session_answer, session_of_service, session_within,
-    write_loop,
+    ClientStreams, EndSession, FaultCounts, FrameOutbox, Handler, HandlerService, Ignore, Listener,
+    Output, ReadEnd, Served, Service, SessionEnd, SessionFault, StopReason, StreamInbox,
+    StreamTransport, TolerantInbox, Transcript, WriteEnd, initialize_result, is_of_body, read_loop,
+    read_loop_within, serve, serve_service, serve_transport, session, session_answer,
+    session_of_service, session_transcribed, session_within, write_loop,
 };

@@ -78,15 +78,10 @@ impl Arrival {
 
 /// Gives messages one after another.
 pub trait Inbox {
-    ghost use Rattle.std.specs.Prelude.{⊤};
     ghost use Rattle.lsp_session.specs.Event.{Event};
 
     /// One receive may give this event, and change the contents so.
     ghost receives: { Self → Event → Self → Type 0 };
-
-    /// What a wait that also gives wakes says besides. An inbox that wakes says here that such a wait passes over none, if
-    /// `receive` may.
-    ghost listens: { Self → Event → Self → Type 0 } = { λ _ _ _. ⊤ };
 
     /// Waits for a message, but no longer than this many seconds.
     fn receive_for(&mut self, seconds: u64) -> Event
@@ -96,12 +91,22 @@ pub trait Inbox {
     fn receive(&mut self) -> Event
         ensures receives { WaitsFor receives self.old (event_view result) self.new }
         ensures never_timeout { event_view result ≢ timeout };
+}
+
+/// An inbox that may also give wakes: something that a service waits for is ready.
+pub trait WakingInbox: Inbox {
+    ghost use Rattle.std.specs.Prelude.{⊤};
+    ghost use Rattle.lsp_session.specs.Event.{Event};
+
+    /// What a wait that also gives wakes says besides. An inbox that wakes says here that such a wait passes over none, if
+    /// `receive` may.
+    ghost listens: { Self → Event → Self → Type 0 } = { λ _ _ _. ⊤ };
 
     /// Waits for a message or a wake, without limit. A session calls it from `initialized` up to `shutdown`, and nowhere else, so no
     /// service is woken before or after. That it calls it there, and not `receive`, is in the contract of a session over one value
-    /// (`serve_line`). An inbox that gives no wake writes `Arrival::from_event(self.receive())`.
+    /// (`serve_transport`).
     fn receive_or_woken(&mut self) -> Arrival
-        ensures receives { WaitsFor receives self.old (arrival_view result) self.new }
+        ensures receives { WaitsFor Self.receives self.old (arrival_view result) self.new }
         ensures listens { listens self.old (arrival_view result) self.new };
 }
 

@@ -12,33 +12,38 @@ use std::io::{BufRead, ErrorKind};
 
 mod account;
 mod both_ends;
+mod client_streams;
 mod frame_outbox;
 mod handler;
 mod handler_service;
-mod line;
 mod listener;
 mod served;
 mod service;
 mod stream_inbox;
-mod stream_line;
 mod stream_session;
+mod stream_transport;
 mod tolerant_inbox;
+mod transcript;
+mod transport;
+mod unwoken;
 mod write;
 
 pub use both_ends::serve_service;
+pub use client_streams::ClientStreams;
 pub use frame_outbox::FrameOutbox;
 pub use handler::{Handler, SessionEnd, initialize_result, serve};
 pub use handler_service::HandlerService;
-pub use line::serve_line;
 pub use listener::{EndSession, FaultCounts, Ignore, Listener};
 pub use served::{Served, StopReason};
 pub use service::{Output, Service};
 pub use stream_inbox::StreamInbox;
-pub use stream_line::StreamLine;
 pub use stream_session::{
-    SessionFault, session, session_answer, session_of_service, session_within,
+    SessionFault, session, session_answer, session_of_service, session_transcribed, session_within,
 };
+pub use stream_transport::StreamTransport;
 pub use tolerant_inbox::{TolerantInbox, is_of_body};
+pub use transcript::Transcript;
+pub use transport::serve_transport;
 pub use write::{WriteEnd, write_loop};
 
 /// How a loop over a reader's messages ended.

@@ -3,3 +3,4 @@ pub mod Columns
 pub mod Characters
 pub mod Documents
 pub mod Edits
+pub mod Places

@@ -2,7 +2,7 @@
 ghost use Rattle.std.specs.Prelude.{◌≡◌, OnOk, OnErr, IfOk, length, is_err, false};
 ghost use Rattle.std.specs.String.{string_bytes};
 ghost use Rattle.lsp_text.specs.Documents.{Change, Document};
-ghost use Rattle.lsp_text.specs.Edits.{edited_by};
+ghost use Rattle.lsp_text.specs.Edits.{edited_by, past_by};
 
 use crate::json::{members_in, needed, put};
 use crate::position::{PositionEncoding, Range};
@@ -120,14 +120,16 @@ impl TextDocument {
     }
 
     /// Makes the changes of one notification, each in the text that the one before it left. If memory runs out, the document
-    /// stays as it was. Without a change no memory is needed.
+    /// stays as it was. Without a change no memory is needed. It gives what `change` does. It gives whether a position of a change lies past an end, as
+    /// `Text::apply` says.
     pub fn change(
         &mut self,
         alloc: Global,
         version: Option<i32>,
         encoding: PositionEncoding,
         changes: &[ContentChange],
-    ) -> Result<(), AllocError>
+    ) -> Result<bool, AllocError>
+        ensures past { IfOk result (λ past. past ≡ past_by encoding self.old.text changes.now) }
         ensures ok { OnOk result
             (self.new ≡ record {
               language_id = self.old.language_id;
@@ -137,18 +139,50 @@ impl TextDocument {
         ensures err { OnErr result (self.new ≡ self.old) }
         ensures none { length changes.now ≡ 0 → is_err result ≡ false }
     {
+        let mut past = false;
         if changes.len() == 1 {
             let change = &changes[0];
-            self.text
+            past = self
+                .text
                 .apply(alloc, change.range, encoding, change.text.as_str())?;
         } else if changes.len() > 1 {
             let mut text = Text::new(alloc, self.text.as_str())?;
             for change in changes {
-                text.apply(alloc, change.range, encoding, change.text.as_str())?;
+                let more = text.apply(alloc, change.range, encoding, change.text.as_str())?;
+                past = past || more;
             }
             self.text = text;
         }
         self.version = version;
-        Ok(())
+        Ok(past)
+    }
+
+    /// Makes the changes of one notification in the text itself. If memory runs out, some of them are made, and the language alone is as
+    /// it was. Without a change no memory is needed. It gives what `change` does.
+    pub fn change_in_place(
+        &mut self,
+        alloc: Global,
+        version: Option<i32>,
+        encoding: PositionEncoding,
+        changes: &[ContentChange],
+    ) -> Result<bool, AllocError>
+        ensures past { IfOk result (λ past. past ≡ past_by encoding self.old.text changes.now) }
+        ensures ok { OnOk result
+            (self.new ≡ record {
+              language_id = self.old.language_id;
+              version = version;
+              text = edited_by encoding self.old.text changes.now;
+            }) }
+        ensures err { OnErr result (self.new.language_id ≡ self.old.language_id) }
+        ensures none { length changes.now ≡ 0 → is_err result ≡ false }
+    {
+        let TextDocument { text, .. } = self;
+        let mut past = false;
+        for change in changes {
+            let more = text.apply(alloc, change.range, encoding, change.text.as_str())?;
+            past = past || more;
+        }
+        self.version = version;
+        Ok(past)
     }
 }

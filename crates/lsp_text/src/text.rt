@@ -1,17 +1,38 @@
 // A text with the places where its lines begin.
-ghost use Rattle.std.specs.Prelude.{◌≡◌, ℕ, List, length, drop, slice_index, IfOk, OnOk, OnErr, ◌≤◌, ◌<◌, ◌^◌, min};
+ghost use Rattle.std.specs.Prelude.{◌≡◌, ℕ, List, length, map, drop, slice_index, IfOk, OnOk, OnErr, ◌≤◌, ◌<◌, ◌^◌, min};
 ghost use Rattle.std.specs.String.{string_bytes};
 ghost use Rattle.std.specs.String.Boundary.{IsSplitPoint};
 ghost use Rattle.std.specs.List.{replace_range};
 ghost use Rattle.lsp_text.specs.Lines.{line_starts};
 ghost use Rattle.lsp_text.specs.Columns.{offset_of, line_of, column_of, column_left, IsPlace};
-ghost use Rattle.lsp_text.specs.Edits.{edited};
+ghost use Rattle.lsp_text.specs.Edits.{edited, is_past_end, past_in};
+ghost use Rattle.lsp_text.specs.Places.{position_of, IsCounted};
 
-use crate::columns::Reached;
+use crate::columns::{Reached, Width};
 use crate::position::{Position, PositionEncoding, Range};
 use crate::{columns, lines};
 use std::alloc::{AllocError, Global};
 use std::marker::Model;
+
+/// A place of a line, up to which the line's units are counted.
+#[derive(Clone, Copy, Drop)]
+struct Mark {
+    start: usize,
+    place: usize,
+    width: Width,
+}
+
+impl Mark {
+    /// The text's start.
+    const START: Mark = Mark {
+        start: 0,
+        place: 0,
+        width: Width {
+            units: 0,
+            ended: false,
+        },
+    };
+}
 
 /// A text with the places where its lines begin. Contracts see it as the bytes of its UTF-8.
 #[derive(Drop)]
@@ -85,8 +106,9 @@ impl Text {
         }
     }
 
-    /// Where the end of a range is. In the line of the range's start, which was reached, the way goes on from there.
-    fn end_of(&self, range: Range, encoding: PositionEncoding, start: Reached) -> usize
+    /// Where the end of a range is, and how many units are left of its character there. In the line of the range's start, which was
+    /// reached, the way goes on from there.
+    fn end_of(&self, range: Range, encoding: PositionEncoding, start: Reached) -> Reached
         requires place { start.place
             ≡ offset_of encoding self.now range.start.line range.start.character }
         requires left { range.start.line < length (line_starts self.now)
@@ -94,17 +116,38 @@ impl Text {
             (drop (slice_index (line_starts self.now) range.start.line) self.now) }
         requires fewer { start.left ≤ range.start.character }
         requires boundary { IsSplitPoint self.now start.place }
-        ensures value { result ≡ offset_of encoding self.now range.end.line range.end.character }
-        ensures boundary { IsSplitPoint self.now result }
+        ensures value { result.place
+            ≡ offset_of encoding self.now range.end.line range.end.character }
+        ensures left { range.end.line < length (line_starts self.now)
+            → result.left ≡ column_left encoding range.end.character
+            (drop (slice_index (line_starts self.now) range.end.line) self.now) }
+        ensures boundary { IsSplitPoint self.now result.place }
     {
         let line = range.end.line as usize;
         let behind = range.start.character <= range.end.character;
         if line < self.starts.len() && range.start.line == range.end.line && behind {
             let more = range.end.character - range.start.character;
             let text = self.text.as_bytes();
-            columns::reach_in(encoding, start.left + more, text, start.place).place
+            columns::reach_in(encoding, start.left + more, text, start.place)
         } else {
-            self.offset_at(range.end, encoding)
+            self.reach(range.end, encoding)
+        }
+    }
+
+    /// Whether a position lies past its line's end, or past the place behind the last line. It was reached.
+    fn is_past(&self, position: Position, encoding: PositionEncoding, reached: Reached) -> bool
+        requires place { reached.place
+            ≡ offset_of encoding self.now position.line position.character }
+        requires left { position.line < length (line_starts self.now)
+            → reached.left ≡ column_left encoding position.character
+            (drop (slice_index (line_starts self.now) position.line) self.now) }
+        ensures { result ≡ is_past_end encoding self.now position }
+    {
+        let line = position.line as usize;
+        if line < self.starts.len() {
+            columns::is_past(self.text.as_bytes(), reached)
+        } else {
+            line > self.starts.len() || position.character > 0
         }
     }
 
@@ -124,7 +167,58 @@ impl Text {
         let start = lines::start_of(text, self.starts.as_slice(), line);
         Position {
             line: fitted(line),
-            character: columns::width_of(encoding, &text[start..place]),
+            character: columns::width_of(encoding, &text[start..place]).units,
+        }
+    }
+
+    /// The positions of several offsets, each as `position_at` gives it. An offset that stands in the line of the one before it, and
+    /// not before that, is counted from there on: so in ascending order they cost one pass over each line.
+    pub fn positions_at(
+        &self,
+        alloc: Global,
+        offsets: &[usize],
+        encoding: PositionEncoding,
+    ) -> Result<Vec<Position>, AllocError>
+        ensures { IfOk result (λ found.
+            found.items ≡ map (position_of encoding self.now) offsets.now) }
+    {
+        let mut positions = Vec::new(alloc);
+        let mut mark = Mark::START;
+        for i in 0..offsets.len() {
+            let place = offsets[i].min(self.text.len());
+            let line = lines::line_at(self.text.as_bytes(), self.starts.as_slice(), place);
+            mark = self.mark_at(line, place, encoding, mark);
+            positions.push(Position {
+                line: fitted(line),
+                character: mark.width.units,
+            })?;
+        }
+        Ok(positions)
+    }
+
+    /// The units of a line up to a place, from another place on up to which they are counted, if it stands in this line before it.
+    fn mark_at(&self, line: usize, place: usize, encoding: PositionEncoding, before: Mark) -> Mark
+        requires line { line < length (line_starts self.now) }
+        requires in_order { slice_index (line_starts self.now) line ≤ place }
+        requires within { place ≤ length self.now }
+        requires before { IsCounted encoding self.now before.start before.place before.width.units
+            before.width.ended }
+        ensures start { result.start ≡ slice_index (line_starts self.now) line }
+        ensures place { result.place ≡ place }
+        ensures counted { IsCounted encoding self.now result.start result.place result.width.units
+            result.width.ended }
+    {
+        let text = self.text.as_bytes();
+        let start = lines::start_of(text, self.starts.as_slice(), line);
+        let width = if before.start == start && before.place <= place {
+            columns::width_on(encoding, before.width, &text[before.place..place])
+        } else {
+            columns::width_of(encoding, &text[start..place])
+        };
+        Mark {
+            start,
+            place,
+            width,
         }
     }
 
@@ -156,14 +250,16 @@ impl Text {
     }
 
     /// Puts other text in the place of a range, or of the whole text. A range whose end stands before its start is taken the
-    /// other way round.
+    /// other way round. It gives whether a position of the range lies past its line's end, or past the place behind the last line:
+    /// LSP 3.17 takes it for that end, but a client whose text is this one has no such place.
     pub fn apply(
         &mut self,
         alloc: Global,
         range: Option<Range>,
         encoding: PositionEncoding,
         text: &str,
-    ) -> Result<(), AllocError>
+    ) -> Result<bool, AllocError>
+        ensures past { IfOk result (λ past. past ≡ past_in encoding self.old range) }
         ensures ok { OnOk result (self.new ≡ edited encoding self.old range text.now) }
         ensures err { OnErr result (self.new ≡ self.old) }
     {
@@ -171,15 +267,15 @@ impl Text {
             Some(range) => {
                 let start = self.reach(range.start, encoding);
                 let end = self.end_of(range, encoding, start);
-                if start.place <= end {
-                    self.replace(alloc, start.place, end, text)
-                } else {
-                    self.replace(alloc, end, start.place, text)
-                }
+                let past = self.is_past(range.start, encoding, start)
+                    || self.is_past(range.end, encoding, end);
+                let from = start.place.min(end.place);
+                self.replace(alloc, from, start.place.max(end.place), text)?;
+                Ok(past)
             }
             None => {
                 *self = Text::new(alloc, text)?;
-                Ok(())
+                Ok(false)
             }
         }
     }

@@ -25,7 +25,7 @@ use Rattle.lsp_session.specs.Streams.{Stream, StreamReads, Reads}
 use Rattle.lsp_session.specs.declared.loops.ReadEnd.{ReadEnd}
 use Rattle.lsp_session.specs.declared.loops.ReadEnd.TheVariants.{Exit, End, Fault}
 use Rattle.lsp_threads.proofs.ContentReads.{contents_of-append}
-use Rattle.lsp_threads.specs.Contents.{ArrivesAs, BeginsWithContent, Collects, Contents, contents_of, ContentsGive, GivesContent, HandsContents, is_over, OpenGives, ReadsContents, Receiving, StopsAt}
+use Rattle.lsp_threads.specs.Contents.{ArrivesAs, BeginsWithContent, Collects, Contents, contents_of, ContentsGive, GivesContent, HandsWhole, is_over, OpenGives, ReadsContents, Receiving, StopsAt}
 use Rattle.lsp_threads.specs.Threads.{session_end}
 
 -- ---- what was taken
@@ -284,7 +284,7 @@ module _ (limit : ℕ) where
       (drained : MatchBool (has_end inbox'.0.taken) (taken ≡ inbox'.0.taken) ((more : List Contents) × (taken ≡ inbox'.0.taken ++ ended more)))
       (settled : IsPrefix taken back.sent) (read : ReadEnd) where
     -- what the inbox did over the relay, as an inbox over the text
-    pub as_stream : (text : List ℕ) → HandsContents limit text tx read back
+    pub as_stream : (text : List ℕ) → HandsWhole limit text tx read back
         → (s : Stream × L) × (FoldsTo (GivesOr others hears limit) (record { remaining = Some text; end = None }, inbox.1) events s
         × (s.0.end ≡ session_end inbox'.0.end (has_end inbox'.0.taken) read) × (s.1 ≡ inbox'.1))
     as_stream text handed =

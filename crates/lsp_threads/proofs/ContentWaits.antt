@@ -24,9 +24,9 @@ collects_then a b c x y z first second = (
 
 -- one parcel, if no content part waits
 pub collects_parcel : (taken new : List (Parcel Contents)) (waiting items : List (Vec ℕ Global)) (contents : Contents) → waiting ≡ [] → new ≡ taken ++ parcel.Message contents ∷ []
-    → items ≡ contents.items → Collects taken (bytes_of waiting) new (bytes_of items)
+    → items ≡ contents.parts.items → Collects taken (bytes_of waiting) new (bytes_of items)
 collects_parcel taken new waiting items contents none grown same =
-    (parcel.Message contents ∷ [], grown, rw (none, same) (append-nil (bytes_of contents.items)))
+    (parcel.Message contents ∷ [], grown, rw (none, same) (append-nil (bytes_of contents.parts.items)))
 
 pub collects_end : (taken new : List (Parcel Contents)) (waiting : List (Vec ℕ Global)) → waiting ≡ [] → new ≡ taken ++ parcel.End ∷ [] → Collects taken (bytes_of waiting) new []
 collects_end taken new waiting none grown = (parcel.End ∷ [], grown, rw none refl)

@@ -1,10 +1,8 @@
 -- Content parts may go to another thread.
-use denote.Builtin.{u8}
 use denote.Param.Send.{IsSend, sendable}
 use Rattle.std.proofs.Crossing.{Vec-send}
-use Rattle.std.specs.contracts.alloc.Global as Heap
-use Rattle.std.specs.contracts.impls.GlobalAllocator.TheImpl.{ghosts}
-use Rattle.std.specs.contracts.vec.Vec as Vec
+use Rattle.lsp_message.proofs.frame.passed.Passed.TheSendSync.{the_send as passed_send}
+use Rattle.lsp_threads.specs.contracts.content_outbox.Contents as Contents
 
-pub contents_send : IsSend (Vec.the_row (Vec.the_row u8 Heap.the_row ghosts) Heap.the_row ghosts)
-contents_send = search (Vec-send, sendable) depth 20
+pub contents_send : IsSend Contents.the_row
+contents_send = search (Vec-send, passed_send, sendable) depth 20

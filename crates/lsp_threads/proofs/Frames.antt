@@ -1,25 +1,35 @@
 -- Frames gathered in texts, sent, taken and written, and what a reader's thread read and the caller wrote, as `pump` says it.
-use Rattle.std.proofs.Common.{◌≡◌, ◌⊎◌, inl, inr, ℕ, ◌<◌, arith, List, [], ◌∷◌, ◌++◌, ◌∙◌, ap, sym, refl, map, length, length-append, append_assoc, append-nil, Option, Some, None, IfSome, OnSome, Result, Ok, Err, OnOk, String, string_bytes, subst, Global}
+use Rattle.std.proofs.Common.{◌≡◌, true, false, ◌⊎◌, inl, inr, ℕ, ◌<◌, arith, List, [], ◌∷◌, ◌++◌, ◌∙◌, ap, sym, refl, map, length, length-append, append_assoc, append-nil, Option, Some, None, IfSome, OnSome, Result, Ok, Err, OnOk, String, string_bytes, subst, Global}
 use Rattle.std.proofs.KnownBytes.{Appends-nil, Appends-trans}
 use Rattle.std.specs.Io.KnownBytes.{Keeps}
-use Rattle.std.specs.List.{FoldsTo}
+use Rattle.std.specs.List.{concat, FoldsTo}
+use Rattle.std.specs.declared.io.ErrorKind.TheVariants.{Other}
 use mathlib.Core.List.{IsPrefix}
+use Rattle.lsp_message.specs.Frame.{reading_within}
 use Rattle.lsp_message.specs.Message as plain
+use Rattle.lsp_message.specs.Messages.{is_exit}
+use Rattle.lsp_message.specs.Told.{Parts, Told, IsOfParts}
+use Rattle.lsp_message.specs.View.{message_view}
+use Rattle.lsp_message.specs.declared.frame.ReadFault.{ReadFault}
+use Rattle.lsp_message.specs.declared.msg.Message as msg
 use Rattle.lsp_message.specs.Written.{AppendsBeginning, AreFramesOf, IsFrameOf, GetsFrames}
 use Rattle.lsp_message.specs.declared.frame.WriteFault.{WriteFault}
 use Rattle.lsp_relay.proofs.Parcels.{same_messages}
 use Rattle.lsp_relay.specs.Relay.{ended, IsOpen, Sending}
 use Rattle.lsp_relay.specs.declared.ends.Parcel.{Parcel}
 use Rattle.lsp_relay.specs.declared.ends.Parcel.TheVariants as parcel
-use Rattle.lsp_session.proofs.Handing.{Handed}
+use Rattle.lsp_session.proofs.Handing.{Handed, Handed-more, hands_end, hands_exit, hands_fault, hands_on, hands_refused}
 use Rattle.lsp_session.specs.Boxes.{Takes}
 use Rattle.lsp_session.specs.ReadLoop.{HasRead, Hands}
 use Rattle.lsp_session.specs.declared.loops.ReadEnd.{ReadEnd}
 use Rattle.lsp_session.specs.declared.loops.ReadEnd.TheVariants.{Exit, End, Fault, Closed, Memory}
 use Rattle.lsp_threads.proofs.Handed.{After, extent_of, HandedOn, handed_on, IsNotClosed, ReadsTo, reads_split}
-use Rattle.lsp_threads.specs.Framing.{parcel_bytes, AreEnded, Framing, FramingSends, Gathers, HandsFrames, WritesBytes, WritesParcels, WritesUnlessFailed}
+use Rattle.lsp_threads.specs.Framing.{parcel_bytes, AreEnded, Framing, FramingSends, Gathers, HandsFrames, HandsSome, TellsFrames, WritesBytes, WritesParcels, WritesUnlessFailed}
 use Rattle.lsp_message.specs.declared.frame.ReadFault.TheVariants.{Input, Memory as NoMemoryToRead}
 use Rattle.lsp_message.specs.declared.frame.WriteFault.TheVariants.{Output, Memory as NoMemory}
+use Rattle.lsp_session.specs.declared.lifecycle.SendFault.TheVariants.{Memory as NoRoom}
+use Rattle.lsp_threads.proofs.Taken.{told_last, told_next}
+use Rattle.lsp_threads.specs.Passing.{OfTaken, TakenFrom}
 use Rattle.lsp_threads.specs.Pump.{Pumps, pump_answer}
 use Rattle.lsp_threads.specs.Threads.{BreaksOffWithin}
 
@@ -74,6 +84,13 @@ module _ (limit : ℕ) where
   handed_frames (Some text) tx start mid left back end same handed all ended =
       (mid, left, subst (λ f. Hands limit FramingSends text f mid left end) same handed, all, ended)
 
+  -- the same of the bytes that were taken
+  pub tells_frames : (known : Option (List ℕ)) (tx : Sending (String Global)) (start mid : Framing) (back : Sending (String Global)) (end : ReadEnd) (taken : Parts)
+      → start ≡ record { relay = tx.relay; bytes = [] } → OfTaken taken (λ text. HandsSome limit text start mid end) → TakenFrom known taken
+      → parcel_bytes back.sent ≡ mid.bytes → AreEnded back.sent → TellsFrames limit known tx end taken back
+  tells_frames known tx start mid back end taken same handed from all ended =
+      (λ rest ends. let some = handed rest ends in handed_frames (Some (concat taken ++ rest)) tx start mid some.0 back end same some.1 all ended, from)
+
   same_bytes : (end : ReadEnd) (mid new : Framing) → After limit FramingSends mid end new → new.bytes ≡ mid.bytes
   same_bytes Memory mid new after = ap (λ (f : Framing). f.bytes) after.2
   same_bytes end mid new after = ap (λ (f : Framing). f.bytes) after
@@ -96,6 +113,48 @@ module _ (limit : ℕ) where
   Handed-kept (Some text) None c old new so_far kept = absurd so_far
   Handed-kept (Some text) (Some left) None old new so_far kept = absurd kept
   Handed-kept (Some text) (Some left) (Some more) old new so_far kept = rw kept so_far
+
+-- ---- what a thread that reads handed on, of the bytes that were taken
+module _ (limit : ℕ) (t u : Parts) (a b : Option (List ℕ)) (old mid : Framing)
+    (so_far : (at : List ℕ) → Handed limit FramingSends (Some (concat t ++ at)) (Some at) old mid) where
+  abbrev Reads : Result (Option msg.Message) ReadFault → Type 0
+  Reads r = Told (IsOfParts message_view (reading_within limit) r) t u a b
+
+  pub told_frames_end : Reads (Ok None) → OfTaken u (λ text. HandsSome limit text old mid End)
+  told_frames_end told rest ends =
+      let at = told_last message_view (reading_within limit) t u a b (Ok None) told rest ends in
+      subst (λ text. HandsSome limit text old mid End) (sym at.1)
+      (Some rest, hands_end limit FramingSends message_view (Some rest) old mid (Some (concat t ++ at.0)) (Some at.0) (so_far at.0) at.2)
+
+  pub told_frames_fault : (fault : ReadFault) → Reads (Err fault) → OfTaken u (λ text. HandsSome limit text old mid (Fault fault))
+  told_frames_fault fault told rest ends =
+      let at = told_last message_view (reading_within limit) t u a b (Err fault) told rest ends in
+      subst (λ text. HandsSome limit text old mid (Fault fault)) (sym at.1)
+      (Some rest, hands_fault limit FramingSends message_view (Some rest) old mid fault (Some (concat t ++ at.0)) (Some at.0) (so_far at.0) at.2)
+
+  module _ (x : msg.Message) (told : Reads (Ok (Some x))) (new : Framing) where
+    pub told_frames_full : new ≡ mid → OfTaken u (λ text. HandsSome limit text old new Memory)
+    told_frames_full refused rest ends =
+        let at = told_next message_view (reading_within limit) t u a b x told rest in
+        subst (λ text. HandsSome limit text old new Memory) (sym at.1)
+        (Some rest, hands_refused limit FramingSends message_view (Some (concat t ++ at.0)) (Some at.0) (Some rest) old mid new x (so_far at.0) at.2 (NoRoom x) refused)
+
+    module _ (sent : FramingSends mid (message_view x) (Ok tt) new) where
+      pub told_frames_exit : is_exit (message_view x) ≡ true → OfTaken u (λ text. HandsSome limit text old new Exit)
+      told_frames_exit last rest ends =
+          let at = told_next message_view (reading_within limit) t u a b x told rest in
+          subst (λ text. HandsSome limit text old new Exit) (sym at.1)
+          (Some rest, hands_exit limit FramingSends message_view (Some (concat t ++ at.0)) (Some at.0) (Some rest) old mid new x (so_far at.0) at.2 sent last)
+
+      pub told_frames_more : is_exit (message_view x) ≡ false → (rest : List ℕ) → Handed limit FramingSends (Some (concat u ++ rest)) (Some rest) old new
+      told_frames_more goes rest =
+          let at = told_next message_view (reading_within limit) t u a b x told rest in
+          subst (λ text. Handed limit FramingSends (Some text) (Some rest) old new) (sym at.1)
+          (Handed-more limit FramingSends message_view (Some (concat t ++ at.0)) (Some at.0) (Some rest) old mid new x (so_far at.0) at.2 sent goes)
+
+pub told_frames_on : (limit : ℕ) (t : Parts) (old mid : Framing) → ((at : List ℕ) → Handed limit FramingSends (Some (concat t ++ at)) (Some at) old mid)
+    → OfTaken t (λ text. HandsSome limit text old mid (Fault (Input Other)))
+told_frames_on limit t old mid so_far rest ends = (Some rest, hands_on limit FramingSends old mid (Some (concat t ++ rest)) (Some rest) (so_far rest))
 
 -- ---- what was written
 module _ (bytes text : List ℕ) (a b c : Option (List ℕ)) where

@@ -5,8 +5,10 @@ pub mod ContentsSend
 pub mod Frames
 pub mod Handed
 pub mod HeaderFaults
+pub mod Leaving
 pub mod RefusedParts
 pub mod RefusedReplies
 pub mod RefusedWakes
 pub mod Replies
 pub mod Sessions
+pub mod Taken

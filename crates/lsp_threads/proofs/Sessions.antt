@@ -1,8 +1,8 @@
 -- A session over relays, as its contract says it: it is one over bytes, but what is left of them is not known.
 use Rattle.std.proofs.Common.{arith, ◌≡◌, ◌≤◌, refl, ◌∙◌, ap, subst, inl, inr, ℕ, Bool, true, false, List, [], ◌∷◌, ◌++◌, Some, None, Option, IfSome, String, Global}
 use Rattle.std.specs.Bool.{MatchBool}
-use Rattle.std.specs.List.{FoldsTo}
-use Rattle.std.specs.Prelude.{Result, Ok, Err, IfOk}
+use Rattle.std.specs.List.{concat, FoldsTo}
+use Rattle.std.specs.Prelude.{Result, Ok, Err, IfOk, OnErr}
 use mathlib.Core.List.{IsPrefix}
 use Rattle.lsp_message.specs.Message.{Message as Sent}
 use Rattle.lsp_message.specs.declared.frame.ReadFault.{ReadFault}
@@ -19,13 +19,16 @@ use Rattle.lsp_session.specs.SessionFault.{session_answer}
 use Rattle.lsp_session.specs.SessionRun.{Runs}
 use Rattle.lsp_session.specs.declared.loops.ReadEnd.{ReadEnd}
 use Rattle.lsp_session.specs.declared.loops.handler.SessionEnd.{SessionEnd}
+use Rattle.lsp_session.specs.declared.loops.handler_service.HandlerService.{HandlerService}
 use Rattle.lsp_session.specs.declared.loops.served.StopReason.{StopReason}
 use Rattle.lsp_session.specs.declared.loops.stream_session.SessionFault.{SessionFault}
 use Rattle.lsp_threads.proofs.ContentStream.{as_stream}
 use Rattle.lsp_threads.proofs.Replies.{all_replied, replies_written, session_gives}
 use Rattle.lsp_threads.specs.ContentBoxes.{InboxGives, KeepsLent, seen_of}
-use Rattle.lsp_threads.specs.Contents.{Contents, ContentsGive, HandsContents}
+use Rattle.lsp_threads.specs.Contents.{Contents, ContentsGive, HandsWhole}
 use Rattle.lsp_threads.specs.Framing.{parcel_bytes, AreEnded, WritesParcels}
+use Rattle.lsp_message.specs.Told.{Parts}
+use Rattle.lsp_threads.specs.Passing.{OfTaken}
 use Rattle.lsp_threads.specs.Replies.{Replying, RepliesSend, reply_fault, WritesReplies}
 use Rattle.lsp_threads.specs.Threads.{ReadsFrameOrWakes, ReadsOrWakes, session_end, ThreadsGiveOver, ThreadsTellOver}
 use Rattle.lsp_threads.specs.declared.content_inbox.ContentInbox.{ContentInbox}
@@ -61,7 +64,7 @@ module _ {L : Type 0} (hears : L → ReadFault → L → Type 0) (limit : ℕ) (
     woke true silent' some = refl
     woke false silent' some = absurd (omega (arith, silent' refl, some))
 
-    pub threads_tell : (known : Option (List ℕ)) → IfSome known (λ text. HandsContents limit text tx read back)
+    pub threads_tell : (known : Option (List ℕ)) → IfSome known (λ text. HandsWhole limit text tx read back)
         → IfSome known (λ text. ThreadsTellOver tx.wakeable hears limit Q text (seen_of inbox).1 (seen_of inbox').1 a b
         (session_answer reason answer (session_end (seen_of inbox').0.end (has_end (seen_of inbox').0.taken) read) (reply_fault fault outbox'.failed)))
     threads_tell None handed = tt
@@ -96,6 +99,15 @@ module _ (wakeable : Bool) {L : Type 0} (hears : L → ReadFault → L → Type 
   started_told_as P Q to contents answer_of (Some text) old (Ok done) tells = over_as P Q to _ (text, first) _ _ tells
   started_told_as P Q to contents answer_of (Some text) old (Err fault) tells = tt
 
+  -- the same of the bytes that were taken
+  pub taken_told_as : (P Q : SessionPart)
+      (to : (xs : List Exchange) (stop : Stop) (shutdown_reply : Option Sent) (answer : SessionAnswer) → P xs stop shutdown_reply answer → Q xs stop shutdown_reply answer)
+      {T F : Type 0} (taken : T → Parts) (given : T → Option (List ℕ)) (answer_of : T → Result SessionEnd SessionFault) (result : Result T F)
+      → IfOk result (λ done. OfTaken (taken done) (λ text. ThreadsTellOver wakeable hears limit P text first last (Some []) (given done) (answer_of done)))
+      → IfOk result (λ done. OfTaken (taken done) (λ text. ThreadsTellOver wakeable hears limit Q text first last (Some []) (given done) (answer_of done)))
+  taken_told_as P Q to taken given answer_of (Ok done) tells = λ rest ends. over_as P Q to _ (concat (taken done) ++ rest, first) _ _ (tells rest ends)
+  taken_told_as P Q to taken given answer_of (Err fault) tells = tt
+
   -- A listener that passes over nothing: each frame is a message, and each wake is given by others.
   module _ (never : PassesNothingOver hears) where
     reads_or_wakes : (came : List (Option Sent)) (from to : List ℕ × L) → FoldsTo (ReadsFrameOrWakes wakeable hears limit) from came to
@@ -128,3 +140,20 @@ module _ (wakeable : Bool) {L : Type 0} (hears : L → ReadFault → L → Type 
     started_untold P contents answer_of None old result tells = tt
     started_untold P contents answer_of (Some text) old (Ok done) tells = none_passed P text old (contents done) (answer_of done) tells
     started_untold P contents answer_of (Some text) old (Err fault) tells = tt
+
+    -- the same of the bytes that were taken, if it is described otherwise
+    pub started_told : (P Q : SessionPart)
+        (to : (xs : List Exchange) (stop : Stop) (shutdown_reply : Option Sent) (answer : SessionAnswer) → P xs stop shutdown_reply answer → Q xs stop shutdown_reply answer)
+        {T F : Type 0} (taken : T → Parts) (given : T → Option (List ℕ)) (answer_of : T → Result SessionEnd SessionFault) (result : Result T F)
+        → IfOk result (λ done. OfTaken (taken done) (λ text. ThreadsTellOver wakeable hears limit P text first last (Some []) (given done) (answer_of done)))
+        → IfOk result (λ done. OfTaken (taken done) (λ text. ThreadsGiveOver wakeable limit Q text (Some []) (given done) (answer_of done)))
+    started_told P Q to taken given answer_of (Ok done) tells =
+        λ rest ends. let text = concat (taken done) ++ rest in over_as P Q to _ text _ _ (none_passed P text (Some []) (given done) (answer_of done) (tells rest ends))
+    started_told P Q to taken given answer_of (Err fault) tells = tt
+
+-- a handler that was lent to a session which did not start is as it was
+pub unstarted_handler : {H T F : Type 0} (old new : HandlerService H) (first last : H) → (new.handler.ghost_name ≡ old.handler.ghost_name → last ≡ new.handler.now)
+    → old.handler.now ≡ first → (X : Type 0) (result : Result T F) → OnErr result ((new ≡ old) × X) → OnErr result (last ≡ first)
+unstarted_handler old new first last same unchanged X (Ok done) kept = tt
+unstarted_handler old new first last same unchanged X (Err fault) kept =
+    same (ap (λ (s : HandlerService _). s.handler.ghost_name) kept.0) ∙ ap (λ (s : HandlerService _). s.handler.now) kept.0 ∙ unchanged

@@ -1,11 +1,14 @@
 -- Content parts that a relay carries as bytes, several in one parcel (LSP 3.17, "Content Part").
 use Rattle.std.specs.Bool.{MatchBool}
 use Rattle.std.specs.Prelude.{◌≡◌, ◌≤◌, ◌+◌, ◌⊎◌, ◌||◌, ℕ, Bool, true, false, List, [], ◌∷◌, ◌++◌, map, Option, Some, None, is_some, Result, Ok, Err, Vec, if◌then◌else◌}
+use Rattle.std.specs.List.{concat, FoldsTo}
 use Rattle.std.specs.declared.alloc.Global.{Global}
+use mathlib.Core.List.{IsPrefix}
 use Rattle.lsp_message.specs.Frame.{body_means, content_within, reading_within}
 use Rattle.lsp_message.specs.Message.{Message}
 use Rattle.lsp_message.specs.Methods.{is_exit}
 use Rattle.lsp_message.specs.ReadingSteps.{Decodes}
+use Rattle.lsp_message.specs.Told.{Parts}
 use Rattle.lsp_message.specs.declared.frame.ReadFault.{ReadFault}
 use Rattle.lsp_message.specs.declared.frame.ReadFault.TheVariants.{Input, Memory as NoMemory}
 use Rattle.lsp_session.specs.Event.{Event, message, closed, woken}
@@ -13,19 +16,21 @@ use Rattle.lsp_session.specs.Passing.{ended_at_body, is_of_body}
 use Rattle.lsp_session.specs.PassingBoxes.{MayEnd}
 use Rattle.lsp_session.specs.declared.loops.ReadEnd.{ReadEnd}
 use Rattle.lsp_session.specs.declared.loops.ReadEnd.TheVariants.{Exit, End, Fault}
-use Rattle.lsp_relay.specs.Relay.{Relay, ended, has_end, Sending}
+use Rattle.lsp_relay.specs.Relay.{Relay, ended, has_end, IsOpen, Sending, Source}
 use Rattle.lsp_relay.specs.declared.ends.Parcel.{Parcel}
 use Rattle.lsp_relay.specs.declared.ends.Parcel.TheVariants as parcel
+use Rattle.lsp_threads.specs.declared.content_outbox.Contents as outbox
 use Rattle.lsp_threads.specs.declared.content_parts.Next.{Next}
 use Rattle.lsp_threads.specs.declared.content_parts.Next.TheVariants as next
 use Rattle.lsp_threads.specs.declared.content_reader.Seen.{Seen}
 use Rattle.lsp_threads.specs.declared.content_reader.Seen.TheVariants as seen
+use Rattle.lsp_threads.specs.Passing.{OfTaken, TakenFrom}
 
 -- ---- content parts in parcels
 
 -- what one parcel carries
 abbrev pub Contents : Type 0
-Contents = Vec (Vec ℕ Global) Global
+Contents = outbox.Contents
 
 -- the bytes of each content part
 abbrev pub bytes_of : List (Vec ℕ Global) → List (List ℕ)
@@ -34,8 +39,17 @@ bytes_of contents = map (λ (content : Vec ℕ Global). content.items) contents
 -- the content parts that parcels carry, in order
 abbrev pub contents_of : List (Parcel Contents) → List (List ℕ)
 contents_of [] = []
-contents_of (parcel.Message contents ∷ rest) = bytes_of contents.items ++ contents_of rest
+contents_of (parcel.Message contents ∷ rest) = bytes_of contents.parts.items ++ contents_of rest
 contents_of (parcel.End ∷ rest) = contents_of rest
+
+-- the bytes that were taken up to the end of the last parcel, or up to these if there is none
+abbrev pub parts_after : Parts → List (Parcel Contents) → Parts
+parts_after before [] = before
+parts_after before (parcel.Message contents ∷ rest) = parts_after contents.taken.parts rest
+parts_after before (parcel.End ∷ rest) = parts_after before rest
+
+abbrev pub parts_of : List (Parcel Contents) → Parts
+parts_of parcels = parts_after [] parcels
 
 -- ---- the thread that reads
 
@@ -79,31 +93,82 @@ module _ (limit : ℕ) where
       (rest : List ℕ) × BeginsWithContent text content rest
       × (((more ≡ []) × (end ≡ Exit) × IsExit content) ⊎ ReadsContents rest end more)
 
-  -- What was sent on a relay is the content parts of the text, up to where reading stopped so, and then End. No waker was made.
-  abbrev pub HandsContents : List ℕ → Sending Contents → ReadEnd → Sending Contents → Type 0
-  HandsContents text old end new =
+  -- For private clauses: what was sent on a relay is the content parts of the text, up to where reading stopped so, and then End. No
+  -- waker was made.
+  abbrev pub HandsWhole : List ℕ → Sending Contents → ReadEnd → Sending Contents → Type 0
+  HandsWhole text old end new =
       ((parcels : List Contents) × (new.sent ≡ ended parcels))
       × ReadsContents text end (contents_of new.sent) × (new.wakeable ≡ old.wakeable)
 
+  -- No waker was made. If End was sent on a relay, what was sent before it is the content parts of the bytes that were taken, up to where
+  -- reading stopped so.
+  abbrev pub TellsContents : Option (List ℕ) → Sending Contents → ReadEnd → Parts
+      → Sending Contents → Type 0
+  TellsContents known old end taken new =
+      (new.wakeable ≡ old.wakeable) × TakenFrom known taken
+      × (has_end new.sent ≡ true → ((parcels : List Contents) × (new.sent ≡ ended parcels))
+      × OfTaken taken (λ text. ReadsContents text end (contents_of new.sent)))
+
+  -- the bytes that were taken are just frames of these content parts
+  abbrev pub AreContents : Parts → List (List ℕ) → Type 0
+  AreContents taken contents = (rest : List ℕ)
+      → FoldsTo BeginsWithContent (concat taken ++ rest) contents rest
+
+-- A session's plan: what is sent are content parts of the bytes that were taken up to their end.
+abbrev pub BeginsSource : Source → List (List ℕ) → Parts → Type 0
+BeginsSource source contents taken = AreContents source.1 taken contents × TakenFrom source.0 taken
+
+abbrev pub MaySend : Source → List (Parcel Contents) → Type 0
+MaySend source sent = IsOpen sent → BeginsSource source (contents_of sent) (parts_of sent)
+
+-- the same, if there is a plan
+abbrev pub BeginsAny : Option Source → List (List ℕ) → Parts → Type 0
+BeginsAny source contents taken = (known : Source) → source ≡ Some known
+    → BeginsSource known contents taken
+
+-- the end's plan is of these bytes and this limit
+abbrev pub ReadsFor : Option (List ℕ) → ℕ → Sending Contents → Type 0
+ReadsFor known limit tx = tx.source ≡ Some (known, limit)
+
 -- an outbox that gathers content parts, as callers see it: those that were sent, and then those that wait to be sent
 pub record Gathering : Type 0 where
-  pub relay : Relay Contents
+  pub relay : Relay Contents × Option Source
   pub contents : List (List ℕ)
   pub wakeable : Bool
+  pub closed : Bool
+
+-- Unless the outbox is closed now, it was open, and has these content parts now; and it is an end of the same relay in any case.
+abbrev pub Stays : Gathering → List (List ℕ) → Gathering → Type 0
+Stays old contents new = (new.relay ≡ old.relay) × (new.wakeable ≡ old.wakeable)
+    × (new.closed ≡ false → (old.closed ≡ false) × (new.contents ≡ contents))
 
 -- ---- the caller's inbox
+
+-- which relay it is, what its plan is made of, and whether a waker was made before it had one
+abbrev pub Lent : Type 0
+Lent = Relay Contents × Option Source × Bool
 
 -- The receiver's end of a relay, as callers see it: the parcels that were taken, the content parts of them that were not given yet, and
 -- how many wakes were taken.
 pub record Taking : Type 0 where
-  pub relay : Relay Contents
+  pub relay : Lent
   pub taken : List (Parcel Contents)
   pub waiting : List (List ℕ)
   pub wakes : ℕ
 
+-- For private clauses: how a session that takes no more leaves the thread that reads. What was taken is a beginning of what would be sent if
+-- reading stopped so.
+abbrev pub LeavesReading : Taking → ℕ → Sending Contents → Option (List ℕ) → Parts → ReadEnd → Type 0
+LeavesReading parts limit tx known taken end =
+    (back : Sending Contents) × (parcels : List (Parcel Contents))
+    × MatchBool (has_end parts.taken) (parcels ≡ parts.taken)
+    ((more : List Contents) × (parcels ≡ parts.taken ++ ended more))
+    × IsPrefix parcels back.sent × (back.wakeable ≡ false → parts.wakes ≡ 0)
+    × OfTaken taken (λ text. HandsWhole limit text tx end back) × TakenFrom known taken
+
 -- An inbox over it: what the end above has, and what ended the inbox's messages before the relay did.
 pub record Receiving : Type 0 where
-  pub relay : Relay Contents
+  pub relay : Lent
   pub taken : List (Parcel Contents)
   pub waiting : List (List ℕ)
   pub end : Option ReadEnd

@@ -3,6 +3,7 @@ use Rattle.std.specs.Prelude.{◌≡◌, ◌<◌, ℕ, List, [], ◌∷◌, ◌+
 use Rattle.std.specs.Io.KnownBytes.{Appends}
 use Rattle.std.specs.declared.alloc.Global.{Global}
 use Rattle.lsp_message.specs.Message as plain
+use Rattle.lsp_message.specs.Told.{Parts}
 use Rattle.lsp_message.specs.Written.{AppendsBeginning, IsFrameOf, IsOutput}
 use Rattle.lsp_message.specs.declared.frame.WriteFault.{WriteFault}
 use Rattle.lsp_session.specs.ReadLoop.{Hands}
@@ -12,6 +13,7 @@ use Rattle.lsp_session.specs.declared.loops.ReadEnd.{ReadEnd}
 use Rattle.lsp_relay.specs.Relay.{Relay, ended, Sending}
 use Rattle.lsp_relay.specs.declared.ends.Parcel.{Parcel}
 use Rattle.lsp_relay.specs.declared.ends.Parcel.TheVariants as parcel
+use Rattle.lsp_threads.specs.Passing.{OfTaken, TakenFrom}
 
 -- the bytes of the parcels, in order
 abbrev pub parcel_bytes : List (Parcel (String Global)) → List ℕ
@@ -35,12 +37,23 @@ FramingSends old m (Err (Memory back)) new = new ≡ old
 abbrev pub AreEnded : List (Parcel (String Global)) → Type 0
 AreEnded sent = (texts : List (String Global)) × (sent ≡ ended texts)
 
--- what was sent is the frames that a loop over the messages of the text hands on, whose content parts have at most so many bytes, and then End
+-- a loop over the messages of the text, whose content parts have at most so many bytes, hands on frames
+abbrev pub HandsSome : ℕ → List ℕ → Framing → Framing → ReadEnd → Type 0
+HandsSome limit text old new end = (left : Option (List ℕ))
+    × Hands limit FramingSends text old new left end
+
+-- what was sent is those frames, and then End
 abbrev pub HandsFrames : ℕ → List ℕ → Sending (String Global) → ReadEnd → Sending (String Global)
     → Type 0
 HandsFrames limit text old end new = (mid : Framing) × (left : Option (List ℕ))
     × Hands limit FramingSends text (record { relay = old.relay; bytes = [] }) mid left end
     × (parcel_bytes new.sent ≡ mid.bytes) × AreEnded new.sent
+
+-- they are those of the bytes that were taken
+abbrev pub TellsFrames : ℕ → Option (List ℕ) → Sending (String Global) → ReadEnd → Parts
+    → Sending (String Global) → Type 0
+TellsFrames limit known old end taken new =
+    OfTaken taken (λ text. HandsFrames limit text old end new) × TakenFrom known taken
 
 -- the bytes were written, or a write failed so after a beginning of them
 abbrev pub WritesBytes : List ℕ → Option WriteFault → Option (List ℕ) → Option (List ℕ) → Type 0

@@ -1,6 +1,7 @@
 pub mod ContentBoxes
 pub mod Contents
 pub mod Framing
+pub mod Passing
 pub mod Pump
 pub mod Replies
 pub mod Threads

@@ -5,7 +5,7 @@ ghost use Rattle.lsp_threads.specs.ContentBoxes.{InboxGives, InboxListens, Reads
 
 use crate::content_parts::{ContentParts, Next};
 use lsp_message::{Message, ReadFault};
-use lsp_session::{Arrival, Event, Inbox, Listener, ReadEnd, is_exit, is_of_body};
+use lsp_session::{Arrival, Event, Inbox, Listener, ReadEnd, WakingInbox, is_exit, is_of_body};
 use std::alloc::Global;
 use std::sync::Wait;
 
@@ -109,11 +109,9 @@ impl<'a, R: Wait + Copy + Drop, L: Listener> ContentInbox<'a, R, L> {
 }
 
 impl<'a, R: Wait + Copy + Drop, L: Listener> Inbox for ContentInbox<'a, R, L> {
-    ghost use Rattle.lsp_threads.specs.ContentBoxes.{InboxGives, InboxListens};
+    ghost use Rattle.lsp_threads.specs.ContentBoxes.{InboxGives};
 
     ghost receives = { InboxGives L.hears };
-
-    ghost listens = { InboxListens L.ends };
 
     fn receive_for(&mut self, _seconds: u64) -> Event {
         self.next_event()
@@ -123,6 +121,12 @@ impl<'a, R: Wait + Copy + Drop, L: Listener> Inbox for ContentInbox<'a, R, L> {
     fn receive(&mut self) -> Event {
         self.next_event()
     }
+}
+
+impl<'a, R: Wait + Copy + Drop, L: Listener> WakingInbox for ContentInbox<'a, R, L> {
+    ghost use Rattle.lsp_threads.specs.ContentBoxes.{InboxListens};
+
+    ghost listens = { InboxListens L.ends };
 
     #[tactic(auto, using(lsp_session::proofs::Waiting::waits_none))]
     fn receive_or_woken(&mut self) -> Arrival {

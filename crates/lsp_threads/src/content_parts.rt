@@ -1,12 +1,13 @@
 //! The receiver's end of a relay of content parts, which come several in one parcel: it gives them one after another.
-ghost use Rattle.std.specs.Prelude.{◌≡◌, ◌≤◌, ◌++◌, [], List, false, MatchBool};
-ghost use Rattle.lsp_relay.specs.Relay.{ended, has_end};
-ghost use Rattle.lsp_threads.specs.Contents.{bytes_of, Contents as Carried, NextIs};
+ghost use Rattle.std.specs.Prelude.{◌≡◌, [], false};
+ghost use Rattle.lsp_relay.specs.Relay.{has_end};
+ghost use Rattle.lsp_threads.specs.Contents.{bytes_of, parts_of, NextIs};
 
-use crate::content_outbox::{Contents, weight};
-use crate::relay_boxes::{collect_or_wake, take_to_end};
+use crate::content_outbox::{ContentsRx, weight};
+use crate::relay_boxes::collect_or_wake;
 use crate::unread::Takes;
-use lsp_relay::{Parcel, RelayRx};
+use lsp_message::Passed;
+use lsp_relay::Parcel;
 use std::alloc::Global;
 use std::collections::VecDeque;
 use std::marker::Model;
@@ -27,36 +28,38 @@ pub enum Next {
 #[derive(Drop)]
 pub struct ContentParts<R: Wait + Drop> {
     rt: R,
-    rx: RelayRx<Contents>,
+    rx: ContentsRx,
     takes: Takes,
     waiting: VecDeque<Vec<u8>>,
+    /// What was taken from the reader up to the end of the last parcel.
+    taken: Passed,
     drained: bool,
 }
 
 impl<R: Wait + Drop> Model for ContentParts<R> {
     ghost use Rattle.std.specs.Prelude.{◌≡◌};
     ghost use Rattle.lsp_relay.specs.Relay.{has_end};
-    ghost use Rattle.lsp_threads.specs.Contents.{bytes_of, Taking};
+    ghost use Rattle.lsp_threads.specs.Contents.{bytes_of, parts_of, Taking};
 
     ghost Value = { Taking };
 
     ghost view = { λ b.
         record {
-          relay = b.rx.relay;
+          relay = (b.rx.relay, b.rx.source, b.rx.wakeable);
           taken = b.rx.taken;
           waiting = bytes_of b.waiting.items;
           wakes =
               b.rx.wakes;
         } };
 
-    ghost invariant = { λ b. b.drained ≡ has_end b.rx.taken };
+    ghost invariant = { λ b. (b.drained ≡ has_end b.rx.taken) × (b.taken.parts ≡ parts_of b.rx.taken) };
 }
 
 impl<R: Wait + Drop> ContentParts<R> {
-    pub fn new(rt: R, alloc: Global, rx: RelayRx<Contents>, takes: Takes) -> ContentParts<R>
-        requires { has_end rx.taken ≡ false }
+    pub fn new(rt: R, alloc: Global, rx: ContentsRx, takes: Takes) -> ContentParts<R>
+        requires { rx.taken ≡ [] }
         ensures { result ≡ record {
-          relay = rx.relay;
+          relay = (rx.relay, rx.source, rx.wakeable);
           taken = rx.taken;
           waiting = [];
           wakes = rx.wakes;
@@ -67,6 +70,7 @@ impl<R: Wait + Drop> ContentParts<R> {
             rx,
             takes,
             waiting: VecDeque::new(alloc),
+            taken: Passed::new(),
             drained: false,
         }
     }
@@ -93,11 +97,19 @@ impl<R: Wait + Drop> ContentParts<R> {
         ensures next { NextIs self.old.taken self.old.waiting self.old.wakes result self.new.taken
             self.new.waiting self.new.wakes }
     {
-        match next_content(&self.rt, &mut self.rx, &self.takes, &mut self.waiting) {
+        let ContentParts {
+            rt,
+            rx,
+            takes,
+            waiting,
+            taken,
+            drained,
+        } = self;
+        match next_content(rt, rx, takes, waiting, taken) {
             Next::Content(content) => Next::Content(content),
             Next::Wake => Next::Wake,
             Next::End => {
-                self.drained = true;
+                *drained = true;
                 Next::End
             }
         }
@@ -108,38 +120,40 @@ impl<R: Wait + Drop> ContentParts<R> {
         self.takes.go_on(&self.rt);
     }
 
-    /// Takes the parcels up to End, if End is not taken yet, and gives the relay's end back. From the first on, the thread that reads
-    /// waits no more: not for what is unread, and not for a session that might go on.
-    pub fn drain(self) -> RelayRx<Contents>
-        ensures relay { result.relay ≡ self.relay }
-        ensures taken { MatchBool (has_end self.taken) (result.taken ≡ self.taken)
-            ((more : List Carried) × (result.taken ≡ self.taken ++ ended more)) }
-        ensures wakes { self.wakes ≤ result.wakes }
+    /// Takes no more, and gives the relay's end back, with an account of what was taken from the reader up to the end of the last parcel. From
+    /// then on the thread that reads waits no more for what is unread, nor for a session that might go on.
+    pub fn leave(self) -> (ContentsRx, Passed)
+        ensures relay { (result.0.relay, result.0.source, result.0.wakeable) ≡ self.relay }
+        ensures taken { result.0.taken ≡ self.taken }
+        ensures wakes { result.0.wakes ≡ self.wakes }
+        ensures account { result.1.parts ≡ parts_of self.taken }
     {
         let ContentParts {
-            rt,
-            mut rx,
+            rt: _,
+            rx,
             takes,
             waiting: _,
-            drained,
+            taken,
+            drained: _,
         } = self;
         drop(takes);
-        if !drained {
-            take_to_end(&rt, &mut rx);
-        }
-        rx
+        (rx, taken)
     }
 }
 
 /// Takes the next content part, or a wake. Before those that wait are used up, no parcel is taken, and no wake.
 fn next_content<R: Wait>(
     rt: &R,
-    rx: &mut RelayRx<Contents>,
+    rx: &mut ContentsRx,
     takes: &Takes,
     waiting: &mut VecDeque<Vec<u8>>,
+    taken: &mut Passed,
 ) -> Next
-    requires { has_end rx.old.taken ≡ false }
+    requires unended { has_end rx.old.taken ≡ false }
+    requires account { taken.old.parts ≡ parts_of rx.old.taken }
+    ensures account { taken.new.parts ≡ parts_of rx.new.taken }
     ensures relay { rx.new.relay ≡ rx.old.relay }
+    ensures known { (rx.new.source ≡ rx.old.source) × (rx.new.wakeable ≡ rx.old.wakeable) }
     ensures next { NextIs rx.old.taken (bytes_of waiting.old.items) rx.old.wakes result rx.new.taken
         (bytes_of waiting.new.items) rx.new.wakes }
 {
@@ -148,8 +162,9 @@ fn next_content<R: Wait>(
             Some(content) => return Next::Content(content),
             None => match collect_or_wake(rt, rx) {
                 Some(Parcel::Message(contents)) => {
-                    takes.took(rt, weight(&contents));
-                    *waiting = VecDeque::from_vec(contents);
+                    takes.took(rt, weight(&contents.parts));
+                    *waiting = VecDeque::from_vec(contents.parts);
+                    *taken = contents.taken;
                 }
                 Some(Parcel::End) => return Next::End,
                 None => return Next::Wake,

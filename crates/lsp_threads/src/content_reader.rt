@@ -1,13 +1,14 @@
 //! The thread that reads: it hands on the content parts of a reader's messages as bytes.
-ghost use Rattle.std.specs.Prelude.{◌≡◌, [], IfSome};
-ghost use Rattle.lsp_threads.specs.Contents.{HandsContents, LooksAt, ReadsContents};
+ghost use Rattle.std.specs.Prelude.{◌≡◌, [], false, Some};
+ghost use Rattle.lsp_threads.specs.Contents.{LooksAt, ReadsContents, ReadsFor, TellsContents};
+ghost use Rattle.lsp_threads.specs.Passing.{OfTaken, TakenFrom};
 
-use crate::content_outbox::{ContentOutbox, Contents};
+use crate::content_outbox::{ContentOutbox, Contents, ContentsPlan, ContentsTx};
 use crate::goes_on::surely_goes_on;
 use crate::peeking_reader::PeekingReader;
 use crate::unread::Unread;
 use crate::workers::ReadsInto;
-use lsp_message::{Message, ReadFault, read_content_within};
+use lsp_message::{Message, Passed, ReadFault, read_content_telling};
 use lsp_relay::RelayTx;
 use lsp_session::{ReadEnd, is_exit, is_of_body};
 use std::alloc::Global;
@@ -26,21 +27,25 @@ enum Seen {
 }
 
 /// Adds a reader's content parts to an outbox that has none, up to and with the first that is `exit`. What was added is handed over before
-/// a read that may wait. After a content part that is no message it waits until the session goes on, and ends if it does not.
+/// a read that may wait. After a content part that is no message it waits until the session goes on, and ends if it does not. It ends too
+/// once the session takes no more. The bytes that it takes are noted.
 fn read_contents<R: Wait + Drop, S: BufRead>(
     alloc: Global,
     reader: &mut PeekingReader<S>,
     outbox: &mut ContentOutbox<R>,
     limit: u64,
+    taken: &mut Passed,
 ) -> ReadEnd
-    requires { outbox.old.contents ≡ [] }
-    ensures read { IfSome (S.remaining reader.old.inner) (λ text.
+    requires fresh { (outbox.old.contents ≡ []) × (taken.old.parts ≡ []) }
+    requires source { outbox.old.relay.1 ≡ Some (S.remaining reader.old.inner, limit) }
+    ensures read { outbox.new.closed ≡ false → OfTaken taken.new.parts (λ text.
         ReadsContents limit text result outbox.new.contents) }
+    ensures taken { TakenFrom (S.remaining reader.old.inner) taken.new.parts }
     ensures relay { outbox.new.relay ≡ outbox.old.relay }
     ensures wakeable { outbox.new.wakeable ≡ outbox.old.wakeable }
 {
     for _ in 0..u64::MAX {
-        let content = match read_content_within(alloc, reader, limit) {
+        let content = match read_content_telling(alloc, reader, limit, taken) {
             Ok(Some(content)) => content,
             Ok(None) => return ReadEnd::End,
             Err(fault) => return ReadEnd::Fault(fault),
@@ -49,9 +54,12 @@ fn read_contents<R: Wait + Drop, S: BufRead>(
             Ok(seen) => seen,
             Err(fault) => return ReadEnd::Fault(fault),
         };
-        match outbox.add(content) {
+        match outbox.add(content, taken) {
             Ok(()) => {}
             Err(_) => return ReadEnd::Fault(ReadFault::Memory),
+        }
+        if outbox.is_closed() {
+            return ReadEnd::Closed;
         }
         match seen {
             Seen::Message => outbox.go_on(reader.shows_frame()),
@@ -61,6 +69,9 @@ fn read_contents<R: Wait + Drop, S: BufRead>(
                     return ReadEnd::Fault(ReadFault::Input(ErrorKind::Other));
                 }
             }
+        }
+        if outbox.is_closed() {
+            return ReadEnd::Closed;
         }
     }
     ReadEnd::Fault(ReadFault::Input(ErrorKind::Other))
@@ -92,27 +103,33 @@ fn look_at(alloc: Global, content: &[u8]) -> Result<Seen, ReadFault>
     }
 }
 
-impl ReadsInto for Vec<Vec<u8>> {
-    ghost use Rattle.lsp_threads.specs.Contents.{HandsContents};
+impl ReadsInto for RelayTx<Contents, ContentsPlan> {
+    ghost use Rattle.std.specs.Prelude.{◌≡◌, []};
+    ghost use Rattle.lsp_threads.specs.Contents.{ReadsFor, TellsContents};
 
-    ghost hands_on = { HandsContents };
+    ghost tells = { TellsContents };
+
+    ghost same_end = { λ old new. new.relay ≡ old.relay };
+
+    ghost may_read = { λ known limit tx. (tx.sent ≡ []) × ReadsFor known limit tx };
 
     fn read_into<R: Wait + Drop, S: BufRead + Drop>(
+        self,
         rt: R,
         alloc: Global,
         reader: S,
         limit: u64,
-        tx: RelayTx<Contents>,
         unread: Option<Unread>,
-    ) -> (RelayTx<Contents>, ReadEnd)
-        requires { tx.sent ≡ [] }
-        ensures relay { result.0.relay ≡ tx.relay }
-        ensures sent { IfSome (S.remaining reader) (λ text.
-            HandsContents limit text tx result.1 result.0) }
+    ) -> (ContentsTx, ReadEnd, Passed)
+        requires { (self.sent ≡ []) × ReadsFor (S.remaining reader) limit self }
+        ensures relay { result.0.relay ≡ self.relay }
+        ensures told { TellsContents limit (S.remaining reader) self result.1 result.2.parts
+            result.0 }
     {
         let mut reader = PeekingReader::new(reader);
-        let mut outbox = ContentOutbox::new(rt, alloc, tx, unread);
-        let end = read_contents(alloc, &mut reader, &mut outbox, limit);
-        (outbox.finish(), end)
+        let mut outbox = ContentOutbox::new(rt, alloc, self, unread);
+        let mut taken = Passed::new();
+        let end = read_contents(alloc, &mut reader, &mut outbox, limit, &mut taken);
+        (outbox.finish(), end, taken)
     }
 }

@@ -18,10 +18,11 @@ mod reply_outbox;
 mod run;
 mod serving;
 mod unread;
+mod watched_writer;
 mod workers;
 
-pub use content_outbox::Contents;
-pub use pumping::{PumpFault, pump, pump_by, pump_within};
+pub use content_outbox::{Contents, ContentsPlan, ContentsRx, ContentsTx};
+pub use pumping::{PumpFault, Pumped, pump, pump_by, pump_telling, pump_within};
 pub use run::{
     ThreadOptions, Threaded, UNREAD_BYTES, run_threads, run_threads_of_service,
     run_threads_of_service_over, run_threads_within,

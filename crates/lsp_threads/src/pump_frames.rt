@@ -1,13 +1,13 @@
 //! Frames of a reader's messages, made in the thread that reads: several of them in one parcel.
-ghost use Rattle.std.specs.Prelude.{◌≡◌, [], IfSome};
-ghost use Rattle.lsp_session.specs.ReadLoop.{Hands};
-ghost use Rattle.lsp_threads.specs.Framing.{FramingSends, HandsFrames};
+ghost use Rattle.std.specs.Prelude.{◌≡◌, []};
+ghost use Rattle.lsp_threads.specs.Framing.{HandsSome, TellsFrames};
+ghost use Rattle.lsp_threads.specs.Passing.{OfTaken, TakenFrom};
 
 use crate::peeking_reader::PeekingReader;
 use crate::relay_texts::FramingOutbox;
 use crate::unread::Unread;
 use crate::workers::ReadsInto;
-use lsp_message::{Message, ReadFault};
+use lsp_message::{Message, Passed, ReadFault};
 use lsp_relay::RelayTx;
 use lsp_session::{ReadEnd, is_exit};
 use std::alloc::Global;
@@ -15,19 +15,21 @@ use std::io::{BufRead, ErrorKind};
 use std::sync::Wait;
 
 /// Makes the frames of a reader's messages, up to and with the first `exit`, as `read_loop_within` hands on messages. What was
-/// made is sent before a read that may wait.
+/// made is sent before a read that may wait. The bytes that it takes are noted.
 fn read_frames<R: Wait + Drop, S: BufRead>(
     alloc: Global,
     reader: &mut PeekingReader<S>,
     outbox: &mut FramingOutbox<R>,
     limit: u64,
+    taken: &mut Passed,
 ) -> ReadEnd
-    ensures handed { IfSome (S.remaining reader.old.inner) (λ text.
-        Hands limit FramingSends text outbox.old outbox.new (S.remaining reader.new.inner) result) }
+    requires { taken.old.parts ≡ [] }
+    ensures handed { OfTaken taken.new.parts (λ text. HandsSome limit text outbox.old outbox.new result) }
+    ensures taken { TakenFrom (S.remaining reader.old.inner) taken.new.parts }
     ensures relay { outbox.new.relay ≡ outbox.old.relay }
 {
     for _ in 0..u64::MAX {
-        let message = match Message::read_within(alloc, reader, limit) {
+        let message = match Message::read_telling(alloc, reader, limit, taken) {
             Ok(Some(message)) => message,
             Ok(None) => return ReadEnd::End,
             Err(fault) => return ReadEnd::Fault(fault),
@@ -47,27 +49,32 @@ fn read_frames<R: Wait + Drop, S: BufRead>(
     ReadEnd::Fault(ReadFault::Input(ErrorKind::Other))
 }
 
-impl ReadsInto for String {
-    ghost use Rattle.lsp_threads.specs.Framing.{HandsFrames};
+impl ReadsInto for RelayTx<String> {
+    ghost use Rattle.std.specs.Prelude.{◌≡◌, []};
+    ghost use Rattle.lsp_threads.specs.Framing.{TellsFrames};
 
-    ghost hands_on = { HandsFrames };
+    ghost tells = { TellsFrames };
+
+    ghost same_end = { λ old new. new.relay ≡ old.relay };
+
+    ghost may_read = { λ known limit tx. tx.sent ≡ [] };
 
     fn read_into<R: Wait + Drop, S: BufRead + Drop>(
+        self,
         rt: R,
         alloc: Global,
         reader: S,
         limit: u64,
-        tx: RelayTx<String>,
         _unread: Option<Unread>,
-    ) -> (RelayTx<String>, ReadEnd)
-        requires { tx.sent ≡ [] }
-        ensures relay { result.0.relay ≡ tx.relay }
-        ensures sent { IfSome (S.remaining reader) (λ text.
-            HandsFrames limit text tx result.1 result.0) }
+    ) -> (RelayTx<String>, ReadEnd, Passed)
+        requires { self.sent ≡ [] }
+        ensures relay { result.0.relay ≡ self.relay }
+        ensures told { TellsFrames limit (S.remaining reader) self result.1 result.2.parts result.0 }
     {
         let mut reader = PeekingReader::new(reader);
-        let mut outbox = FramingOutbox::new(rt, alloc, tx);
-        let end = read_frames(alloc, &mut reader, &mut outbox, limit);
-        (outbox.finish(), end)
+        let mut outbox = FramingOutbox::new(rt, alloc, self);
+        let mut taken = Passed::new();
+        let end = read_frames(alloc, &mut reader, &mut outbox, limit, &mut taken);
+        (outbox.finish(), end, taken)
     }
 }

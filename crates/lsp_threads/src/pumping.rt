@@ -1,12 +1,13 @@
 //! Messages passed on from a reader, in a thread of its own, to a writer.
-ghost use Rattle.std.specs.Prelude.{◌≡◌, IfSome, Option};
+ghost use Rattle.std.specs.Prelude.{◌≡◌, [], IfSome, Option, Some};
 ghost use Rattle.lsp_message.specs.Frame.{no_limit};
+ghost use Rattle.lsp_threads.specs.Passing.{GivenTo, OfTaken, TakenFrom, noted};
 ghost use Rattle.lsp_threads.specs.Pump.{Pumps, pump_answer};
 
 use crate::relay_texts::write_texts;
 use crate::workers::{StartFault, start_reader};
-use lsp_message::{ReadFault, WriteFault};
-use lsp_relay::{relay, settle_all};
+use lsp_message::{Passed, ReadFault, WriteFault};
+use lsp_relay::{AnyPlan, RelayTx, relay, settle_all};
 use lsp_session::ReadEnd;
 use std::alloc::Global;
 use std::error::Error;
@@ -57,7 +58,8 @@ impl Error for PumpFault {}
 ///
 /// `Ok` means that the messages ended with `exit` or with the input. After a failed write nothing more is written, and the rest of
 /// the messages is read and dropped, so the call returns only when the reader comes to its end. If no memory is left for a frame,
-/// the fault is `PumpFault::Write` with `WriteFault::Memory`, and nothing more is read.
+/// the fault is `PumpFault::Write` with `WriteFault::Memory`, and nothing more is read. The clause speaks of a reader whose bytes are
+/// known; `pump_telling` says the same of every reader, standard input and a socket among them.
 pub fn pump<T, R, W>(rt: &T, alloc: Global, reader: R, writer: &mut W) -> Result<(), PumpFault>
 where
     T: Threads + Wait + Copy + Drop + Send + 'static,
@@ -104,17 +106,73 @@ where
     ensures { IfSome (R.remaining reader) (λ text.
         Pumps limit text (W.contents writer.old) (W.contents writer.new) result) }
 {
-    let Ok((tx, rx)) = relay::<String>(alloc, PARCEL_ROOM) else {
-        return Err(PumpFault::Start(StartFault::Memory));
+    pump_telling(rt, builder, alloc, reader, writer, limit).answer
+}
+
+/// What a pump did: its answer, and accounts of the bytes that it took and gave, which clauses alone see.
+#[derive(Drop)]
+#[derive_where(Debug)]
+pub struct Pumped {
+    /// The bytes that were taken from the reader.
+    #[derive_where(skip)]
+    pub taken: Passed,
+    /// The bytes that the writer took.
+    #[derive_where(skip)]
+    pub given: Passed,
+    /// What `pump_by` answers.
+    pub answer: Result<(), PumpFault>,
+}
+
+/// As `pump_by`, of whatever reader and writer, standard input and a socket among them. The clause `told` is that of `pump` for each text
+/// that begins with the bytes that were taken, and for a writer that began empty. The clauses `taken` and `given` say that these are the
+/// bytes that passed, if they are known. In which order bytes were taken and given is not said.
+pub fn pump_telling<T, R, W>(
+    rt: &T,
+    builder: Builder,
+    alloc: Global,
+    reader: R,
+    writer: &mut W,
+    limit: u64,
+) -> Pumped
+where
+    T: Threads + Wait + Copy + Drop + Send + 'static,
+    R: BufRead + Drop + Send + 'static,
+    W: Write,
+    ensures told { OfTaken result.taken.parts (λ text.
+        Pumps limit text (Some []) (noted result.given) result.answer) }
+    ensures taken { TakenFrom (R.remaining reader) result.taken.parts }
+    ensures given { GivenTo (W.contents writer.old) result.given.parts (W.contents writer.new) }
+{
+    let Ok((tx, rx)) = relay::<String, AnyPlan>(alloc, PARCEL_ROOM) else {
+        return not_started(StartFault::Memory);
     };
-    let reading = match start_reader::<String, T, R>(rt, builder, alloc, reader, limit, tx, None) {
+    let reading = match start_reader::<RelayTx<String>, T, R>(
+        rt, builder, alloc, reader, limit, tx, None,
+    ) {
         Ok(reading) => reading,
-        Err(fault) => return Err(PumpFault::Start(fault)),
+        Err(fault) => return not_started(fault),
     };
-    let (rx, unwritten) = write_texts(rt, alloc, rx, writer);
-    let (tx, read) = reading.join(rt);
+    let mut given = Passed::new();
+    let (rx, unwritten) = write_texts(rt, alloc, rx, writer, &mut given);
+    let (tx, read, taken) = reading.join(rt);
     settle_all(rt, rx, tx);
-    answer_of(read, unwritten)
+    Pumped {
+        taken,
+        given,
+        answer: answer_of(read, unwritten),
+    }
+}
+
+/// Nothing was read or written.
+fn not_started(fault: StartFault) -> Pumped
+    ensures answer { result.answer ≡ Err (PumpFault.Start fault) }
+    ensures nothing { (result.taken.parts ≡ []) × (result.given.parts ≡ []) }
+{
+    Pumped {
+        taken: Passed::new(),
+        given: Passed::new(),
+        answer: Err(PumpFault::Start(fault)),
+    }
 }
 
 /// What comes of reading that ended so, and of this fault of writing.

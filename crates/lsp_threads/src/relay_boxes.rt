@@ -1,8 +1,8 @@
 //! Parcels that are sent and taken, however often that has to be tried.
-ghost use Rattle.std.specs.Prelude.{◌≡◌, ◌≤◌, ◌+◌, ◌++◌, ◌∷◌, [], List, IfNone, IfSome, MatchBool};
-ghost use Rattle.lsp_relay.specs.Relay.{ended, IsOpen};
+ghost use Rattle.std.specs.Prelude.{◌≡◌, ◌≤◌, ◌+◌, ◌++◌, ◌∷◌, [], IfNone, IfSome};
+ghost use Rattle.lsp_relay.specs.Relay.{IsOpen};
 
-use lsp_relay::{Parcel, RelayRx, RelayTx, Taken};
+use lsp_relay::{Parcel, Plan, RelayRx, RelayTx, Taken};
 use std::sync::Wait;
 
 /// Sends a parcel, however often it has to be tried.
@@ -37,8 +37,12 @@ pub fn collect<R: Wait, M: Drop>(rt: &R, rx: &mut RelayRx<M>) -> Parcel<M>
 }
 
 /// Takes a parcel, or a wake, which is `None`, however often it has to be tried.
-pub fn collect_or_wake<R: Wait, M: Drop>(rt: &R, rx: &mut RelayRx<M>) -> Option<Parcel<M>>
+pub fn collect_or_wake<R: Wait, M: Drop, P: Plan<M>>(
+    rt: &R,
+    rx: &mut RelayRx<M, P>,
+) -> Option<Parcel<M>>
     ensures relay { rx.new.relay ≡ rx.old.relay }
+    ensures known { (rx.new.source ≡ rx.old.source) × (rx.new.wakeable ≡ rx.old.wakeable) }
     ensures parcel { IfSome result (λ parcel. rx.new.taken ≡ rx.old.taken ++ parcel ∷ []) }
     ensures wake { IfNone result (rx.new.taken ≡ rx.old.taken) }
     ensures unwoken { IfSome result (λ parcel. rx.new.wakes ≡ rx.old.wakes) }
@@ -49,30 +53,6 @@ pub fn collect_or_wake<R: Wait, M: Drop>(rt: &R, rx: &mut RelayRx<M>) -> Option<
             Taken::Parcel(parcel) => return Some(parcel),
             Taken::Wake => return None,
             Taken::Nothing => {}
-        }
-    }
-    unreachable!()
-}
-
-/// Whether the parcel, which is dropped, was End.
-fn is_end<M: Drop>(parcel: Parcel<M>) -> bool
-    ensures { MatchBool result (parcel ≡ Parcel.End) ((m : M) × (parcel ≡ Parcel.Message m)) }
-{
-    match parcel {
-        Parcel::Message(_) => false,
-        Parcel::End => true,
-    }
-}
-
-/// Takes the parcels up to End.
-pub fn take_to_end<R: Wait, M: Drop>(rt: &R, rx: &mut RelayRx<M>)
-    ensures relay { rx.new.relay ≡ rx.old.relay }
-    ensures taken { (more : List M) × (rx.new.taken ≡ rx.old.taken ++ ended more) }
-    ensures wakes { rx.old.wakes ≤ rx.new.wakes }
-{
-    for _ in rt.forever() {
-        if is_end(collect(rt, rx)) {
-            return;
         }
     }
     unreachable!()

@@ -4,9 +4,10 @@ ghost use Rattle.std.specs.Prelude.{◌≡◌, ◌∷◌, ◌++◌, [], None, Ok
 ghost use Rattle.lsp_message.specs.View.{message_view};
 ghost use Rattle.lsp_relay.specs.Relay.{IsOpen};
 ghost use Rattle.lsp_threads.specs.Framing.{parcel_bytes, AreEnded, FramingSends, Gathers, WritesBytes, WritesParcels};
+ghost use Rattle.lsp_threads.specs.Passing.{GivenTo, GivesMore, noted};
 
 use crate::relay_boxes::{collect, deliver};
-use lsp_message::{Message, WriteFault, write_frames};
+use lsp_message::{Message, Passed, WriteFault, write_frames_telling};
 use lsp_relay::{Parcel, RelayRx, RelayTx, Taken};
 use std::alloc::{AllocError, Global};
 use std::io::Write;
@@ -124,17 +125,18 @@ pub fn deliver_text<R: Wait>(rt: &R, tx: &mut RelayTx<String>, text: String)
 }
 
 /// Writes each text up to End, and those that wait together as one: it waits for a text only if it has written all that it took. After
-/// a fault it writes nothing more, and drops the texts.
+/// a fault it writes nothing more, and drops the texts. What the writer takes is noted.
 pub fn write_texts<R: Wait, W: Write>(
     rt: &R,
     alloc: Global,
     rx: RelayRx<String>,
     writer: &mut W,
+    given: &mut Passed,
 ) -> (RelayRx<String>, Option<WriteFault>)
     requires { rx.taken ≡ [] }
     ensures relay { result.0.relay ≡ rx.relay }
-    ensures written { WritesParcels result.0.taken result.1 (W.contents writer.old)
-        (W.contents writer.new) }
+    ensures written { WritesParcels result.0.taken result.1 (noted given.old) (noted given.new) }
+    ensures given { GivesMore given.old.parts given.new.parts (W.contents writer.old) (W.contents writer.new) }
 {
     let mut rx = rx;
     let mut fault = None;
@@ -142,13 +144,13 @@ pub fn write_texts<R: Wait, W: Write>(
     for _ in rt.forever() {
         match next_parcel(rt, &mut rx, pending.is_empty()) {
             Some(Parcel::Message(text)) => {
-                let (left, first_fault) = gather(fault, pending, text, writer);
+                let (left, first_fault) = gather(fault, pending, text, writer, given);
                 pending = left;
                 fault = first_fault;
             }
-            Some(Parcel::End) => return (rx, write_after(fault, &pending, writer)),
+            Some(Parcel::End) => return (rx, write_after(fault, &pending, writer, given)),
             None => {
-                fault = write_after(fault, &pending, writer);
+                fault = write_after(fault, &pending, writer, given);
                 pending = String::new(alloc);
             }
         }
@@ -178,15 +180,17 @@ fn gather<W: Write>(
     pending: String,
     text: String,
     writer: &mut W,
+    given: &mut Passed,
 ) -> (String, Option<WriteFault>)
-    ensures { Gathers before (string_bytes pending ++ string_bytes text) (string_bytes result.0)
-        result.1 (W.contents writer.old) (W.contents writer.new) }
+    ensures gathered { Gathers before (string_bytes pending ++ string_bytes text)
+        (string_bytes result.0) result.1 (noted given.old) (noted given.new) }
+    ensures given { GivesMore given.old.parts given.new.parts (W.contents writer.old) (W.contents writer.new) }
 {
     let mut pending = pending;
     if joins(&mut pending, &text) {
         return (pending, before);
     }
-    let fault = write_after(before, pending.as_str(), writer);
+    let fault = write_after(before, pending.as_str(), writer, given);
     (text, fault)
 }
 
@@ -210,13 +214,15 @@ fn write_after<W: Write>(
     before: Option<WriteFault>,
     text: &str,
     writer: &mut W,
+    given: &mut Passed,
 ) -> Option<WriteFault>
-    ensures none { before ≡ None
-        → WritesBytes text.now result (W.contents writer.old) (W.contents writer.new) }
-    ensures some { OnSome before ((result ≡ before) × (writer.new ≡ writer.old)) }
+    ensures none { before ≡ None → WritesBytes text.now result (noted given.old) (noted given.new) }
+    ensures some { OnSome before ((result ≡ before) × (given.new ≡ given.old)) }
+    ensures silent { OnSome before (writer.new ≡ writer.old) }
+    ensures given { GivesMore given.old.parts given.new.parts (W.contents writer.old) (W.contents writer.new) }
 {
     if before.is_some() || text.is_empty() {
         return before;
     }
-    write_frames(writer, text).err()
+    write_frames_telling(writer, text, given).err()
 }

@@ -7,6 +7,7 @@ ghost use Rattle.lsp_threads.specs.Replies.{reply_fault as reply_fault_spec};
 
 use crate::relay_boxes::deliver;
 use crate::relay_texts::deliver_text;
+use crate::watched_writer::WriteFaults;
 use lsp_message::{Message, WriteFault};
 use lsp_relay::{Parcel, RelayTx};
 use lsp_session::{Outbox, SendFault};
@@ -16,7 +17,7 @@ use std::sync::Wait;
 
 /// The sender's end of a relay of texts. It makes the frame of each message and sends it at once, and waits until there is room.
 ///
-/// If no memory is left for a frame, that message is refused, and all after it.
+/// If no memory is left for a frame, or a write has failed, that message is refused, and all after it.
 #[derive(Drop)]
 pub struct ReplyOutbox<R: Wait + Drop> {
     rt: R,
@@ -24,6 +25,7 @@ pub struct ReplyOutbox<R: Wait + Drop> {
     tx: RelayTx<String>,
     /// Whether a message was refused.
     failed: bool,
+    faults: WriteFaults,
 }
 
 impl<R: Wait + Drop> Model for ReplyOutbox<R> {
@@ -40,7 +42,7 @@ impl<R: Wait + Drop> Model for ReplyOutbox<R> {
 }
 
 impl<R: Wait + Drop> ReplyOutbox<R> {
-    pub fn new(rt: R, alloc: Global, tx: RelayTx<String>) -> ReplyOutbox<R>
+    pub fn new(rt: R, alloc: Global, tx: RelayTx<String>, faults: WriteFaults) -> ReplyOutbox<R>
         requires { tx.sent ≡ [] }
         ensures { result ≡ record { relay = tx.relay; bytes = []; failed = false } }
     {
@@ -49,6 +51,7 @@ impl<R: Wait + Drop> ReplyOutbox<R> {
             alloc,
             tx,
             failed: false,
+            faults,
         }
     }
 
@@ -64,6 +67,7 @@ impl<R: Wait + Drop> ReplyOutbox<R> {
             alloc: _,
             mut tx,
             failed,
+            faults: _,
         } = self;
         deliver(&rt, &mut tx, Parcel::End);
         (tx, failed)
@@ -76,7 +80,8 @@ impl<R: Wait + Drop> Outbox for ReplyOutbox<R> {
     ghost sends = { RepliesSend };
 
     fn send(&mut self, message: Message) -> Result<(), SendFault> {
-        if self.failed {
+        if self.failed || self.faults.any() {
+            self.failed = true;
             return Err(SendFault::Memory(message));
         }
         match framed(self.alloc, message) {

@@ -1,15 +1,17 @@
 //! Sessions whose reader and writer run in threads of their own: of a handler, and of any service.
 ghost use Rattle.serde_json.specs.View.{view};
-ghost use Rattle.std.specs.Prelude.{◌≡◌, [], IfOk, IfSome};
+ghost use Rattle.std.specs.Prelude.{◌≡◌, [], IfOk, IfSome, OnErr, Some};
 ghost use Rattle.lsp_message.specs.Frame.{no_limit};
 ghost use Rattle.lsp_session.specs.HandlerSession.{of_handler};
 ghost use Rattle.lsp_session.specs.Session.{SessionOut};
+ghost use Rattle.lsp_threads.specs.Passing.{GivenTo, OfTaken, TakenFrom, noted};
 ghost use Rattle.lsp_threads.specs.Threads.{ThreadsGive, ThreadsTell, ThreadsTellOver};
 
-use crate::content_outbox::Contents;
+use crate::content_outbox::{Contents, ContentsPlan, ContentsRx, ContentsTx};
 use crate::serving::{serve_between, start_both};
 use crate::workers::{ROOM, StartFault};
-use lsp_relay::{RelayRx, RelayTx, relay};
+use lsp_message::Passed;
+use lsp_relay::relay;
 use lsp_session::{
     EndSession, Handler, HandlerService, Listener, Service, SessionEnd, SessionFault,
 };
@@ -19,11 +21,20 @@ use std::io::{BufRead, Write};
 use std::sync::Wait;
 use std::thread::{Builder, Threads};
 
-/// What a session in threads gives back.
-#[derive(Debug, Drop)]
+/// What a session in threads gives back. Clauses alone see its accounts of bytes.
+#[derive(Drop)]
+#[derive_where(Debug; W)]
 pub struct Threaded<W> {
     /// The writer that you gave it.
     pub writer: W,
+    /// The bytes that were taken from the reader, up to the end of what the session took. What came to it together with its last message is
+    /// among them, up to 64 KiB; what was read behind that and dropped is not. If the session came to where reading ended, it is all that
+    /// was taken.
+    #[derive_where(skip)]
+    pub taken: Passed,
+    /// The bytes that the writer took.
+    #[derive_where(skip)]
+    pub given: Passed,
     /// How the session ended.
     pub answer: Result<SessionEnd, SessionFault>,
 }
@@ -64,12 +75,18 @@ impl ThreadOptions {
 /// Runs a session of a server (LSP 3.17, "Server lifecycle") with a thread that reads, a thread that writes and the handler on
 /// the caller's thread. In every schedule its answer and the bytes that it writes are such as a session allows.
 ///
-/// - The fault means that a thread was not started, or that an allocation failed. Nothing was read or written then.
-/// - It returns only when the reader comes to its end, to a fault or to an `exit`. What is read after the session's answer is
-///   dropped. A read fault counts only if the session came to it.
-/// - A content part that is no message ends the session with `SessionFault::Read`, and nothing more is read.
-/// - After a failed write nothing more is written, and the session goes on: the handler gets messages that `session` would not
-///   have read.
+/// - The fault means that a thread was not started, or that an allocation failed. Nothing was read or written then, and the handler is
+///   as it was.
+/// - It returns as soon as the session's answer is known and the replies are written, also if the client stays connected and silent.
+/// - The thread that reads may outlive the call, if the reader did not come to its end, to a fault or to an `exit`. It ends with its input,
+///   at the next message that it hands on, or with the program. What it read and the session did not take is dropped. A read fault counts
+///   only if the session came to it.
+/// - A content part that is no message ends the session with `SessionFault::Read`. What was read behind it is dropped.
+/// - After a failed write nothing more is written, and the session goes on until it has something to send: so the handler may get messages
+///   that `session` would not have read. While it has nothing to send, it waits for the client.
+/// - The clause `told` holds of every reader and writer, standard input and a socket among them. It says what `session` says, of each text
+///   that begins with the bytes that were taken, and of a writer that began empty. If the reader showed its end, there is just one such
+///   text. `passed` says that these are the bytes that passed, if they are known. In which order bytes were taken and given, no clause says.
 pub fn run_threads<T, R, W, H>(
     rt: &T,
     alloc: Global,
@@ -83,7 +100,14 @@ where
     R: BufRead + Drop + Send + 'static,
     W: Write + Drop + Send + 'static,
     H: Handler,
-    ensures { IfSome (R.remaining reader) (λ text. IfOk result (λ done.
+    ensures unstarted { OnErr result (handler.new ≡ handler.old) }
+    ensures told { IfOk result (λ done. OfTaken done.taken.parts (λ text.
+        ThreadsGive no_limit
+        (SessionOut (of_handler H.answers H.notes (view capabilities)) handler.old handler.new)
+        text (Some []) (noted done.given) done.answer)) }
+    ensures passed { IfOk result (λ done. TakenFrom (R.remaining reader) done.taken.parts
+        × GivenTo (W.contents writer) done.given.parts (W.contents done.writer)) }
+    ensures session { IfSome (R.remaining reader) (λ text. IfOk result (λ done.
         ThreadsGive no_limit
         (SessionOut (of_handler H.answers H.notes (view capabilities)) handler.old handler.new)
         text (W.contents writer) (W.contents done.writer) done.answer)) }
@@ -107,7 +131,14 @@ where
     R: BufRead + Drop + Send + 'static,
     W: Write + Drop + Send + 'static,
     H: Handler,
-    ensures { IfSome (R.remaining reader) (λ text. IfOk result (λ done.
+    ensures unstarted { OnErr result (handler.new ≡ handler.old) }
+    ensures told { IfOk result (λ done. OfTaken done.taken.parts (λ text.
+        ThreadsGive limit
+        (SessionOut (of_handler H.answers H.notes (view capabilities)) handler.old handler.new)
+        text (Some []) (noted done.given) done.answer)) }
+    ensures passed { IfOk result (λ done. TakenFrom (R.remaining reader) done.taken.parts
+        × GivenTo (W.contents writer) done.given.parts (W.contents done.writer)) }
+    ensures session { IfSome (R.remaining reader) (λ text. IfOk result (λ done.
         ThreadsGive limit
         (SessionOut (of_handler H.answers H.notes (view capabilities)) handler.old handler.new)
         text (W.contents writer) (W.contents done.writer) done.answer)) }
@@ -136,7 +167,7 @@ where
 /// At a content part that is no message (see `lsp_session::is_of_body`) the listener `bad_bodies` is asked, at once and on your thread. Where
 /// it reads on, nothing is answered, the service is woken, and the next frame follows. That is so from `initialized` up to `shutdown`, if
 /// a service can be woken. Where the listener ends the session, and before and after in any case, such a part is `SessionFault::Read`, and
-/// nothing more is read. So is each other fault of reading at any time. With `EndSession` nothing is ever passed over
+/// what was read behind it is dropped. So is each other fault of reading at any time. With `EndSession` nothing is ever passed over
 /// (`laws::nothing_is_passed_over_in_threads`). A handler's session reads on as the service `HandlerService`.
 pub fn run_threads_of_service<T, R, W, S, L>(
     rt: &T,
@@ -153,11 +184,17 @@ where
     W: Write + Drop + Send + 'static,
     S: Service,
     L: Listener,
-    ensures { IfSome (R.remaining reader) (λ text. IfOk result (λ done.
+    ensures unstarted { OnErr result ((service.new ≡ service.old) × (bad_bodies.new ≡ bad_bodies.old)) }
+    ensures told { IfOk result (λ done. OfTaken done.taken.parts (λ text.
+        ThreadsTell L.hears options.limit (SessionOut S.behavior service.old service.new) text
+        bad_bodies.old bad_bodies.new (Some []) (noted done.given) done.answer)) }
+    ensures passed { IfOk result (λ done. TakenFrom (R.remaining reader) done.taken.parts
+        × GivenTo (W.contents writer) done.given.parts (W.contents done.writer)) }
+    ensures session { IfSome (R.remaining reader) (λ text. IfOk result (λ done.
         ThreadsTell L.hears options.limit (SessionOut S.behavior service.old service.new) text
         bad_bodies.old bad_bodies.new (W.contents writer) (W.contents done.writer) done.answer)) }
 {
-    let Ok(ends) = relay::<Contents>(alloc, ROOM) else {
+    let Ok(ends) = relay::<Contents, ContentsPlan>(alloc, ROOM) else {
         return Err(StartFault::Memory);
     };
     run_threads_of_service_over(
@@ -165,7 +202,7 @@ where
     )
 }
 
-/// As `run_threads_of_service`, over a relay that the caller made, which nothing has passed: `relay::<Contents>`. Wakers of the relay wake
+/// As `run_threads_of_service`, over a relay that the caller made, which nothing has passed: `relay::<Contents, ContentsPlan>`. Wakers of the relay wake
 /// the service, from `initialized` up to `shutdown`; a wake before or after is passed over. If you made no waker, the service is woken
 /// only at a content part that is passed over. That a wake arrives is tested, and no part of this contract.
 ///
@@ -175,7 +212,7 @@ where
 pub fn run_threads_of_service_over<T, R, W, S, L>(
     rt: &T,
     alloc: Global,
-    ends: (RelayTx<Contents>, RelayRx<Contents>),
+    ends: (ContentsTx, ContentsRx),
     reader: R,
     writer: W,
     service: &mut S,
@@ -190,7 +227,14 @@ where
     L: Listener,
     requires fresh { (ends.0.sent ≡ []) × (ends.1.taken ≡ []) }
     requires same { ends.1.relay ≡ ends.0.relay }
-    ensures { IfSome (R.remaining reader) (λ text. IfOk result (λ done.
+    ensures unstarted { OnErr result ((service.new ≡ service.old) × (bad_bodies.new ≡ bad_bodies.old)) }
+    ensures told { IfOk result (λ done. OfTaken done.taken.parts (λ text.
+        ThreadsTellOver ends.0.wakeable L.hears options.limit
+        (SessionOut S.behavior service.old service.new) text
+        bad_bodies.old bad_bodies.new (Some []) (noted done.given) done.answer)) }
+    ensures passed { IfOk result (λ done. TakenFrom (R.remaining reader) done.taken.parts
+        × GivenTo (W.contents writer) done.given.parts (W.contents done.writer)) }
+    ensures session { IfSome (R.remaining reader) (λ text. IfOk result (λ done.
         ThreadsTellOver ends.0.wakeable L.hears options.limit
         (SessionOut S.behavior service.old service.new) text
         bad_bodies.old bad_bodies.new (W.contents writer) (W.contents done.writer) done.answer)) }

@@ -1,32 +1,51 @@
 //! The session between the two threads, and how they are started.
-ghost use Rattle.std.specs.Prelude.{◌≡◌, [], IfOk, IfSome};
+ghost use Rattle.std.specs.Prelude.{◌≡◌, [], IfOk, Some};
 ghost use Rattle.lsp_session.specs.Session.{SessionOut};
+ghost use Rattle.lsp_threads.specs.Contents.{LeavesReading};
+ghost use Rattle.lsp_threads.specs.Passing.{GivenTo, OfTaken, TakenFrom, noted};
 ghost use Rattle.lsp_threads.specs.Threads.{ThreadsTellOver, session_end as session_end_spec};
 
 use crate::content_inbox::ContentInbox;
-use crate::content_outbox::Contents;
+use crate::content_outbox::{Contents, ContentsPlan, ContentsRx, ContentsTx};
 use crate::content_parts::ContentParts;
 use crate::relay_boxes::deliver;
 use crate::reply_outbox::{ReplyOutbox, reply_fault};
 use crate::run::{ThreadOptions, Threaded};
 use crate::unread::{Takes, bounded_unread};
+use crate::watched_writer::{WatchedWriter, WriteFaults, write_faults};
 use crate::workers::{ROOM, Reader, StartFault, Writer, start_reader, start_writer};
-use lsp_message::WriteFault;
-use lsp_relay::{Parcel, RelayRx, RelayTx, relay, settle_all};
+use lsp_message::{Passed, ReadFault, WriteFault};
+use lsp_relay::{AnyPlan, Parcel, RelayRx, RelayTx, Source, plan, relay, settle_all};
 use lsp_session::{Listener, ReadEnd, Service, serve_service, session_answer};
 use std::alloc::Global;
-use std::io::{BufRead, Write};
+use std::io::{BufRead, ErrorKind, Write};
+use std::marker::Brand;
 use std::sync::Wait;
 use std::thread::{PromisedHandle, Threads};
+
+/// The thread that reads.
+pub(crate) type Reading<R> = PromisedHandle<(ContentsTx, ReadEnd, Passed), Reader<R, ContentsTx>>;
+
+/// The thread that writes.
+pub(crate) type Writing<W> = PromisedHandle<
+    (
+        RelayRx<String>,
+        WatchedWriter<W>,
+        Option<WriteFault>,
+        Passed,
+    ),
+    Writer<WatchedWriter<W>, String>,
+>;
 
 /// The two threads, and the caller's ends of their relays.
 #[derive(Drop)]
 pub(crate) struct Workers<R: BufRead + Drop, W: Write + Drop> {
-    pub(crate) rx: RelayRx<Contents>,
+    pub(crate) rx: ContentsRx,
     pub(crate) takes: Takes,
     pub(crate) replies: RelayTx<String>,
-    pub(crate) reading: PromisedHandle<(RelayTx<Contents>, ReadEnd), Reader<R, Contents>>,
-    pub(crate) writing: PromisedHandle<(RelayRx<String>, W, Option<WriteFault>), Writer<W, String>>,
+    pub(crate) reading: Reading<R>,
+    pub(crate) writing: Writing<W>,
+    pub(crate) faults: WriteFaults,
 }
 
 /// Starts the thread that writes and then the one that reads. After a fault both ends of the relay, and the thread, are gone.
@@ -34,7 +53,7 @@ pub(crate) fn start_both<T, R, W>(
     rt: &T,
     options: ThreadOptions,
     alloc: Global,
-    ends: (RelayTx<Contents>, RelayRx<Contents>),
+    ends: (ContentsTx, ContentsRx),
     reader: R,
     writer: W,
 ) -> Result<Workers<R, W>, StartFault>
@@ -49,37 +68,44 @@ where
         × (workers.reading.promise.tx.value.sent ≡ [])
         × (workers.reading.promise.reader.value ≡ reader)
         × (workers.reading.promise.limit ≡ options.limit)
-        × (workers.reading.promise.tx.value.wakeable ≡ ends.0.wakeable)) }
+        × (workers.reading.promise.tx.value.wakeable ≡ ends.0.wakeable)
+        × (workers.rx.source ≡ Some (R.remaining reader, options.limit))
+        × (workers.rx.wakeable ≡ ends.0.wakeable)) }
     ensures writing { IfOk result (λ workers. (workers.replies.sent ≡ [])
         × (workers.writing.promise.rx.value.relay ≡ workers.replies.relay)
-        × (workers.writing.promise.writer.value ≡ writer)) }
+        × (workers.writing.promise.writer.value.inner ≡ writer)) }
 {
-    let Ok((replies, replies_rx)) = relay::<String>(alloc, ROOM) else {
+    let Ok((replies, replies_rx)) = relay::<String, AnyPlan>(alloc, ROOM) else {
         return Err(StartFault::Memory);
     };
     let Ok((unread, takes)) = bounded_unread(alloc, options.unread) else {
         return Err(StartFault::Memory);
     };
-    let (tx, rx) = ends;
-    let writing = match start_writer::<String, T, W>(
+    let Ok((faults, theirs)) = write_faults(alloc) else {
+        return Err(StartFault::Memory);
+    };
+    let (mut tx, mut rx) = ends;
+    plan_reading::<R, Brand>(&mut tx, &mut rx, &reader, options.limit);
+    let writing = match start_writer::<String, T, WatchedWriter<W>>(
         rt,
         options.writer,
         alloc,
         replies_rx,
-        writer,
+        theirs.watch(writer),
     ) {
         Ok(writing) => writing,
         Err(fault) => return Err(fault),
     };
     let unread = Some(unread);
     let limit = options.limit;
-    match start_reader::<Contents, T, R>(rt, options.reader, alloc, reader, limit, tx, unread) {
+    match start_reader::<ContentsTx, T, R>(rt, options.reader, alloc, reader, limit, tx, unread) {
         Ok(reading) => Ok(Workers {
             rx,
             takes,
             replies,
             reading,
             writing,
+            faults,
         }),
         Err(fault) => {
             end_writing(rt, replies, writing);
@@ -88,11 +114,40 @@ where
     }
 }
 
+/// Lets only what this reader's content parts begin with be sent on a fresh relay.
+fn plan_reading<R: BufRead, W: Source>(
+    tx: &mut ContentsTx,
+    rx: &mut ContentsRx,
+    reader: &R,
+    limit: u64,
+)
+    requires same_relay { rx.old.relay ≡ tx.old.relay }
+    requires fresh { tx.old.sent ≡ [] }
+    requires source { W.source ≡ (R.remaining reader.now, limit) }
+    ensures sender { tx.new ≡ record {
+      relay = tx.old.relay;
+      sent = [];
+      wakeable = tx.old.wakeable;
+      source = Some (R.remaining reader.now, limit);
+    } }
+    ensures receiver { rx.new ≡ record {
+      relay = rx.old.relay;
+      taken = rx.old.taken;
+      wakes = rx.old.wakes;
+      wakeable = tx.old.wakeable;
+      source = Some (R.remaining reader.now, limit);
+    } }
+{
+    let _ = reader;
+    let _ = limit;
+    plan::<Contents, ContentsPlan, W>(tx, rx);
+}
+
 /// Ends the thread that writes, which has nothing to write.
 fn end_writing<T: Threads + Wait, W: Write + Drop>(
     rt: &T,
     replies: RelayTx<String>,
-    writing: PromisedHandle<(RelayRx<String>, W, Option<WriteFault>), Writer<W, String>>,
+    writing: Writing<W>,
 )
     requires { replies.sent ≡ [] }
 {
@@ -118,13 +173,21 @@ where
     requires reading { (workers.rx.taken ≡ [])
         × (workers.reading.promise.tx.value.relay ≡ workers.rx.relay)
         × (workers.reading.promise.tx.value.sent ≡ []) }
+    requires source { (workers.rx.source ≡ Some (
+      R.remaining workers.reading.promise.reader.value,
+      workers.reading.promise.limit,
+    ))
+        × (workers.rx.wakeable ≡ workers.reading.promise.tx.value.wakeable) }
     requires writing { (workers.replies.sent ≡ [])
         × (workers.writing.promise.rx.value.relay ≡ workers.replies.relay) }
-    ensures { IfSome (R.remaining workers.reading.promise.reader.value) (λ text.
+    ensures told { OfTaken result.taken.parts (λ text.
         ThreadsTellOver workers.reading.promise.tx.value.wakeable L.hears
         workers.reading.promise.limit (SessionOut S.behavior service.old service.new) text
-        listener.old listener.new (W.contents workers.writing.promise.writer.value)
-        (W.contents result.writer) result.answer) }
+        listener.old listener.new (Some []) (noted result.given) result.answer) }
+    ensures taken { TakenFrom (R.remaining workers.reading.promise.reader.value)
+        result.taken.parts }
+    ensures given { GivenTo (W.contents workers.writing.promise.writer.value.inner)
+        result.given.parts (W.contents result.writer) }
 {
     let Workers {
         rx,
@@ -132,24 +195,68 @@ where
         replies,
         reading,
         writing,
+        faults,
     } = workers;
     let mut parts = ContentParts::new(*rt, alloc, rx, takes);
     let mut inbox = ContentInbox::new(alloc, &mut parts, listener);
-    let mut outbox = ReplyOutbox::new(*rt, alloc, replies);
+    let mut outbox = ReplyOutbox::new(*rt, alloc, replies, faults);
     let served = serve_service(alloc, &mut inbox, &mut outbox, service);
     let ended = inbox.end();
     let drained = parts.is_drained();
+    let at_exit = matches!(ended, Some(ReadEnd::Exit));
     let (replies, failed) = outbox.finish();
-    // Nobody waits for ever for room in the relay: draining makes room for the thread that reads, and `settle_all` drops both ends, so
-    // that a wake which waits gives up. Nor does that thread wait for the session to go on.
-    let rx = parts.drain();
-    let (tx, read) = reading.join(rt);
-    let (replies_rx, writer, unwritten) = writing.join(rt);
-    settle_all(rt, rx, tx);
+    let (read, taken) = leave_reading(rt, parts, reading, at_exit);
+    let (replies_rx, watched, unwritten, given) = writing.join(rt);
+    let writer = watched.inner;
     settle_all(rt, replies_rx, replies);
     let fault = reply_fault(unwritten, failed);
     let answer = session_answer(served, session_end(ended, drained, read), fault);
-    Threaded { writer, answer }
+    Threaded {
+        writer,
+        taken,
+        given,
+        answer,
+    }
+}
+
+/// Takes no more from the thread that reads, and gives how its reading ended, and what was taken. If it sent End, or came to `exit`, where it
+/// ends by itself, it is joined. Else it is left to itself, and ends once it has read one message more, or with its input. If it did not
+/// send End, the answer is how a reader fails, which is no part of the session's answer.
+///
+/// The relay's ends are gone then, but for one that a thread holds which sends no more on it. So nobody waits for room in it.
+fn leave_reading<T, R>(
+    rt: &T,
+    parts: ContentParts<T>,
+    reading: Reading<R>,
+    at_exit: bool,
+) -> (ReadEnd, Passed)
+where
+    T: Threads + Wait + Copy + Drop,
+    R: BufRead + Drop,
+    requires known { (parts.relay.0 ≡ reading.promise.tx.value.relay)
+        × (parts.relay.1 ≡ Some (R.remaining reading.promise.reader.value, reading.promise.limit))
+        × (parts.relay.2 ≡ reading.promise.tx.value.wakeable) }
+    ensures { LeavesReading parts reading.promise.limit reading.promise.tx.value
+        (R.remaining reading.promise.reader.value) result.1.parts result.0 }
+{
+    let drained = parts.is_drained();
+    let (rx, so_far) = parts.leave();
+    if drained {
+        let (tx, read, taken) = reading.join(rt);
+        settle_all(rt, rx, tx);
+        return (read, taken);
+    }
+    rx.learn();
+    drop(rx);
+    join_if(rt, reading, at_exit);
+    (ReadEnd::Fault(ReadFault::Input(ErrorKind::Other)), so_far)
+}
+
+/// Joins the thread that reads, or leaves it to itself.
+fn join_if<T: Threads + Wait, R: BufRead + Drop>(rt: &T, reading: Reading<R>, joins: bool) {
+    if joins {
+        let _ = reading.join(rt);
+    }
 }
 
 /// What ended the messages of a session.

@@ -1,11 +1,13 @@
 //! The threads that read and write, each over an end of a relay.
-ghost use Rattle.std.specs.Prelude.{◌≡◌, [], IfOk, IfSome};
+ghost use Rattle.std.specs.List.{concat};
+ghost use Rattle.std.specs.Prelude.{◌≡◌, [], IfOk, Some};
 ghost use Rattle.lsp_threads.specs.Framing.{WritesParcels};
+ghost use Rattle.lsp_threads.specs.Passing.{GivenTo};
 
 use crate::relay_texts::write_texts;
 use crate::unread::Unread;
-use lsp_message::WriteFault;
-use lsp_relay::{RelayRx, RelayTx};
+use lsp_message::{Passed, WriteFault};
+use lsp_relay::RelayRx;
 use lsp_session::ReadEnd;
 use std::alloc::Global;
 use std::error::Error;
@@ -44,31 +46,36 @@ impl fmt::Display for StartFault {
 
 impl Error for StartFault {}
 
-/// What a thread that reads sends on a relay. The thread is started for any such type, since the check finds that it may own the end
-/// of its relay only if it need not look into the type.
+/// The end of a relay on which a thread that reads sends. The thread is started for any such end, since the check finds that it may own
+/// it only if it need not look into its type.
 pub trait ReadsInto: Drop {
-    ghost use Rattle.std.specs.Prelude.{ℕ, List};
-    ghost use Rattle.lsp_relay.specs.Relay.{Sending};
+    ghost use Rattle.std.specs.Prelude.{ℕ, List, Option};
+    ghost use Rattle.lsp_message.specs.Told.{Parts};
     ghost use Rattle.lsp_session.specs.declared.loops.ReadEnd.{ReadEnd as read_end};
 
-    /// The messages of these bytes, whose content parts have at most so many, were sent on this end of a relay and ended so, and the
-    /// end is this then.
-    ghost hands_on: { ℕ → List ℕ → Sending Self → read_end → Sending Self → Type 0 };
+    /// Messages whose content parts have at most so many bytes were sent on this end of a relay and ended so. They are those of the bytes
+    /// that were taken, the first of these if they are known, and the end is this then.
+    ghost tells: { ℕ → Option (List ℕ) → Self → read_end → Parts → Self → Type 0 };
 
-    /// Sends the messages of a reader, whose content parts have at most `limit` bytes, and then End. If `unread` is there, it waits
-    /// as that says.
+    /// The two are the same end.
+    ghost same_end: { Self → Self → Type 0 };
+
+    /// The end may be given to a thread that reads these bytes, if they are known, with content parts of at most so many.
+    ghost may_read: { Option (List ℕ) → ℕ → Self → Type 0 };
+
+    /// Sends the messages of a reader, whose content parts have at most `limit` bytes, and then End, and accounts for what it took. If
+    /// `unread` is there, it waits as that says.
     fn read_into<R: Wait + Drop, S: BufRead + Drop>(
+        self,
         rt: R,
         alloc: Global,
         reader: S,
         limit: u64,
-        tx: RelayTx<Self>,
         unread: Option<Unread>,
-    ) -> (RelayTx<Self>, ReadEnd)
-        requires { tx.sent ≡ [] }
-        ensures relay { result.0.relay ≡ tx.relay }
-        ensures sent { IfSome (S.remaining reader) (λ text.
-            hands_on limit text tx result.1 result.0) };
+    ) -> (Self, ReadEnd, Passed)
+        requires { may_read (S.remaining reader) limit self }
+        ensures relay { same_end self result.0 }
+        ensures told { tells limit (S.remaining reader) self result.1 result.2.parts result.0 };
 }
 
 /// What a thread that writes takes from a relay. The thread is started for any such type, for the same reason.
@@ -77,37 +84,35 @@ pub trait WritesFrom: Drop {
     ghost use Rattle.lsp_message.specs.declared.frame.WriteFault.{WriteFault as fault};
     ghost use Rattle.lsp_relay.specs.declared.ends.Parcel.{Parcel as parcel};
 
-    /// These parcels were taken and written, but if there is a fault, not from the failed write on.
+    /// These parcels were taken and written, but if there is a fault, not from the failed write on. What was given is said as if the writer
+    /// began empty.
     ghost writes: { List (parcel Self) → Option fault → Option (List ℕ) → Option (List ℕ)
         → Type 0 };
 
-    /// Writes what it takes up to End. After a fault, the answer, it writes nothing more.
+    /// Writes what it takes up to End, and accounts for what it gave. After a fault, the answer, it writes nothing more.
     fn write_out<R: Wait + Drop, W: Write + Drop>(
         rt: R,
         alloc: Global,
         rx: RelayRx<Self>,
         writer: W,
-    ) -> (RelayRx<Self>, W, Option<WriteFault>)
+    ) -> (RelayRx<Self>, W, Option<WriteFault>, Passed)
         requires { rx.taken ≡ [] }
         ensures relay { result.0.relay ≡ rx.relay }
-        ensures written { writes result.0.taken result.2 (W.contents writer)
-            (W.contents result.1) };
+        ensures written { writes result.0.taken result.2 (Some []) (Some (concat result.3.parts)) }
+        ensures given { GivenTo (W.contents writer) result.3.parts (W.contents result.1) };
 }
 
-/// What the thread that reads gives back: the sender's end of the relay that it was given, on which all was sent.
+/// What the thread that reads gives back: the sender's end of the relay that it was given.
 #[derive(Drop)]
-pub struct Reader<S, M: Drop> {
+pub struct Reader<S, E> {
     pub reader: Snapshot<S>,
     pub limit: u64,
-    pub tx: Snapshot<RelayTx<M>>,
+    pub tx: Snapshot<E>,
 }
 
-impl<S: BufRead, M: ReadsInto> Promise<(RelayTx<M>, ReadEnd)> for Reader<S, M> {
-    ghost use Rattle.std.specs.Prelude.{◌≡◌, IfSome};
-
-    ghost kept_by = { λ p r. (r.0.relay ≡ p.tx.value.relay)
-        × IfSome (S.remaining p.reader.value) (λ text.
-        M.hands_on p.limit text p.tx.value r.1 r.0) };
+impl<S: BufRead, E: ReadsInto> Promise<(E, ReadEnd, Passed)> for Reader<S, E> {
+    ghost kept_by = { λ p r. E.same_end p.tx.value r.0
+        × E.tells p.limit (S.remaining p.reader.value) p.tx.value r.1 r.2.parts r.0 };
 }
 
 /// What the thread that writes gives back: the receiver's end of the relay that it was given, of which all was taken, and
@@ -118,28 +123,32 @@ pub struct Writer<W, M: Drop> {
     pub rx: Snapshot<RelayRx<M>>,
 }
 
-impl<W: Write, M: WritesFrom> Promise<(RelayRx<M>, W, Option<WriteFault>)> for Writer<W, M> {
-    ghost use Rattle.std.specs.Prelude.{◌≡◌};
+impl<W: Write, M: WritesFrom> Promise<(RelayRx<M>, W, Option<WriteFault>, Passed)>
+    for Writer<W, M> {
+    ghost use Rattle.std.specs.List.{concat};
+    ghost use Rattle.std.specs.Prelude.{◌≡◌, [], Some};
+    ghost use Rattle.lsp_threads.specs.Passing.{GivenTo};
 
     ghost kept_by = { λ p r. (r.0.relay ≡ p.rx.value.relay)
-        × M.writes r.0.taken r.2 (W.contents p.writer.value) (W.contents r.1) };
+        × M.writes r.0.taken r.2 (Some []) (Some (concat r.3.parts))
+        × GivenTo (W.contents p.writer.value) r.3.parts (W.contents r.1) };
 }
 
 /// Starts the thread that reads.
-pub fn start_reader<M, R, S>(
+pub fn start_reader<E, R, S>(
     rt: &R,
     builder: Builder,
     alloc: Global,
     reader: S,
     limit: u64,
-    tx: RelayTx<M>,
+    tx: E,
     unread: Option<Unread>,
-) -> Result<PromisedHandle<(RelayTx<M>, ReadEnd), Reader<S, M>>, StartFault>
+) -> Result<PromisedHandle<(E, ReadEnd, Passed), Reader<S, E>>, StartFault>
 where
-    M: ReadsInto + Drop + Send + 'static,
+    E: ReadsInto + Drop + Send + 'static,
     R: Threads + Wait + Copy + Drop + Send + 'static,
     S: BufRead + Drop + Send + 'static,
-    requires { tx.sent ≡ [] }
+    requires { E.may_read (S.remaining reader) limit tx }
     ensures { IfOk result (λ handle. (handle.promise.reader.value ≡ reader)
         × (handle.promise.limit ≡ limit) × (handle.promise.tx.value ≡ tx)) }
 {
@@ -152,7 +161,7 @@ where
     match builder.spawn_with(
         rt,
         promise,
-        move || M::read_into(theirs, alloc, reader, limit, tx, unread),
+        move || tx.read_into(theirs, alloc, reader, limit, unread),
     ) {
         Ok(handle) => Ok(handle),
         Err(_) => Err(StartFault::Thread),
@@ -166,7 +175,7 @@ pub fn start_writer<M, R, W>(
     alloc: Global,
     rx: RelayRx<M>,
     writer: W,
-) -> Result<PromisedHandle<(RelayRx<M>, W, Option<WriteFault>), Writer<W, M>>, StartFault>
+) -> Result<PromisedHandle<(RelayRx<M>, W, Option<WriteFault>, Passed), Writer<W, M>>, StartFault>
 where
     M: WritesFrom + Drop + Send + 'static,
     R: Threads + Wait + Copy + Drop + Send + 'static,
@@ -196,14 +205,15 @@ impl WritesFrom for String {
         alloc: Global,
         rx: RelayRx<String>,
         writer: W,
-    ) -> (RelayRx<String>, W, Option<WriteFault>)
+    ) -> (RelayRx<String>, W, Option<WriteFault>, Passed)
         requires { rx.taken ≡ [] }
         ensures relay { result.0.relay ≡ rx.relay }
-        ensures written { WritesParcels result.0.taken result.2 (W.contents writer)
-            (W.contents result.1) }
+        ensures written { WritesParcels result.0.taken result.2 (Some []) (Some (concat result.3.parts)) }
+        ensures given { GivenTo (W.contents writer) result.3.parts (W.contents result.1) }
     {
         let mut writer = writer;
-        let (rx, fault) = write_texts(&rt, alloc, rx, &mut writer);
-        (rx, writer, fault)
+        let mut given = Passed::new();
+        let (rx, fault) = write_texts(&rt, alloc, rx, &mut writer, &mut given);
+        (rx, writer, fault, given)
     }
 }

@@ -20,11 +20,11 @@ pub struct CodeActionParams {
 /// What is known where code actions are asked for (LSP 3.17, "CodeActionContext").
 #[derive(Drop)]
 pub struct CodeActionContext {
-    /// The diagnostics that the client shows there.
+    /// The diagnostics that the client shows there, of each server and tool. On reading, one that does not fit is left out.
     pub diagnostics: Vec<Diagnostic>,
     /// The kinds that are asked for (`code_action_kinds`), each with those below it.
     pub only: Option<Vec<String>>,
-    /// Why they are asked for.
+    /// Why they are asked for. On reading, none if it does not fit.
     pub trigger_kind: Option<CodeActionTriggerKind>,
 }
 

@@ -1,5 +1,7 @@
 //! What a server can do. An options struct of which each field is `None` says as much as the standard's `true`.
+use lsp_text::PositionEncoding;
 use serde_json::Value;
+use std::alloc::{AllocError, Global};
 
 /// What a server can do (LSP 3.17, "ServerCapabilities"). What the fields lack goes into `more`.
 #[derive(Drop)]
@@ -85,6 +87,39 @@ impl Default for ServerCapabilities {
             workspace_symbol_provider: None,
             more: None,
         }
+    }
+}
+
+impl ServerCapabilities {
+    ghost use Rattle.std.specs.Prelude.{◌≡◌, Some, None, true, option_map, IfOk, string_bytes};
+    ghost use Rattle.lsp_text.specs.Characters.{encoding_name};
+
+    /// A server that keeps its documents by `lsp_documents`: the client counts characters as `position_encoding` agreed, and tells of
+    /// opening, closing, the parts that changed, and saving, with the text. What else the server can do goes into the other fields.
+    /// `Err` means that an allocation failed.
+    pub fn of_documents(
+        alloc: Global,
+        encoding: PositionEncoding,
+    ) -> Result<ServerCapabilities, AllocError>
+        ensures encoding { IfOk result (λ can.
+            option_map string_bytes can.position_encoding ≡ Some (encoding_name encoding)) }
+        ensures sync { IfOk result (λ can. can.text_document_sync ≡ Some (record {
+          open_close = Some true;
+          change = Some (record { 0 = 2 });
+          will_save = None;
+          will_save_wait_until = None;
+          save = Some (record { include_text = Some true });
+        })) }
+    {
+        let name = String::from_str(alloc, encoding.name())?;
+        let mut sync = TextDocumentSyncOptions::new(TextDocumentSyncKind::INCREMENTAL);
+        sync.save = Some(SaveOptions {
+            include_text: Some(true),
+        });
+        let mut can = ServerCapabilities::default();
+        can.position_encoding = Some(name);
+        can.text_document_sync = Some(sync);
+        Ok(can)
     }
 }
 

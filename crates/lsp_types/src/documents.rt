@@ -22,8 +22,8 @@ pub struct TextDocumentIdentifier {
 pub struct VersionedTextDocumentIdentifier {
     /// Its URI.
     pub uri: String,
-    /// Its version, which grows with each change.
-    pub version: i32,
+    /// Its version, which grows with each change. On reading, none if it is missing, is null or no number of 32 bits.
+    pub version: Option<i32>,
 }
 
 /// A document with its text (LSP 3.17, "TextDocumentItem").
@@ -33,8 +33,8 @@ pub struct TextDocumentItem {
     pub uri: String,
     /// The language that it is in, as `rust`.
     pub language_id: String,
-    /// Its version, which grows with each change.
-    pub version: i32,
+    /// Its version, which grows with each change. On reading, none if it is missing, is null or no number of 32 bits.
+    pub version: Option<i32>,
     /// Its whole text.
     pub text: String,
 }

@@ -1,5 +1,5 @@
 //! Paths of files and their URIs (RFC 8089).
-ghost use Rattle.std.specs.Prelude.{◌≡◌, ◌++◌, IfOk, IfErr, MatchBool, OnOk, string_bytes, All, ◌≢◌, ◌<◌, ◌∷◌, List, ℕ};
+ghost use Rattle.std.specs.Prelude.{◌≡◌, ◌++◌, IfOk, IfErr, MatchBool, OnOk, OnErr, string_bytes, All, ◌≢◌, ◌<◌, ◌∷◌, List, ℕ};
 ghost use Rattle.percent_encoding.specs.Percent.{percent_decode as without_escapes};
 ghost use Rattle.std.specs.List.{flat_map};
 ghost use Rattle.lsp_types.specs.FileUris.{stays as is_kept, written, uri_of, IsPath, begins_digits as digits_first, is_escaped as escaped, Lacks, AreNoPath, IsPathOf, IsFileUri, Names, Refuses, HasNoUri};
@@ -125,6 +125,7 @@ fn is_escaped(bytes: &[u8]) -> bool
 fn names_in(uri: &str) -> Result<&str, FileUriFault>
     ensures ok { IfOk result (λ names. IsFileUri uri.now names.now) }
     ensures err { IfErr result (λ fault. Refuses fault uri.now) }
+    ensures none { OnErr result ((names : List ℕ) → IsFileUri uri.now names → ⊥) }
 {
     if let Some(names) = uri.strip_prefix("file:///") {
         return Ok(names);
@@ -179,6 +180,54 @@ pub fn path_of_uri(alloc: Global, uri: &str) -> Result<String, FileUriFault>
 {
     let names = names_in(uri)?;
     path_of_names(alloc, names.as_bytes())
+}
+
+/// Whether bytes are what others stand for, in which `%` and two hexadecimal digits are a byte.
+fn are_decoded(names: &[u8], bytes: &[u8]) -> bool
+    ensures { MatchBool result (bytes.now ≡ without_escapes names.now)
+        (bytes.now ≢ without_escapes names.now) }
+{
+    let mut rest = bytes;
+    for byte in percent_decode(names) {
+        match rest {
+            [first, others @ ..] if *first == byte => rest = others,
+            _ => return false,
+        }
+    }
+    rest.is_empty()
+}
+
+/// Whether a path is `/` and what these names stand for.
+fn is_decoded_path(names: &[u8], path: &[u8]) -> bool
+    ensures { MatchBool result (path.now ≡ 47 ∷ without_escapes names.now)
+        (path.now ≢ 47 ∷ without_escapes names.now) }
+{
+    match path {
+        [b'/', rest @ ..] => are_decoded(names, rest),
+        _ => false,
+    }
+}
+
+/// Whether a path is the one behind whose `/` these names stand in a URI.
+fn is_path_of(names: &[u8], path: &[u8]) -> bool
+    ensures { MatchBool result (IsPathOf names.now path.now) (IsPathOf names.now path.now → ⊥) }
+{
+    lacks(names, b'?')
+        && lacks(names, b'#')
+        && is_escaped(names)
+        && lacks(path, 0)
+        && is_decoded_path(names, path)
+}
+
+/// Whether a file URI names a path, as `path_of_uri` reads it. Editors spell the URI of a path in several ways, of which `uri_of_path`
+/// gives one, so look for the document of a path by this: `documents.known().find(|(uri, _)| names_path(uri, path))`.
+pub fn names_path(uri: &str, path: &str) -> bool
+    ensures { MatchBool result (Names uri.now path.now) (Names uri.now path.now → ⊥) }
+{
+    match names_in(uri) {
+        Ok(names) => is_path_of(names.as_bytes(), path.as_bytes()),
+        Err(_) => false,
+    }
 }
 
 /// A path that has a URI is the one that its URI names.

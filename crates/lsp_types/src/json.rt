@@ -9,6 +9,7 @@ mod completions;
 mod diagnostics;
 mod documents;
 mod edits;
+mod fitting;
 mod hints;
 mod hovers;
 mod lifecycle;
@@ -21,6 +22,7 @@ mod window;
 mod workspace;
 mod writing;
 
+pub use fitting::{if_fits, those_that_fit};
 pub use reading::{Blank, ReadMembers, Source, read_object};
 pub use writing::{Object, Sink, WriteMembers, write_object};
 

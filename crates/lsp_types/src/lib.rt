@@ -57,7 +57,7 @@ pub use edits::{
     DocumentFormattingParams, FormattingOptions, OptionalVersionedTextDocumentIdentifier,
     RenameParams, TextDocumentEdit, TextEdit, WorkspaceEdit,
 };
-pub use file_uri::{FileUriFault, path_of_uri, paths_come_back, uri_of_path};
+pub use file_uri::{FileUriFault, names_path, path_of_uri, paths_come_back, uri_of_path};
 pub use hints::{InlayHint, InlayHintKind};
 pub use hovers::{Hover, MarkupContent, MarkupKind};
 pub use lifecycle::{ClientInfo, InitializeParams, InitializeResult, ServerInfo};

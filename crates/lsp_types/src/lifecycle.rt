@@ -7,9 +7,9 @@ use std::alloc::{AllocError, Global};
 /// The params of `initialize`, as far as most servers read them (LSP 3.17, "Initialize Request").
 #[derive(Drop)]
 pub struct InitializeParams {
-    /// The client's process.
+    /// The client's process. On reading, none if it does not fit.
     pub process_id: Option<i32>,
-    /// Who the client is.
+    /// Who the client is. On reading, none if it does not fit.
     pub client_info: Option<ClientInfo>,
     /// The folder that is open. `workspace_folders` has come in its place.
     pub root_uri: Option<String>,

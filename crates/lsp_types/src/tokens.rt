@@ -38,16 +38,16 @@ impl SemanticToken {
     }
 
     /// Adds its numbers behind a place.
-    fn push_behind(&self, line: u32, start: u32, data: &mut Vec<u32>) -> Result<(), AllocError>
+    fn push_behind(&self, line: u32, start: u32, numbers: &mut Vec<u32>) -> Result<(), AllocError>
         requires { is_behind line start self.now ≡ true }
-        ensures { OnOk result (data.new.items ≡ data.old.items ++ five_behind line start self.now) }
+        ensures { OnOk result (numbers.new.items ≡ numbers.old.items ++ five_behind line start self.now) }
     {
         let start = if line == self.line {
             self.start - start
         } else {
             self.start
         };
-        data.extend_from_slice(&[
+        numbers.extend_from_slice(&[
             self.line - line,
             start,
             self.length,

@@ -8,8 +8,8 @@ use std::alloc::{AllocError, Global};
 pub struct WorkspaceFolder {
     /// Its URI.
     pub uri: String,
-    /// Its name, for people.
-    pub name: String,
+    /// Its name, for people. On reading, none if it is missing or does not fit.
+    pub name: Option<String>,
 }
 
 /// The params of `workspace/configuration` (LSP 3.17, "Configuration Request"). The result is a list with a value for each item.

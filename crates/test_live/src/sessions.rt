@@ -326,7 +326,7 @@ fn threads_answer(
     signals: &Arc<Signals>,
 ) -> Result<Attempt, AllocError> {
     match ran {
-        Ok(Threaded { writer, answer }) => {
+        Ok(Threaded { writer, answer, .. }) => {
             let end = session_end(alloc, answer)?;
             told(alloc, run, end.as_str(), &writer)
         }

@@ -3,7 +3,7 @@ ghost use Rattle.std.specs.Prelude.{◌≢◌};
 ghost use Rattle.lsp_session.specs.Event.{event_view, timeout};
 
 use lsp_message::Message;
-use lsp_session::{Arrival, Event, Inbox, ListInbox, ListOutbox, Outbox, SendFault};
+use lsp_session::{Arrival, Event, Inbox, ListInbox, ListOutbox, Outbox, SendFault, WakingInbox};
 use std::cell::Cell;
 
 /// What an inbox does beside giving the events of its list.
@@ -59,14 +59,16 @@ impl Inbox for Events<'_> {
         }
         self.list.receive()
     }
+}
 
+impl WakingInbox for Events<'_> {
     fn receive_or_woken(&mut self) -> Arrival {
         if self.habit == Habit::Wakes && self.is_ready {
             self.is_ready = false;
             return Arrival::Woken;
         }
         self.is_ready = true;
-        self.list.receive_or_woken()
+        Arrival::from_event(self.list.receive())
     }
 }
 

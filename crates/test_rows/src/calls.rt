@@ -4,11 +4,11 @@ use crate::said::Said;
 use crate::servers::{Echo, Talker};
 use crate::table::{Case, Given};
 use lsp_message::{Front, Message, ReadFault, WriteFault, front, write_frames};
-use lsp_service::{QueuedServer, WokenQueuedServer, session_with};
+use lsp_service::{QueuedServer, WokenQueuedServer, session_with, session_with_over};
 use lsp_session::{
     EndSession, Event, FaultCounts, FrameOutbox, Ignore, Inbox, ListOutbox, Listener, Outbox,
-    ReadEnd, SendFault, SessionEnd, SessionFault, StreamInbox, StreamLine, read_loop,
-    read_loop_within, serve_line, session, session_of_service, session_within,
+    ReadEnd, SendFault, SessionEnd, SessionFault, StreamInbox, StreamTransport, Transcript,
+    read_loop, read_loop_within, session, session_of_service, session_within,
 };
 use serde_json::{Map, Value};
 use std::alloc::Global;
@@ -337,19 +337,18 @@ fn speaks_end(alloc: Global, trial: &mut Trial<'_>) -> Result<SessionEnd, Sessio
 
 /// The same over one value that holds the reader and the writer.
 fn say_line(said: &mut Said, trial: &mut Trial<'_>) {
-    let mut service = QueuedServer::new(said.alloc, Talker::new(said.alloc));
     let mut listener = EndSession;
-    let mut line = StreamLine::within(
+    let mut transcript = Transcript::new();
+    let mut transport = StreamTransport::within(
         said.alloc,
         &mut trial.reader,
         &mut trial.writer,
         &mut listener,
         u64::MAX,
+        &mut transcript,
     );
-    let served = serve_line(said.alloc, &mut line, &mut service);
-    let end = line.answer(served);
-    drop(line);
-    drop(service);
+    let (server, end) = session_with_over(said.alloc, &mut transport, Talker::new(said.alloc));
+    drop(server);
     say_ended(said, end, &trial.writer)
 }
 

@@ -4,14 +4,17 @@
 // said of it, or what is wrong, and whether a text is lost by it, and then each document that was open once: its URI, its version, its
 // language, its text, and how many lines it has and the position of each place where a character begins. One that is closed shows
 // `-`, and one whose text is lost `?`. A body that is no message has `unread`: it may have told of any document, so each text is lost.
-// `known` has each URI whose text is known, with its version, and then with a copy of the text. `place` has where a position of a
-// document is, in bytes, and the range from there to the text's end.
+// `known` has each URI whose text is known, with its version, and then with a copy of the document. `place` has where a position of a
+// document is, in bytes, and the range from there to the text's end. `long` opens a document of a text so many times over, and `often`
+// puts a text before one so many times in one call: what comes is how long it is then, in bytes and in lines.
 use crate::messages::text_in;
 use crate::said::Said;
 use crate::types::say_written;
-use lsp_documents::{Made, NotMade, TextDocuments, position_encoding, position_in};
+use lsp_documents::{
+    DocumentFault, Made, NotMade, Remark, TextDocuments, position_encoding, position_in,
+};
 use lsp_message::Notification;
-use lsp_text::{PositionEncoding, Text, TextDocument};
+use lsp_text::{ContentChange, Position, PositionEncoding, Range, Text, TextDocument};
 use serde_json::Value;
 use std::alloc::{AllocError, Global};
 use std::fmt::Write;
@@ -94,9 +97,65 @@ impl Documents {
             }
             "known" => self.show_known(said),
             "place" => self.show_place(said, params),
+            "long" => self.open_long(said, params),
+            "often" => self.change_often(said, params),
             _ => self.hear_params(said, method, params),
         }
         drop(none);
+    }
+
+    /// Opens a document whose text is one that is given, so many times.
+    fn open_long(&mut self, said: &mut Said, params: &Value) {
+        let uri = text_in(params.get("uri"));
+        let given = text_in(params.get("text"));
+        let mut text = String::new(self.alloc);
+        for _ in 0..count_in(params) {
+            said.note(text.push_str(given));
+        }
+        if !said.is_short {
+            let opened = self.documents.open(uri, "", None, text.as_str());
+            self.say_length(said, uri, opened);
+        }
+    }
+
+    /// Makes so many changes of a document at once, each of which puts a text before it.
+    fn change_often(&mut self, said: &mut Said, params: &Value) {
+        let uri = text_in(params.get("uri"));
+        let start = Position::new(0, 0);
+        let mut changes = Vec::new(self.alloc);
+        for _ in 0..count_in(params) {
+            let change = ContentChange {
+                range: Some(Range::new(start, start)),
+                text: said.text_of(text_in(params.get("text"))),
+            };
+            said.kept(changes.push(change));
+        }
+        if !said.is_short {
+            let changed = self.documents.change(uri, None, changes.as_slice());
+            self.say_length(said, uri, changed);
+        }
+        drop(changes);
+    }
+
+    /// What came of a call, and how long the document is then, in bytes and in lines.
+    fn say_length(
+        &self,
+        said: &mut Said,
+        uri: &str,
+        outcome: Result<Option<Remark>, DocumentFault>,
+    ) {
+        match outcome {
+            Ok(remark) => said.debug(remark),
+            Err(DocumentFault::Memory) => said.is_short = true,
+            Err(fault) => said.show(fault),
+        }
+        if let Some(document) = self.documents.get(uri) {
+            let text = document.text();
+            said.push(" ");
+            said.show(text.as_str().len());
+            said.push(" ");
+            said.show(text.line_count());
+        }
     }
 
     fn hear_params(&mut self, said: &mut Said, method: &str, params: &Value) {
@@ -173,7 +232,7 @@ impl Documents {
         self.show_places(said, text);
     }
 
-    /// Each URI whose text is known with its version, and then with a copy of the text.
+    /// Each URI whose text is known with its version, and then with a copy of the document.
     fn show_known(&self, said: &mut Said) {
         said.push("known");
         for (uri, document) in self.documents.known() {
@@ -187,6 +246,10 @@ impl Documents {
                 for copy in copies {
                     said.push("\t");
                     said.push(copy.uri.as_str());
+                    said.push(" ");
+                    said.push(copy.language_id.as_str());
+                    said.push(" ");
+                    said.debug(copy.version);
                     said.push(" ");
                     say_written(said, &copy.text.as_str());
                 }
@@ -216,14 +279,33 @@ impl Documents {
     }
 
     fn show_places(&self, said: &mut Said, text: &Text) {
-        for offset in 0..=text.as_str().len() {
-            if text.as_str().is_char_boundary(offset) {
-                let place = text.position_at(offset, self.documents.encoding());
-                said.push(" ");
-                said.show(place.line);
-                said.push(":");
-                said.show(place.character);
+        match self.places_of(text) {
+            Ok(places) => {
+                for place in places {
+                    said.push(" ");
+                    said.show(place.line);
+                    said.push(":");
+                    said.show(place.character);
+                }
             }
+            Err(_) => said.is_short = true,
         }
     }
+
+    /// The position of each place where a character begins.
+    fn places_of(&self, text: &Text) -> Result<Vec<Position>, AllocError> {
+        let mut offsets = Vec::new(self.alloc);
+        for offset in 0..=text.as_str().len() {
+            if text.as_str().is_char_boundary(offset) {
+                offsets.push(offset)?;
+            }
+        }
+        self.documents.positions_of(text, offsets.as_slice())
+    }
+}
+
+/// How many times a row asks for.
+fn count_in(params: &Value) -> u64 {
+    let count = params.get("count").and_then(|count| count.as_u64());
+    count.unwrap_or(0)
 }

@@ -86,6 +86,7 @@ impl Rows {
             "typed" => types::answer(said, rest),
             "uri" => uris::uri(said, rest),
             "path" => uris::path(said, rest),
+            "names" => uris::names(said, rest),
             "folders" => uris::folders(said, rest),
             "tokens" => uris::tokens(said, rest),
             "offset" => uris::offset(said, rest),

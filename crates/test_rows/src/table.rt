@@ -61,7 +61,7 @@ impl Given {
 /// | `outbox` | a `FrameOutbox` to which all messages are sent |
 /// | `session` | `session` of the echo, with no capabilities; with a limit `session_within` |
 /// | `speaks` | `session_of_service` of the server that speaks, with `EndSession`; with a limit `session_with` |
-/// | `line` | `serve_line` of the same over a `StreamLine` |
+/// | `line` | `serve_transport` of the same over a `StreamTransport` |
 /// | `tolerant` | the same, woken and with `FaultCounts`; with a limit `session_with` and `Ignore`, which wakes no server |
 ///
 /// | Device | What happens after the count |

@@ -1,6 +1,7 @@
 // Values that are read by the types of `lsp_types` and written again.
 use crate::messages::{text_in, value_in};
 use crate::said::Said;
+use lsp_documents::position_encoding;
 use lsp_types::{
     ApplyWorkspaceEditParams, ApplyWorkspaceEditResult, CodeAction, CodeActionOptions,
     CodeActionParams, Command, CompletionItem, CompletionList, CompletionOptions,
@@ -150,7 +151,19 @@ fn of_members(said: &mut Said, name: &str, found: &Value) {
             say_written(said, &all);
             drop(all);
         }
+        "DocumentCapabilities" => document_capabilities(said, found),
         _ => said.push("no such type"),
+    }
+}
+
+/// What a server can do that keeps its documents, in the encoding that the params of `initialize` agree on.
+fn document_capabilities(said: &mut Said, params: &Value) {
+    match ServerCapabilities::of_documents(said.alloc, position_encoding(params)) {
+        Ok(can) => {
+            say_written(said, &can);
+            drop(can);
+        }
+        Err(_) => said.is_short = true,
     }
 }
 

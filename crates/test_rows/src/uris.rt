@@ -3,8 +3,8 @@ use crate::said::Said;
 use crate::types::{read, read_typed, say_written};
 use lsp_text::{PositionEncoding, Text};
 use lsp_types::{
-    FileUriFault, InitializeParams, Position, SemanticToken, SemanticTokens, path_of_uri,
-    uri_of_path,
+    FileUriFault, InitializeParams, Position, SemanticToken, SemanticTokens, names_path,
+    path_of_uri, uri_of_path,
 };
 use std::alloc::AllocError;
 
@@ -17,6 +17,13 @@ pub fn uri(said: &mut Said, text: &str) {
 /// The path of a URI as a text of JSON, or why it has none.
 pub fn path(said: &mut Said, text: &str) {
     say(said, path_of_uri(said.alloc, text))
+}
+
+/// Whether a URI names a path, which is a text of JSON behind it.
+pub fn names(said: &mut Said, row: &str) {
+    let (uri, path) = said.cut(row, " ");
+    let path = read(said, path, String::new(said.alloc));
+    said.show(names_path(uri, path.as_str()))
 }
 
 /// The paths of the folders that the params of `initialize` name, as a list of JSON.

@@ -4,7 +4,10 @@ ghost use Rattle.std.specs.Io.KnownBytes.{IsAtEnd};
 ghost use Rattle.lsp_message.specs.Frame.{body_of};
 ghost use Rattle.lsp_message.specs.Reading.{Answers, found};
 ghost use Rattle.lsp_message.specs.Gathering.{TakesFront, TakesInto, IsFromReader};
+ghost use Rattle.lsp_message.specs.Told.{Told, IsOfParts};
+ghost use Rattle.lsp_message.specs.ToldSteps.{TakesPart};
 
+use crate::frame::passed::Passed;
 use crate::frame::{ReadFault, unless_interrupted};
 use std::alloc::Global;
 use std::io::{BufRead, ErrorKind};
@@ -14,11 +17,14 @@ pub(crate) fn read_body<R: BufRead>(
     alloc: Global,
     reader: &mut R,
     count: u64,
+    taken: &mut Passed,
 ) -> Result<Vec<u8>, ReadFault>
     ensures exact { IfSome (R.remaining reader.old) (λ text.
         Answers (λ body. body.items) (found result) (R.remaining reader.new)
         (body_of Ok count text)) }
     ensures begun { TakesFront (R.remaining reader.old) (R.remaining reader.new) }
+    ensures told { Told (IsOfParts (λ body. body.items) (body_of Ok count) (found result))
+        taken.old.parts taken.new.parts (R.remaining reader.old) (R.remaining reader.new) }
     ensures unread { result ≡ Err ReadFault.Memory → reader.new ≡ reader.old }
 {
     let size = count as usize;
@@ -28,7 +34,7 @@ pub(crate) fn read_body<R: BufRead>(
         if missing == 0 {
             return Ok(body);
         }
-        if !take_part(reader, missing, &mut body)? {
+        if !take_part(reader, missing, &mut body, taken)? {
             return Err(ReadFault::ShortBody);
         }
     }
@@ -40,11 +46,14 @@ fn take_part<R: BufRead>(
     reader: &mut R,
     missing: usize,
     body: &mut Vec<u8>,
+    taken: &mut Passed,
 ) -> Result<bool, ReadFault>
     requires some { 0 < missing }
     requires room { vec_len body.old + missing ≤ vec_capacity body.old }
     ensures part { TakesInto body.old.items (R.remaining reader.old) body.new.items
         (R.remaining reader.new) }
+    ensures told { Told (TakesPart result body.old.items body.new.items) taken.old.parts
+        taken.new.parts (R.remaining reader.old) (R.remaining reader.new) }
     ensures fits { vec_len body.new ≤ vec_len body.old + missing }
     ensures room_kept { vec_capacity body.old ≤ vec_capacity body.new }
     ensures end { result ≡ Ok false
@@ -58,6 +67,7 @@ fn take_part<R: BufRead>(
     };
     let count = shown.len().min(missing);
     body.extend_from_slice(&shown[..count]).unwrap();
+    taken.add(&shown[..count]);
     reader.consume(count);
     Ok(count != 0)
 }

@@ -1,13 +1,20 @@
 // The lines of the header part, gathered from a reader.
 ghost use Rattle.std.specs.Prelude.{◌≡◌, true, false, Ok, Err, OnOk, OnErr, OnSome, IfErr};
 ghost use Rattle.lsp_message.specs.Gathering.{TakesFront, IsFromOutside, KeepsLine, EndsLine, LeavesSome, StaysInLine};
+ghost use Rattle.lsp_message.specs.Told.{Told};
+ghost use Rattle.lsp_message.specs.ToldSteps.{GathersLine, GathersSome};
 
+use crate::frame::passed::Passed;
 use crate::frame::{ReadFault, unless_interrupted};
 use memchr::memchr;
 use std::io::{BufRead, ErrorKind};
 
 /// Gathers what the input has of its first line, up to and with the line feed, or to the end of the input.
-pub(crate) fn gather_line<R: BufRead>(reader: &mut R, line: &mut Vec<u8>) -> Result<(), ReadFault>
+pub(crate) fn gather_line<R: BufRead>(
+    reader: &mut R,
+    line: &mut Vec<u8>,
+    taken: &mut Passed,
+) -> Result<(), ReadFault>
     ensures line { OnOk result
         (EndsLine line.old.items (R.remaining reader.old) line.new.items (R.remaining reader.new)) }
     ensures stays { OnErr result (StaysInLine (R.remaining reader.old) (R.remaining reader.new)) }
@@ -15,9 +22,11 @@ pub(crate) fn gather_line<R: BufRead>(reader: &mut R, line: &mut Vec<u8>) -> Res
     ensures fault { IfErr result IsFromOutside }
     ensures memory { result ≡ Err ReadFault.Memory
         → OnSome (R.remaining reader.old) (LeavesSome (R.remaining reader.new)) }
+    ensures told { Told (GathersLine result line.old.items line.new.items) taken.old.parts taken.new.parts
+        (R.remaining reader.old) (R.remaining reader.new) }
 {
     for _ in 0..u64::MAX {
-        if gather_some(reader, line)? {
+        if gather_some(reader, line, taken)? {
             return Ok(());
         }
     }
@@ -25,7 +34,11 @@ pub(crate) fn gather_line<R: BufRead>(reader: &mut R, line: &mut Vec<u8>) -> Res
 }
 
 /// Takes what the reader shows of the line, and says whether the line is at its end.
-fn gather_some<R: BufRead>(reader: &mut R, line: &mut Vec<u8>) -> Result<bool, ReadFault>
+fn gather_some<R: BufRead>(
+    reader: &mut R,
+    line: &mut Vec<u8>,
+    taken: &mut Passed,
+) -> Result<bool, ReadFault>
     ensures more { result ≡ Ok false
         → KeepsLine line.old.items (R.remaining reader.old) line.new.items
         (R.remaining reader.new) }
@@ -36,6 +49,8 @@ fn gather_some<R: BufRead>(reader: &mut R, line: &mut Vec<u8>) -> Result<bool, R
     ensures fault { IfErr result IsFromOutside }
     ensures memory { result ≡ Err ReadFault.Memory
         → OnSome (R.remaining reader.old) (LeavesSome (R.remaining reader.new)) }
+    ensures told { Told (GathersSome result line.old.items line.new.items) taken.old.parts taken.new.parts
+        (R.remaining reader.old) (R.remaining reader.new) }
 {
     let shown = match reader.fill_buf() {
         Ok(shown) => shown,
@@ -46,6 +61,7 @@ fn gather_some<R: BufRead>(reader: &mut R, line: &mut Vec<u8>) -> Result<bool, R
         None => (shown.len(), shown.is_empty()),
     };
     line.extend_from_slice(&shown[..count])?;
+    taken.add(&shown[..count]);
     reader.consume(count);
     Ok(is_whole)
 }

@@ -2,8 +2,11 @@
 ghost use Rattle.std.specs.Prelude.{IfSome};
 ghost use Rattle.lsp_message.specs.ReadingSteps.{AnswersInPlace};
 ghost use Rattle.lsp_message.specs.Gathering.{TakesFront};
+ghost use Rattle.lsp_message.specs.Told.{Told};
+ghost use Rattle.lsp_message.specs.ToldSteps.{ReadsInPlace};
 
 use crate::frame::header::{HeaderLine, header_line};
+use crate::frame::passed::Passed;
 use crate::frame::{ReadFault, unless_interrupted};
 use memchr::memchr;
 use std::io::BufRead;
@@ -20,10 +23,15 @@ pub(crate) enum InPlace {
 }
 
 /// The next line, if the reader shows it whole. Otherwise nothing is taken.
-pub(crate) fn line_in_place<R: BufRead>(reader: &mut R) -> Result<InPlace, ReadFault>
+pub(crate) fn line_in_place<R: BufRead>(
+    reader: &mut R,
+    taken: &mut Passed,
+) -> Result<InPlace, ReadFault>
     ensures exact { IfSome (R.remaining reader.old)
         (AnswersInPlace result (R.remaining reader.new)) }
     ensures begun { TakesFront (R.remaining reader.old) (R.remaining reader.new) }
+    ensures told { Told (ReadsInPlace result) taken.old.parts taken.new.parts
+        (R.remaining reader.old) (R.remaining reader.new) }
 {
     let shown = match reader.fill_buf() {
         Ok(shown) => shown,
@@ -31,10 +39,14 @@ pub(crate) fn line_in_place<R: BufRead>(reader: &mut R) -> Result<InPlace, ReadF
     };
     let count = match memchr(b'\n', shown) {
         Some(at) => at + 1,
-        None if shown.is_empty() => return Ok(InPlace::AtEnd),
+        None if shown.is_empty() => {
+            taken.add(shown);
+            return Ok(InPlace::AtEnd);
+        }
         None => return Ok(InPlace::Cut),
     };
     let line = header_line(&shown[..count]);
+    taken.add(&shown[..count]);
     reader.consume(count);
     match line {
         Ok(line) => Ok(InPlace::Whole(line)),

@@ -1,9 +1,11 @@
 // A frame, written to a writer.
 ghost use Rattle.std.specs.Prelude.{◌≡◌, ◌<◌, ◌^◌, length, Err, IfOk, IfErr, OnOk, string_bytes};
 ghost use Rattle.std.specs.Io.KnownBytes.{Appends};
+ghost use Rattle.lsp_message.specs.Told.{Given, WritesText};
 ghost use Rattle.lsp_message.specs.Written.{frame_text, AppendsBeginning, IsOutput};
 
 use crate::frame::WriteFault;
+use crate::frame::passed::Passed;
 use std::alloc::{AllocError, Global};
 use std::fmt::Write as _;
 use std::io::{ErrorKind, Write};
@@ -16,6 +18,7 @@ pub(crate) fn write_body<W: Write>(
     alloc: Global,
     writer: &mut W,
     body: String,
+    given: &mut Passed,
 ) -> Result<(), WriteFault>
     ensures ok { OnOk result
         (Appends (W.contents writer.old) (W.contents writer.new) (frame_text (string_bytes body))) }
@@ -23,9 +26,11 @@ pub(crate) fn write_body<W: Write>(
         (frame_text (string_bytes body)) }
     ensures memory { result ≡ Err WriteFault.Memory → writer.new ≡ writer.old }
     ensures length { OnOk result (length (string_bytes body) < 2 ^ 64) }
+    ensures told { Given (WritesText (frame_text (string_bytes body)) result) given.old.parts
+        given.new.parts (W.contents writer.old) (W.contents writer.new) }
 {
     let frame = with_header(alloc, body)?;
-    write_frames(writer, frame.as_str())
+    write_frames_telling(writer, frame.as_str(), given)
 }
 
 /// Writes a text of whole frames, as `Message::to_frame` gives them (LSP 3.17, "Base Protocol"), and flushes the writer once.
@@ -36,7 +41,22 @@ pub fn write_frames<W: Write>(writer: &mut W, frames: &str) -> Result<(), WriteF
     ensures begun { AppendsBeginning (W.contents writer.old) (W.contents writer.new) frames.now }
     ensures fault { IfErr result IsOutput }
 {
-    write_bytes(writer, frames.as_bytes())?;
+    write_frames_telling(writer, frames, &mut Passed::new())
+}
+
+/// Writes a text of whole frames, as `write_frames` does, and adds the bytes that the writer takes to the account.
+pub fn write_frames_telling<W: Write>(
+    writer: &mut W,
+    frames: &str,
+    given: &mut Passed,
+) -> Result<(), WriteFault>
+    ensures ok { OnOk result (Appends (W.contents writer.old) (W.contents writer.new) frames.now) }
+    ensures begun { AppendsBeginning (W.contents writer.old) (W.contents writer.new) frames.now }
+    ensures fault { IfErr result IsOutput }
+    ensures told { Given (WritesText frames.now result) given.old.parts given.new.parts
+        (W.contents writer.old) (W.contents writer.new) }
+{
+    write_bytes(writer, frames.as_bytes(), given)?;
     match writer.flush() {
         Ok(()) => Ok(()),
         Err(error) => Err(WriteFault::Output(error.kind())),
@@ -57,16 +77,21 @@ pub(crate) fn with_header(alloc: Global, body: String) -> Result<String, AllocEr
 }
 
 /// Writes all the bytes, or a beginning of them. An interrupted write is a fault, as every other.
-fn write_bytes<W: Write>(writer: &mut W, bytes: &[u8]) -> Result<(), WriteFault>
+fn write_bytes<W: Write>(writer: &mut W, bytes: &[u8], given: &mut Passed) -> Result<(), WriteFault>
     ensures ok { OnOk result (Appends (W.contents writer.old) (W.contents writer.new) bytes.now) }
     ensures begun { AppendsBeginning (W.contents writer.old) (W.contents writer.new) bytes.now }
     ensures fault { IfErr result IsOutput }
+    ensures told { Given (WritesText bytes.now result) given.old.parts given.new.parts
+        (W.contents writer.old) (W.contents writer.new) }
 {
     let mut rest = bytes;
     while !rest.is_empty() {
         match writer.write(rest) {
             Ok(0) => return Err(WriteFault::Output(ErrorKind::WriteZero)),
-            Ok(count) => rest = &rest[count..],
+            Ok(count) => {
+                given.add(&rest[..count]);
+                rest = &rest[count..];
+            }
             Err(error) => return Err(WriteFault::Output(error.kind())),
         }
     }

@@ -9,10 +9,12 @@ ghost use Rattle.lsp_message.specs.Ranges.{nesting};
 ghost use Rattle.lsp_message.specs.Readable.{WritesReadably};
 ghost use Rattle.lsp_message.specs.Reading.{Answers};
 ghost use Rattle.lsp_message.specs.ReadingSteps.{Decodes};
+ghost use Rattle.lsp_message.specs.Told.{Given, IsOfParts, Told, WritesParts};
 ghost use Rattle.lsp_message.specs.View.{message_view};
 ghost use Rattle.lsp_message.specs.Written.{IsFrameOf, Writes};
 
-use crate::frame::content::read_content_within;
+use crate::frame::content::read_content_telling;
+use crate::frame::passed::Passed;
 use crate::frame::write::{with_header, write_body};
 use crate::frame::{ReadFault, WriteFault};
 use crate::msg::Message;
@@ -55,7 +57,27 @@ impl Message {
         ensures memory { result ≡ Err ReadFault.Memory → IfSome (R.remaining reader.old) (λ text.
             RunsOut limit text (R.remaining reader.new)) }
     {
-        let content = match read_content_within(alloc, reader, limit)? {
+        Message::read_telling(alloc, reader, limit, &mut Passed::new())
+    }
+
+    /// Reads one message, as `read_within` does, and adds the bytes that it takes to the account.
+    ///
+    /// What the account has is known of any reader, also of one that does not say which bytes it has left, as standard input.
+    pub fn read_telling<R: BufRead>(
+        alloc: Global,
+        reader: &mut R,
+        limit: u64,
+        taken: &mut Passed,
+    ) -> Result<Option<Message>, ReadFault>
+        ensures exact { IfSome (R.remaining reader.old) (λ text.
+            Answers message_view result (R.remaining reader.new) (reading_within limit text)) }
+        ensures begun { TakesFront (R.remaining reader.old) (R.remaining reader.new) }
+        ensures memory { result ≡ Err ReadFault.Memory → IfSome (R.remaining reader.old) (λ text.
+            RunsOut limit text (R.remaining reader.new)) }
+        ensures told { Told (IsOfParts message_view (reading_within limit) result) taken.old.parts
+            taken.new.parts (R.remaining reader.old) (R.remaining reader.new) }
+    {
+        let content = match read_content_telling(alloc, reader, limit, taken)? {
             Some(content) => content,
             None => return Ok(None),
         };
@@ -86,8 +108,27 @@ impl Message {
             WritesReadably (message_view self.now) (W.contents writer.old)
             (W.contents writer.new)) }
     {
+        self.write_telling(alloc, writer, &mut Passed::new())
+    }
+
+    /// Writes one message, as `write` does, and adds the bytes that the writer takes to the account.
+    pub fn write_telling<W: Write>(
+        &self,
+        alloc: Global,
+        writer: &mut W,
+        given: &mut Passed,
+    ) -> Result<(), WriteFault>
+        ensures frame { Writes (message_view self.now) (W.contents writer.old) result
+            (W.contents writer.new) }
+        ensures memory { result ≡ Err WriteFault.Memory → writer.new ≡ writer.old }
+        ensures reads_back { OnOk result (
+            WritesReadably (message_view self.now) (W.contents writer.old)
+            (W.contents writer.new)) }
+        ensures told { Given (WritesParts (message_view self.now) result) given.old.parts
+            given.new.parts (W.contents writer.old) (W.contents writer.new) }
+    {
         let body = self.body_text(alloc)?;
-        write_body(alloc, writer, body)
+        write_body(alloc, writer, body, given)
     }
 
     /// The frame of the message: the bytes that `write` writes (LSP 3.17, "Base Protocol"). The error means that an allocation

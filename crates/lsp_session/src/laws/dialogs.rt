@@ -9,13 +9,13 @@ ghost use Rattle.lsp_session.specs.Prompt.{Talks};
 ghost use Rattle.lsp_session.specs.Session.{starting, Exchange, SessionAnswer, SessionPart, Stop, SessionOut};
 ghost use Rattle.lsp_session.specs.SessionLaws.{Both};
 
-use crate::lifecycle::{Inbox, Outbox};
+use crate::lifecycle::{Outbox, WakingInbox};
 use crate::loops::{Handler, Service};
 
-/// Over a line that keeps an account of its acts, a session acts in order: a message is read, all that is to be sent for it is sent, and
+/// Over a transport that keeps an account of its acts, a session acts in order: a message is read, all that is to be sent for it is sent, and
 /// only then the next is read. So the result of `initialize` is sent before `initialized` is read, and the reply to `shutdown` before
 /// `exit` is (LSP 3.17, "Server lifecycle"). This is said of the same exchanges as all else.
-pub fn session_acts_in_order<L: Inbox + Outbox, S: Service>()
+pub fn session_acts_in_order<L: WakingInbox + Outbox, S: Service>()
     ensures { (account : L → List Act) (old new : S) (before after : L) (answer : SessionAnswer)
         → KeepsAccount L.receives L.sends account
         → Talks L.receives L.listens L.sends starting (SessionOut S.behavior old new) before answer
@@ -25,9 +25,10 @@ pub fn session_acts_in_order<L: Inbox + Outbox, S: Service>()
         (Both (SessionOut S.behavior old new) (InOrder acts)) before answer after }
 {}
 
-/// A client that waits only for what is owed to it is never kept waiting by a session that acts in order: whenever the session awaits
-/// something, the client goes on. So the two never wait for each other, whatever the client sends, in whatever order, up to the end of
-/// the session or a message that the line refuses. What is owed is what the session sends for the messages that it read, such as the
+/// A client that waits only for what is owed to it is never kept waiting by a session that acts in order: whenever the session awaited
+/// something, the client went on. So the two never waited for each other, whatever the client sent, in whatever order, up to the end of
+/// the session or a message that the transport refused. It is a fact of the acts of a session that ended; since no session knows what it
+/// will read, one that goes on has acted so too. What is owed is what the session sends for the messages that it read, such as the
 /// result of `initialize` and the reply to `shutdown`. In a handler's session it is one reply to each request, in their order.
 pub fn client_is_never_kept_waiting<S: Service, H: Handler>()
     ensures due { (goes_on : Client) (acts : List Act) (old new : S) (exchanges : List Exchange)

@@ -16,7 +16,7 @@ ghost use Rattle.lsp_session.specs.declared.loops.handler.SessionEnd.{SessionEnd
 ghost use Rattle.lsp_session.specs.declared.loops.served.StopReason.{StopReason as Reason};
 ghost use Rattle.lsp_session.specs.declared.loops.stream_session.SessionFault.{SessionFault as FaultOfSession};
 
-use crate::lifecycle::{Inbox, Outbox};
+use crate::lifecycle::{Inbox, Outbox, WakingInbox};
 use crate::loops::{Handler, Service};
 
 /// Each request of a handler's session gets exactly one reply, under its id and in order, and no reply goes to anything else
@@ -47,13 +47,13 @@ pub fn session_answers_requests<I: Inbox, O: Outbox, H: Handler>()
 {}
 
 /// The reason why a session stopped may be left out, so the laws of sessions hold of each that `serve_service` or
-/// `serve_line` ran.
-pub fn session_without_its_reason<I: Inbox, O: Outbox, L: Inbox + Outbox, S: Service>()
+/// `serve_transport` ran.
+pub fn session_without_its_reason<I: Inbox, O: Outbox, L: WakingInbox + Outbox, S: Service>()
     ensures boxes { (old new : S) (reason : Reason) (before after : I × O) (answer : SessionAnswer)
         → Runs I.receives O.sends (Both (SessionOut S.behavior old new) (StopsFor reason)) before
         answer after
         → Runs I.receives O.sends (SessionOut S.behavior old new) before answer after }
-    ensures line { (old new : S) (reason : Reason) (before after : L) (answer : SessionAnswer)
+    ensures transport { (old new : S) (reason : Reason) (before after : L) (answer : SessionAnswer)
         → Talks L.receives L.listens L.sends starting
         (Both (SessionOut S.behavior old new) (StopsFor reason)) before answer after
         → Talks L.receives L.listens L.sends starting (SessionOut S.behavior old new) before answer
@@ -93,8 +93,9 @@ pub fn only_replies_come_first()
 /// each request gets one reply, errors first and last the result of `initialize`, and nothing else is sent before `initialized` comes;
 /// then the first `shutdown` gets null, which is the last message that is sent. If no `initialize` gets a result, nothing but
 /// errors is sent. No message comes after an `exit`, nor after a response that comes before `initialize`. The answer is that of the
-/// phase in which the session stopped: it is shut down only by an `exit` after the reply to `shutdown`. A fact of each session that was
-/// run, over its exchanges, over boxes, and from bytes to bytes with a limit or without one.
+/// phase in which the session stopped: it is shut down only by an `exit` after the reply to `shutdown`. It stopped at a message that the
+/// outbox refused only if it offered one for what came last. A fact of each session that was run, over its exchanges, over boxes, and
+/// from bytes to bytes with a limit or without one.
 pub fn session_keeps_order<I: Inbox, O: Outbox, S: Service>()
     ensures exchanges { (old new : S) (exchanges : List Exchange) (stop : Stop)
         (shutdown_reply : Option Message) (answer : SessionAnswer)

@@ -1,5 +1,5 @@
 // Boxes whose contents are lists.
-use crate::lifecycle::{Arrival, Event, Gate, Inbox, Outbox, SendFault};
+use crate::lifecycle::{Event, Gate, Inbox, Outbox, SendFault};
 use lsp_message::Message;
 use std::alloc::Global;
 use std::collections::VecDeque;
@@ -49,10 +49,6 @@ impl Inbox for ListInbox {
             }
         }
         Event::Closed
-    }
-
-    fn receive_or_woken(&mut self) -> Arrival {
-        Arrival::from_event(self.receive())
     }
 }
 

@@ -6,10 +6,10 @@ ghost use Rattle.lsp_session.specs.Session.{SessionOut};
 ghost use Rattle.lsp_session.specs.SessionLaws.{Both};
 ghost use Rattle.lsp_session.specs.SessionRun.{Runs};
 
-use crate::lifecycle::{Arrival, Event, Inbox, Outbox, SendFault};
-use crate::loops::line::serve_line;
+use crate::lifecycle::{Arrival, Event, Inbox, Outbox, SendFault, WakingInbox};
 use crate::loops::served::Served;
 use crate::loops::service::Service;
+use crate::loops::transport::serve_transport;
 use lsp_message::Message;
 use std::alloc::Global;
 
@@ -25,8 +25,6 @@ impl<'a, I: Inbox, O: Outbox> Inbox for BothEnds<'a, I, O> {
 
     ghost receives = { BothReceive I.receives };
 
-    ghost listens = { BothReceive I.listens };
-
     fn receive_for(&mut self, seconds: u64) -> Event {
         self.inbox.receive_for(seconds)
     }
@@ -34,6 +32,12 @@ impl<'a, I: Inbox, O: Outbox> Inbox for BothEnds<'a, I, O> {
     fn receive(&mut self) -> Event {
         self.inbox.receive()
     }
+}
+
+impl<'a, I: WakingInbox, O: Outbox> WakingInbox for BothEnds<'a, I, O> {
+    ghost use Rattle.lsp_session.specs.BothEnds.{BothReceive};
+
+    ghost listens = { BothReceive I.listens };
 
     fn receive_or_woken(&mut self) -> Arrival {
         self.inbox.receive_or_woken()
@@ -58,15 +62,15 @@ impl<'a, I: Inbox, O: Outbox> Outbox for BothEnds<'a, I, O> {
 /// goes on as before `initialize`: a client may send it again (LSP 3.17, "Initialize Request", `retry`). When `initialized`
 /// came, what the service gives for it is sent. From then on each message goes to the service, a reply too, and each wake of the inbox,
 /// up to `shutdown`. What it gives is sent in order, and before the next message is awaited. Of two values no contract can say that, and
-/// this one doesn't; `serve_line`, which this calls with both as one, has it in its own. Nor does this one say that the session waits
-/// for wakes (`Inbox::listens`), so one that passes over each of them would meet it too. That is in the contract of `serve_line` as well.
+/// this one doesn't; `serve_transport`, which this calls with both as one, has it in its own. Nor does this one say that the session waits
+/// for wakes (`WakingInbox::listens`), so one that passes over each of them would meet it too. That is in the contract of `serve_transport` as well.
 /// `shutdown` is answered with null, and nothing follows it; `exit` then gives `ShutDown`. `Closed` comes if, from `initialized` on,
 /// `exit` comes without a `shutdown` or no more messages come. What comes at the wrong time is in the table of `lifecycle`.
 ///
 /// An outbox that is closed to a message ends the session with `disconnected channel`, and a failed allocation with
 /// `out of memory`; what was to follow for that message is not sent. That this reply could not be sent is ignored. After
 /// 2^64 - 1 events it ends as if no more messages came.
-pub fn serve_service<I: Inbox, O: Outbox, S: Service>(
+pub fn serve_service<I: WakingInbox, O: Outbox, S: Service>(
     alloc: Global,
     inbox: &mut I,
     outbox: &mut O,
@@ -76,6 +80,6 @@ pub fn serve_service<I: Inbox, O: Outbox, S: Service>(
         (Both (SessionOut S.behavior service.old service.new) (StopsFor result.stop))
         (inbox.old, outbox.old) result.answer (inbox.new, outbox.new) }
 {
-    let mut line = BothEnds { inbox, outbox };
-    serve_line(alloc, &mut line, service)
+    let mut transport = BothEnds { inbox, outbox };
+    serve_transport(alloc, &mut transport, service)
 }

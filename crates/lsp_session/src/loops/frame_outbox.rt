@@ -1,6 +1,6 @@
 // An outbox that writes frames.
 use crate::lifecycle::{Outbox, SendFault};
-use lsp_message::{Message, WriteFault};
+use lsp_message::{Message, Passed, WriteFault};
 use std::alloc::Global;
 use std::io::Write;
 
@@ -14,7 +14,13 @@ pub struct FrameOutbox<'a, W> {
 }
 
 impl<'a, W: Write> FrameOutbox<'a, W> {
-    ghost use Rattle.std.specs.Prelude.{◌≡◌, None};
+    ghost use Rattle.std.specs.Prelude.{◌≡◌, None, IfErr};
+    ghost use Rattle.lsp_message.specs.Told.{Given};
+    ghost use Rattle.lsp_message.specs.View.{message_view};
+    ghost use Rattle.lsp_session.specs.Account.{sending};
+    ghost use Rattle.lsp_session.specs.ActBytes.{SentParts};
+    ghost use Rattle.lsp_session.specs.Boxes.{handed_back};
+    ghost use Rattle.lsp_session.specs.FrameBoxes.{FrameOutboxSends};
 
     /// An outbox over a writer. It takes no memory.
     pub fn new(alloc: Global, writer: &'a mut W) -> Self
@@ -29,24 +35,41 @@ impl<'a, W: Write> FrameOutbox<'a, W> {
         }
     }
 
+    /// An outbox that goes on where another over the same writer, whose writes had failed so, was left.
+    pub(crate) fn resumed(alloc: Global, writer: &'a mut W, fault: Option<WriteFault>) -> Self
+        ensures same_writer { result.writer.ghost_name ≡ writer.entry.ghost_name }
+        ensures unwritten { result.writer.now ≡ writer.old }
+        ensures resumed { (result.fault ≡ fault) × (result.alloc ≡ alloc) }
+    {
+        FrameOutbox {
+            alloc,
+            writer,
+            fault,
+        }
+    }
+
     /// The fault that closed the outbox.
     pub fn fault(&self) -> Option<WriteFault>
         ensures { result ≡ self.now.fault }
     {
         self.fault
     }
-}
 
-impl<'a, W: Write> Outbox for FrameOutbox<'a, W> {
-    ghost use Rattle.lsp_session.specs.FrameBoxes.{FrameOutboxSends};
-
-    ghost sends = { FrameOutboxSends W.contents };
-
-    fn send(&mut self, message: Message) -> Result<(), SendFault> {
+    /// Sends a message, as `send` does, and adds the bytes that the writer takes to the account.
+    pub(crate) fn send_telling(
+        &mut self,
+        message: Message,
+        given: &mut Passed,
+    ) -> Result<(), SendFault>
+        ensures sends { FrameOutboxSends W.contents self.old (message_view message) result self.new }
+        ensures back { IfErr result (λ fault. handed_back fault ≡ message) }
+        ensures told { Given (SentParts self.old.fault (sending (message_view message) result) self.new.fault) given.old.parts
+            given.new.parts (W.contents self.old.writer.now) (W.contents self.new.writer.now) }
+    {
         if self.fault.is_some() {
             return Err(SendFault::Closed(message));
         }
-        match message.write(self.alloc, self.writer) {
+        match message.write_telling(self.alloc, self.writer, given) {
             Ok(()) => {
                 drop(message);
                 Ok(())
@@ -59,5 +82,15 @@ impl<'a, W: Write> Outbox for FrameOutbox<'a, W> {
                 }
             }
         }
+    }
+}
+
+impl<'a, W: Write> Outbox for FrameOutbox<'a, W> {
+    ghost use Rattle.lsp_session.specs.FrameBoxes.{FrameOutboxSends};
+
+    ghost sends = { FrameOutboxSends W.contents };
+
+    fn send(&mut self, message: Message) -> Result<(), SendFault> {
+        self.send_telling(message, &mut Passed::new())
     }
 }

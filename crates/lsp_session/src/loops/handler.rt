@@ -10,6 +10,7 @@ use crate::error::ProtocolError;
 use crate::lifecycle::{Inbox, Outbox};
 use crate::loops::both_ends::serve_service;
 use crate::loops::handler_service::HandlerService;
+use crate::loops::unwoken::Unwoken;
 use lsp_message::{Notification, Request, Response, ResponseError};
 use serde_json::{Map, Value, put};
 use std::alloc::{AllocError, Global};
@@ -90,7 +91,8 @@ pub fn serve<I: Inbox, O: Outbox, H: Handler>(
 {
     let mut capabilities = capabilities;
     let mut service = HandlerService::new(alloc, &mut capabilities, handler);
-    serve_service(alloc, inbox, outbox, &mut service).answer
+    let mut unwoken = Unwoken::new(inbox);
+    serve_service(alloc, &mut unwoken, outbox, &mut service).answer
 }
 
 /// The result of `initialize`: `{"capabilities":<capabilities>}`. An `Err` is a failed allocation.

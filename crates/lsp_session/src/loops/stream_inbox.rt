@@ -4,7 +4,7 @@ ghost use Rattle.lsp_message.specs.Frame.{no_limit};
 ghost use Rattle.lsp_session.specs.Event.{event_view};
 ghost use Rattle.lsp_session.specs.StreamBoxes.{StreamInboxGives};
 
-use crate::lifecycle::{Arrival, Event, Inbox, is_exit};
+use crate::lifecycle::{Event, Inbox, is_exit};
 use crate::loops::ReadEnd;
 use lsp_message::Message;
 use std::alloc::Global;
@@ -91,9 +91,5 @@ impl<'a, R: BufRead> Inbox for StreamInbox<'a, R> {
     #[tactic(auto, using(crate::proofs::Waiting::waits_none))]
     fn receive(&mut self) -> Event {
         self.next_event()
-    }
-
-    fn receive_or_woken(&mut self) -> Arrival {
-        Arrival::from_event(self.receive())
     }
 }

@@ -1,18 +1,20 @@
 // A session over a reader and a writer.
 ghost use Rattle.serde_json.specs.View.{view};
-ghost use Rattle.std.specs.Prelude.{◌≡◌, IfSome};
+ghost use Rattle.std.specs.Prelude.{◌≡◌, [], IfSome};
 ghost use Rattle.lsp_message.specs.Frame.{no_limit};
 ghost use Rattle.lsp_session.specs.HandlerSession.{of_handler};
 ghost use Rattle.lsp_session.specs.Session.{SessionOut};
 ghost use Rattle.lsp_session.specs.PassingBytes.{GivesAndTells};
+ghost use Rattle.lsp_session.specs.ActBytes.{Passes, ToldSession};
 ghost use Rattle.lsp_session.specs.SessionBytes.{Gives};
+ghost use Rattle.lsp_session.specs.Transcripts.{notes_of};
 ghost use Rattle.lsp_session.specs.SessionFault.{session_answer as session_answer_spec};
 
 use crate::error::ProtocolError;
 use crate::loops::handler_service::HandlerService;
 use crate::loops::{
-    EndSession, FrameOutbox, Handler, Listener, ReadEnd, Served, Service, SessionEnd, StopReason,
-    TolerantInbox, serve_service,
+    EndSession, Handler, Listener, ReadEnd, Served, Service, SessionEnd, StopReason,
+    StreamTransport, Transcript, serve_transport,
 };
 use lsp_message::{ReadFault, WriteFault};
 use serde_json::Value;
@@ -104,9 +106,10 @@ pub fn session_within<R: BufRead, W: Write, H: Handler>(
 /// At a content part that is no message (see `is_of_body`) the listener `bad_bodies` is asked. If it reads on, nothing is answered,
 /// the service is woken, and the next frame follows. That is so from `initialized` up to `shutdown`, if a service can be woken. Where
 /// the listener ends the session, and before and after in any case, such a part is `SessionFault::Read`, and so is each other fault at any
-/// time. With `EndSession` nothing is ever passed over (`laws::listeners::nothing_is_passed_over`). `TolerantInbox::receive_or_woken` asks
-/// the listener at each such part. That a session calls it from `initialized` up to `shutdown` is no part of this contract, since a reader
-/// and a writer are two values; over one value, a `StreamLine`, the contract of `serve_line` has it.
+/// time. With `EndSession` nothing is ever passed over (`laws::listeners::nothing_is_passed_over`).
+///
+/// This contract speaks of readers whose bytes are known, as a slice's. `session_transcribed` is the same session with a contract for every
+/// reader and writer.
 ///
 /// A handler's session reads on as the service `HandlerService` (`laws::listeners::handler_service_runs_its_handler`).
 pub fn session_of_service<R: BufRead, W: Write, S: Service, L: Listener>(
@@ -122,10 +125,45 @@ pub fn session_of_service<R: BufRead, W: Write, S: Service, L: Listener>(
         (R.remaining reader.new)
         bad_bodies.old bad_bodies.new (W.contents writer.old) (W.contents writer.new) result) }
 {
-    let mut inbox = TolerantInbox::within(alloc, reader, bad_bodies, limit);
-    let mut outbox = FrameOutbox::new(alloc, writer);
-    let served = serve_service(alloc, &mut inbox, &mut outbox, service);
-    session_answer(served, inbox.end(), outbox.fault())
+    let mut transcript = Transcript::new();
+    session_transcribed(
+        alloc,
+        reader,
+        writer,
+        service,
+        bad_bodies,
+        limit,
+        &mut transcript,
+    )
+}
+
+/// `session_of_service` with a transcript, which clauses alone see. The contract is of whatever reader and writer, also of such as do not say
+/// which bytes they have, as standard input and output, a file or a socket: the transcript tells which bytes were taken for each message and
+/// which were given for each, and that all that is sent for a message is given before the next byte is taken.
+///
+/// One assumption is left: the system's calls to read and to write move the bytes that they say.
+pub fn session_transcribed<R: BufRead, W: Write, S: Service, L: Listener>(
+    alloc: Global,
+    reader: &mut R,
+    writer: &mut W,
+    service: &mut S,
+    bad_bodies: &mut L,
+    limit: u64,
+    transcript: &mut Transcript,
+) -> Result<SessionEnd, SessionFault>
+    requires { notes_of transcript.old ≡ [] }
+    ensures told { ToldSession limit (SessionOut S.behavior service.old service.new) (notes_of transcript.new) result }
+    ensures passed { Passes (notes_of transcript.new) (R.remaining reader.old) (R.remaining reader.new) (W.contents writer.old) (W.contents writer.new) }
+    ensures known { IfSome (R.remaining reader.old) (λ text.
+        GivesAndTells L.hears limit (SessionOut S.behavior service.old service.new) text
+        (R.remaining reader.new)
+        bad_bodies.old bad_bodies.new (W.contents writer.old) (W.contents writer.new) result) }
+{
+    let mut transport = StreamTransport::within(
+        alloc, reader, writer, bad_bodies, limit, transcript,
+    );
+    let served = serve_transport(alloc, &mut transport, service);
+    transport.answer(served)
 }
 
 /// The answer of a session that was served so, whose messages ended so, and whose output failed so: of several

@@ -1,12 +1,14 @@
 // An inbox that reads messages, and asks a listener whether to read on after a content part that is none.
 ghost use Rattle.std.specs.Prelude.{◌≡◌, None};
+ghost use Rattle.lsp_message.specs.Told.{Told};
+ghost use Rattle.lsp_session.specs.ActBytes.{EventParts, ReadParts};
 ghost use Rattle.lsp_session.specs.Event.{arrival_view, event_view};
 ghost use Rattle.lsp_session.specs.Passing.{is_of_body as is_of_body_spec};
 ghost use Rattle.lsp_session.specs.PassingBoxes.{EndsAtBody, NeverEndsAtBody, ReadsNext, TolerantInboxGives};
 
-use crate::lifecycle::{Arrival, Event, Inbox, is_exit};
+use crate::lifecycle::{Arrival, Event, Inbox, WakingInbox, is_exit};
 use crate::loops::{Listener, ReadEnd};
-use lsp_message::{Message, ReadFault};
+use lsp_message::{Message, Passed, ReadFault};
 use std::alloc::Global;
 use std::io::BufRead;
 
@@ -53,6 +55,29 @@ impl<'a, R: BufRead, L: Listener> TolerantInbox<'a, R, L> {
         }
     }
 
+    /// An inbox that goes on where another over the same reader, whose messages this ended, was left.
+    pub(crate) fn resumed(
+        alloc: Global,
+        reader: &'a mut R,
+        listener: &'a mut L,
+        limit: u64,
+        end: Option<ReadEnd>,
+    ) -> Self
+        ensures same_reader { result.reader.ghost_name ≡ reader.entry.ghost_name }
+        ensures unread { result.reader.now ≡ reader.old }
+        ensures same_listener { result.listener.ghost_name ≡ listener.entry.ghost_name }
+        ensures untold { result.listener.now ≡ listener.old }
+        ensures resumed { (result.end ≡ end) × (result.limit ≡ limit) × (result.alloc ≡ alloc) }
+    {
+        TolerantInbox {
+            alloc,
+            reader,
+            listener,
+            limit,
+            end,
+        }
+    }
+
     /// What ended the messages: `Exit`, `End` or `Fault`.
     pub fn end(&self) -> Option<ReadEnd>
         ensures { result ≡ self.now.end }
@@ -61,14 +86,16 @@ impl<'a, R: BufRead, L: Listener> TolerantInbox<'a, R, L> {
     }
 
     /// Reads on: a message, or none if no more come. A fault has not ended the messages yet.
-    fn read_next(&mut self) -> Result<Option<Message>, ReadFault>
+    fn read_next(&mut self, taken: &mut Passed) -> Result<Option<Message>, ReadFault>
         ensures read { ReadsNext R.remaining self.old result self.new }
         ensures reads_on { NeverEndsAtBody self.old self.new }
+        ensures told { Told (ReadParts self.old.limit self.old.end result self.new.end) taken.old.parts
+            taken.new.parts (R.remaining self.old.reader.now) (R.remaining self.new.reader.now) }
     {
         if self.end.is_some() {
             return Ok(None);
         }
-        match Message::read_within(self.alloc, self.reader, self.limit)? {
+        match Message::read_telling(self.alloc, self.reader, self.limit, taken)? {
             Some(message) => {
                 if is_exit(&message) {
                     self.end = Some(ReadEnd::Exit);
@@ -83,12 +110,14 @@ impl<'a, R: BufRead, L: Listener> TolerantInbox<'a, R, L> {
     }
 
     /// What one wait gives that also gives wakes. At a content part that is no message the listener is asked whether to read on.
-    pub(crate) fn next_arrival(&mut self) -> Arrival
+    pub(crate) fn next_arrival(&mut self, taken: &mut Passed) -> Arrival
         ensures gives { TolerantInboxGives R.remaining L.hears self.old (arrival_view result)
             self.new }
         ensures reads_on { EndsAtBody L.ends self.old self.new }
+        ensures told { Told (EventParts self.old.limit self.old.end (arrival_view result) self.new.end)
+            taken.old.parts taken.new.parts (R.remaining self.old.reader.now) (R.remaining self.new.reader.now) }
     {
-        match self.read_next() {
+        match self.read_next(taken) {
             Ok(Some(message)) => Arrival::Message(message),
             Ok(None) => Arrival::Closed,
             Err(fault) => {
@@ -101,10 +130,13 @@ impl<'a, R: BufRead, L: Listener> TolerantInbox<'a, R, L> {
         }
     }
 
-    fn next_event(&mut self) -> Event
-        ensures { TolerantInboxGives R.remaining L.hears self.old (event_view result) self.new }
+    /// What one wait gives that gives no wakes.
+    pub(crate) fn next_event(&mut self, taken: &mut Passed) -> Event
+        ensures gives { TolerantInboxGives R.remaining L.hears self.old (event_view result) self.new }
+        ensures told { Told (EventParts self.old.limit self.old.end (event_view result) self.new.end)
+            taken.old.parts taken.new.parts (R.remaining self.old.reader.now) (R.remaining self.new.reader.now) }
     {
-        match self.read_next() {
+        match self.read_next(taken) {
             Ok(Some(message)) => Event::Message(message),
             Ok(None) => Event::Closed,
             Err(fault) => {
@@ -116,24 +148,28 @@ impl<'a, R: BufRead, L: Listener> TolerantInbox<'a, R, L> {
 }
 
 impl<'a, R: BufRead, L: Listener> Inbox for TolerantInbox<'a, R, L> {
-    ghost use Rattle.lsp_session.specs.PassingBoxes.{EndsAtBody, TolerantInboxGives};
+    ghost use Rattle.lsp_session.specs.PassingBoxes.{TolerantInboxGives};
 
     ghost receives = { TolerantInboxGives R.remaining L.hears };
 
-    // If a wake can tell of such a part, it ends the messages only if the listener says so.
-    ghost listens = { λ old _ new. EndsAtBody L.ends old new };
-
     fn receive_for(&mut self, _seconds: u64) -> Event {
-        self.next_event()
+        self.next_event(&mut Passed::new())
     }
 
     #[tactic(auto, using(crate::proofs::Waiting::waits_none))]
     fn receive(&mut self) -> Event {
-        self.next_event()
+        self.next_event(&mut Passed::new())
     }
+}
+
+impl<'a, R: BufRead, L: Listener> WakingInbox for TolerantInbox<'a, R, L> {
+    ghost use Rattle.lsp_session.specs.PassingBoxes.{EndsAtBody};
+
+    // If a wake can tell of such a part, it ends the messages only if the listener says so.
+    ghost listens = { λ old _ new. EndsAtBody L.ends old new };
 
     #[tactic(auto, using(crate::proofs::Waiting::waits_none))]
     fn receive_or_woken(&mut self) -> Arrival {
-        self.next_arrival()
+        self.next_arrival(&mut Passed::new())
     }
 }

@@ -1,6 +1,9 @@
 // Code actions as JSON.
 use crate::actions::{CodeAction, CodeActionContext, CodeActionParams, CodeActionTriggerKind};
-use crate::json::{Keyed, ReadMembers, Sink, Source, WriteMembers, read_object, write_object};
+use crate::json::{
+    Keyed, ReadMembers, Sink, Source, WriteMembers, if_fits, read_object, those_that_fit,
+    write_object,
+};
 use crate::numbers::number_within;
 use serde::{
     Described, Deserialize, DeserializeOwned, Deserializer, Format, Serialize, Serializer,
@@ -69,9 +72,9 @@ impl Serialize for CodeActionContext {
 impl ReadMembers for CodeActionContext {
     fn read<S: Source>(members: &mut S) -> CodeActionContext {
         CodeActionContext {
-            diagnostics: members.required(),
+            diagnostics: those_that_fit(members),
             only: members.optional(),
-            trigger_kind: members.optional(),
+            trigger_kind: if_fits(members),
         }
     }
 }

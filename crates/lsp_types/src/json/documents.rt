@@ -6,7 +6,7 @@ use crate::documents::{
     VersionedTextDocumentIdentifier,
 };
 use crate::json::{
-    Blank, Keyed, ReadMembers, Sink, Source, WriteMembers, read_object, write_object,
+    Blank, Keyed, ReadMembers, Sink, Source, WriteMembers, if_fits, read_object, write_object,
 };
 use lsp_text::ContentChange;
 use serde::{
@@ -111,7 +111,7 @@ impl Keyed for VersionedTextDocumentIdentifier {
 
 impl WriteMembers for VersionedTextDocumentIdentifier {
     fn write<O: Sink>(&self, out: O) -> O {
-        out.member(&self.uri).member(&self.version)
+        out.member(&self.uri).some(&self.version)
     }
 }
 
@@ -125,7 +125,7 @@ impl ReadMembers for VersionedTextDocumentIdentifier {
     fn read<S: Source>(members: &mut S) -> VersionedTextDocumentIdentifier {
         VersionedTextDocumentIdentifier {
             uri: members.required(),
-            version: members.required(),
+            version: if_fits(members),
         }
     }
 }
@@ -158,7 +158,7 @@ impl WriteMembers for TextDocumentItem {
     fn write<O: Sink>(&self, out: O) -> O {
         out.member(&self.uri)
             .member(&self.language_id)
-            .member(&self.version)
+            .some(&self.version)
             .member(&self.text)
     }
 }
@@ -174,7 +174,7 @@ impl ReadMembers for TextDocumentItem {
         TextDocumentItem {
             uri: members.required(),
             language_id: members.required(),
-            version: members.required(),
+            version: if_fits(members),
             text: members.required(),
         }
     }

@@ -1,5 +1,7 @@
 // The handshake as JSON.
-use crate::json::{Keyed, ReadMembers, Sink, Source, WriteMembers, read_object, write_object};
+use crate::json::{
+    Keyed, ReadMembers, Sink, Source, WriteMembers, if_fits, read_object, write_object,
+};
 use crate::lifecycle::{InitializeParams, InitializeResult, ServerInfo};
 use serde::{
     Described, Deserialize, DeserializeOwned, Deserializer, Format, Serialize, Serializer,
@@ -39,8 +41,8 @@ impl Serialize for InitializeParams {
 impl ReadMembers for InitializeParams {
     fn read<S: Source>(members: &mut S) -> InitializeParams {
         InitializeParams {
-            process_id: members.optional(),
-            client_info: members.optional(),
+            process_id: if_fits(members),
+            client_info: if_fits(members),
             root_uri: members.optional(),
             workspace_folders: members.optional(),
             initialization_options: members.optional(),

@@ -1,5 +1,7 @@
 // The workspace as JSON.
-use crate::json::{Keyed, ReadMembers, Sink, Source, WriteMembers, read_object, write_object};
+use crate::json::{
+    Keyed, ReadMembers, Sink, Source, WriteMembers, if_fits, read_object, write_object,
+};
 use crate::workspace::{
     ApplyWorkspaceEditParams, ApplyWorkspaceEditResult, Command, ConfigurationItem,
     ConfigurationParams, ExecuteCommandParams, WorkspaceFolder,
@@ -17,7 +19,7 @@ impl Keyed for WorkspaceFolder {
 
 impl WriteMembers for WorkspaceFolder {
     fn write<O: Sink>(&self, out: O) -> O {
-        out.member(&self.uri).member(&self.name)
+        out.member(&self.uri).some(&self.name)
     }
 }
 
@@ -31,7 +33,7 @@ impl ReadMembers for WorkspaceFolder {
     fn read<S: Source>(members: &mut S) -> WorkspaceFolder {
         WorkspaceFolder {
             uri: members.required(),
-            name: members.required(),
+            name: if_fits(members),
         }
     }
 }

@@ -1,4 +1,4 @@
-use Rattle.std.proofs.Common.{ap, sym, ◌∙◌}
+use Rattle.std.proofs.Common.{ap, ◌∙◌}
 use Rattle.std.specs.Prelude.{ℕ, List, length, ◌==◌}
 use Rattle.example_two_peers.proofs.Left.{nothing_first}
 use Rattle.example_two_peers.proofs.exchange.is_idle.Goals as goal

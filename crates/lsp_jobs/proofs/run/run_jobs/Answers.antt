@@ -1,21 +1,16 @@
-use denote.Exit.{yes}
-use denote.Param.Send.{param_send, arg_send}
 use Rattle.std.proofs.Common.{ap, ◌∙◌, true}
 use Rattle.lsp_session.specs.Session.{SessionOut}
 use Rattle.lsp_service.specs.QueuedServer.{woken_with_queues}
-use Rattle.lsp_threads.proofs.ContentsSend.{contents_send}
-use Rattle.lsp_threads.proofs.Sessions.{started_told_as}
+use Rattle.lsp_threads.proofs.Sessions.{started_told_as, taken_told_as}
+use Rattle.lsp_threads.specs.Passing.{noted}
 use Rattle.lsp_threads.specs.declared.run.Threaded.{Threaded}
 use Rattle.lsp_jobs.proofs.JobSessions.{job_session}
 use Rattle.lsp_jobs.specs.JobSession.{JobSession, seen_with_jobs}
 use Rattle.lsp_jobs.specs.declared.pooled_server.PooledServer.{PooledServer}
 use Rattle.lsp_jobs.proofs.run.run_jobs.Goals as goal
 
-pub start_pool-requires-send-M : goal.start_pool-requires-send-M
-start_pool-requires-send-M g c κs within = param_send _ _ (arg_send _ yes _ contents_send)
-
-pub returns : goal.returns
-returns g c =
+pub returns-clause-session : goal.returns-clause-session
+returns-clause-session g c =
     let may = seen_with_jobs g.row.T.Denot g.S.Server g.S.JobServer g.J.Job in
     let old = c.new-queued.result in
     let new = c.run_threads_of_service_over-done.new.service in
@@ -24,4 +19,16 @@ returns g c =
     (job_session g.row.T.Denot g.S.Server g.S.JobServer g.J.Job old new c.new-pooled.result c.args.server _ c.new-queued.ensures
     (c.new-pooled.ensures ∙ ap (λ t. (c.args.server, t)) c.in-Ok-start_pool.ensures)
     (c.into_parts-server.ensures ∙ ap (λ (p : PooledServer _ _ _ _). p.server) c.into_server.ensures))
-    (λ (done : Threaded _). g.W.Write.contents done.writer) (λ (done : Threaded _). done.answer) _ _ _ (rw c.in-Ok-waker.ensures.made at c.run_threads_of_service_over-done.ensures)
+    (λ (done : Threaded _). g.W.Write.contents done.writer) (λ (done : Threaded _). done.answer) _ _ _ (rw c.in-Ok-waker.ensures.made at c.run_threads_of_service_over-done.ensures.session)
+
+pub returns-clause-told : goal.returns-clause-told
+returns-clause-told g c =
+    let may = seen_with_jobs g.row.T.Denot g.S.Server g.S.JobServer g.J.Job in
+    let old = c.new-queued.result in
+    let new = c.run_threads_of_service_over-done.new.service in
+    taken_told_as true g.L.Listener.hears c.args.options.limit c.args.bad_bodies.now _
+    (SessionOut (woken_with_queues may) old new) (JobSession g.row.T.Denot g.S.Server g.S.JobServer g.J.Job c.args.server _)
+    (job_session g.row.T.Denot g.S.Server g.S.JobServer g.J.Job old new c.new-pooled.result c.args.server _ c.new-queued.ensures
+    (c.new-pooled.ensures ∙ ap (λ t. (c.args.server, t)) c.in-Ok-start_pool.ensures)
+    (c.into_parts-server.ensures ∙ ap (λ (p : PooledServer _ _ _ _). p.server) c.into_server.ensures))
+    (λ (done : Threaded _). done.taken.parts) (λ (done : Threaded _). noted done.given) (λ (done : Threaded _). done.answer) _ (rw c.in-Ok-waker.ensures.made at c.run_threads_of_service_over-done.ensures.told)

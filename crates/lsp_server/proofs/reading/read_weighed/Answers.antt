@@ -1,7 +1,6 @@
-use Rattle.std.proofs.Common.{◌≡◌, ℕ, List, Vec, Global, Ok, Err, IfSome, subst}
+use Rattle.std.proofs.Common.{ℕ, List, Vec, Global, Ok, Err, subst}
 use Rattle.std.proofs.lemmas.Result.{err_from_is_err_and}
-use Rattle.lsp_message.specs.Frame.{body_means, content_within}
-use Rattle.lsp_message.specs.Reading.{Answers}
+use Rattle.lsp_message.specs.Frame.{body_means}
 use Rattle.lsp_message.specs.ReadingSteps.{Decodes}
 use Rattle.lsp_message.specs.View.{message_view}
 use Rattle.lsp_message.proofs.ContentParts.{decoded, not_read}

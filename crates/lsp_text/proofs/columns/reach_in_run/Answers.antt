@@ -1,4 +1,4 @@
-use Rattle.std.proofs.Common.{sym, ◌∙◌}
+use Rattle.std.proofs.Common.{sym}
 use Rattle.lsp_text.proofs.ColumnLemmas.{column_plain}
 use Rattle.lsp_text.proofs.columns.reach_in_run.Goals as goal
 

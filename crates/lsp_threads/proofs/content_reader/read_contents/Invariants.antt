@@ -1,11 +1,13 @@
-use Rattle.std.specs.Prelude.{◌≡◌}
-use Rattle.lsp_threads.proofs.ContentReads.{Passed}
+use Rattle.std.specs.Prelude.{◌≡◌, []}
+use Rattle.lsp_message.specs.Told.{Takes}
+use Rattle.lsp_threads.specs.Contents.{AreContents}
 use Rattle.lsp_threads.proofs.content_reader.read_contents.Given as goal
 
--- the content parts so far were added
+-- the content parts so far were added, and are what was taken
 abbrev pub invariant-loop : goal.invariant-loop
 invariant-loop g l = record {
-  passed : Passed l.limit (g.S.Read.remaining l.fn.reader.inner) (g.S.Read.remaining l.reader.inner) l.outbox.contents;
+  are : AreContents l.limit l.taken.parts l.outbox.contents;
+  taken : Takes l.taken.parts [] l.taken.parts (g.S.Read.remaining l.fn.reader.inner) (g.S.Read.remaining l.reader.inner);
   relay : l.outbox.relay ≡ l.fn.outbox.relay;
   wakeable : l.outbox.wakeable ≡ l.fn.outbox.wakeable;
 }

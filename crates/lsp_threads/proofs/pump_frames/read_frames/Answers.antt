@@ -1,41 +1,55 @@
 use Rattle.std.proofs.Common.{◌≡◌, false, true, sym, ap, ◌∙◌}
 use Rattle.lsp_message.specs.Messages.{is_exit}
 use Rattle.lsp_message.specs.View.{message_view}
-use Rattle.lsp_session.specs.declared.lifecycle.SendFault.TheVariants.{Memory}
-use Rattle.lsp_session.proofs.Handing.{Handed-more, hands_exit, hands_refused, hands_end, hands_fault, hands_on}
-use Rattle.lsp_threads.specs.Framing.{Framing, FramingSends}
-use Rattle.lsp_threads.proofs.Frames.{Handed-kept}
+use Rattle.lsp_threads.specs.Framing.{Framing}
+use Rattle.lsp_threads.proofs.Frames.{told_frames_end, told_frames_exit, told_frames_fault, told_frames_full, told_frames_more, told_frames_on}
+use Rattle.lsp_threads.proofs.Taken.{taken_more, takes_kept, takes_more}
 use Rattle.lsp_threads.proofs.pump_frames.read_frames.Goals as goal
 
 pub returns-in-Ok-None-clause-handed : goal.returns-in-Ok-None-clause-handed
 returns-in-Ok-None-clause-handed g c =
-    hands_end c.args.limit FramingSends message_view _ _ _ _ _ c.loop.invariant.handed (rw (c.in-Ok-None.is, c.in-Ok-None.field-0-is) at c.read_within.ensures.exact)
+    told_frames_end c.args.limit c.loop.taken.parts c.read_telling.new.taken.parts _ _ _ c.loop.outbox c.loop.invariant.handed (rw (c.in-Ok-None.is, c.in-Ok-None.field-0-is) at c.read_telling.ensures.told)
 
 pub returns-in-Err-clause-handed : goal.returns-in-Err-clause-handed
 returns-in-Err-clause-handed g c =
-    hands_fault c.args.limit FramingSends message_view _ _ _ c.in-Err.fault _ _ c.loop.invariant.handed (rw c.in-Err.is at c.read_within.ensures.exact)
+    told_frames_fault c.args.limit c.loop.taken.parts c.read_telling.new.taken.parts _ _ _ c.loop.outbox c.loop.invariant.handed c.in-Err.fault (rw c.in-Err.is at c.read_telling.ensures.told)
 
 pub returns-in-Err-added-clause-handed : goal.returns-in-Err-added-clause-handed
 returns-in-Err-added-clause-handed g c =
-    let read = rw (c.in-Ok-Some.is, c.in-Ok-Some.field-0-is) at c.read_within.ensures.exact in
-    hands_refused c.args.limit FramingSends message_view _ _ _ _ _ _ c.in-Ok-Some.message c.loop.invariant.handed read (Memory c.in-Ok-Some.message) c.in-Err-added.ensures.err
+    let told = rw (c.in-Ok-Some.is, c.in-Ok-Some.field-0-is) at c.read_telling.ensures.told in
+    told_frames_full c.args.limit c.loop.taken.parts c.read_telling.new.taken.parts _ _ _ c.loop.outbox c.loop.invariant.handed c.in-Ok-Some.message told _ c.in-Err-added.ensures.err
 
 pub returns-then-is_last-clause-handed : goal.returns-then-is_last-clause-handed
 returns-then-is_last-clause-handed g c =
-    let read = rw (c.in-Ok-Some.is, c.in-Ok-Some.field-0-is) at c.read_within.ensures.exact in
+    let told = rw (c.in-Ok-Some.is, c.in-Ok-Some.field-0-is) at c.read_telling.ensures.told in
     let last : is_exit (message_view c.in-Ok-Some.message) ≡ true = sym c.is_exit-is_last.ensures ∙ c.if-is_last.true in
-    hands_exit c.args.limit FramingSends message_view _ _ _ _ _ _ c.in-Ok-Some.message c.loop.invariant.handed read c.in-Ok.ensures.ok last
+    told_frames_exit c.args.limit c.loop.taken.parts c.read_telling.new.taken.parts _ _ _ c.loop.outbox c.loop.invariant.handed c.in-Ok-Some.message told _ c.in-Ok.ensures.ok last
 
 pub loop-preserved : goal.loop-preserved
 loop-preserved g c =
-    let read = rw (c.in-Ok-Some.is, c.in-Ok-Some.field-0-is) at c.read_within.ensures.exact in
+    let told = rw (c.in-Ok-Some.is, c.in-Ok-Some.field-0-is) at c.read_telling.ensures.told in
     let goes : is_exit (message_view c.in-Ok-Some.message) ≡ false = sym c.is_exit-is_last.ensures ∙ c.if-is_last.false in
-    let more = Handed-more c.args.limit FramingSends message_view _ _ _ _ _ _ c.in-Ok-Some.message c.loop.invariant.handed read c.in-Ok.ensures.ok goes in
-    let kept = Handed-kept c.args.limit _ _ _ _ _ more c.shows_frame.ensures in
+    let more = told_frames_more c.args.limit c.loop.taken.parts c.read_telling.new.taken.parts _ _ _ c.loop.outbox c.loop.invariant.handed c.in-Ok-Some.message told _ c.in-Ok.ensures.ok goes in
     record {
-      handed = rw c.go_on.ensures kept;
+      handed = rw c.go_on.ensures more;
+      taken = takes_kept _ _ _ _ (takes_more _ _ _ _ _ c.loop.invariant.taken c.read_telling.ensures.told) c.shows_frame.ensures;
       relay = ap (λ (f : Framing). f.relay) c.go_on.ensures ∙ c.in-Ok.ensures.ok.0 ∙ c.loop.invariant.relay;
     }
 
 pub returns-clause-handed : goal.returns-clause-handed
-returns-clause-handed g c = hands_on c.args.limit FramingSends _ _ _ _ c.loop.invariant.handed
+returns-clause-handed g c = told_frames_on c.args.limit c.loop.taken.parts _ c.loop.outbox c.loop.invariant.handed
+
+pub returns-clause-taken : goal.returns-clause-taken
+returns-clause-taken g c = (_, c.loop.invariant.taken)
+
+pub returns-in-Ok-None-clause-taken : goal.returns-in-Ok-None-clause-taken
+returns-in-Ok-None-clause-taken g c = taken_more _ _ _ _ _ c.loop.invariant.taken c.read_telling.ensures.told
+
+pub returns-in-Err-clause-taken : goal.returns-in-Err-clause-taken
+returns-in-Err-clause-taken g c = taken_more _ _ _ _ _ c.loop.invariant.taken c.read_telling.ensures.told
+
+pub returns-in-Err-added-clause-taken : goal.returns-in-Err-added-clause-taken
+returns-in-Err-added-clause-taken g c = taken_more _ _ _ _ _ c.loop.invariant.taken c.read_telling.ensures.told
+
+pub returns-then-is_last-clause-taken : goal.returns-then-is_last-clause-taken
+returns-then-is_last-clause-taken g c = taken_more _ _ _ _ _ c.loop.invariant.taken c.read_telling.ensures.told

@@ -1,11 +1,14 @@
-use Rattle.std.specs.Prelude.{◌≡◌}
+use Rattle.std.specs.Prelude.{◌≡◌, ℕ, List, [], ◌++◌, Some}
+use Rattle.std.specs.List.{concat}
+use Rattle.lsp_message.specs.Told.{Takes}
 use Rattle.lsp_session.proofs.Handing.{Handed}
 use Rattle.lsp_threads.specs.Framing.{FramingSends}
 use Rattle.lsp_threads.proofs.pump_frames.read_frames.Given as goal
 
--- frames of the messages so far were added
+-- frames of the messages so far were added, which are what was taken
 abbrev pub invariant-loop : goal.invariant-loop
 invariant-loop g l = record {
-  handed : Handed l.limit FramingSends (g.S.Read.remaining l.fn.reader.inner) (g.S.Read.remaining l.reader.inner) l.fn.outbox l.outbox;
+  handed : (at : List ℕ) → Handed l.limit FramingSends (Some (concat l.taken.parts ++ at)) (Some at) l.fn.outbox l.outbox;
+  taken : Takes l.taken.parts [] l.taken.parts (g.S.Read.remaining l.fn.reader.inner) (g.S.Read.remaining l.reader.inner);
   relay : l.outbox.relay ≡ l.fn.outbox.relay;
 }

@@ -5,11 +5,16 @@ use Rattle.lsp_session.specs.HandlerSession.{of_handler}
 use Rattle.lsp_session.specs.Session.{SessionOut}
 use Rattle.lsp_session.proofs.Lending.{session_as}
 use Rattle.lsp_threads.specs.declared.run.Threaded.{Threaded}
-use Rattle.lsp_threads.proofs.Sessions.{started_as, started_untold}
+use Rattle.lsp_threads.proofs.Sessions.{started_as, started_told, started_untold, unstarted_handler}
+use Rattle.lsp_threads.specs.Passing.{noted}
 use Rattle.lsp_threads.proofs.run.run_threads_within.Goals as goal
 
-pub returns : goal.returns
-returns g c =
+pub returns-clause-unstarted : goal.returns-clause-unstarted
+returns-clause-unstarted g c = unstarted_handler c.new-service.result c.run_threads_of_service.new.service c.args.handler.now _
+    (λ names. c.handler-1.given.1 (sym c.new-service.ensures.same_handler ∙ sym names)) c.new-service.ensures.unchanged _ _ c.run_threads_of_service.ensures.unstarted
+
+pub returns-clause-session : goal.returns-clause-session
+returns-clause-session g c =
     let answers = g.H.Handler.answers in
     let notes = g.H.Handler.notes in
     let old = c.new-service.result in
@@ -19,4 +24,16 @@ returns g c =
     c.args.handler.now c.new-service.ensures.unchanged (ap view c.new-service.ensures.capabilities)) false c.args.limit
     (λ (done : Threaded _). g.W.Write.contents done.writer) (λ (done : Threaded _). done.answer) _ _ _
     (started_untold false _ c.args.limit _ _ (λ first fault last told. told) _
-    (λ (done : Threaded _). g.W.Write.contents done.writer) (λ (done : Threaded _). done.answer) _ _ _ c.run_threads_of_service.ensures)
+    (λ (done : Threaded _). g.W.Write.contents done.writer) (λ (done : Threaded _). done.answer) _ _ _ c.run_threads_of_service.ensures.session)
+
+pub returns-clause-told : goal.returns-clause-told
+returns-clause-told g c =
+    let answers = g.H.Handler.answers in
+    let notes = g.H.Handler.notes in
+    let old = c.new-service.result in
+    let new = c.run_threads_of_service.new.service in
+    started_told false _ c.args.limit _ _ (λ first fault last told. told) (SessionOut (lent_handler answers notes) old new)
+    (SessionOut (of_handler answers notes (view c.args.capabilities)) c.args.handler.now _)
+    (session_as answers notes (view c.args.capabilities) old new _ (λ names. c.handler-1.given.1 (sym c.new-service.ensures.same_handler ∙ sym names))
+    c.args.handler.now c.new-service.ensures.unchanged (ap view c.new-service.ensures.capabilities))
+    (λ (done : Threaded _). done.taken.parts) (λ (done : Threaded _). noted done.given) (λ (done : Threaded _). done.answer) _ c.run_threads_of_service.ensures.told

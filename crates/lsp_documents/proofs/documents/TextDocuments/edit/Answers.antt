@@ -2,8 +2,5 @@ use Rattle.std.proofs.Common.{arith}
 use Rattle.std.proofs.lemmas.Map.Text.{text_keys}
 use Rattle.lsp_documents.proofs.documents.TextDocuments.edit.Goals as goal
 
-pub returns-in_err-change_open-clause-others : goal.returns-in_err-change_open-clause-others
-returns-in_err-change_open-clause-others c = λ q h. grind (arith, text_keys)
-
-pub returns-in_ok-change_open-clause-others : goal.returns-in_ok-change_open-clause-others
-returns-in_ok-change_open-clause-others c = λ q h. grind (arith, text_keys)
+pub returns-in-Some-clause-others : goal.returns-in-Some-clause-others
+returns-in-Some-clause-others c = λ q h. grind (arith, text_keys)

@@ -1,7 +1,14 @@
-use Rattle.std.proofs.Common.{◌≡◌, ◌≤◌, length, ℕ, Vec, Global, [], ◌++◌, Ok, arith}
+use Rattle.std.proofs.Common.{true, false, ◌<◌, List, Err, sym, ap, subst, ◌≡◌, ◌≤◌, length, ℕ, Vec, Global, [], ◌++◌, Ok, arith}
 use Rattle.std.proofs.KnownBytes.{Consumes-nil, Consumes-trans}
 use Rattle.std.proofs.lemmas.Result.{err_from_is_err_and}
 use Rattle.lsp_message.proofs.Suffixes.{body_stops, body_whole, body_fails}
+use Rattle.std.specs.Io.KnownBytes.{Consumes}
+use Rattle.std.specs.declared.io.ErrorKind.TheVariants.{Other}
+use Rattle.lsp_message.specs.declared.frame.ReadFault.TheVariants.{Input}
+use Rattle.lsp_message.proofs.Told.{Takes-none}
+use Rattle.lsp_message.proofs.ToldLines.{Told-map}
+use Rattle.lsp_message.proofs.ToldHeaders.{told_body, body_refused, body_is_whole, body_is_short, body_broken}
+use Rattle.std.proofs.KnownBytes.{Keeps-refl}
 use Rattle.lsp_message.proofs.frame.body.read_body.Goals as goal
 
 pub returns-in_err-body-clause-exact : goal.returns-in_err-body-clause-exact
@@ -41,3 +48,46 @@ returns-then-not-branch-clause-begun g c = (_, Consumes-trans _ _ _ _ _ c.loop.i
 
 pub returns-clause-begun : goal.returns-clause-begun
 returns-clause-begun g c = (_, c.loop.invariant.taken)
+
+abbrev items : Vec ℕ Global → List ℕ
+items body = body.items
+
+pub returns-in_err-body-clause-told : goal.returns-in_err-body-clause-told
+returns-in_err-body-clause-told g c =
+    let p = err_from_is_err_and c.from_residual.result c.from_residual.ensures.1 in
+    rw (p.1, p.2) ([], Takes-none _ _ _ (Keeps-refl _), body_refused items c.args.count)
+
+pub returns-then-missing-eq0-clause-told : goal.returns-then-missing-eq0-clause-told
+returns-then-missing-eq0-clause-told g c =
+    let whole : length c.loop.body.items ≡ c.args.count = omega arith in
+    Told-map _ _ _ _ _ _ (λ parts is. body_is_whole items c.args.count c.loop.body parts is whole) c.loop.invariant.told
+
+pub returns-in_err-take_part-clause-told : goal.returns-in_err-take_part-clause-told
+returns-in_err-take_part-clause-told g c =
+    let p = err_from_is_err_and c.from_residual-in_err-take_part.result c.from_residual-in_err-take_part.ensures.1 in
+    let size : length c.take_part.new.body.items ≤ c.args.count = omega (arith, c.take_part.ensures.fits) in
+    let failed = c.in_err-take_part.ensures.fault in
+    rw (p.1, p.2) (Told-map _ _ _ _ _ _ (λ parts is. body_broken items c.args.count _ parts failed (omega (arith, size, ap length is)))
+    (told_body (Err c.in_err-take_part.field-0.0) [] _ _ _ _ _ _ _ _ c.loop.invariant.told c.in_err-take_part.ensures.told))
+
+pub returns-then-not-branch-clause-told : goal.returns-then-not-branch-clause-told
+returns-then-not-branch-clause-told g c =
+    let same : c.in_ok-take_part.field-0 ≡ false = cc in
+    let short : length c.take_part.new.body.items < c.args.count = omega (arith, c.in_ok-take_part.ensures.short (ap Ok same)) in
+    Told-map _ _ _ _ _ _ (λ parts is. body_is_short items c.args.count parts (omega (arith, short, ap length is.0)) is.1)
+    (told_body (Ok false) [] _ _ _ _ _ _ _ _ c.loop.invariant.told (rw (same) at c.in_ok-take_part.ensures.told))
+
+pub returns-clause-told : goal.returns-clause-told
+returns-clause-told g c =
+    Told-map _ _ _ _ _ _ (λ parts is. body_broken items c.args.count (Input Other) parts tt (omega (arith, ap length is))) c.loop.invariant.told
+
+pub loop-preserved : goal.loop-preserved
+loop-preserved g c =
+    let part = c.in_ok-take_part.ensures.part in
+    let same : c.in_ok-take_part.field-0 ≡ true = cc in
+    record {
+      taken = subst (Consumes _ _) (sym part.1) (Consumes-trans _ _ _ _ _ c.loop.invariant.taken part.2);
+      within = omega (arith, c.take_part.ensures.fits);
+      room = omega (arith, c.take_part.ensures.room_kept);
+      told = told_body (Ok true) [] _ _ _ _ _ _ _ _ c.loop.invariant.told (rw (same) at c.in_ok-take_part.ensures.told);
+    }

@@ -1,7 +1,9 @@
-use Rattle.std.proofs.Common.{◌≡◌, ◌≤◌, ◌+◌, ◌++◌, length, take, eqb-true, ap, arith, length-append, length-take}
+use Rattle.std.proofs.Common.{[], ◌∷◌, ◌≡◌, ◌≤◌, ◌+◌, ◌++◌, length, take, eqb-true, ap, arith, length-append, length-take}
 use Rattle.std.proofs.lemmas.Bool.{not-false}
 use Rattle.std.proofs.BufReadLemmas.{Consumes_shown}
 use Rattle.lsp_message.proofs.Shown.{kept_shown}
+use Rattle.lsp_message.proofs.Told.{Takes-none, Takes-one}
+use Rattle.lsp_message.proofs.ToldHeaders.{takes_part, takes_nothing}
 use Rattle.lsp_message.proofs.frame.body.take_part.Given.{Over}
 use Rattle.lsp_message.proofs.frame.body.take_part.Goals as goal
 
@@ -36,3 +38,16 @@ pub returns-clause-short : goal.returns-clause-short
 returns-clause-short g c = λ is.
     let none : c.min-count.result ≡ 0 = eqb-true _ _ (not-false _ (cc)) in
     omega (arith, added g c)
+
+pub returns-in-Err-clause-told : goal.returns-in-Err-clause-told
+returns-in-Err-clause-told g c = ([], Takes-none _ _ _ c.fill_buf.follows.holds-at-none.0, takes_nothing _ _ _ c.unless_interrupted.ensures)
+
+pub returns-clause-told : goal.returns-clause-told
+returns-clause-told g c =
+    let kept = kept_shown _ _ _ _ _ c.in-Ok.is c.fill_buf.follows.holds-at-none in
+    let taken = Consumes_shown _ _ _ _ _ c.min-count.result (within g c) c.in-Ok.ensures.front c.in-Ok.ensures.end kept.0 kept.1 c.consume.ensures.bytes in
+    let size = length-take c.min-count.result c.in-Ok.shown.now in (
+      take c.min-count.result c.in-Ok.shown.now ∷ [],
+      Takes-one _ _ _ _ _ c.add.ensures taken.0 (λ none. taken.1 (omega (arith, none, size, c.min-count.ensures, c.requires.some))),
+      takes_part _ _ _ _ (λ is. let none : c.min-count.result ≡ 0 = eqb-true _ _ (not-false _ is) in omega (arith, none, size)) (appended g c),
+    )

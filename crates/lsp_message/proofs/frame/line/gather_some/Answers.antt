@@ -1,8 +1,12 @@
-use Rattle.std.proofs.Common.{◌≤◌, length, IfSome, sym, subst, arith, length-take}
+use Rattle.std.proofs.Common.{[], ◌∷◌, take, ◌≤◌, length, IfSome, sym, subst, arith, length-take}
+use Rattle.std.proofs.lemmas.Result.{err_from_is_err_and}
 use Rattle.std.specs.Io.KnownBytes.{Keeps}
+use Rattle.lsp_message.specs.ToldSteps.{GathersSome}
 use Rattle.std.proofs.BufReadLemmas.{Consumes_shown}
 use Rattle.lsp_message.proofs.Shown.{IsLinePart, part_to_feed, part_with_no_feed, kept_shown, shown_left, dropped, line_ends, line_goes_on}
 use Rattle.lsp_message.proofs.Takings.{TakesFront-kept, StaysInLine-kept, OnErr-any}
+use Rattle.lsp_message.proofs.Told.{Takes-none, Takes-one}
+use Rattle.lsp_message.proofs.ToldLines.{IsPart, feed_part, no_feed_part, part_shows, gathers_part, gathers_nothing, no_feed_none}
 use Rattle.lsp_message.proofs.frame.line.gather_some.Given.{Over}
 use Rattle.lsp_message.proofs.frame.line.gather_some.Goals.{in-Some, in-None}
 use Rattle.lsp_message.proofs.frame.line.gather_some.Goals as goal
@@ -44,3 +48,25 @@ returns-in_err-extend_from_slice-clause-begun g c = TakesFront-kept _ _ c.fill_b
 
 pub returns-in_err-extend_from_slice-clause-stays : goal.returns-in_err-extend_from_slice-clause-stays
 returns-in_err-extend_from_slice-clause-stays g c = OnErr-any _ (StaysInLine-kept _ _ c.fill_buf.follows.holds-at-none.0)
+
+told_part : (g : Over) (c : goal.After-consume g) → IsPart c.in-Ok.shown.now c.match-memchr.count.0 c.match-memchr.count.1
+told_part g c = elim c.match-memchr.branch [
+  | in-Some w ↦ subst (λ p. IsPart c.in-Ok.shown.now p.0 p.1) (sym w.count-is) (feed_part _ _ w.in-Some.ensures)
+  | in-None w ↦ subst (λ p. IsPart c.in-Ok.shown.now p.0 p.1) (sym w.count-is) (subst (IsPart _ _) (sym w.is_empty.ensures) (no_feed_part _ w.in-None.ensures))
+]
+
+pub returns-in-Err-clause-told : goal.returns-in-Err-clause-told
+returns-in-Err-clause-told g c = ([], Takes-none _ _ _ c.fill_buf.follows.holds-at-none.0, gathers_nothing _ _ _ c.unless_interrupted.ensures)
+
+pub returns-in_err-extend_from_slice-clause-told : goal.returns-in_err-extend_from_slice-clause-told
+returns-in_err-extend_from_slice-clause-told g c =
+    let p = err_from_is_err_and c.from_residual.result c.from_residual.ensures.1 in
+    ([], Takes-none _ _ _ c.fill_buf.follows.holds-at-none.0, subst (λ r. GathersSome r c.args.line.now.items c.extend_from_slice.new.self.items []) (sym p.1) no_feed_none)
+
+pub returns-clause-told : goal.returns-clause-told
+returns-clause-told g c =
+    let taken = Consumes_shown _ _ _ _ _ _ (part g c).within c.in-Ok.ensures.front c.in-Ok.ensures.end (kept g c).0 (kept g c).1 c.consume.ensures.bytes in (
+      take c.match-memchr.count.0 c.in-Ok.shown.now ∷ [],
+      Takes-one _ _ _ _ _ c.add.ensures taken.0 (λ none. taken.1 (part_shows _ _ _ (told_part g c) none)),
+      gathers_part _ _ _ _ _ (told_part g c) c.in_ok-extend_from_slice.ensures.items,
+    )

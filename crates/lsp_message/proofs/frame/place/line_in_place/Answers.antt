@@ -1,7 +1,9 @@
-use Rattle.std.proofs.Common.{Ok, Err, sym, ◌∙◌}
+use Rattle.std.proofs.Common.{Ok, Err, [], sym, ◌∙◌, eqb-true, refl}
 use Rattle.lsp_message.proofs.Places.{placed_line, placed_begun, not_shown}
 use Rattle.lsp_message.proofs.Shown.{kept_shown}
 use Rattle.lsp_message.proofs.Takings.{TakesFront-kept}
+use Rattle.lsp_message.proofs.Told.{Takes-none}
+use Rattle.lsp_message.proofs.ToldLines.{placed_nothing, told_end, told_placed}
 use Rattle.lsp_message.proofs.frame.place.line_in_place.Goals as goal
 
 pub returns-in-Err-clause-exact : goal.returns-in-Err-clause-exact
@@ -32,3 +34,24 @@ returns-in-None-clause-begun g c = TakesFront-kept _ _ c.fill_buf.follows.holds-
 
 pub returns-in-None-2-clause-begun : goal.returns-in-None-2-clause-begun
 returns-in-None-2-clause-begun g c = TakesFront-kept _ _ c.fill_buf.follows.holds-at-none.0
+
+pub returns-in-Err-clause-told : goal.returns-in-Err-clause-told
+returns-in-Err-clause-told g c = ([], Takes-none _ _ _ c.fill_buf.follows.holds-at-none.0, placed_nothing _ _ c.unless_interrupted.ensures)
+
+pub returns-in-None-clause-told : goal.returns-in-None-clause-told
+returns-in-None-clause-told g c =
+    let kept = kept_shown _ _ _ _ _ c.in-Ok.is c.fill_buf.follows.holds-at-none in
+    told_end _ _ _ _ _ c.add.ensures kept.0 c.in-Ok.ensures.end (eqb-true _ _ (sym c.is_empty.ensures ∙ c.if-is_empty.true))
+
+pub returns-in-None-2-clause-told : goal.returns-in-None-2-clause-told
+returns-in-None-2-clause-told g c = ([], Takes-none _ _ _ c.fill_buf.follows.holds-at-none.0, refl)
+
+pub returns-in-Ok-line-clause-told : goal.returns-in-Ok-line-clause-told
+returns-in-Ok-line-clause-told g c =
+    let kept = kept_shown _ _ _ _ _ c.in-Ok.is c.fill_buf.follows.holds-at-none in
+    told_placed _ _ _ _ _ _ _ _ c.in-Some.ensures c.in-Ok.ensures.front c.in-Ok.ensures.end kept c.consume.ensures.bytes c.add-2.ensures (Ok c.in-Ok-line.line) (sym c.in-Ok-line.is ∙ c.header_line-line.ensures)
+
+pub returns-in-Err-line-clause-told : goal.returns-in-Err-line-clause-told
+returns-in-Err-line-clause-told g c =
+    let kept = kept_shown _ _ _ _ _ c.in-Ok.is c.fill_buf.follows.holds-at-none in
+    told_placed _ _ _ _ _ _ _ _ c.in-Some.ensures c.in-Ok.ensures.front c.in-Ok.ensures.end kept c.consume.ensures.bytes c.add-2.ensures (Err c.in-Err-line.fault) (sym c.in-Err-line.is ∙ c.header_line-line.ensures)

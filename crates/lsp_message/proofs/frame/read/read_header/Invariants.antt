@@ -1,9 +1,12 @@
 use Rattle.lsp_message.specs.Gathering.{TakesFront}
+use Rattle.lsp_message.specs.Told.{Told}
 use Rattle.lsp_message.proofs.HeaderSteps.{Continues}
+use Rattle.lsp_message.proofs.ToldHeaders.{GoesOn}
 use Rattle.lsp_message.proofs.frame.read.read_header.Given as goal
 
 abbrev pub invariant-loop : goal.invariant-loop
 invariant-loop g l = record {
   header : Continues (g.R.Read.remaining l.initial.reader) (g.R.Read.remaining l.reader) l.length;
   begun : TakesFront (g.R.Read.remaining l.initial.reader) (g.R.Read.remaining l.reader);
+  told : Told (GoesOn l.length) l.initial.taken.parts l.taken.parts (g.R.Read.remaining l.initial.reader) (g.R.Read.remaining l.reader);
 }

@@ -1,4 +1,4 @@
-use Rattle.std.proofs.Common.{◌≡◌, ◌∙◌, ap, drop, drop-drop}
+use Rattle.std.proofs.Common.{◌∙◌, ap, drop, drop-drop}
 use Rattle.lsp_server.proofs.unread.Unread.settled.Goals as goal
 
 pub loop-preserved : goal.loop-preserved

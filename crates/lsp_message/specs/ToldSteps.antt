@@ -1,0 +1,59 @@
+-- Words of the private clauses on what was taken.
+use Rattle.std.specs.List.{concat}
+use Rattle.std.specs.Prelude.{◌≡◌, ◌≢◌, ◌⊎◌, ℕ, true, false, Bool, List, [], ◌∷◌, ◌++◌, All, Option, Some, None, Result, Ok, Err}
+use Rattle.lsp_message.specs.HeaderPart.{header_line}
+use Rattle.lsp_message.specs.Told.{Parts, shows_end}
+use Rattle.lsp_message.specs.declared.frame.header.HeaderLine.{HeaderLine}
+use Rattle.lsp_message.specs.declared.frame.place.InPlace.{InPlace}
+use Rattle.lsp_message.specs.declared.frame.place.InPlace.TheVariants.{Whole, Cut, AtEnd}
+use Rattle.lsp_message.specs.declared.frame.ReadFault.{ReadFault}
+use Rattle.lsp_message.specs.declared.frame.ReadFault.TheVariants.{Input, Memory}
+
+-- no byte is a line feed
+abbrev pub HasNoFeed : List ℕ → Type 0
+HasNoFeed bytes = All (λ byte. byte ≢ 10) bytes
+
+-- the last byte is the only line feed
+abbrev pub EndsAtFeed : List ℕ → Type 0
+EndsAtFeed bytes = (front : List ℕ) × HasNoFeed front × (bytes ≡ front ++ 10 ∷ [])
+
+-- the parts are a line: up to and with the line feed, or to the end that the reader showed
+abbrev pub AreLine : Parts → Type 0
+AreLine parts = EndsAtFeed (concat parts) ⊎ (HasNoFeed (concat parts) × (shows_end parts ≡ true))
+
+-- what was gathered of a line by one look at the reader, and whether that is its end
+abbrev pub GathersSome : Result Bool ReadFault → List ℕ → List ℕ → Parts → Type 0
+GathersSome (Ok false) old new parts = (new ≡ old ++ concat parts) × HasNoFeed (concat parts)
+GathersSome (Ok true) old new parts = (new ≡ old ++ concat parts) × AreLine parts
+GathersSome (Err fault) old new parts = HasNoFeed (concat parts)
+
+-- what was gathered of a line
+abbrev pub GathersLine : Result (Unit {0}) ReadFault → List ℕ → List ℕ → Parts → Type 0
+GathersLine (Ok done) old new parts = (new ≡ old ++ concat parts) × AreLine parts
+GathersLine (Err fault) old new parts = HasNoFeed (concat parts)
+
+-- a line that is bad, of this fault
+abbrev pub AreBadLine : ReadFault → Parts → Type 0
+AreBadLine fault parts = (header_line (concat parts) ≡ Err fault) × (concat parts ≢ [])
+    × AreLine parts
+
+-- what one line comes to
+abbrev pub ReadsLine : Result (Option HeaderLine) ReadFault → Parts → Type 0
+ReadsLine (Ok None) parts = (concat parts ≡ []) × (shows_end parts ≡ true)
+ReadsLine (Ok (Some line)) parts = (header_line (concat parts) ≡ Ok line)
+    × EndsAtFeed (concat parts)
+ReadsLine (Err (Input kind)) parts = HasNoFeed (concat parts)
+ReadsLine (Err Memory) parts = HasNoFeed (concat parts)
+ReadsLine (Err fault) parts = AreBadLine fault parts
+
+-- the same of a line that is shown whole, or not at all
+abbrev pub ReadsInPlace : Result InPlace ReadFault → Parts → Type 0
+ReadsInPlace (Ok Cut) parts = concat parts ≡ []
+ReadsInPlace (Ok AtEnd) parts = ReadsLine (Ok None) parts
+ReadsInPlace (Ok (Whole line)) parts = ReadsLine (Ok (Some line)) parts
+ReadsInPlace (Err fault) parts = ReadsLine (Err fault) parts
+
+-- a part of a content part, with the end of the input if there is none
+abbrev pub TakesPart : Result Bool ReadFault → List ℕ → List ℕ → Parts → Type 0
+TakesPart (Ok false) old new parts = (new ≡ old ++ concat parts) × (shows_end parts ≡ true)
+TakesPart result old new parts = new ≡ old ++ concat parts

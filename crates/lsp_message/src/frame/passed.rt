@@ -1,0 +1,45 @@
+// The bytes that passed, as clauses see them.
+ghost use Rattle.std.specs.Prelude.{◌≡◌, ℕ, List, [], ◌∷◌, ◌++◌};
+ghost use Rattle.std.specs.Borrow.{ftrue};
+
+use std::marker::{Model, PhantomData};
+
+/// An account of the bytes that were taken from a reader or given to a writer, part after part. Clauses alone see it: nothing of it is left
+/// when a program runs. An empty part that was taken says that the reader showed its end.
+#[derive(Drop)]
+pub struct Passed {
+    marker: PhantomData<u8>,
+    pub ghost parts: { List (List ℕ) },
+}
+
+impl Model for Passed {
+    ghost also_owns = { λ _. ftrue };
+}
+
+// It owns nothing.
+unsafe impl Send for Passed {}
+
+impl Passed {
+    /// An account of nothing.
+    pub fn new() -> Passed
+        ensures { result.parts ≡ [] }
+    {
+        Passed {
+            marker: PhantomData,
+        }
+    }
+
+    /// The same account, as it is now.
+    pub fn so_far(&self) -> Passed
+        ensures { result.parts ≡ self.now.parts }
+    {
+        Passed {
+            marker: PhantomData,
+        }
+    }
+
+    /// Adds a part at the end.
+    pub(crate) fn add(&mut self, _part: &[u8])
+        ensures { self.new.parts ≡ self.old.parts ++ _part.now ∷ [] }
+    {}
+}

@@ -1,0 +1,209 @@
+// A transport over a reader and a writer.
+ghost use Rattle.serde_json.specs.View.{view};
+ghost use Rattle.std.specs.Prelude.{◌≡◌, None};
+ghost use Rattle.lsp_session.specs.Event.{arrival_view, event_view};
+ghost use Rattle.lsp_session.specs.Session.{SessionOut};
+ghost use Rattle.lsp_session.specs.SessionFault.{session_answer as session_answer_spec};
+ghost use Rattle.lsp_session.specs.HandlerSession.{of_handler};
+ghost use Rattle.lsp_session.specs.Transcripts.{notes_of};
+ghost use Rattle.lsp_session.specs.StreamTransports.{IsUnused, PassesBetween, Serves, StreamTransportGives, StreamTransportListens};
+
+use crate::lifecycle::{Arrival, Event, Inbox, Outbox, SendFault, WakingInbox};
+use crate::loops::transcript::{Noted, Transcript};
+use crate::loops::{
+    FrameOutbox, Handler, HandlerService, Listener, ReadEnd, Served, Service, SessionEnd,
+    SessionFault, TolerantInbox, serve_transport, session_answer,
+};
+use lsp_message::{Message, Passed, WriteFault};
+use serde_json::Value;
+use std::alloc::Global;
+use std::io::{BufRead, Write};
+use std::snapshot::Snapshot;
+
+/// Gives a reader's messages, as a `TolerantInbox` does, and writes messages to a writer, as a `FrameOutbox` does (LSP 3.17, "Base
+/// Protocol"). It adds what was read and what was written to a transcript, which clauses alone see.
+///
+/// `serve` runs a session over it. A transport that a program's function was lent can't get other ends there, and nobody but the transport adds
+/// to its transcript. So a clause of such a function, with the transcript in it, is about the bytes of this reader and this writer.
+#[derive(Drop)]
+pub struct StreamTransport<'a, R, W, L> {
+    alloc: Global,
+    reader: &'a mut R,
+    writer: &'a mut W,
+    listener: &'a mut L,
+    transcript: &'a mut Transcript,
+    limit: u64,
+    end: Option<ReadEnd>,
+    fault: Option<WriteFault>,
+}
+
+impl<'a, R: BufRead, W: Write, L: Listener> StreamTransport<'a, R, W, L> {
+    /// A transport over a reader and a writer, for messages whose content part has at most `limit` bytes. A longer one ends the messages
+    /// with `ReadFault::TooLong`. The listener is asked as by a `TolerantInbox`; with `EndSession` no content part is passed over. It takes
+    /// no memory.
+    pub fn within(
+        alloc: Global,
+        reader: &'a mut R,
+        writer: &'a mut W,
+        bad_bodies: &'a mut L,
+        limit: u64,
+        transcript: &'a mut Transcript,
+    ) -> Self
+        ensures same_reader { result.reader.ghost_name ≡ reader.entry.ghost_name }
+        ensures same_writer { result.writer.ghost_name ≡ writer.entry.ghost_name }
+        ensures same_listener { result.listener.ghost_name ≡ bad_bodies.entry.ghost_name }
+        ensures same_transcript { result.transcript.ghost_name ≡ transcript.entry.ghost_name }
+        ensures unread { result.reader.now ≡ reader.old }
+        ensures unwritten { result.writer.now ≡ writer.old }
+        ensures untold { result.listener.now ≡ bad_bodies.old }
+        ensures transcribed { result.transcript.now ≡ transcript.old }
+        ensures limited { result.limit ≡ limit }
+        ensures unended { result.end ≡ None }
+        ensures unfailed { result.fault ≡ None }
+    {
+        StreamTransport {
+            alloc,
+            reader,
+            writer,
+            listener: bad_bodies,
+            transcript,
+            limit,
+            end: None,
+            fault: None,
+        }
+    }
+
+    /// What ended the messages: `Exit`, `End` or `Fault`.
+    pub fn end(&self) -> Option<ReadEnd>
+        ensures { result ≡ self.now.end }
+    {
+        self.end
+    }
+
+    /// The fault of the write that failed. Nothing is written after it.
+    pub fn fault(&self) -> Option<WriteFault>
+        ensures { result ≡ self.now.fault }
+    {
+        self.fault
+    }
+
+    /// The answer of a session over this transport, if `serve_transport` gave this: of several faults that fit it is the first of `Write`,
+    /// `Memory`, `Read` and `Protocol`.
+    pub fn answer(&self, served: Served) -> Result<SessionEnd, SessionFault>
+        ensures { result ≡ session_answer_spec served.stop served.answer self.now.end self.now.fault }
+    {
+        session_answer(served, self.end, self.fault)
+    }
+
+    /// Runs a session of a server over a transport that was not used yet, as `serve_transport` does, and gives its answer.
+    ///
+    /// The contract is of whatever reader and writer, also of such as do not say which bytes they have, as standard input and output: the
+    /// transcript tells which bytes were taken for each message, which were given for each, and in which order.
+    pub fn serve<S: Service>(&mut self, service: &mut S) -> Result<SessionEnd, SessionFault>
+        requires { IsUnused self.old }
+        ensures serves { Serves (SessionOut S.behavior service.old service.new) self.old result self.new }
+        ensures passed { PassesBetween R.remaining W.contents (notes_of self.new.transcript.now) self.old self.new }
+    {
+        let served = serve_transport(self.alloc, self, service);
+        self.answer(served)
+    }
+
+    /// `serve` of a handler, as `session` runs it: `initialize` is answered with the capabilities.
+    pub fn serve_handler<H: Handler>(
+        &mut self,
+        capabilities: Value,
+        handler: &mut H,
+    ) -> Result<SessionEnd, SessionFault>
+        requires { IsUnused self.old }
+        ensures serves { Serves (SessionOut (of_handler H.answers H.notes (view capabilities)) handler.old handler.new) self.old result self.new }
+        ensures passed { PassesBetween R.remaining W.contents (notes_of self.new.transcript.now) self.old self.new }
+    {
+        let mut capabilities = capabilities;
+        let mut service = HandlerService::new(self.alloc, &mut capabilities, handler);
+        self.serve(&mut service)
+    }
+
+    /// What one wait gives that gives no wakes.
+    fn next_event(&mut self) -> Event
+        ensures { StreamTransportGives R.remaining L.hears self.old (event_view result) self.new }
+    {
+        let mut taken = Passed::new();
+        let mut inbox = TolerantInbox::resumed(
+            self.alloc,
+            &mut *self.reader,
+            &mut *self.listener,
+            self.limit,
+            self.end,
+        );
+        let event = inbox.next_event(&mut taken);
+        self.end = inbox.end();
+        let noted = Noted::Gave(Snapshot::of(&event), taken);
+        self.transcript.add(noted);
+        event
+    }
+
+    /// What one wait gives that also gives wakes.
+    fn next_arrival(&mut self) -> Arrival
+        ensures gives { StreamTransportGives R.remaining L.hears self.old (arrival_view result)
+            self.new }
+        ensures reads_on { StreamTransportListens L.ends self.old (arrival_view result) self.new }
+    {
+        let mut taken = Passed::new();
+        let mut inbox = TolerantInbox::resumed(
+            self.alloc,
+            &mut *self.reader,
+            &mut *self.listener,
+            self.limit,
+            self.end,
+        );
+        let arrival = inbox.next_arrival(&mut taken);
+        self.end = inbox.end();
+        let noted = Noted::Came(Snapshot::of(&arrival), taken);
+        self.transcript.add(noted);
+        arrival
+    }
+}
+
+impl<'a, R: BufRead, W: Write, L: Listener> Inbox for StreamTransport<'a, R, W, L> {
+    ghost use Rattle.lsp_session.specs.StreamTransports.{StreamTransportGives};
+
+    ghost receives = { StreamTransportGives R.remaining L.hears };
+
+    /// It has no timeouts: a receive waits as the reader does.
+    fn receive_for(&mut self, _seconds: u64) -> Event {
+        self.next_event()
+    }
+
+    #[tactic(auto, using(crate::proofs::Waiting::waits_none))]
+    fn receive(&mut self) -> Event {
+        self.next_event()
+    }
+}
+
+impl<'a, R: BufRead, W: Write, L: Listener> WakingInbox for StreamTransport<'a, R, W, L> {
+    ghost use Rattle.lsp_session.specs.StreamTransports.{StreamTransportListens};
+
+    // If a wake can tell of a content part that is no message, it ends the messages only if the listener says so.
+    ghost listens = { StreamTransportListens L.ends };
+
+    #[tactic(auto, using(crate::proofs::Waiting::waits_none))]
+    fn receive_or_woken(&mut self) -> Arrival {
+        self.next_arrival()
+    }
+}
+
+impl<'a, R: BufRead, W: Write, L: Listener> Outbox for StreamTransport<'a, R, W, L> {
+    ghost use Rattle.lsp_session.specs.StreamTransports.{StreamTransportSends};
+
+    ghost sends = { StreamTransportSends W.contents };
+
+    fn send(&mut self, message: Message) -> Result<(), SendFault> {
+        let sent = Snapshot::of(&message);
+        let mut given = Passed::new();
+        let mut outbox = FrameOutbox::resumed(self.alloc, &mut *self.writer, self.fault);
+        let outcome = outbox.send_telling(message, &mut given);
+        self.fault = outbox.fault();
+        self.transcript.add(Noted::of_send(sent, &outcome, given));
+        outcome
+    }
+}

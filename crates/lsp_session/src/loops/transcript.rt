@@ -1,0 +1,64 @@
+// What a transport did, as clauses see it.
+ghost use Rattle.std.specs.Prelude.{◌≡◌, [], ◌∷◌, ◌++◌};
+ghost use Rattle.lsp_message.specs.View.{message_view};
+ghost use Rattle.lsp_session.specs.Account.{sending};
+ghost use Rattle.lsp_session.specs.Transcripts.{note_view, notes_of};
+
+use crate::lifecycle::{Arrival, Event, SendFault};
+use crate::loops::account::Account;
+use lsp_message::{Message, Passed};
+use std::snapshot::Snapshot;
+
+/// An act of a transport, with the bytes that passed in it.
+#[derive(Drop)]
+pub(crate) enum Noted {
+    /// The transport gave this event.
+    Gave(Snapshot<Event>, Passed),
+    /// It gave this, if it could be a wake.
+    Came(Snapshot<Arrival>, Passed),
+    /// It took this message.
+    Took(Snapshot<Message>, Passed),
+    /// It refused this message.
+    Lost(Snapshot<Message>, Passed),
+}
+
+impl Noted {
+    /// The act of a send with this outcome.
+    pub(crate) fn of_send(
+        sent: Snapshot<Message>,
+        outcome: &Result<(), SendFault>,
+        given: Passed,
+    ) -> Noted
+        ensures { note_view result ≡ (sending (message_view sent.value) outcome.now, given.parts) }
+    {
+        match outcome {
+            Ok(()) => Noted::Took(sent, given),
+            Err(_) => Noted::Lost(sent, given),
+        }
+    }
+}
+
+/// What a transport read and wrote, act after act in one order, each with its bytes. Clauses alone see it: of it one byte is left when a
+/// program runs.
+#[derive(Drop)]
+pub struct Transcript {
+    acts: Account<Noted>,
+}
+
+impl Transcript {
+    /// A transcript of nothing.
+    pub fn new() -> Self
+        ensures { notes_of result ≡ [] }
+    {
+        Transcript {
+            acts: Account::new(),
+        }
+    }
+
+    /// Adds an act at the end.
+    pub(crate) fn add(&mut self, noted: Noted)
+        ensures { notes_of self.new ≡ notes_of self.old ++ note_view noted ∷ [] }
+    {
+        self.acts.add(noted);
+    }
+}

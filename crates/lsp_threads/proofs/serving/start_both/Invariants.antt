@@ -1,0 +1,5 @@
+use Rattle.lsp_threads.proofs.serving.start_both.Given as goal
+
+-- what the relay's plan is made of
+abbrev pub ghosts-plan_reading : goal.ghosts-plan_reading
+ghosts-plan_reading g a = record { source = (g.R.Read.remaining a.reader.now, a.limit) }

@@ -1,0 +1,25 @@
+-- What is said of the bytes that were taken from a reader and given to a writer, of whatever reader and writer.
+use Rattle.std.specs.Prelude.{◌≡◌, ℕ, true, List, [], ◌++◌, Option, Some}
+use Rattle.std.specs.List.{concat}
+use Rattle.lsp_message.specs.Told.{Parts, shows_end, Gives, Takes}
+use Rattle.lsp_message.specs.declared.frame.passed.Passed.{Passed}
+
+-- This holds of each text that begins with the bytes that were taken. If the reader showed its end, there is just one.
+abbrev pub OfTaken : Parts → (List ℕ → Type 0) → Type 0
+OfTaken taken F = (rest : List ℕ) → (shows_end taken ≡ true → rest ≡ []) → F (concat taken ++ rest)
+
+-- If the reader's bytes are known, the parts that were taken are the first of them, and it showed its end only where none are left.
+abbrev pub TakenFrom : Option (List ℕ) → Parts → Type 0
+TakenFrom known taken = (left : Option (List ℕ)) × Takes taken [] taken known left
+
+-- If what the writer holds is known, it grew by the parts that were given.
+abbrev pub GivenTo : Option (List ℕ) → Parts → Option (List ℕ) → Type 0
+GivenTo old given new = Gives given [] given old new
+
+-- the same, of the parts that an account has more
+abbrev pub GivesMore : Parts → Parts → Option (List ℕ) → Option (List ℕ) → Type 0
+GivesMore before after old new = (parts : Parts) × Gives parts before after old new
+
+-- what a writer holds that began empty and was given these bytes
+abbrev pub noted : Passed → Option (List ℕ)
+noted account = Some (concat account.parts)
