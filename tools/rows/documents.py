@@ -131,8 +131,8 @@ def is_unread(text):
 class Documents:
     """What a server holds, and what it answers. A document whose text is lost has None for its text and its version."""
 
-    def __init__(self, encoding):
-        self.encoding = encoding
+    def __init__(self, encoding, include_text=True):
+        self.encoding, self.include_text = encoding, include_text
         self.open = {}
         self.seen = []
 
@@ -143,7 +143,7 @@ class Documents:
         message = json.loads(text)
         method, params = message["method"], message.get("params")
         if method == "initialize":
-            self.__init__(agreed(params))
+            self.__init__(agreed(params), not isinstance(params, dict) or params.get("includeText") is not False)
             return [self.encoding]
         if method == "known":
             return [self.known()]
@@ -234,7 +234,7 @@ class Documents:
             return f"{uri}: the document is not open"
         if method == "textDocument/didClose":
             del self.open[uri]
-        elif isinstance(params.get("text"), str):
+        elif isinstance(params.get("text"), str) and self.include_text:
             if not self.is_known(uri):
                 self.open[uri] = (None, self.open[uri][1], params["text"])
             elif self.open[uri][2] != params["text"]:
@@ -472,6 +472,23 @@ def unread(table):
             table.changes(b, 10, [(((0, 1), (0, 1)), "+")])
 
 
+def unasked(table):
+    """Texts that come with saves and were not asked for, as Emacs sends the part that is shown (docs/DECISIONS.md)."""
+    a = "file:///a"
+    table.begin("utf-16", {"includeText": False})
+    table.opens(a, "a\nb\nc", 1)
+    table.saves(a, text="b")
+    table.saves(a)
+    table.changes(a, 2, [(((1, 0), (1, 0)), "+")])
+    table.tell("textDocument/didChange", {"textDocument": {"uri": a, "version": 3}})
+    table.saves(a, text="b")
+    table.changes(a, 4, [(((0, 0), (0, 0)), "-")])
+    table.looks(a, (0, 0))
+    table.changes(a, 5, [(None, "whole")])
+    table.saves(a, text="b")
+    table.saves("file:///c", text="b")
+
+
 def large(table):
     """Texts and notifications past any size at which a server might give up: LSP 3.17 has no such size."""
     for encoding in ["utf-16", "utf-8"]:
@@ -555,6 +572,7 @@ def rows(seed, sessions):
         table.begin(encoding, {} if params is None else params)
     wrong(table)
     unread(table)
+    unasked(table)
     large(table)
     for _ in range(sessions):
         session(table, source, 24)

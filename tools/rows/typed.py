@@ -298,19 +298,27 @@ def result_answer(value):
 
 def document_capabilities_answer(params):
     """LSP 3.17, "PositionEncodingKind" and "TextDocumentSyncOptions", of a server that hears of the parts that changed (2)."""
-    return {"positionEncoding": agreed(params), "textDocumentSync": {"openClose": True, "change": 2, "save": {"includeText": True}}}
+    include_text = params.get("includeText") is True
+    return {"positionEncoding": agreed(params), "textDocumentSync": {"openClose": True, "change": 2, "save": {"includeText": include_text}}}
+
+
+def document_capabilities_answers(params):
+    """The same by types, and in a tree with what else the server can do, if that is an object."""
+    can, server = document_capabilities_answer(params), params.get("server")
+    return [ordered(can), ordered({**(server if isinstance(server, dict) else {}), **can})]
 
 
 OTHERS = {
     "ServerCapabilities": capabilities_answer,
     "InitializeResult": result_answer,
-    "DocumentCapabilities": document_capabilities_answer,
 }
 
 
 def typed_answer(text):
     name, _, value = text.partition(" ")
     value = json.loads(value)
+    if name == "DocumentCapabilities":
+        return document_capabilities_answers(value)
     try:
         return [ordered(OTHERS[name](value) if name in OTHERS else read_as(name, value))]
     except Misfit:

@@ -8,23 +8,19 @@ ghost use Rattle.lsp_documents.specs.Known.{copied};
 
 use crate::search::{Search, Silence};
 use crate::sums::{Problem, Word, sheet_of, value_of, word_at};
-use lsp_documents::{Made, NotMade, TextDocuments, position_encoding, position_in};
+use lsp_documents::{Agreed, Made, NotMade, TextDocuments, position_in, uri_in};
 use lsp_jobs::{AnsweredBy, CancellationToken, Job, JobEnd, JobServer, NewJob, WorkDone};
 use lsp_server::{Act, ErrorCode, Notification, Request, RequestId, ResponseError, Server};
-use lsp_text::{PositionEncoding, Text, TextDocument};
-use serde_json::{Value, json, put, to_value};
+use lsp_text::{Text, TextDocument};
+use serde_json::{Value, json, to_value};
 use std::alloc::{AllocError, Global};
 use std::fmt::Display;
 use std::mem;
 
-/// What the client is told of the server.
-const ABOUT: &str = r#"{
-    "capabilities": {
-        "textDocumentSync": { "openClose": true, "change": 2, "save": { "includeText": true } },
-        "hoverProvider": true,
-        "workspaceSymbolProvider": { "workDoneProgress": true }
-    },
-    "serverInfo": { "name": "sums" }
+/// What the server can do, beside keeping texts.
+const CAPABILITIES: &str = r#"{
+    "hoverProvider": true,
+    "workspaceSymbolProvider": { "workDoneProgress": true }
 }"#;
 
 /// What is asked for of the client's configuration.
@@ -52,10 +48,12 @@ impl Server for Sums {
     fn initialize(&mut self, params: Value) -> Result<Result<Value, ResponseError>, AllocError> {
         let path = "/capabilities/workspace/configuration";
         self.configures = matches!(params.pointer(path), Some(Value::Bool(true)));
-        let encoding = position_encoding(&params);
+        let about = self.agree(&params);
         drop(params);
-        self.documents = TextDocuments::new(self.alloc, encoding);
-        Ok(Ok(about(self.alloc, encoding)?))
+        match about {
+            Ok(about) => Ok(Ok(about)),
+            Err(fault) => Err(fault),
+        }
     }
 
     fn initialized(&mut self) -> Result<Acts, AllocError> {
@@ -148,9 +146,17 @@ impl Sums {
             alloc,
             largest: i64::MAX,
             configures: false,
-            documents: TextDocuments::new(alloc, PositionEncoding::Utf16),
+            documents: TextDocuments::new(alloc, Agreed::unannounced()),
             waiting: Vec::new(alloc),
         }
+    }
+
+    /// Agrees with the client on how its texts are told, and gives the result of `initialize`, which announces it.
+    fn agree(&mut self, params: &Value) -> Result<Value, AllocError> {
+        let mut can = tree(Value::from_str(self.alloc, CAPABILITIES))?;
+        let agreed = Agreed::announced(self.alloc, params, true, &mut can)?;
+        self.documents = TextDocuments::new(self.alloc, agreed);
+        json!(in self.alloc; { "capabilities": can, "serverInfo": { "name": "sums" } })
     }
 
     /// The reply to a request, unless an allocation failed.
@@ -374,18 +380,6 @@ impl Sums {
     }
 }
 
-/// The result of `initialize`. It names the encoding, if that is not UTF-16, which a client takes for granted.
-fn about(alloc: Global, encoding: PositionEncoding) -> Result<Value, AllocError> {
-    let mut about = tree(Value::from_str(alloc, ABOUT))?;
-    if encoding != PositionEncoding::Utf16 {
-        if let Some(Value::Object(can)) = about.get_mut("capabilities") {
-            let name = Value::try_from_str(alloc, encoding.name())?;
-            put(can, alloc, "positionEncoding", name)?;
-        }
-    }
-    Ok(about)
-}
-
 /// A tree that only lack of memory can keep from being made.
 fn tree(made: Result<Value, serde_json::Error>) -> Result<Value, AllocError> {
     match made {
@@ -410,10 +404,6 @@ fn id_of(request: Request) -> RequestId {
     drop(method);
     drop(params);
     id
-}
-
-fn uri_in(params: &Value) -> Option<&str> {
-    params.pointer("/textDocument/uri")?.as_str()
 }
 
 fn query_in(params: &Value) -> Option<&str>

@@ -1,6 +1,6 @@
 -- What notifications make of what is kept of one URI, beside the client's own document.
 use Rattle.std.proofs.Common.{◌≡◌, ℕ, ℤ, Bool, true, false, ◌||◌, List, [], ◌∷◌, ◌++◌, Option, Some, None, refl, sym, ap, subst, ◌∙◌, arith, inl, inr, is_none, option_and_then, option_map, append_assoc}
-use Rattle.std.specs.Prelude.{if◌then◌else◌, not, ◌&&◌, is_some, unwrap_or, IfSome, Result, Ok, Err, OnErr, ◌<◌, length}
+use Rattle.std.specs.Prelude.{if◌then◌else◌, not, ◌&&◌, is_some, unwrap_or, IfSome, IsSomeAnd, Result, Ok, Err, OnErr, ◌<◌, length}
 use Rattle.std.specs.Str.{bytes_eq}
 use Rattle.std.proofs.lemmas.List.{append-nil}
 use Rattle.std.proofs.lemmas.Slice.Eq.{bytes_eq-Decides}
@@ -8,6 +8,7 @@ use Rattle.lsp_text.specs.Documents.{Document, Change}
 use Rattle.lsp_text.specs.Edits.{edited, edited_by}
 use Rattle.lsp_text.specs.declared.position.PositionEncoding.{PositionEncoding}
 use Rattle.lsp_text.specs.declared.position.Range.{Range}
+use Rattle.lsp_documents.specs.declared.agreed.Agreed.{Agreed}
 use Rattle.lsp_documents.specs.declared.fault.DocumentFault.{DocumentFault}
 use Rattle.lsp_documents.specs.declared.fault.DocumentFault.TheVariants.{NotOpen, OutOfStep, Memory}
 use Rattle.lsp_documents.specs.declared.kept.Open.{Open}
@@ -15,7 +16,7 @@ use Rattle.lsp_documents.specs.declared.kept.Open.TheVariants.{Known, Lost}
 use Rattle.serde_json.specs.View.{view, items_view}
 use Rattle.serde_json.specs.declared.value.Value.{Value}
 use Rattle.lsp_documents.specs.Params.{change_in, changes_in}
-use Rattle.lsp_documents.specs.Notices.{NoticeKind, NoticeKind.opened, NoticeKind.changed, NoticeKind.saved, NoticeKind.closed, Notice, Sent, Sent.made, Sent.unmade, Sent.unread, Documents, Keeps, Puts, Makes, Takes, TakesAll, Agrees, IsVersion, SavesOwn, SavesItsText, after, missed, kept_after, kept_after_all, told, told_all, kinds_in, kinds_of, notices_of, is_current, closes_it, has_whole, has_changes, fault_of, change_fault, changed_to, document, opens, edits, Failed}
+use Rattle.lsp_documents.specs.Notices.{saved_in, NoticeKind, NoticeKind.opened, NoticeKind.changed, NoticeKind.saved, NoticeKind.closed, Notice, Sent, Sent.made, Sent.unmade, Sent.unread, Documents, Keeps, Puts, Makes, Takes, TakesAll, Agrees, IsVersion, SavesOwn, SavesItsText, after, missed, kept_after, kept_after_all, told, told_all, kinds_in, kinds_of, notices_of, is_current, closes_it, has_whole, has_changes, fault_of, change_fault, changed_to, document, opens, edits, Failed}
 
 never : {P : Type 0} → false ≡ true → P
 never h = grind (arith, h)
@@ -60,20 +61,26 @@ some_opened : (e : PositionEncoding) (d : Document) (version : Option ℤ) (list
 some_opened e d version list true whole = (whole refl, same_version version)
 some_opened e d version list false whole = tt
 
-made_step : (e : PositionEncoding) (client : Option Document) (kept : Option Open) (kind : NoticeKind) → SavesOwn client kind → Agrees client kept → Agrees (told e client kind) (after e kept kind)
-made_step e client kept (opened d) s h = (refl, same_version d.version)
-made_step e None None (changed version list) s h = none_opened e version list (has_whole list)
-made_step e (Some d) None (changed version list) s h = some_opened e d version list (has_whole list) (whole_text e list [] d.text)
-made_step e None (Some (Known k)) (changed version list) s h = absurd h
-made_step e (Some d) (Some (Known k)) (changed version list) s h = (ap (λ t. edited_by e t list) h.0, same_version version)
-made_step e None (Some (Lost l)) (changed version list) s h = none_changed e l version list (has_whole list)
-made_step e (Some d) (Some (Lost l)) (changed version list) s h = some_changed e d l version list (has_whole list) (whole_text e list [] d.text)
-made_step e client kept (saved None) s h = h
-made_step e client None (saved (Some text)) s h = tt
-made_step e client (Some (Known k)) (saved (Some text)) s h = h
-made_step e None (Some (Lost l)) (saved (Some text)) s h = absurd s
-made_step e (Some d) (Some (Lost l)) (saved (Some text)) s h = (sym s, tt)
-made_step e client kept closed s h = tt
+-- a text that comes with a save, if it was asked for, and if not
+saved_step : (asked : Bool) (client : Option Document) (kept : Option Open) (text : List ℕ) → (asked ≡ true → IsSomeAnd client (λ d. d.text ≡ text)) → Agrees client kept →
+    Agrees client (if asked then option_map (λ o. saved_in o text) kept else kept)
+saved_step false client kept text s h = h
+saved_step true client None text s h = tt
+saved_step true client (Some (Known k)) text s h = h
+saved_step true None (Some (Lost l)) text s h = absurd (s refl)
+saved_step true (Some d) (Some (Lost l)) text s h = (sym (s refl), tt)
+
+made_step : (a : Agreed) (client : Option Document) (kept : Option Open) (kind : NoticeKind) → SavesOwn a client kind → Agrees client kept → Agrees (told a.encoding client kind) (after a kept kind)
+made_step a client kept (opened d) s h = (refl, same_version d.version)
+made_step a None None (changed version list) s h = none_opened a.encoding version list (has_whole list)
+made_step a (Some d) None (changed version list) s h = some_opened a.encoding d version list (has_whole list) (whole_text a.encoding list [] d.text)
+made_step a None (Some (Known k)) (changed version list) s h = absurd h
+made_step a (Some d) (Some (Known k)) (changed version list) s h = (ap (λ t. edited_by a.encoding t list) h.0, same_version version)
+made_step a None (Some (Lost l)) (changed version list) s h = none_changed a.encoding l version list (has_whole list)
+made_step a (Some d) (Some (Lost l)) (changed version list) s h = some_changed a.encoding d l version list (has_whole list) (whole_text a.encoding list [] d.text)
+made_step a client kept (saved None) s h = h
+made_step a client kept (saved (Some text)) s h = saved_step a.include_text client kept text s h
+made_step a client kept closed s h = tt
 
 missed_agrees : (client : Option Document) (kept : Option Open) → Agrees client (missed kept)
 missed_agrees client None = tt
@@ -83,32 +90,31 @@ told_append : (e : PositionEncoding) (c : Option Document) (xs ys : List NoticeK
 told_append e c [] ys = refl
 told_append e c (x ∷ xs) ys = told_append e (told e c x) xs ys
 
-saves_append : (e : PositionEncoding) (c : Option Document) (xs ys : List NoticeKind) → SavesItsText e c (xs ++ ys) → SavesItsText e c xs × SavesItsText e (told_all e c xs) ys
-saves_append e c [] ys h = (tt, h)
-saves_append e c (x ∷ xs) ys h = let r = saves_append e (told e c x) xs ys h.1 in ((h.0, r.0), r.1)
+saves_append : (a : Agreed) (c : Option Document) (xs ys : List NoticeKind) → SavesItsText a c (xs ++ ys) → SavesItsText a c xs × SavesItsText a (told_all a.encoding c xs) ys
+saves_append a c [] ys h = (tt, h)
+saves_append a c (x ∷ xs) ys h = let r = saves_append a (told a.encoding c x) xs ys h.1 in ((h.0, r.0), r.1)
 
-own_step : (e : PositionEncoding) (b : Bool) (c : Option Document) (k : Option Open) (kind : NoticeKind) → Agrees c k → SavesItsText e c (if b then kind ∷ [] else []) →
-    Agrees (told_all e c (if b then kind ∷ [] else [])) (if b then after e k kind else k)
-own_step e true c k kind a s = made_step e c k kind s.0 a
-own_step e false c k kind a s = a
+own_step : (a : Agreed) (b : Bool) (c : Option Document) (k : Option Open) (kind : NoticeKind) → Agrees c k → SavesItsText a c (if b then kind ∷ [] else []) →
+    Agrees (told_all a.encoding c (if b then kind ∷ [] else [])) (if b then after a k kind else k)
+own_step a true c k kind h s = made_step a c k kind s.0 h
+own_step a false c k kind h s = h
 
 unmade_step : (e : PositionEncoding) (b : Bool) (c : Option Document) (k : Option Open) (kind : NoticeKind) → Agrees c k →
     Agrees (told_all e c (if b then kind ∷ [] else [])) (if b then missed k else k)
 unmade_step e true c k kind a = missed_agrees (told e c kind) k
 unmade_step e false c k kind a = a
 
-sent_step : (e : PositionEncoding) (uri : List ℕ) (c : Option Document) (k : Option Open) (s : Sent) → Agrees c k → SavesItsText e c (kinds_in uri (notices_of s)) → Agrees (told_all e c (kinds_in uri (notices_of s))) (kept_after e uri k s)
-sent_step e uri c k (made n) a s = own_step e (bytes_eq uri n.uri) c k n.kind a s
-sent_step e uri c k (unmade n) a s = unmade_step e (bytes_eq uri n.uri) c k n.kind a
-sent_step e uri c k (unread notices) a s = missed_agrees (told_all e c (kinds_in uri notices)) k
+sent_step : (a : Agreed) (uri : List ℕ) (c : Option Document) (k : Option Open) (s : Sent) → Agrees c k → SavesItsText a c (kinds_in uri (notices_of s)) → Agrees (told_all a.encoding c (kinds_in uri (notices_of s))) (kept_after a uri k s)
+sent_step a uri c k (made n) h s = own_step a (bytes_eq uri n.uri) c k n.kind h s
+sent_step a uri c k (unmade n) h s = unmade_step a.encoding (bytes_eq uri n.uri) c k n.kind h
+sent_step a uri c k (unread notices) h s = missed_agrees (told_all a.encoding c (kinds_in uri notices)) k
 
-all_steps : (e : PositionEncoding) (uri : List ℕ) (c : Option Document) (k : Option Open) (sent : List Sent) → Agrees c k → SavesItsText e c (kinds_of uri sent) → Agrees (told_all e c (kinds_of uri sent)) (kept_after_all e uri k sent)
-all_steps e uri c k [] a h = a
-all_steps e uri c k (s ∷ ss) a h =
-    let xs : List NoticeKind = kinds_in uri (notices_of s) in
-    let p = saves_append e c (kinds_in uri (notices_of s)) (kinds_of uri ss) h in
-    subst (λ x. Agrees x (kept_after_all e uri (kept_after e uri k s) ss)) (sym (told_append e c (kinds_in uri (notices_of s)) (kinds_of uri ss)))
-    (all_steps e uri (told_all e c (kinds_in uri (notices_of s))) (kept_after e uri k s) ss (sent_step e uri c k s a p.0) p.1)
+all_steps : (a : Agreed) (uri : List ℕ) (c : Option Document) (k : Option Open) (sent : List Sent) → Agrees c k → SavesItsText a c (kinds_of uri sent) → Agrees (told_all a.encoding c (kinds_of uri sent)) (kept_after_all a uri k sent)
+all_steps a uri c k [] g h = g
+all_steps a uri c k (s ∷ ss) g h =
+    let p = saves_append a c (kinds_in uri (notices_of s)) (kinds_of uri ss) h in
+    subst (λ x. Agrees x (kept_after_all a uri (kept_after a uri k s) ss)) (sym (told_append a.encoding c (kinds_in uri (notices_of s)) (kinds_of uri ss)))
+    (all_steps a uri (told_all a.encoding c (kinds_in uri (notices_of s))) (kept_after a uri k s) ss (sent_step a uri c k s g p.0) p.1)
 
 -- ---- all that is held
 
@@ -119,24 +125,24 @@ put_step before now uri q f own other =
     rw same (ap now.held i ∙ own ∙ ap (λ u. f (before.held u)) (sym i))))
     (λ apart. rw apart (other apart))
 
-takes_step : (before : Documents) (s : Sent) (now : Documents) → Takes before s now → (uri : List ℕ) → now.held uri ≡ kept_after before.encoding uri (before.held uri) s
-takes_step before (made n) now h uri = put_step before now uri n.uri (λ k. after before.encoding k n.kind) h.own (h.others uri)
+takes_step : (before : Documents) (s : Sent) (now : Documents) → Takes before s now → (uri : List ℕ) → now.held uri ≡ kept_after before.agreed uri (before.held uri) s
+takes_step before (made n) now h uri = put_step before now uri n.uri (λ k. after before.agreed k n.kind) h.own (h.others uri)
 takes_step before (unmade n) now h uri = put_step before now uri n.uri missed h.own (h.others uri)
 takes_step before (unread notices) now h uri = h.held uri
 
-takes_encoding : (before : Documents) (s : Sent) (now : Documents) → Takes before s now → now.encoding ≡ before.encoding
-takes_encoding before (made n) now h = h.encoding
-takes_encoding before (unmade n) now h = h.encoding
-takes_encoding before (unread notices) now h = h.encoding
+takes_agreed : (before : Documents) (s : Sent) (now : Documents) → Takes before s now → now.agreed ≡ before.agreed
+takes_agreed before (made n) now h = h.agreed
+takes_agreed before (unmade n) now h = h.agreed
+takes_agreed before (unread notices) now h = h.agreed
 
-pub all_kept : (before : Documents) (sent : List Sent) (now : Documents) → TakesAll before sent now → (uri : List ℕ) → now.held uri ≡ kept_after_all before.encoding uri (before.held uri) sent
+pub all_kept : (before : Documents) (sent : List Sent) (now : Documents) → TakesAll before sent now → (uri : List ℕ) → now.held uri ≡ kept_after_all before.agreed uri (before.held uri) sent
 all_kept before [] now h uri = h.held uri
 all_kept before (s ∷ ss) now h uri =
-    all_kept h.0 ss now h.2 uri ∙ ap (λ x. kept_after_all x uri (h.0.held uri) ss) (takes_encoding before s h.0 h.1) ∙ ap (λ k. kept_after_all before.encoding uri k ss) (takes_step before s h.0 h.1 uri)
+    all_kept h.0 ss now h.2 uri ∙ ap (λ x. kept_after_all x uri (h.0.held uri) ss) (takes_agreed before s h.0 h.1) ∙ ap (λ k. kept_after_all before.agreed uri k ss) (takes_step before s h.0 h.1 uri)
 
-pub all_agree : (before : Documents) (client : List ℕ → Option Document) (sent : List Sent) (now : Documents) → TakesAll before sent now → (uri : List ℕ) → Agrees (client uri) (before.held uri) → SavesItsText before.encoding (client uri) (kinds_of uri sent) → Agrees (told_all before.encoding (client uri) (kinds_of uri sent)) (now.held uri)
+pub all_agree : (before : Documents) (client : List ℕ → Option Document) (sent : List Sent) (now : Documents) → TakesAll before sent now → (uri : List ℕ) → Agrees (client uri) (before.held uri) → SavesItsText before.agreed (client uri) (kinds_of uri sent) → Agrees (told_all before.agreed.encoding (client uri) (kinds_of uri sent)) (now.held uri)
 all_agree before client sent now h uri a s =
-    subst (λ k. Agrees (told_all before.encoding (client uri) (kinds_of uri sent)) k) (sym (all_kept before sent now h uri)) (all_steps before.encoding uri (client uri) (before.held uri) sent a s)
+    subst (λ k. Agrees (told_all before.agreed.encoding (client uri) (kinds_of uri sent)) k) (sym (all_kept before sent now h uri)) (all_steps before.agreed uri (client uri) (before.held uri) sent a s)
 
 -- ---- a document of which all was made
 
@@ -144,16 +150,20 @@ all_agree before client sent now h uri a s =
 abbrev pub IsCurrent : Option Document → Option Open → Type 0
 IsCurrent client kept = (d : Document) × (client ≡ Some d) × (kept ≡ Some (Known d))
 
-own_current : (e : PositionEncoding) (d : Document) (kind : NoticeKind) → closes_it kind ≡ false → IsCurrent (told e (Some d) kind) (after e (Some (Known d)) kind)
-own_current e d (opened o) h = (o, refl, refl)
-own_current e d (changed version list) h = (changed_to e d version list, refl, refl)
-own_current e d (saved None) h = (d, refl, refl)
-own_current e d (saved (Some text)) h = (d, refl, refl)
-own_current e d closed h = never (sym h)
+saved_current : (asked : Bool) (d : Document) (text : List ℕ) → IsCurrent (Some d) (if asked then option_map (λ o. saved_in o text) (Some (Known d)) else Some (Known d))
+saved_current true d text = (d, refl, refl)
+saved_current false d text = (d, refl, refl)
 
-made_current : (e : PositionEncoding) (b : Bool) (d : Document) (kind : NoticeKind) → b && closes_it kind ≡ false → IsCurrent (told_all e (Some d) (if b then kind ∷ [] else [])) (if b then after e (Some (Known d)) kind else Some (Known d))
-made_current e true d kind h = own_current e d kind h
-made_current e false d kind h = (d, refl, refl)
+own_current : (a : Agreed) (d : Document) (kind : NoticeKind) → closes_it kind ≡ false → IsCurrent (told a.encoding (Some d) kind) (after a (Some (Known d)) kind)
+own_current a d (opened o) h = (o, refl, refl)
+own_current a d (changed version list) h = (changed_to a.encoding d version list, refl, refl)
+own_current a d (saved None) h = (d, refl, refl)
+own_current a d (saved (Some text)) h = saved_current a.include_text d text
+own_current a d closed h = never (sym h)
+
+made_current : (a : Agreed) (b : Bool) (d : Document) (kind : NoticeKind) → b && closes_it kind ≡ false → IsCurrent (told_all a.encoding (Some d) (if b then kind ∷ [] else [])) (if b then after a (Some (Known d)) kind else Some (Known d))
+made_current a true d kind h = own_current a d kind h
+made_current a false d kind h = (d, refl, refl)
 
 unmade_current : (e : PositionEncoding) (b : Bool) (d : Document) (kind : NoticeKind) → b ≡ false → IsCurrent (told_all e (Some d) (if b then kind ∷ [] else [])) (if b then missed (Some (Known d)) else Some (Known d))
 unmade_current e true d kind h = never (sym h)
@@ -163,28 +173,28 @@ not_and : (b c : Bool) → not b && c ≡ true → (b ≡ false) × (c ≡ true)
 not_and true c h = never h
 not_and false c h = (refl, h)
 
-go_on : (e : PositionEncoding) (uri : List ℕ) (kept : Option Open) (xs : List NoticeKind) (d : Document) (ss : List Sent) → IsCurrent (told_all e (Some d) xs) kept →
-    ((f : Document) → IsCurrent (told_all e (Some f) (kinds_of uri ss)) (kept_after_all e uri (Some (Known f)) ss)) → IsCurrent (told_all e (Some d) (xs ++ kinds_of uri ss)) (kept_after_all e uri kept ss)
-go_on e uri kept xs d ss c rest =
+go_on : (a : Agreed) (uri : List ℕ) (kept : Option Open) (xs : List NoticeKind) (d : Document) (ss : List Sent) → IsCurrent (told_all a.encoding (Some d) xs) kept →
+    ((f : Document) → IsCurrent (told_all a.encoding (Some f) (kinds_of uri ss)) (kept_after_all a uri (Some (Known f)) ss)) → IsCurrent (told_all a.encoding (Some d) (xs ++ kinds_of uri ss)) (kept_after_all a uri kept ss)
+go_on a uri kept xs d ss c rest =
     let r = rest c.0 in
-    (r.0, told_append e (Some d) xs (kinds_of uri ss) ∙ ap (λ x. told_all e x (kinds_of uri ss)) c.1 ∙ r.1, ap (λ k. kept_after_all e uri k ss) c.2 ∙ r.2)
+    (r.0, told_append a.encoding (Some d) xs (kinds_of uri ss) ∙ ap (λ x. told_all a.encoding x (kinds_of uri ss)) c.1 ∙ r.1, ap (λ k. kept_after_all a uri k ss) c.2 ∙ r.2)
 
-all_current : (e : PositionEncoding) (uri : List ℕ) (sent : List Sent) → is_current uri sent ≡ true → (d : Document) → IsCurrent (told_all e (Some d) (kinds_of uri sent)) (kept_after_all e uri (Some (Known d)) sent)
-all_current e uri [] h d = (d, refl, refl)
-all_current e uri (made n ∷ ss) h d =
+all_current : (a : Agreed) (uri : List ℕ) (sent : List Sent) → is_current uri sent ≡ true → (d : Document) → IsCurrent (told_all a.encoding (Some d) (kinds_of uri sent)) (kept_after_all a uri (Some (Known d)) sent)
+all_current a uri [] h d = (d, refl, refl)
+all_current a uri (made n ∷ ss) h d =
     let p = not_and (bytes_eq uri n.uri && closes_it n.kind) (is_current uri ss) h in
-    go_on e uri (kept_after e uri (Some (Known d)) (made n)) (kinds_in uri (n ∷ [])) d ss (made_current e (bytes_eq uri n.uri) d n.kind p.0) (all_current e uri ss p.1)
-all_current e uri (unmade n ∷ ss) h d =
+    go_on a uri (kept_after a uri (Some (Known d)) (made n)) (kinds_in uri (n ∷ [])) d ss (made_current a (bytes_eq uri n.uri) d n.kind p.0) (all_current a uri ss p.1)
+all_current a uri (unmade n ∷ ss) h d =
     let p = not_and (bytes_eq uri n.uri) (is_current uri ss) h in
-    go_on e uri (kept_after e uri (Some (Known d)) (unmade n)) (kinds_in uri (n ∷ [])) d ss (unmade_current e (bytes_eq uri n.uri) d n.kind p.0) (all_current e uri ss p.1)
-all_current e uri (unread notices ∷ ss) h d = never h
+    go_on a uri (kept_after a uri (Some (Known d)) (unmade n)) (kinds_in uri (n ∷ [])) d ss (unmade_current a.encoding (bytes_eq uri n.uri) d n.kind p.0) (all_current a uri ss p.1)
+all_current a uri (unread notices ∷ ss) h d = never h
 
 pub opened_current : (before : Documents) (uri language_id : List ℕ) (version : Option ℤ) (text : List ℕ) (sent : List Sent) (now : Documents) → TakesAll before (made (opens uri language_id version text) ∷ sent) now → is_current uri sent ≡ true →
-    (d : Document) × (told_all before.encoding (Some (document language_id version text)) (kinds_of uri sent) ≡ Some d) × (now.held uri ≡ Some (Known d))
+    (d : Document) × (told_all before.agreed.encoding (Some (document language_id version text)) (kinds_of uri sent) ≡ Some d) × (now.held uri ≡ Some (Known d))
 opened_current before uri language_id version text sent now h c =
-    let r = all_current before.encoding uri sent c (document language_id version text) in
+    let r = all_current before.agreed uri sent c (document language_id version text) in
     let k = all_kept h.0 sent now h.2 uri in
-    (r.0, r.1, k ∙ ap (λ x. kept_after_all x uri (h.0.held uri) sent) h.1.encoding ∙ ap (λ o. kept_after_all before.encoding uri o sent) h.1.own ∙ r.2)
+    (r.0, r.1, k ∙ ap (λ x. kept_after_all x uri (h.0.held uri) sent) h.1.agreed ∙ ap (λ o. kept_after_all before.agreed uri o sent) h.1.own ∙ r.2)
 
 -- ---- faults
 
@@ -199,22 +209,26 @@ none_same : (e : PositionEncoding) (version : Option ℤ) (list : List Change) (
 none_same e version list true fault h = none_is h
 none_same e version list false fault h = refl
 
-wrong_same : (e : PositionEncoding) (k : Option Open) (kind : NoticeKind) (fault : DocumentFault) → fault_of k kind ≡ Some fault → after e k kind ≡ k
-wrong_same e k (opened d) fault h = none_is h
-wrong_same e None (changed version list) fault h = none_same e version list (has_whole list) fault h
-wrong_same e (Some (Known d)) (changed version list) fault h = none_is h
-wrong_same e (Some (Lost l)) (changed version list) fault h = lost_same e l version list (has_whole list) fault h
-wrong_same e k (saved None) fault h = refl
-wrong_same e None (saved (Some text)) fault h = refl
-wrong_same e (Some o) (saved (Some text)) fault h = none_is h
-wrong_same e None closed fault h = refl
-wrong_same e (Some o) closed fault h = none_is h
+saved_same : (asked : Bool) (text : List ℕ) → (if asked then option_map (λ o. saved_in o text) None else None) ≡ None
+saved_same true text = refl
+saved_same false text = refl
+
+wrong_same : (a : Agreed) (k : Option Open) (kind : NoticeKind) (fault : DocumentFault) → fault_of k kind ≡ Some fault → after a k kind ≡ k
+wrong_same a k (opened d) fault h = none_is h
+wrong_same a None (changed version list) fault h = none_same a.encoding version list (has_whole list) fault h
+wrong_same a (Some (Known d)) (changed version list) fault h = none_is h
+wrong_same a (Some (Lost l)) (changed version list) fault h = lost_same a.encoding l version list (has_whole list) fault h
+wrong_same a k (saved None) fault h = refl
+wrong_same a None (saved (Some text)) fault h = saved_same a.include_text text
+wrong_same a (Some o) (saved (Some text)) fault h = none_is h
+wrong_same a None closed fault h = refl
+wrong_same a (Some o) closed fault h = none_is h
 
 -- what is wrong changes nothing
 pub refused_makes : (before : Documents) (n : Notice) (now : Documents) (fault : DocumentFault) → fault_of (before.held n.uri) n.kind ≡ Some fault → Keeps before now → Makes before n now
 refused_makes before n now fault h k = record {
-  encoding = k.encoding;
-  own = k.held n.uri ∙ sym (wrong_same before.encoding (before.held n.uri) n.kind fault h);
+  agreed = k.agreed;
+  own = k.held n.uri ∙ sym (wrong_same before.agreed (before.held n.uri) n.kind fault h);
   others = λ q apart. k.held q;
 }
 
@@ -223,8 +237,8 @@ keeps_at uri f g own others q =
     by_test (bytes_eq q uri) (λ same. (let s : q ≡ uri = (bytes_eq-Decides q uri).0 same in ap f s ∙ own ∙ ap g (sym s))) (others q)
 
 -- if one URI keeps its document, and each other one too, nothing is changed
-pub keeps : (before now : Documents) (uri : List ℕ) → now.encoding ≡ before.encoding → now.held uri ≡ before.held uri → ((q : List ℕ) → bytes_eq q uri ≡ false → now.held q ≡ before.held q) → Keeps before now
-keeps before now uri e own others = record { encoding = e; held = keeps_at uri now.held before.held own others }
+pub keeps : (before now : Documents) (uri : List ℕ) → now.agreed ≡ before.agreed → now.held uri ≡ before.held uri → ((q : List ℕ) → bytes_eq q uri ≡ false → now.held q ≡ before.held q) → Keeps before now
+keeps before now uri a own others = record { agreed = a; held = keeps_at uri now.held before.held own others }
 
 some_value : {A : Type 0} {a b : A} → Some a ≡ Some b → a ≡ b
 some_value {A} {a} {b} h = ap (λ o. unwrap_or o a) h
@@ -243,7 +257,7 @@ change_refused before (Some a) version (Some cs) u w fault said hu hw hf hs =
     let ea : a ≡ u = some_value hu in
     let ew : has_whole cs ≡ w = some_value hw in
     let f : change_fault (before.held a) (has_whole cs) ≡ Some said = ap (λ x. change_fault (before.held x) (has_whole cs)) ea ∙ ap (change_fault (before.held u)) ew ∙ hf ∙ ap Some (sym hs) in
-    inl (f, record { encoding = refl; held = λ q. refl })
+    inl (f, record { agreed = refl; held = λ q. refl })
 
 more_changes : (c : Option Change) (cs : Option (List Change)) → IfSome (option_and_then (λ c. option_map (λ cs. c ∷ cs) cs) c) (λ cs. has_changes cs ≡ true)
 more_changes None cs = tt

@@ -1,5 +1,5 @@
 -- Wrong runs that the definitions of the law refuse: each supposes one, and leads to a contradiction.
-use Rattle.std.proofs.Common.{◌≡◌, ℕ, ℤ, Bool, true, false, List, [], Option, Some, None, refl, sym, ap, ◌∙◌, arith, inl, inr, option_and_then}
+use Rattle.std.proofs.Common.{◌≡◌, ℕ, ℤ, Bool, true, false, List, [], Option, Some, None, refl, sym, ap, ◌∙◌, arith, inl, inr, option_and_then, option_map}
 use Rattle.std.specs.Prelude.{is_some, if◌then◌else◌}
 use Rattle.std.specs.Str.{bytes_eq}
 use Rattle.lsp_text.specs.Documents.{Document, Change}
@@ -10,7 +10,7 @@ use Rattle.lsp_documents.specs.declared.kept.Open.{Open}
 use Rattle.lsp_documents.specs.declared.kept.Open.TheVariants.{Known, Lost}
 use Rattle.lsp_documents.specs.declared.fault.DocumentFault.{DocumentFault}
 use Rattle.lsp_documents.specs.declared.fault.DocumentFault.TheVariants.{NotOpen, OutOfStep, Memory}
-use Rattle.lsp_documents.specs.Notices.{NoticeKind, NoticeKind.opened, NoticeKind.changed, NoticeKind.saved, NoticeKind.closed, Notice, Sent.made, Sent.unmade, Sent.unread, Documents, Takes, Took, Refused, after, missed, changed_in, fault_of, needs_memory, remark_of, change_remark, is_not_higher, has_whole, shown, opens, edits, saves, closes, document}
+use Rattle.lsp_documents.specs.Notices.{NoticeKind, NoticeKind.opened, NoticeKind.changed, NoticeKind.saved, NoticeKind.closed, Notice, Sent.made, Sent.unmade, Sent.unread, Documents, Takes, Took, Refused, after, missed, changed_in, saved_in, fault_of, needs_memory, remark_of, change_remark, is_not_higher, has_whole, shown, opens, edits, saves, closes, document}
 
 never : {P : Type 0} → false ≡ true → P
 never h = grind (arith, h)
@@ -37,12 +37,12 @@ in_lost e l version list false h = refl
 -- an edit made in an older text: the text is lost, no change is of the whole text, and yet a text is shown
 edited_older : (before now : Documents) (uri l : List ℕ) (version : Option ℤ) (list : List Change) (d : Document) → before.held uri ≡ Some (Lost l) → has_whole list ≡ false → Takes before (made (edits uri version list)) now → now.held uri ≡ Some (Known d) → ⊥
 edited_older before now uri l version list d b w h k =
-    never (sym (in_lost before.encoding l version list (has_whole list) w) ∙ ap shows (ap (λ o. after before.encoding o (changed version list)) (sym b) ∙ sym h.own ∙ k))
+    never (sym (in_lost before.agreed.encoding l version list (has_whole list) w) ∙ ap shows (ap (λ o. after before.agreed o (changed version list)) (sym b) ∙ sym h.own ∙ k))
 
 -- a whole text of a URI that is not open, of which nothing is kept
 whole_unopened : (before now : Documents) (uri : List ℕ) (version : Option ℤ) (list : List Change) → before.held uri ≡ None → has_whole list ≡ true → Takes before (made (edits uri version list)) now → now.held uri ≡ None → ⊥
 whole_unopened before now uri version list b w h k =
-    never (ap shows (sym k ∙ h.own ∙ ap (λ o. after before.encoding o (changed version list)) b ∙ ap (λ (t : Bool). if t then Some (Known (document [] version (edited_by before.encoding [] list))) else None) w))
+    never (ap shows (sym k ∙ h.own ∙ ap (λ o. after before.agreed o (changed version list)) b ∙ ap (λ (t : Bool). if t then Some (Known (document [] version (edited_by before.agreed.encoding [] list))) else None) w))
 
 -- a text of another URI: a document is opened, and the text of another one is another
 opened_other : (before now : Documents) (uri q l text : List ℕ) (version : Option ℤ) (d : Document) → before.held q ≡ None → bytes_eq q uri ≡ false → Takes before (made (opens uri l version text)) now → now.held q ≡ Some (Known d) → ⊥
@@ -55,7 +55,7 @@ in_whole e (Lost l) version list w = rw w refl
 -- a document that stays out of step after a whole text
 whole_lost : (before now : Documents) (uri l : List ℕ) (o : Open) (version : Option ℤ) (list : List Change) → before.held uri ≡ Some o → has_whole list ≡ true → Takes before (made (edits uri version list)) now → now.held uri ≡ Some (Lost l) → ⊥
 whole_lost before now uri l o version list b w h k =
-    never (ap shows (sym k ∙ h.own ∙ ap (λ o. after before.encoding o (changed version list)) b) ∙ in_whole before.encoding o version list w)
+    never (ap shows (sym k ∙ h.own ∙ ap (λ o. after before.agreed o (changed version list)) b) ∙ in_whole before.agreed.encoding o version list w)
 
 abbrev text_of : Option Open → List ℕ
 text_of None = []
@@ -70,26 +70,40 @@ opened_kept before now uri l text version d h k other = other (ap text_of (sym k
 closed_shown : (before now : Documents) (uri : List ℕ) (d : Document) → Takes before (made (closes uri)) now → now.held uri ≡ Some (Known d) → ⊥
 closed_shown before now uri d h k = never (ap shows (sym h.own ∙ k))
 
+in_step : (asked : Bool) (d : Document) (text : List ℕ) → (if asked then option_map (λ o. saved_in o text) (Some (Known d)) else Some (Known d)) ≡ Some (Known d)
+in_step true d text = refl
+in_step false d text = refl
+
 -- a text in step that a save changes
 saved_other : (before now : Documents) (uri text : List ℕ) (d o : Document) → before.held uri ≡ Some (Known d) → Takes before (made (saves uri (Some text))) now → now.held uri ≡ Some (Known o) → (o.text ≡ d.text → ⊥) → ⊥
 saved_other before now uri text d o b h k other =
-    other (ap text_of (sym k ∙ h.own ∙ ap (λ x. after before.encoding x (saved (Some text))) b))
+    other (ap text_of (sym k ∙ h.own ∙ ap (λ x. after before.agreed x (saved (Some text))) b ∙ in_step before.agreed.include_text d text))
+
+unasked_lost : (asked : Bool) (l text : List ℕ) → asked ≡ false → shows (if asked then option_map (λ o. saved_in o text) (Some (Lost l)) else Some (Lost l)) ≡ false
+unasked_lost true l text h = never (sym h)
+unasked_lost false l text h = refl
+
+-- a text that was not asked for, taken from a save
+unasked_taken : (before now : Documents) (uri l text : List ℕ) (d : Document) → before.held uri ≡ Some (Lost l) → before.agreed.include_text ≡ false → Takes before (made (saves uri (Some text))) now → now.held uri ≡ Some (Known d) → ⊥
+unasked_taken before now uri l text d b asked h k =
+    never (sym (unasked_lost before.agreed.include_text l text asked) ∙ ap shows (ap (λ x. after before.agreed x (saved (Some text))) (sym b) ∙ sym h.own ∙ k))
 
 -- ---- what calls say
 
 -- a second open of which nothing is said
 opened_unsaid : (before now : Documents) (uri l text : List ℕ) (version : Option ℤ) (o : Open) → before.held uri ≡ Some o → Took before (opens uri l version text) None now → ⊥
-opened_unsaid before now uri l text version o b h = never (ap is_some (h.remarks ∙ ap (λ k. remark_of before.encoding k (opened (document l version text))) b))
+opened_unsaid before now uri l text version o b h = never (ap is_some (h.remarks ∙ ap (λ k. remark_of before.agreed k (opened (document l version text))) b))
 
 -- a change past an end of the text that is known, of which nothing is said
-past_unsaid : (before now : Documents) (uri : List ℕ) (version : Option ℤ) (list : List Change) (d : Document) → before.held uri ≡ Some (Known d) → past_by before.encoding d.text list ≡ true → Took before (edits uri version list) None now → ⊥
+past_unsaid : (before now : Documents) (uri : List ℕ) (version : Option ℤ) (list : List Change) (d : Document) → before.held uri ≡ Some (Known d) → past_by before.agreed.encoding d.text list ≡ true → Took before (edits uri version list) None now → ⊥
 past_unsaid before now uri version list d b p h =
-    never (ap is_some (h.remarks ∙ ap (λ k. remark_of before.encoding k (changed version list)) b ∙ ap (λ w. change_remark w (is_not_higher version d.version)) p))
+    never (ap is_some (h.remarks ∙ ap (λ k. remark_of before.agreed k (changed version list)) b ∙ ap (λ w. change_remark w (is_not_higher version d.version)) p))
 
--- a saved text that differs from the one that is known, of which nothing is said
-saved_unsaid : (before now : Documents) (uri text : List ℕ) (d : Document) → before.held uri ≡ Some (Known d) → bytes_eq d.text text ≡ false → Took before (saves uri (Some text)) None now → ⊥
-saved_unsaid before now uri text d b p h =
-    never (ap is_some (h.remarks ∙ ap (λ k. remark_of before.encoding k (saved (Some text))) b ∙ ap (λ (w : Bool). if w then None else Some SavedTextDiffers) p))
+-- a saved text that was asked for and differs from the one that is known, of which nothing is said
+saved_unsaid : (before now : Documents) (uri text : List ℕ) (d : Document) → before.held uri ≡ Some (Known d) → before.agreed.include_text ≡ true → bytes_eq d.text text ≡ false → Took before (saves uri (Some text)) None now → ⊥
+saved_unsaid before now uri text d b asked p h =
+    never (ap is_some (h.remarks ∙ ap (λ k. remark_of before.agreed k (saved (Some text))) b ∙ ap (λ (w : Bool). if w then (if bytes_eq d.text text then None else Some SavedTextDiffers) else None) asked
+    ∙ ap (λ (w : Bool). if w then None else Some SavedTextDiffers) p))
 
 no_memory_lost : (w : Bool) → (if w then None else Some OutOfStep) ≡ Some Memory → ⊥
 no_memory_lost true h = grind (arith, h)
@@ -110,7 +124,7 @@ no_memory None closed h = grind (arith, h)
 no_memory (Some o) closed h = grind (arith, h)
 
 -- `Memory` from a call that takes no memory
-needless : (before now : Documents) (n : Notice) → needs_memory (before.held n.uri) n.kind ≡ false → Refused before n Memory now → ⊥
+needless : (before now : Documents) (n : Notice) → needs_memory before.agreed (before.held n.uri) n.kind ≡ false → Refused before n Memory now → ⊥
 needless before now n h (inl f) = no_memory (before.held n.uri) n.kind f.0
 needless before now n h (inr s) = never (sym h ∙ s.needed)
 

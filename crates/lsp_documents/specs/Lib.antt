@@ -5,3 +5,4 @@ pub mod Held
 pub mod Known
 pub mod Methods
 pub mod Heard
+pub mod Announced

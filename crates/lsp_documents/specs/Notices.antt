@@ -10,6 +10,7 @@ use Rattle.lsp_documents.specs.declared.fault.DocumentFault.{DocumentFault}
 use Rattle.lsp_documents.specs.declared.fault.DocumentFault.TheVariants.{Params, NotOpen, OutOfStep, Memory}
 use Rattle.lsp_documents.specs.declared.fault.Remark.{Remark}
 use Rattle.lsp_documents.specs.declared.fault.Remark.TheVariants.{OpenAlready, VersionNotHigher, PastEnd, SavedTextDiffers, WasNotOpen}
+use Rattle.lsp_documents.specs.declared.agreed.Agreed.{Agreed}
 use Rattle.lsp_documents.specs.declared.kept.Open.{Open}
 use Rattle.lsp_documents.specs.declared.kept.Open.TheVariants.{Known, Lost}
 
@@ -64,18 +65,19 @@ abbrev pub told_all : PositionEncoding → Option Document → List NoticeKind �
 told_all e before [] = before
 told_all e before (kind ∷ kinds) = told_all e (told e before kind) kinds
 
--- the text that comes with a save is the client's own
-abbrev pub SavesOwn : Option Document → NoticeKind → Type 0
-SavesOwn client (opened d) = Unit {0}
-SavesOwn client (changed version list) = Unit {0}
-SavesOwn client (saved None) = Unit {0}
-SavesOwn client (saved (Some text)) = IsSomeAnd client (λ d. d.text ≡ text)
-SavesOwn client closed = Unit {0}
+-- the text that comes with a save is the client's own, if the client was asked for it. Else it may be any
+abbrev pub SavesOwn : Agreed → Option Document → NoticeKind → Type 0
+SavesOwn a client (opened d) = Unit {0}
+SavesOwn a client (changed version list) = Unit {0}
+SavesOwn a client (saved None) = Unit {0}
+SavesOwn a client (saved (Some text)) =
+    a.include_text ≡ true → IsSomeAnd client (λ d. d.text ≡ text)
+SavesOwn a client closed = Unit {0}
 
-abbrev pub SavesItsText : PositionEncoding → Option Document → List NoticeKind → Type 0
-SavesItsText e client [] = Unit {0}
-SavesItsText e client (kind ∷ kinds) = SavesOwn client kind
-    × SavesItsText e (told e client kind) kinds
+abbrev pub SavesItsText : Agreed → Option Document → List NoticeKind → Type 0
+SavesItsText a client [] = Unit {0}
+SavesItsText a client (kind ∷ kinds) = SavesOwn a client kind
+    × SavesItsText a (told a.encoding client kind) kinds
 
 -- ---- what a server keeps of it
 
@@ -103,7 +105,8 @@ changed_in e (Lost language_id) version list =
     if has_whole list then Known (document language_id version (edited_by e [] list))
     else Lost language_id
 
--- what a text that comes with a save makes of it: it is taken only if the text is lost. Which version it is nobody says
+-- what a text makes of it that was asked for and comes with a save: it is taken only if the text is lost. Which version it is nobody
+-- says
 abbrev pub saved_in : Open → List ℕ → Open
 saved_in (Known d) text = Known d
 saved_in (Lost language_id) text = Known (document language_id None text)
@@ -139,33 +142,36 @@ abbrev pub change_remark : Bool → Bool → Option Remark
 change_remark past not_higher =
     if past then Some PastEnd else (if not_higher then Some VersionNotHigher else None)
 
--- what is said of the text that came with a save
+-- what is said of a text that was asked for and came with a save
 abbrev pub save_remark : Open → List ℕ → Option Remark
 save_remark (Known d) text = if bytes_eq d.text text then None else Some SavedTextDiffers
 save_remark (Lost language_id) text = None
 
 -- what LSP 3.17 forbids the client, though it can be made, or what shows that its text is another one than the text that is kept
-abbrev pub remark_of : PositionEncoding → Option Open → NoticeKind → Option Remark
-remark_of e None (opened d) = None
-remark_of e None (changed version list) = Some WasNotOpen
-remark_of e None (saved text) = None
-remark_of e None closed = None
-remark_of e (Some o) (opened d) = Some OpenAlready
-remark_of e (Some o) (changed version list) =
-    change_remark (is_past e o list) (is_not_higher version (version_of o))
-remark_of e (Some o) (saved None) = None
-remark_of e (Some o) (saved (Some text)) = save_remark o text
-remark_of e (Some o) closed = None
+abbrev pub remark_of : Agreed → Option Open → NoticeKind → Option Remark
+remark_of a None (opened d) = None
+remark_of a None (changed version list) = Some WasNotOpen
+remark_of a None (saved text) = None
+remark_of a None closed = None
+remark_of a (Some o) (opened d) = Some OpenAlready
+remark_of a (Some o) (changed version list) =
+    change_remark (is_past a.encoding o list) (is_not_higher version (version_of o))
+remark_of a (Some o) (saved None) = None
+remark_of a (Some o) (saved (Some text)) = if a.include_text then save_remark o text else None
+remark_of a (Some o) closed = None
 
--- what is kept of the URI after a notice of this kind that was made: as it was where something is wrong
-abbrev pub after : PositionEncoding → Option Open → NoticeKind → Option Open
-after e before (opened d) = Some (Known d)
-after e None (changed version list) =
-    if has_whole list then Some (Known (document [] version (edited_by e [] list))) else None
-after e (Some o) (changed version list) = Some (changed_in e o version list)
-after e before (saved None) = before
-after e before (saved (Some text)) = option_map (λ o. saved_in o text) before
-after e before closed = None
+-- what is kept of the URI after a notice of this kind that was made: as it was where something is wrong, and if a text came with a
+-- save that was not asked for
+abbrev pub after : Agreed → Option Open → NoticeKind → Option Open
+after a before (opened d) = Some (Known d)
+after a None (changed version list) =
+    if has_whole list then Some (Known (document [] version (edited_by a.encoding [] list)))
+    else None
+after a (Some o) (changed version list) = Some (changed_in a.encoding o version list)
+after a before (saved None) = before
+after a before (saved (Some text)) =
+    if a.include_text then option_map (λ o. saved_in o text) before else before
+after a before closed = None
 
 -- what is kept if what the client told was missed: never a text that the client may have left behind
 abbrev pub missed : Option Open → Option Open
@@ -176,14 +182,14 @@ has_changes [] = false
 has_changes (c ∷ cs) = true
 
 -- whether memory is needed to make a notice in which nothing is wrong
-abbrev pub needs_memory : Option Open → NoticeKind → Bool
-needs_memory before (opened d) = true
-needs_memory before (changed version list) = has_changes list
-needs_memory before (saved None) = false
-needs_memory None (saved (Some text)) = false
-needs_memory (Some (Known d)) (saved (Some text)) = false
-needs_memory (Some (Lost language_id)) (saved (Some text)) = true
-needs_memory before closed = false
+abbrev pub needs_memory : Agreed → Option Open → NoticeKind → Bool
+needs_memory a before (opened d) = true
+needs_memory a before (changed version list) = has_changes list
+needs_memory a before (saved None) = false
+needs_memory a None (saved (Some text)) = false
+needs_memory a (Some (Known d)) (saved (Some text)) = false
+needs_memory a (Some (Lost language_id)) (saved (Some text)) = a.include_text
+needs_memory a before closed = false
 
 -- ---- notifications, as a server met them
 
@@ -193,14 +199,14 @@ pub data Sent : Type 0 where
   unmade : Notice → Sent
   unread : List Notice → Sent
 
-abbrev pub kept_after : PositionEncoding → List ℕ → Option Open → Sent → Option Open
-kept_after e uri before (made n) = if bytes_eq uri n.uri then after e before n.kind else before
-kept_after e uri before (unmade n) = if bytes_eq uri n.uri then missed before else before
-kept_after e uri before (unread notices) = missed before
+abbrev pub kept_after : Agreed → List ℕ → Option Open → Sent → Option Open
+kept_after a uri before (made n) = if bytes_eq uri n.uri then after a before n.kind else before
+kept_after a uri before (unmade n) = if bytes_eq uri n.uri then missed before else before
+kept_after a uri before (unread notices) = missed before
 
-abbrev pub kept_after_all : PositionEncoding → List ℕ → Option Open → List Sent → Option Open
-kept_after_all e uri before [] = before
-kept_after_all e uri before (s ∷ ss) = kept_after_all e uri (kept_after e uri before s) ss
+abbrev pub kept_after_all : Agreed → List ℕ → Option Open → List Sent → Option Open
+kept_after_all a uri before [] = before
+kept_after_all a uri before (s ∷ ss) = kept_after_all a uri (kept_after a uri before s) ss
 
 -- what notifications say of one URI
 abbrev pub kinds_in : List ℕ → List Notice → List NoticeKind
@@ -231,26 +237,26 @@ is_current uri (unread notices ∷ ss) = false
 
 -- ---- what a server holds
 
--- the encoding that was agreed on, and what is kept of each URI that is open
+-- what was agreed on, and what is kept of each URI that is open
 pub record Documents : Type 0 where
-  pub encoding : PositionEncoding
+  pub agreed : Agreed
   pub held : List ℕ → Option Open
 
 -- nothing is changed
 pub record Keeps (before now : Documents) : Type 0 where
-  pub encoding : now.encoding ≡ before.encoding
+  pub agreed : now.agreed ≡ before.agreed
   pub held : (uri : List ℕ) → now.held uri ≡ before.held uri
 
 -- this is kept of one URI, and each other one keeps its document
 pub record Puts (before : Documents) (uri : List ℕ) (kept : Option Open)
     (now : Documents) : Type 0 where
-  pub encoding : now.encoding ≡ before.encoding
+  pub agreed : now.agreed ≡ before.agreed
   pub own : now.held uri ≡ kept
   pub others : (q : List ℕ) → bytes_eq q uri ≡ false → now.held q ≡ before.held q
 
 -- a notification was made
 abbrev pub Makes : Documents → Notice → Documents → Type 0
-Makes before n now = Puts before n.uri (after before.encoding (before.held n.uri) n.kind) now
+Makes before n now = Puts before n.uri (after before.agreed (before.held n.uri) n.kind) now
 
 -- what was told of one URI was missed
 abbrev pub Misses : Documents → List ℕ → Documents → Type 0
@@ -258,7 +264,7 @@ Misses before uri now = Puts before uri (missed (before.held uri)) now
 
 -- what was told was missed, of whatever URI
 pub record MissesAll (before now : Documents) : Type 0 where
-  pub encoding : now.encoding ≡ before.encoding
+  pub agreed : now.agreed ≡ before.agreed
   pub held : (uri : List ℕ) → now.held uri ≡ missed (before.held uri)
 
 abbrev pub Takes : Documents → Sent → Documents → Type 0
@@ -291,7 +297,7 @@ Agrees client kept = IsClients client (option_and_then shown kept)
 pub record Took (before : Documents) (n : Notice) (remark : Option Remark)
     (now : Documents) : Type 0 where
   pub right : fault_of (before.held n.uri) n.kind ≡ None
-  pub remarks : remark ≡ remark_of before.encoding (before.held n.uri) n.kind
+  pub remarks : remark ≡ remark_of before.agreed (before.held n.uri) n.kind
   pub makes : Makes before n now
 
 -- memory ran out, if nothing was wrong and memory was needed
@@ -299,7 +305,7 @@ pub record Starved (before : Documents) (n : Notice) (fault : DocumentFault)
     (now : Documents) : Type 0 where
   pub why : fault ≡ Memory
   pub right : fault_of (before.held n.uri) n.kind ≡ None
-  pub needed : needs_memory (before.held n.uri) n.kind ≡ true
+  pub needed : needs_memory before.agreed (before.held n.uri) n.kind ≡ true
   pub misses : Misses before n.uri now
 
 -- a call refused a notification, by name and with nothing changed, or missed it for want of memory

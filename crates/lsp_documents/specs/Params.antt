@@ -124,12 +124,16 @@ first_named no_items = None
 first_named (item d ds) = if is_some (option_and_then encoding_named (as_str d))
     then option_and_then encoding_named (as_str d) else first_named ds
 
-abbrev pub offered_in : Data → Option Items
-offered_in params =
+-- what a client offers that has these capabilities
+abbrev pub offered_by : Data → Option Items
+offered_by client =
     option_and_then as_array
-    (option_and_then (get (codes "positionEncodings"))
-    (option_and_then (get (codes "general")) (get (codes "capabilities") params)))
+    (option_and_then (get (codes "positionEncodings")) (get (codes "general") client))
 
--- the encoding that is agreed on: UTF-16 if the client offers none of the three
+-- the encoding that is agreed on with it: UTF-16 if it offers none of the three
+abbrev pub agreed_by : Data → PositionEncoding
+agreed_by client = unwrap_or (option_and_then first_named (offered_by client)) Utf16
+
+-- the same by the params of `initialize`
 abbrev pub agreed_in : Data → PositionEncoding
-agreed_in params = unwrap_or (option_and_then first_named (offered_in params)) Utf16
+agreed_in params = unwrap_or (option_map agreed_by (get (codes "capabilities") params)) Utf16

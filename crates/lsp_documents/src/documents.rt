@@ -16,6 +16,7 @@ ghost use Rattle.lsp_documents.specs.declared.fault.DocumentFault.TheVariants.{P
 ghost use Rattle.lsp_documents.specs.Params.{uri_in, did_open_in, did_change_in, did_save_in, did_close_in};
 ghost use Rattle.lsp_text.specs.Places.{position_of};
 
+use crate::agreed::Agreed;
 use crate::fault::{DocumentFault, Made, NotMade, Remark};
 use crate::kept::Open;
 use crate::known::{KnownDocuments, OpenText};
@@ -32,34 +33,41 @@ use std::{mem, ops};
 
 /// The documents that a client has opened, by their URIs. Two URIs are the same if they are the same text. If something that
 /// the client told of a document was missed, its text is lost, and not to be had until the client tells it whole. Contracts see
-/// the encoding that was agreed on, and what is kept of each URI.
+/// what was agreed on, and what is kept of each URI.
 ///
 /// A call that fails by `Memory` has missed what it was told. Don't make it again: the document is lost already.
 #[derive(Drop)]
 pub struct TextDocuments {
     alloc: Global,
-    encoding: PositionEncoding,
+    agreed: Agreed,
     documents: BTreeMap<String, Open>,
 }
 
 impl TextDocuments {
-    /// No document.
-    pub fn new(alloc: Global, encoding: PositionEncoding) -> TextDocuments
-        ensures encoding { result.encoding ≡ encoding }
+    /// No document, of a client with which this was agreed on.
+    pub fn new(alloc: Global, agreed: Agreed) -> TextDocuments
+        ensures agreed { result.agreed ≡ agreed }
         ensures none { (uri : List ℕ) → (documents_of result).held uri ≡ None }
     {
         TextDocuments {
             alloc,
-            encoding,
+            agreed,
             documents: BTreeMap::new(alloc),
         }
     }
 
+    /// What was agreed on with the client.
+    pub fn agreed(&self) -> Agreed
+        ensures { result ≡ self.now.agreed }
+    {
+        self.agreed
+    }
+
     /// The encoding that was agreed on.
     pub fn encoding(&self) -> PositionEncoding
-        ensures { result ≡ self.now.encoding }
+        ensures { result ≡ self.now.agreed.encoding }
     {
-        self.encoding
+        self.agreed.encoding()
     }
 
     /// The document of a URI, if it is open and its text is known.
@@ -110,28 +118,31 @@ impl TextDocuments {
         ensures document { option_map (λ found. found.0.now) result
             ≡ option_and_then shown ((documents_of self.now).held uri.now) }
         ensures offset { IfSome result (λ found. found.1
-            ≡ offset_of self.now.encoding found.0.now.text position.line position.character) }
+            ≡ offset_of self.now.agreed.encoding found.0.now.text position.line position.character) }
         ensures boundary { IfSome result (λ found. IsSplitPoint found.0.now.text found.1) }
     {
         let document = self.get(uri)?;
-        Some((document, document.text().offset_at(position, self.encoding)))
+        Some((
+            document,
+            document.text().offset_at(position, self.encoding()),
+        ))
     }
 
     /// The range of a part of a text, which is given in bytes of UTF-8, by the encoding that was agreed on. An end past the text's
     /// counts as that.
     pub fn range_of(&self, text: &Text, part: ops::Range<usize>) -> Range
-        ensures start { result.start ≡ position_of self.now.encoding text.now part.start }
-        ensures end { result.end ≡ position_of self.now.encoding text.now part.end }
+        ensures start { result.start ≡ position_of self.now.agreed.encoding text.now part.start }
+        ensures end { result.end ≡ position_of self.now.agreed.encoding text.now part.end }
         ensures start_again { IsPlace text.now part.start → length text.now < 2 ^ 30
-            → offset_of self.now.encoding text.now result.start.line result.start.character
+            → offset_of self.now.agreed.encoding text.now result.start.line result.start.character
             ≡ part.start }
         ensures end_again { IsPlace text.now part.end → length text.now < 2 ^ 30
-            → offset_of self.now.encoding text.now result.end.line result.end.character
+            → offset_of self.now.agreed.encoding text.now result.end.line result.end.character
             ≡ part.end }
     {
         Range {
-            start: text.position_at(part.start, self.encoding),
-            end: text.position_at(part.end, self.encoding),
+            start: text.position_at(part.start, self.encoding()),
+            end: text.position_at(part.end, self.encoding()),
         }
     }
 
@@ -139,9 +150,9 @@ impl TextDocuments {
     /// order each line is passed over once, as `Text::positions_at` says.
     pub fn positions_of(&self, text: &Text, offsets: &[usize]) -> Result<Vec<Position>, AllocError>
         ensures { IfOk result (λ found.
-            found.items ≡ map (position_of self.now.encoding text.now) offsets.now) }
+            found.items ≡ map (position_of self.now.agreed.encoding text.now) offsets.now) }
     {
-        text.positions_at(self.alloc, offsets, self.encoding)
+        text.positions_at(self.alloc, offsets, self.encoding())
     }
 
     /// Whether the text of a URI is known.
@@ -204,7 +215,7 @@ impl TextDocuments {
             → (documents_of self.new).held q ≡ (documents_of self.old).held q) }
         ensures err { OnErr result ((q : List ℕ)
             → (documents_of self.new).held q ≡ (documents_of self.old).held q) }
-        ensures encoding { self.new.encoding ≡ self.old.encoding }
+        ensures agreed { self.new.agreed ≡ self.old.agreed }
     {
         let document = TextDocument::new(self.alloc, language_id, version, text)?;
         self.put(uri, document)
@@ -219,15 +230,15 @@ impl TextDocuments {
     ) -> Result<(), AllocError>
         ensures own { OnOk result ((documents_of self.new).held uri.now
             ≡ Some (Known (document [] version
-            (edited_by self.old.encoding [] changes.now)))) }
+            (edited_by self.old.agreed.encoding [] changes.now)))) }
         ensures others { OnOk result ((q : List ℕ) → bytes_eq q uri.now ≡ false
             → (documents_of self.new).held q ≡ (documents_of self.old).held q) }
         ensures err { OnErr result ((q : List ℕ)
             → (documents_of self.new).held q ≡ (documents_of self.old).held q) }
-        ensures encoding { self.new.encoding ≡ self.old.encoding }
+        ensures agreed { self.new.agreed ≡ self.old.agreed }
     {
         let mut document = TextDocument::new(self.alloc, "", None, "")?;
-        document.change_in_place(self.alloc, version, self.encoding, changes)?;
+        document.change_in_place(self.alloc, version, self.agreed.encoding(), changes)?;
         self.put(uri, document)
     }
 
@@ -238,7 +249,7 @@ impl TextDocuments {
             → (documents_of self.new).held q ≡ (documents_of self.old).held q) }
         ensures err { OnErr result ((q : List ℕ)
             → (documents_of self.new).held q ≡ (documents_of self.old).held q) }
-        ensures encoding { self.new.encoding ≡ self.old.encoding }
+        ensures agreed { self.new.agreed ≡ self.old.agreed }
     {
         let uri = String::from_str(self.alloc, uri)?;
         self.documents.insert(uri, Open::Known(document))?;
@@ -306,19 +317,19 @@ impl TextDocuments {
         requires { change_fault ((documents_of self.old).held uri.now) (has_whole_text changes.now)
             ≡ None }
         ensures past { IfOk result (λ past. IfSome ((documents_of self.old).held uri.now) (λ o.
-            past ≡ is_past self.old.encoding o changes.now)) }
+            past ≡ is_past self.old.agreed.encoding o changes.now)) }
         ensures own { OnOk result ((documents_of self.new).held uri.now
-            ≡ option_map (λ o. changed_in self.old.encoding o version changes.now)
+            ≡ option_map (λ o. changed_in self.old.agreed.encoding o version changes.now)
             ((documents_of self.old).held uri.now)) }
         ensures err { OnErr result ((documents_of self.new).held uri.now
             ≡ missed ((documents_of self.old).held uri.now)) }
         ensures needed { OnErr result (has_changes changes.now ≡ true) }
         ensures others { (q : List ℕ) → bytes_eq q uri.now ≡ false
             → (documents_of self.new).held q ≡ (documents_of self.old).held q }
-        ensures encoding { self.new.encoding ≡ self.old.encoding }
+        ensures agreed { self.new.agreed ≡ self.old.agreed }
     {
         match self.documents.get_mut(uri) {
-            Some(open) => change_open(self.alloc, open, version, self.encoding, changes),
+            Some(open) => change_open(self.alloc, open, version, self.agreed.encoding(), changes),
             None => Ok(false),
         }
     }
@@ -330,7 +341,7 @@ impl TextDocuments {
             ≡ missed ((documents_of self.old).held uri.now) }
         ensures others { (q : List ℕ) → bytes_eq q uri.now ≡ false
             → (documents_of self.new).held q ≡ (documents_of self.old).held q }
-        ensures encoding { self.new.encoding ≡ self.old.encoding }
+        ensures agreed { self.new.agreed ≡ self.old.agreed }
     {
         if let Some(open) = self.documents.get_mut(uri) {
             lose_text(self.alloc, open);
@@ -343,7 +354,7 @@ impl TextDocuments {
     pub fn lose_all(&mut self)
         ensures held { (q : List ℕ)
             → (documents_of self.new).held q ≡ missed ((documents_of self.old).held q) }
-        ensures encoding { self.new.encoding ≡ self.old.encoding }
+        ensures agreed { self.new.agreed ≡ self.old.agreed }
     {
         let alloc = self.alloc;
         self.documents.retain(|_, open| {
@@ -352,9 +363,10 @@ impl TextDocuments {
         });
     }
 
-    /// Hears that a document was saved. A text that is given is taken only if the document's own is lost; if it differs from the one
-    /// that is known the remark is `SavedTextDiffers`. Without a document of the URI the fault is `NotOpen`, and nothing is changed.
-    /// If memory runs out, the text stays lost.
+    /// Hears that a document was saved. A text that is given is looked at only if the client was asked for it (`Agreed`), since some
+    /// send a part of it unasked. It is taken if the document's own is lost; if it differs from the one that is known the remark is
+    /// `SavedTextDiffers`. Without a document of the URI the fault is `NotOpen`, and nothing is changed. If memory runs out, the
+    /// text stays lost.
     pub fn save(&mut self, uri: &str, text: Option<&str>) -> Result<Option<Remark>, DocumentFault>
         ensures ok { IfOk result (λ remark.
             Took (documents_of self.old) (saves uri.now (option_map (λ s. s.now) text.entry)) remark
@@ -369,6 +381,9 @@ impl TextDocuments {
         let Some(text) = text else {
             return Ok(None);
         };
+        if !self.agreed.include_text() {
+            return Ok(None);
+        }
         let remark = save_remark(open, text);
         self.renew(uri, text)?;
         Ok(remark)
@@ -384,7 +399,7 @@ impl TextDocuments {
             ≡ None) }
         ensures others { (q : List ℕ) → bytes_eq q uri.now ≡ false
             → (documents_of self.new).held q ≡ (documents_of self.old).held q }
-        ensures encoding { self.new.encoding ≡ self.old.encoding }
+        ensures agreed { self.new.agreed ≡ self.old.agreed }
     {
         if let Some(open) = self.documents.get_mut(uri) {
             renew_open(self.alloc, open, text)?;
@@ -411,7 +426,7 @@ impl TextDocuments {
         ensures own { (documents_of self.new).held uri.now ≡ None }
         ensures others { (q : List ℕ) → bytes_eq q uri.now ≡ false
             → (documents_of self.new).held q ≡ (documents_of self.old).held q }
-        ensures encoding { self.new.encoding ≡ self.old.encoding }
+        ensures agreed { self.new.agreed ≡ self.old.agreed }
     {
         self.documents.remove(uri)
     }
@@ -568,7 +583,7 @@ impl TextDocuments {
             ≡ missed ((documents_of self.old).held uri.now) }
         ensures others { (q : List ℕ) → bytes_eq q uri.now ≡ false
             → (documents_of self.new).held q ≡ (documents_of self.old).held q }
-        ensures encoding { self.new.encoding ≡ self.old.encoding }
+        ensures agreed { self.new.agreed ≡ self.old.agreed }
     {
         self.lose(uri);
         not_made(Some(uri), fault, known)

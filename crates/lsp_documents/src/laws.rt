@@ -7,7 +7,7 @@ ghost use Rattle.lsp_documents.specs.Notices.{Documents, Notice, Sent, made, ope
 
 /// A document that may be looked at is the client's: after any list of notifications, of which some were made, of some the URI
 /// alone was known, and of some nothing at all, each URI whose text is known has the text of the client's own document, and its
-/// version or none. Saves are taken for honest: the text that comes with one is the client's.
+/// version or none. A text that was asked for and comes with a save is taken for the client's. One that was not asked for may be any.
 ///
 /// What is kept is no more and no less than the notifications make of it, one after another (`kept`). A document that was opened,
 /// of which all was made since, is known, and is the client's in each part (`current`). A call that refuses by name has made the
@@ -16,16 +16,16 @@ pub fn documents_are_the_clients()
     ensures each { (before : Documents) (client : List ℕ
         → Option Document) (sent : List Sent) (now : Documents) → TakesAll before sent now
         → (uri : List ℕ) → Agrees (client uri) (before.held uri)
-        → SavesItsText before.encoding (client uri) (kinds_of uri sent)
-        → Agrees (told_all before.encoding (client uri) (kinds_of uri sent)) (now.held uri) }
+        → SavesItsText before.agreed (client uri) (kinds_of uri sent)
+        → Agrees (told_all before.agreed.encoding (client uri) (kinds_of uri sent)) (now.held uri) }
     ensures kept { (before : Documents) (sent : List Sent) (now : Documents)
         → TakesAll before sent now → (uri : List ℕ)
-        → now.held uri ≡ kept_after_all before.encoding uri (before.held uri) sent }
+        → now.held uri ≡ kept_after_all before.agreed uri (before.held uri) sent }
     ensures current { (before : Documents) (uri language_id : List ℕ) (version : Option ℤ)
         (text : List ℕ) (sent : List Sent) (now : Documents)
         → TakesAll before (made (opens uri language_id version text) ∷ sent) now
         → is_current uri sent ≡ true → (d : Document)
-        × (told_all before.encoding (Some (document language_id version text)) (kinds_of uri sent)
+        × (told_all before.agreed.encoding (Some (document language_id version text)) (kinds_of uri sent)
         ≡ Some d) × (now.held uri ≡ Some (Known d)) }
     ensures refused { (before : Documents) (n : Notice) (now : Documents) (fault : DocumentFault)
         → fault_of (before.held n.uri) n.kind ≡ Some fault → Keeps before now

@@ -1,6 +1,7 @@
 //! The documents that a client has opened, as its notifications tell of them (LSP 3.17, "Text Document Synchronization").
 #![tactic(auto)]
 
+mod agreed;
 mod documents;
 mod fault;
 mod kept;
@@ -10,9 +11,10 @@ mod lost;
 mod method;
 mod params;
 
+pub use agreed::Agreed;
 pub use documents::TextDocuments;
 pub use fault::{DocumentFault, Made, NotMade, Remark};
 pub use kept::Open;
 pub use known::{KnownDocuments, OpenText};
 pub use lost::LostDocument;
-pub use params::{position_encoding, position_in, range_in};
+pub use params::{position_encoding, position_in, range_in, uri_in};

@@ -4,7 +4,7 @@ ghost use Rattle.serde_json.specs.Find.{get, as_array};
 ghost use Rattle.serde_json.specs.View.{view, items_view};
 ghost use Rattle.lsp_text.specs.Documents.{Change, Document};
 ghost use Rattle.lsp_documents.specs.Notices.{has_whole, has_changes};
-ghost use Rattle.lsp_documents.specs.Params.{text_in as text_of, count_in as count_of, line_in as line_of, is_negative as is_below, version_in as version_from, position_in as position_of, range_in as range_of, given_range as range_given, change_in as change_of, changes_in as changes_of, document_in as document_of, uri_in as uri_of, opened_in, changes_given, encoding_named as named, first_named as first_of, offered_in as offers, agreed_in};
+ghost use Rattle.lsp_documents.specs.Params.{text_in as text_of, count_in as count_of, line_in as line_of, is_negative as is_below, version_in as version_from, position_in as position_of, range_in as range_of, given_range as range_given, change_in as change_of, changes_in as changes_of, document_in as document_of, uri_in as uri_of, opened_in, changes_given, encoding_named as named, first_named as first_of, offered_by as offers, agreed_by, agreed_in};
 
 use lsp_text::{ContentChange, Position, PositionEncoding, Range};
 use serde_json::Value;
@@ -170,7 +170,7 @@ pub fn content_changes(
     }
 }
 
-/// The URI of the document that params tell of.
+/// The URI of the document that params tell of, as `textDocument` of most methods has it, if they name one.
 pub fn uri_in(params: &Value) -> Option<&str>
     ensures { option_map (λ s. s.now) result ≡ uri_of (view params.now) }
 {
@@ -244,20 +244,27 @@ fn first_named(names: &[Value]) -> Option<PositionEncoding>
 }
 
 /// The encoding that the params of `initialize` agree on (LSP 3.17, `general.positionEncodings` of the client's capabilities):
-/// the first of the client's that is UTF-8, UTF-16 or UTF-32, and UTF-16 if there is none. Say it to the client as
-/// `positionEncoding` of the server's capabilities, if it is not UTF-16.
+/// the first of the client's that is UTF-8, UTF-16 or UTF-32, and UTF-16 if there is none. `Agreed::announced` says it to the client.
 pub fn position_encoding(params: &Value) -> PositionEncoding
     ensures { result ≡ agreed_in (view params.now) }
 {
-    let offered = offered_in(params);
+    match params.get("capabilities") {
+        Some(client) => encoding_for(client),
+        None => PositionEncoding::Utf16,
+    }
+}
+
+/// The encoding that is agreed on with a client that has these capabilities.
+pub fn encoding_for(client: &Value) -> PositionEncoding
+    ensures { result ≡ agreed_by (view client.now) }
+{
+    let offered = offered_by(client);
     let named = offered.and_then(|names| first_named(names.as_slice()));
     named.unwrap_or(PositionEncoding::Utf16)
 }
 
-fn offered_in(params: &Value) -> Option<&Vec<Value>>
-    ensures { option_map (λ v. items_view v.now.items) result ≡ offers (view params.now) }
+fn offered_by(client: &Value) -> Option<&Vec<Value>>
+    ensures { option_map (λ v. items_view v.now.items) result ≡ offers (view client.now) }
 {
-    let capabilities = params.get("capabilities")?;
-    let general = capabilities.get("general")?;
-    general.get("positionEncodings")?.as_array()
+    client.get("general")?.get("positionEncodings")?.as_array()
 }

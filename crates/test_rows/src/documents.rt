@@ -1,6 +1,7 @@
 // Open documents, as rows of notifications tell of them: a message with a method and params.
 //
-// `initialize` begins anew, in the encoding that its params agree on. For a notification the line has `made`, its URI and what is to be
+// `initialize` begins anew, in the encoding that its params agree on. The text of a save is asked for unless `includeText` of the params
+// says no. For a notification the line has `made`, its URI and what is to be
 // said of it, or what is wrong, and whether a text is lost by it, and then each document that was open once: its URI, its version, its
 // language, its text, and how many lines it has and the position of each place where a character begins. One that is closed shows
 // `-`, and one whose text is lost `?`. A body that is no message has `unread`: it may have told of any document, so each text is lost.
@@ -10,11 +11,9 @@
 use crate::messages::text_in;
 use crate::said::Said;
 use crate::types::say_written;
-use lsp_documents::{
-    DocumentFault, Made, NotMade, Remark, TextDocuments, position_encoding, position_in,
-};
+use lsp_documents::{Agreed, DocumentFault, Made, NotMade, Remark, TextDocuments, position_in};
 use lsp_message::Notification;
-use lsp_text::{ContentChange, Position, PositionEncoding, Range, Text, TextDocument};
+use lsp_text::{ContentChange, Position, Range, Text, TextDocument};
 use serde_json::Value;
 use std::alloc::{AllocError, Global};
 use std::fmt::Write;
@@ -34,7 +33,7 @@ impl Documents {
     pub fn new(alloc: Global) -> Documents {
         Documents {
             alloc,
-            documents: TextDocuments::new(alloc, PositionEncoding::Utf16),
+            documents: TextDocuments::new(alloc, Agreed::unannounced()),
             seen: String::new(alloc),
             told: String::new(alloc),
         }
@@ -51,8 +50,8 @@ impl Documents {
     /// Tells all that was told to documents that begin anew.
     fn hear_again(&mut self) {
         let told = mem::replace(&mut self.told, String::new(self.alloc));
-        let encoding = self.documents.encoding();
-        self.begin(encoding);
+        let agreed = self.documents.agreed();
+        self.begin(agreed);
         let mut said = Said::new(self.alloc);
         for text in told.lines() {
             self.hear(&mut said, text);
@@ -60,9 +59,9 @@ impl Documents {
         drop(said);
     }
 
-    /// Begins anew, in this encoding.
-    fn begin(&mut self, encoding: PositionEncoding) {
-        self.documents = TextDocuments::new(self.alloc, encoding);
+    /// Begins anew, by what was agreed on.
+    fn begin(&mut self, agreed: Agreed) {
+        self.documents = TextDocuments::new(self.alloc, agreed);
         self.seen.clear();
         self.told.clear();
     }
@@ -91,10 +90,7 @@ impl Documents {
         let none = Value::Null;
         let params = message.get("params").unwrap_or(&none);
         match method {
-            "initialize" => {
-                self.begin(position_encoding(params));
-                said.push(self.documents.encoding().name());
-            }
+            "initialize" => self.initialize(said, params),
             "known" => self.show_known(said),
             "place" => self.show_place(said, params),
             "long" => self.open_long(said, params),
@@ -102,6 +98,21 @@ impl Documents {
             _ => self.hear_params(said, method, params),
         }
         drop(none);
+    }
+
+    /// Agrees with a client, and begins anew.
+    fn initialize(&mut self, said: &mut Said, params: &Value) {
+        let asked = params.get("includeText").and_then(|asked| asked.as_bool());
+        let mut can = Value::Null;
+        let agreed = Agreed::announced(self.alloc, params, asked != Some(false), &mut can);
+        drop(can);
+        match agreed {
+            Ok(agreed) => {
+                self.begin(agreed);
+                said.push(agreed.encoding().name());
+            }
+            Err(_) => said.is_short = true,
+        }
     }
 
     /// Opens a document whose text is one that is given, so many times.

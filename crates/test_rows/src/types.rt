@@ -1,7 +1,7 @@
 // Values that are read by the types of `lsp_types` and written again.
 use crate::messages::{text_in, value_in};
 use crate::said::Said;
-use lsp_documents::position_encoding;
+use lsp_documents::Agreed;
 use lsp_types::{
     ApplyWorkspaceEditParams, ApplyWorkspaceEditResult, CodeAction, CodeActionOptions,
     CodeActionParams, Command, CompletionItem, CompletionList, CompletionOptions,
@@ -156,14 +156,29 @@ fn of_members(said: &mut Said, name: &str, found: &Value) {
     }
 }
 
-/// What a server can do that keeps its documents, in the encoding that the params of `initialize` agree on.
+/// What a server can do that keeps its documents, in the encoding that the params of `initialize` agree on: by types, and then by a
+/// tree, in which the members of `server` stand too. The text of a save is asked for if `includeText` says so.
 fn document_capabilities(said: &mut Said, params: &Value) {
-    match ServerCapabilities::of_documents(said.alloc, position_encoding(params)) {
-        Ok(can) => {
+    let none = Value::Null;
+    let asked = params.get("includeText").and_then(|asked| asked.as_bool());
+    let include_text = asked == Some(true);
+    let client = params.get("capabilities").unwrap_or(&none);
+    match Agreed::with_capabilities(said.alloc, client, include_text) {
+        Ok((_, can)) => {
             say_written(said, &can);
             drop(can);
         }
         Err(_) => said.is_short = true,
+    }
+    drop(none);
+    said.begin_step();
+    let mut can = get(said, params, "server", Value::Null);
+    match Agreed::announced(said.alloc, params, include_text, &mut can) {
+        Ok(_) => said.show(can),
+        Err(_) => {
+            drop(can);
+            said.is_short = true;
+        }
     }
 }
 

@@ -19,4 +19,4 @@ returns-clause-err c =
     let some : IfSome (changes_given (view c.args.params.now)) (λ cs. has_changes cs ≡ true) = search rules in
     change_starved (documents_of c.args.self.now) (documents_of c.missed-in-Err.new.self) (uri_in d) (option_and_then version_in (document_in d)) (changes_given d) c.in-Some.uri.now c.in-Some-whole_in.whole _
     (sym c.in-Some.ensures) (sym c.in-Some-whole_in.ensures) (sym c.refusal.ensures ∙ c.in_default-refusal.is) c.missed-in-Err.ensures.why some
-    (record { encoding = c.missed-in-Err.ensures.encoding; own = c.missed-in-Err.ensures.own; others = c.missed-in-Err.ensures.others })
+    (record { agreed = c.missed-in-Err.ensures.agreed; own = c.missed-in-Err.ensures.own; others = c.missed-in-Err.ensures.others })

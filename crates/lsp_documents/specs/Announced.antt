@@ -1,0 +1,41 @@
+-- What a server announces of documents (LSP 3.17, "ServerCapabilities", "TextDocumentSyncOptions" and "SaveOptions").
+use Rattle.std.specs.Prelude.{◌≡◌, Bool, true, Some, None, option_map, unwrap_or, codes, string_bytes}
+use Rattle.serde_json.specs.Data.{Data, Members, boolean, number, unsigned, string, object, member, no_members, put}
+use Rattle.serde_json.specs.Find.{as_object}
+use Rattle.lsp_text.specs.Characters.{encoding_name}
+use Rattle.lsp_types.specs.declared.capabilities.ServerCapabilities.{ServerCapabilities}
+use Rattle.lsp_types.specs.declared.capabilities.TextDocumentSyncOptions.{TextDocumentSyncOptions}
+use Rattle.lsp_documents.specs.declared.agreed.Agreed.{Agreed}
+
+-- what the client is to tell of: opening and closing, the parts that changed (2), and saving, with the text or not
+abbrev pub sync_of : Bool → Data
+sync_of include_text = object
+    (member (codes "change") (number (unsigned 2))
+    (member (codes "openClose") (boolean true)
+    (member (codes "save") (object (member (codes "includeText") (boolean include_text) no_members))
+    no_members)))
+
+-- the members of capabilities, with the encoding that was agreed on and what the client is to tell of
+abbrev pub announced_members : Agreed → Members → Members
+announced_members agreed can =
+    put (codes "textDocumentSync") (sync_of agreed.include_text)
+    (put (codes "positionEncoding") (string (encoding_name agreed.encoding)) can)
+
+-- the capabilities with these. What is no object has no members
+abbrev pub announced : Agreed → Data → Data
+announced agreed can = object (announced_members agreed (unwrap_or (as_object can) no_members))
+
+-- the same by types
+abbrev pub options_of : Bool → TextDocumentSyncOptions
+options_of include_text = record {
+  open_close = Some true;
+  change = Some (record { 0 = 2 });
+  will_save = None;
+  will_save_wait_until = None;
+  save = Some (record { include_text = Some include_text });
+}
+
+pub record IsAnnounced (agreed : Agreed) (can : ServerCapabilities) : Type 0 where
+  pub encoding : option_map string_bytes can.position_encoding
+      ≡ Some (encoding_name agreed.encoding)
+  pub sync : can.text_document_sync ≡ Some (options_of agreed.include_text)

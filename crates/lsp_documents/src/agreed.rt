@@ -1,0 +1,155 @@
+// What a server and its client agreed on for documents.
+ghost use Rattle.std.specs.Prelude.{◌≡◌, IfOk, OnOk, false};
+ghost use Rattle.serde_json.specs.View.{view, members_view};
+ghost use Rattle.lsp_text.specs.declared.position.PositionEncoding.TheVariants.{Utf16};
+ghost use Rattle.lsp_documents.specs.Announced.{announced as with_announced, announced_members, sync_of, options_of, IsAnnounced};
+ghost use Rattle.lsp_documents.specs.Params.{agreed_in, agreed_by};
+
+use crate::params::{encoding_for, position_encoding};
+use lsp_text::PositionEncoding;
+use lsp_types::{SaveOptions, ServerCapabilities, TextDocumentSyncKind, TextDocumentSyncOptions};
+use serde_json::{Map, Value, json, put};
+use std::alloc::{AllocError, Global};
+use std::mem;
+
+/// What a server and its client agreed on for documents: in which units characters are counted, and whether a save comes with the text.
+///
+/// Only a call that announces it gives another encoding than UTF-16, or asks for texts. So no server counts in units of which its
+/// client does not know.
+#[derive(Clone, Copy, Drop)]
+pub struct Agreed {
+    encoding: PositionEncoding,
+    include_text: bool,
+}
+
+impl Agreed {
+    /// What holds if nothing is announced: UTF-16, and no text is asked for (LSP 3.17, "PositionEncodingKind", "SaveOptions").
+    pub fn unannounced() -> Agreed
+        ensures { result ≡ record { encoding = Utf16; include_text = false } }
+    {
+        Agreed {
+            encoding: PositionEncoding::Utf16,
+            include_text: false,
+        }
+    }
+
+    /// Agrees on an encoding with the client that sent these params of `initialize`, as `position_encoding` does, and announces it
+    /// in the server's capabilities, which become an object if they are none (LSP 3.17, "ServerCapabilities"). In
+    /// `textDocumentSync` the client is asked to tell of opening, closing, the parts that changed and saving, with the text if
+    /// `include_text` says so. `Err` means that an allocation failed.
+    pub fn announced(
+        alloc: Global,
+        params: &Value,
+        include_text: bool,
+        capabilities: &mut Value,
+    ) -> Result<Agreed, AllocError>
+        ensures agreed { IfOk result (λ agreed. agreed ≡ record {
+          encoding = agreed_in (view params.now);
+          include_text = include_text;
+        }) }
+        ensures announced { IfOk result (λ agreed.
+            view capabilities.new ≡ with_announced agreed (view capabilities.old)) }
+    {
+        let agreed = Agreed {
+            encoding: position_encoding(params),
+            include_text,
+        };
+        if !capabilities.is_object() {
+            drop(mem::replace(capabilities, Value::Object(Map::new(alloc))));
+        }
+        agreed.write(alloc, capabilities).and(Ok(agreed))
+    }
+
+    /// Writes what was agreed on into capabilities that are an object.
+    fn write(self, alloc: Global, capabilities: &mut Value) -> Result<(), AllocError>
+        ensures { OnOk result (view capabilities.new
+            ≡ with_announced self (view capabilities.old)) }
+    {
+        match capabilities {
+            Value::Object(members) => self.write_members(alloc, members),
+            _ => Err(AllocError),
+        }
+    }
+
+    /// Writes what was agreed on as members of capabilities.
+    fn write_members(
+        self,
+        alloc: Global,
+        members: &mut Map<String, Value>,
+    ) -> Result<(), AllocError>
+        ensures { OnOk result (members_view members.new.entries
+            ≡ announced_members self (members_view members.old.entries)) }
+    {
+        let name = Value::try_from_str(alloc, self.encoding.name())?;
+        put(members, alloc, "positionEncoding", name)?;
+        put(
+            members,
+            alloc,
+            "textDocumentSync",
+            sync(alloc, self.include_text)?,
+        )
+    }
+
+    /// `announced` by types, of a client with these capabilities (`InitializeParams::capabilities`). What else the server can do goes into
+    /// the other fields.
+    pub fn with_capabilities(
+        alloc: Global,
+        client: &Value,
+        include_text: bool,
+    ) -> Result<(Agreed, ServerCapabilities), AllocError>
+        ensures agreed { IfOk result (λ both. both.0 ≡ record {
+          encoding = agreed_by (view client.now);
+          include_text = include_text;
+        }) }
+        ensures announced { IfOk result (λ both. IsAnnounced both.0 both.1) }
+    {
+        let encoding = encoding_for(client);
+        let agreed = Agreed {
+            encoding,
+            include_text,
+        };
+        match ServerCapabilities::of_documents(alloc, encoding) {
+            Ok(mut capabilities) => {
+                capabilities.text_document_sync = Some(sync_options(include_text));
+                Ok((agreed, capabilities))
+            }
+            Err(error) => Err(error),
+        }
+    }
+
+    /// The encoding that was agreed on.
+    pub fn encoding(self) -> PositionEncoding
+        ensures { result ≡ self.encoding }
+    {
+        self.encoding
+    }
+
+    /// Whether the client was asked for the text with a save.
+    pub fn include_text(self) -> bool
+        ensures { result ≡ self.include_text }
+    {
+        self.include_text
+    }
+}
+
+/// What the client is to tell of its documents (LSP 3.17, "TextDocumentSyncOptions"), by types.
+fn sync_options(include_text: bool) -> TextDocumentSyncOptions
+    ensures { result ≡ options_of include_text }
+{
+    let mut options = TextDocumentSyncOptions::new(TextDocumentSyncKind::INCREMENTAL);
+    options.save = Some(SaveOptions {
+        include_text: Some(include_text),
+    });
+    options
+}
+
+/// The same in a tree.
+fn sync(alloc: Global, include_text: bool) -> Result<Value, AllocError>
+    ensures { IfOk result (λ sync. view sync ≡ sync_of include_text) }
+{
+    json!(in alloc; {
+        "change": 2,
+        "openClose": true,
+        "save": { "includeText": include_text }
+    })
+}
