@@ -7,6 +7,7 @@ docs/DECISIONS.md says where they are silent; it was never made to follow the pr
 import json
 import random
 import re
+from urllib.parse import unquote
 
 UNITS = {
     "utf-8": lambda c: len(c.encode("utf-8")),
@@ -128,6 +129,14 @@ def is_unread(text):
     return False
 
 
+def path_named(uri):
+    """The path that a `file:` URI names (RFC 8089), if it names one: an escape stands for its byte (RFC 3986, section 2.1)."""
+    found = re.fullmatch("file://(?:localhost)?(/[^?#]*)", uri)
+    if not found or re.search("%(?![0-9A-Fa-f]{2})", found[1]):
+        return None
+    return unquote(found[1])
+
+
 class Documents:
     """What a server holds, and what it answers. A document whose text is lost has None for its text and its version."""
 
@@ -145,6 +154,8 @@ class Documents:
         if method == "initialize":
             self.__init__(agreed(params), not isinstance(params, dict) or params.get("includeText") is not False)
             return [self.encoding]
+        if method == "path":
+            return [self.at_path(params)]
         if method == "known":
             return [self.known()]
         if method == "place":
@@ -177,6 +188,14 @@ class Documents:
         named = [f" {it} {shown_version(self.open[it][0])}" for it in known]
         copies = [f"\t{it} {self.open[it][1]} {shown_version(self.open[it][0])} {json.dumps(self.open[it][2], ensure_ascii=False)}" for it in known]
         return "known" + "".join(named + copies)
+
+    def at_path(self, path):
+        """The first document whose URI names a path, and its version."""
+        named = [it for it in self.open if self.is_known(it) and path_named(it) == path]
+        if not named:
+            return "no document"
+        uri = min(named, key=lambda it: it.encode())
+        return f"{uri} {shown_version(self.open[uri][0])}"
 
     def place(self, params):
         """Where a position is, in bytes of UTF-8, and the range from there to the text's end."""
@@ -489,6 +508,24 @@ def unasked(table):
     table.saves("file:///c", text="b")
 
 
+def paths(table):
+    """Documents by their paths: RFC 8089, RFC 3986, section 2.1. Editors leave other characters without an escape than `uri_of_path`."""
+    table.begin("utf-8")
+    for uri, version in [
+        ("file:///p/@types/a+b%20(1).sums", 1), ("file:///p/%c3%a9", 2), ("file:///p/%C3%89", 3), ("file://localhost/p/b", 4),
+        ("untitled:/p/u", 5), ("file://other/p/o", 6), ("file:///p/q?/p/q", 7), ("file:///p/%2", 8), ("/p/s", 9),
+    ]:
+        table.opens(uri, "", version)
+    for path in ["/p/@types/a+b (1).sums", "/p/\u00e9", "/p/\u00c9", "/p/b", "/p/u", "/p/o", "/p/q", "/p/%2", "/p/s", "p/b", "", "/"]:
+        table.tell("path", path)
+    table.opens("file:///p/%62", "", 10)
+    table.tell("path", "/p/b")
+    table.tell("textDocument/didChange", {"textDocument": {"uri": "file:///p/%62"}})
+    table.tell("path", "/p/b")
+    table.closes("file://localhost/p/b")
+    table.tell("path", "/p/b")
+
+
 def large(table):
     """Texts and notifications past any size at which a server might give up: LSP 3.17 has no such size."""
     for encoding in ["utf-16", "utf-8"]:
@@ -573,6 +610,7 @@ def rows(seed, sessions):
     wrong(table)
     unread(table)
     unasked(table)
+    paths(table)
     large(table)
     for _ in range(sessions):
         session(table, source, 24)

@@ -1,2 +1,3 @@
 pub mod NoticeLemmas
 pub mod Refused
+pub mod Paths

@@ -1,9 +1,10 @@
 -- The documents whose text is known, and copies of their texts.
-use Rattle.std.specs.Prelude.{ℕ, List, Option, option_map, map, string_bytes}
-use Rattle.std.specs.List.{filter_map}
+use Rattle.std.specs.Prelude.{◌≡◌, ℕ, List, ◌∷◌, ◌++◌, Option, option_map, map, string_bytes}
+use Rattle.std.specs.List.{All, filter_map}
 use Rattle.std.specs.declared.alloc.Global.{Global}
 use Rattle.std.specs.declared.string.String.{String}
 use Rattle.lsp_text.specs.Documents.{Document}
+use Rattle.lsp_types.specs.FileUris.{Names}
 use Rattle.lsp_documents.specs.Notices.{shown, document}
 use Rattle.lsp_documents.specs.declared.kept.Open.{Open}
 use Rattle.lsp_documents.specs.declared.known.OpenText.{OpenText}
@@ -19,6 +20,19 @@ known_in entries = filter_map known_at entries
 -- the URIs and the texts of documents
 abbrev pub texts_in : List (List ℕ × Document) → List (List ℕ × List ℕ)
 texts_in known = map (λ k. (k.0, k.1.text)) known
+
+-- no URI of these documents names the path
+abbrev pub NoneNames : List ℕ → List (List ℕ × Document) → Type 0
+NoneNames path known = All (λ k. Names k.0 path → ⊥) known
+
+-- the first of these documents whose URI names the path
+pub record IsFirstOf (path : List ℕ) (known : List (List ℕ × Document))
+    (found : List ℕ × Document) : Type 0 where
+  pub before : List (List ℕ × Document)
+  pub behind : List (List ℕ × Document)
+  pub stands : known ≡ before ++ (found ∷ behind)
+  pub names : Names found.0 path
+  pub is_first : NoneNames path before
 
 -- the URIs and the texts of copies
 abbrev pub copied : List OpenText → List (List ℕ × List ℕ)

@@ -8,7 +8,7 @@ ghost use Rattle.lsp_text.specs.Columns.{offset_of, IsPlace};
 ghost use Rattle.lsp_text.specs.Edits.{edited_by};
 ghost use Rattle.lsp_documents.specs.Heard.{Answers};
 ghost use Rattle.lsp_documents.specs.Held.{documents_of, known_of, texts_of, has_known, loses};
-ghost use Rattle.lsp_documents.specs.Known.{copied, copied_whole};
+ghost use Rattle.lsp_documents.specs.Known.{copied, copied_whole, NoneNames, IsFirstOf};
 ghost use Rattle.lsp_documents.specs.Methods.{method_named};
 ghost use Rattle.lsp_documents.specs.Notices.{document, opens, edits, closes, saves, shown, lost, missed, is_not_higher as is_below, is_past, change_remark as remark_of_change, save_remark as remark_of_save, version_of as kept_version, changed_in, saved_in, change_fault, has_whole as has_whole_text, has_changes, is_known, MissesAll, Took, Refused, Failed, FailedSave};
 ghost use Rattle.lsp_documents.specs.declared.kept.Open.TheVariants.{Known};
@@ -25,6 +25,7 @@ use crate::method::DocumentMethod;
 use crate::params;
 use lsp_message::Notification;
 use lsp_text::{ContentChange, Position, PositionEncoding, Range, Text, TextDocument};
+use lsp_types::names_path;
 use serde_json::Value;
 use std::alloc::{AllocError, Global};
 use std::collections::BTreeMap;
@@ -97,6 +98,20 @@ impl TextDocuments {
         ensures { result ≡ known_of self.now }
     {
         KnownDocuments { open: self.iter() }
+    }
+
+    /// The document of a path, if its text is known: the first, in the order of the URIs, whose URI names the path, as
+    /// `lsp_types::names_path` says. Editors spell the URI of a path in several ways, so `get(uri_of_path(path))` misses some.
+    pub fn at_path(&self, path: &str) -> Option<(&str, &TextDocument)>
+        ensures { MatchOption result (NoneNames path.now (known_of self.now))
+            (λ found. IsFirstOf path.now (known_of self.now) (found.0.now, found.1.now)) }
+    {
+        for (uri, document) in self.known() {
+            if names_path(uri, path) {
+                return Some((uri, document));
+            }
+        }
+        None
     }
 
     /// A copy of each document whose text is known, with its URI, in the order of these: for a job, which goes on while the documents

@@ -6,7 +6,7 @@
 // language, its text, and how many lines it has and the position of each place where a character begins. One that is closed shows
 // `-`, and one whose text is lost `?`. A body that is no message has `unread`: it may have told of any document, so each text is lost.
 // `known` has each URI whose text is known, with its version, and then with a copy of the document. `place` has where a position of a
-// document is, in bytes, and the range from there to the text's end. `long` opens a document of a text so many times over, and `often`
+// document is, in bytes, and the range from there to the text's end. `path` has the URI and the version of the document of a path. `long` opens a document of a text so many times over, and `often`
 // puts a text before one so many times in one call: what comes is how long it is then, in bytes and in lines.
 use crate::messages::text_in;
 use crate::said::Said;
@@ -91,6 +91,7 @@ impl Documents {
         let params = message.get("params").unwrap_or(&none);
         match method {
             "initialize" => self.initialize(said, params),
+            "path" => self.show_path(said, text_in(Some(params))),
             "known" => self.show_known(said),
             "place" => self.show_place(said, params),
             "long" => self.open_long(said, params),
@@ -112,6 +113,18 @@ impl Documents {
                 said.push(agreed.encoding().name());
             }
             Err(_) => said.is_short = true,
+        }
+    }
+
+    /// The URI and the version of the document of a path.
+    fn show_path(&self, said: &mut Said, path: &str) {
+        match self.documents.at_path(path) {
+            Some((uri, document)) => {
+                said.push(uri);
+                said.push(" ");
+                said.debug(document.version());
+            }
+            None => said.push("no document"),
         }
     }
 
