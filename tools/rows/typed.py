@@ -397,4 +397,9 @@ def offset_answer(rest):
     return [str(len(before.encode()))]
 
 
-ROWS = {"typed": typed_answer, "uri": uri_answer, "path": path_answer, "names": names_answer, "folders": folders_answer, "tokens": tokens_answer, "offset": offset_answer}
+def lines_answer(text):
+    """LSP 3.17, "Text Documents": a line ends with `\\n`, `\\r\\n` or `\\r`. Behind the last there is none."""
+    return [" ".join([*map(quoted, re.split("\r\n|\n|\r", json.loads(text))), "none"])]
+
+
+ROWS = {"typed": typed_answer, "uri": uri_answer, "path": path_answer, "names": names_answer, "folders": folders_answer, "tokens": tokens_answer, "offset": offset_answer, "lines": lines_answer}

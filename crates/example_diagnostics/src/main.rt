@@ -1,7 +1,7 @@
 //! A language server by types: `example_diagnostics [--stdio | ADDRESS]`, over standard input and output, or over a socket, where it
 //! serves one client after another.
 //!
-//! It marks the lines of a document that are too long, as the user types. A hover says how long a line is, and a definition leads
+//! It keeps each text as the client edits it, a range at a time, and marks the lines that are too long. A hover says how long a line is, and a definition leads
 //! to the heading that a line stands under (`# ..`). How long a line may be it asks its client for, if the client can be
 //! asked (`workspace/configuration`, section `lines`, a number; 80 if there is none). Until the answer comes hovers wait, so
 //! they can be cancelled.
@@ -12,17 +12,17 @@ ghost use Rattle.lsp_service.specs.QueuedServer.{ServerSession};
 ghost use Rattle.lsp_service.specs.Stated.{unwoken};
 
 use anyhow::{Result as Answer, bail};
+use lsp_documents::{Agreed, Made, NotMade, TextDocuments};
 use lsp_server::clients::{ClientOptions, serve_clients};
 use lsp_server::{
     Act, EndSession, Notification, Request, ResponseError, Server, SessionEnd, SessionFault,
     StreamTransport, read_as, session_with_over, write_as,
 };
+use lsp_text::{Text, TextDocument};
 use lsp_types::{
-    ConfigurationParams, Diagnostic, DiagnosticSeverity, DidChangeTextDocumentParams,
-    DidCloseTextDocumentParams, DidOpenTextDocumentParams, Hover, InitializeParams,
-    InitializeResult, Location, MarkupKind, Position, PublishDiagnosticsParams, Range,
-    ServerCapabilities, TextDocumentPositionParams, TextDocumentSyncKind, TextDocumentSyncOptions,
-    methods,
+    ConfigurationParams, Diagnostic, DiagnosticSeverity, Hover, InitializeParams, InitializeResult,
+    Location, MarkupKind, MessageType, Position, PublishDiagnosticsParams, Range,
+    ServerCapabilities, TextDocumentPositionParams, methods,
 };
 use serde_json::Value;
 use std::alloc::{AllocError, Global};
@@ -39,17 +39,11 @@ struct Checker {
     configures: bool,
     /// Whether it was asked, and has not answered yet.
     is_asking: bool,
-    documents: Vec<Document>,
+    documents: TextDocuments,
+    /// What was last logged of a notification that was not made.
+    complaint: String,
     /// The hovers that wait for the configuration.
     waiting: Vec<Request>,
-}
-
-/// A document that the client opened.
-#[derive(Drop)]
-struct Document {
-    uri: String,
-    version: Option<i32>,
-    text: String,
 }
 
 /// What a request of the server's own was for.
@@ -78,10 +72,9 @@ impl Server for Checker {
             Ok(params) => params,
             Err(error) => return Ok(Err(error)),
         };
-        let configuration = params.capabilities.pointer("/workspace/configuration");
-        self.configures = configuration.and_then(|can| can.as_bool()) == Some(true);
+        let can = self.agree(&params);
         drop(params);
-        let result = InitializeResult::new(self.alloc, capabilities(), "lines")?;
+        let result = InitializeResult::new(self.alloc, can?, "lines")?;
         let written = write_as(self.alloc, &result);
         drop(result);
         written
@@ -115,22 +108,10 @@ impl Server for Checker {
     }
 
     fn notification(&mut self, notification: Notification) -> Result<Acts, AllocError> {
-        let alloc = self.alloc;
-        match notification.method.as_str() {
-            methods::DID_OPEN => {
-                Act::of_notification(alloc, notification, |params| self.did_open(params))
-            }
-            methods::DID_CHANGE => {
-                Act::of_notification(alloc, notification, |params| self.did_change(params))
-            }
-            methods::DID_CLOSE => {
-                Act::of_notification(alloc, notification, |params| self.did_close(params))
-            }
-            _ => {
-                drop(notification);
-                Ok(Vec::new(alloc))
-            }
-        }
+        let mut acts = Vec::new(self.alloc);
+        let noted = self.note(&notification, &mut acts);
+        drop(notification);
+        noted.and(Ok(acts))
     }
 
     fn response(
@@ -160,9 +141,24 @@ impl Checker {
             longest: 80,
             configures: false,
             is_asking: false,
-            documents: Vec::new(alloc),
+            documents: TextDocuments::new(alloc, Agreed::unannounced()),
+            complaint: String::new(alloc),
             waiting: Vec::new(alloc),
         }
+    }
+
+    /// Agrees with the client on how its texts are told, and gives what the server can do, which announces it.
+    fn agree(&mut self, params: &InitializeParams) -> Result<ServerCapabilities, AllocError> {
+        let client = &params.capabilities;
+        let configuration = client.pointer("/workspace/configuration");
+        self.configures = configuration.and_then(|can| can.as_bool()) == Some(true);
+        let (agreed, can) = Agreed::with_capabilities(self.alloc, client, false)?;
+        self.documents = TextDocuments::new(self.alloc, agreed);
+        Ok(ServerCapabilities {
+            hover_provider: Some(true),
+            definition_provider: Some(true),
+            ..can
+        })
     }
 
     /// Asks for the client's configuration.
@@ -199,9 +195,42 @@ impl Checker {
         Ok(())
     }
 
+    /// What the client is told after a notification.
+    fn note(&mut self, notification: &Notification, acts: &mut Acts) -> Result<(), AllocError> {
+        match self.documents.hear(notification) {
+            Some(Ok(made)) => self.hear(made, acts),
+            Some(Err(missed)) => self.complain(missed.unless_memory()?, acts),
+            None => Ok(()),
+        }
+    }
+
+    /// What the client is told after a notification that was made: what there is to say of it, and which lines are too long.
+    fn hear(&self, made: Made<'_>, acts: &mut Acts) -> Result<(), AllocError> {
+        if made.remark.is_some() {
+            let line = format!(in self.alloc; "{made}")?;
+            acts.push(Act::log(self.alloc, MessageType::WARNING, line.as_str())?)?;
+        }
+        self.mark(acts, made.uri, self.documents.get(made.uri))
+    }
+
+    /// What the client is told after a notification that was not made: why, but not at each keystroke anew, and no marks of a text that
+    /// was lost by it. Each may be, if no URI is named.
+    fn complain(&mut self, missed: NotMade<'_>, acts: &mut Acts) -> Result<(), AllocError> {
+        let line = format!(in self.alloc; "{missed}")?;
+        if missed.lost || line.as_str() != self.complaint.as_str() {
+            acts.push(Act::log(self.alloc, MessageType::ERROR, line.as_str())?)?;
+        }
+        self.complaint = line;
+        match missed.uri {
+            None => self.mark_all(acts),
+            Some(uri) if missed.lost => self.mark(acts, uri, None),
+            Some(_) => Ok(()),
+        }
+    }
+
     fn mark_all(&self, acts: &mut Acts) -> Result<(), AllocError> {
-        for document in self.documents.iter() {
-            self.mark(acts, document)?;
+        for (uri, kept) in self.documents.iter() {
+            self.mark(acts, uri.as_str(), kept.document())?;
         }
         Ok(())
     }
@@ -217,40 +246,6 @@ impl Checker {
         Act::answer(self.alloc, request, |params| self.hover(&params))
     }
 
-    fn did_open(&mut self, params: DidOpenTextDocumentParams) -> Result<Acts, AllocError> {
-        let item = params.text_document;
-        self.check(Document {
-            uri: item.uri,
-            version: item.version,
-            text: item.text,
-        })
-    }
-
-    /// Each change is a whole text, since the server asked for these, so the last one counts.
-    fn did_change(&mut self, params: DidChangeTextDocumentParams) -> Result<Acts, AllocError> {
-        let item = params.text_document;
-        match params.content_changes.into_iter().last() {
-            Some(change) => self.check(Document {
-                uri: item.uri,
-                version: item.version,
-                text: change.text,
-            }),
-            None => Ok(Vec::new(self.alloc)),
-        }
-    }
-
-    /// Forgets a document, and has the client clear its marks.
-    fn did_close(&mut self, params: DidCloseTextDocumentParams) -> Result<Acts, AllocError> {
-        let uri = params.text_document.uri;
-        self.forget(uri.as_str());
-        let params = PublishDiagnosticsParams {
-            uri,
-            version: None,
-            diagnostics: Vec::new(self.alloc),
-        };
-        Act::one(self.alloc, self.publish(params)?)
-    }
-
     /// The notification that shows these marks.
     fn publish(&self, params: PublishDiagnosticsParams) -> Result<Act<Asked>, AllocError> {
         let told = Act::tell(self.alloc, methods::PUBLISH_DIAGNOSTICS, &params);
@@ -258,32 +253,20 @@ impl Checker {
         told
     }
 
-    /// Keeps a document in the place of its older text, and marks it.
-    fn check(&mut self, document: Document) -> Result<Acts, AllocError> {
-        let mut acts = Vec::new(self.alloc);
-        self.mark(&mut acts, &document)?;
-        self.forget(document.uri.as_str());
-        self.documents.push(document)?;
-        Ok(acts)
-    }
-
-    fn forget(&mut self, uri: &str) {
-        self.documents
-            .retain(|document| document.uri.as_str() != uri);
-    }
-
-    fn find(&self, uri: &str) -> Option<&Document> {
-        self.documents
-            .iter()
-            .find(|document| document.uri.as_str() == uri)
-    }
-
-    /// Tells the client which lines of a document are too long.
-    fn mark(&self, acts: &mut Acts, document: &Document) -> Result<(), AllocError> {
+    /// Tells the client which lines of a document are too long: none, if it is closed or its text is lost.
+    fn mark(
+        &self,
+        acts: &mut Acts,
+        uri: &str,
+        document: Option<&TextDocument>,
+    ) -> Result<(), AllocError> {
         let params = PublishDiagnosticsParams {
-            uri: document.uri.clone()?,
-            version: document.version,
-            diagnostics: long_lines(self.alloc, document.text.as_str(), self.longest)?,
+            uri: String::from_str(self.alloc, uri)?,
+            version: document.and_then(|document| document.version()),
+            diagnostics: match document {
+                Some(document) => long_lines(self.alloc, document.text(), self.longest)?,
+                None => Vec::new(self.alloc),
+            },
         };
         acts.push(self.publish(params)?)?;
         Ok(())
@@ -291,10 +274,10 @@ impl Checker {
 
     /// How long a line is (LSP 3.17, "Hover Request").
     fn hover(&self, params: &TextDocumentPositionParams) -> Result<Option<Hover>, AllocError> {
-        let Some(document) = self.find(params.text_document.uri.as_str()) else {
+        let Some(document) = self.documents.get(params.text_document.uri.as_str()) else {
             return Ok(None);
         };
-        let Some(line) = document.text.lines().nth(params.position.line as usize) else {
+        let Some(line) = document.text().line(params.position.line) else {
             return Ok(None);
         };
         let length = line.chars().count();
@@ -307,58 +290,47 @@ impl Checker {
         &self,
         params: &TextDocumentPositionParams,
     ) -> Result<Option<Location>, AllocError> {
-        let Some(document) = self.find(params.text_document.uri.as_str()) else {
+        let uri = params.text_document.uri.as_str();
+        let Some(document) = self.documents.get(uri) else {
             return Ok(None);
         };
-        let Some(line) = heading_above(document.text.as_str(), params.position.line) else {
+        let Some(line) = heading_above(document.text(), params.position.line) else {
             return Ok(None);
         };
         let start = Position::new(line, 0);
         Ok(Some(Location {
-            uri: document.uri.clone()?,
+            uri: String::from_str(self.alloc, uri)?,
             range: Range::new(start, start),
         }))
     }
 }
 
-/// What the server can do.
-fn capabilities() -> ServerCapabilities {
-    ServerCapabilities {
-        text_document_sync: Some(TextDocumentSyncOptions::new(TextDocumentSyncKind::FULL)),
-        hover_provider: Some(true),
-        definition_provider: Some(true),
-        ..ServerCapabilities::default()
-    }
-}
-
 /// A warning for each line with more characters than are allowed.
-fn long_lines(alloc: Global, text: &str, longest: u32) -> Result<Vec<Diagnostic>, AllocError> {
+fn long_lines(alloc: Global, text: &Text, longest: u32) -> Result<Vec<Diagnostic>, AllocError> {
     let mut found = Vec::new(alloc);
-    let mut number: u32 = 0;
-    for line in text.lines() {
-        let next = number.saturating_add(1);
+    for number in 0..u32::MAX {
+        let Some(line) = text.line(number) else {
+            break;
+        };
         if line.chars().count() > longest as usize {
-            let range = Range::new(Position::new(number, 0), Position::new(next, 0));
+            let range = Range::new(Position::new(number, 0), Position::new(number + 1, 0));
             let message = format!(in alloc; "longer than {longest} characters")?;
             found.push(Diagnostic::new(range, DiagnosticSeverity::WARNING, message))?;
         }
-        number = next;
     }
     Ok(found)
 }
 
 /// The last line that is a heading, up to this one.
-fn heading_above(text: &str, line: u32) -> Option<u32> {
+fn heading_above(text: &Text, line: u32) -> Option<u32> {
     let mut heading = None;
-    let mut number: u32 = 0;
-    for words in text.lines() {
-        if number > line {
+    for number in 0..=line {
+        let Some(words) = text.line(number) else {
             break;
-        }
+        };
         if words.starts_with("# ") {
             heading = Some(number);
         }
-        number = number.saturating_add(1);
     }
     heading
 }

@@ -1,17 +1,11 @@
 -- What a search finds (LSP 3.17, "Workspace Symbols Request"): headings of its sources that have a word.
 use Rattle.serde_json.specs.Data.{Data, number, unsigned, string, object, member, no_members}
-use Rattle.std.specs.Prelude.{◌≡◌, ℕ, List, ◌++◌, codes, slice_range}
-use Rattle.lsp_text.specs.Columns.{offset_of}
-use Rattle.lsp_text.specs.declared.position.PositionEncoding.TheVariants.{Utf8}
-
--- the line of this number, without its end: what stands between its first position and its last (LSP 3.17, "Position")
-abbrev pub line_of : List ℕ → ℕ → List ℕ
-line_of text line =
-    slice_range text (offset_of Utf8 text line 0) (offset_of Utf8 text line 0xFFFF_FFFF)
+use Rattle.std.specs.Prelude.{◌≡◌, ℕ, List, ◌++◌, codes}
+use Rattle.lsp_text.specs.Columns.{line_text}
 
 -- this line of the text is a heading with this name
 abbrev pub IsHeading : List ℕ → ℕ → List ℕ → Type 0
-IsHeading text line name = line_of text line ≡ codes "# " ++ name
+IsHeading text line name = line_text text line ≡ codes "# " ++ name
 
 -- a text has this word in it
 abbrev pub HasWord : List ℕ → List ℕ → Type 0

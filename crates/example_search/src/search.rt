@@ -6,7 +6,7 @@ ghost use Rattle.std.specs.Prelude.{◌≡◌, ℕ, List, IfOk, IfSome, string_b
 ghost use Rattle.example_search.specs.Found.{IsFoundIn, IsHeading, symbol_at};
 ghost use Rattle.example_search.specs.Sources.{AreFound};
 
-use crate::sums::{line_count, line_of};
+use crate::sums::line_count;
 use lsp_documents::OpenText;
 use lsp_jobs::{CancellationToken, Job, Progress, WorkDone};
 use lsp_server::{Notification, ResponseError};
@@ -151,7 +151,7 @@ fn found_in(
 fn heading_at(text: &Text, line: u32) -> Option<&str>
     ensures { IfSome result (λ name. IsHeading text.now line name.now) }
 {
-    line_of(text, line)?.strip_prefix("# ")
+    text.line(line)?.strip_prefix("# ")
 }
 
 /// A heading of a document (LSP 3.17, "Workspace Symbols Request").

@@ -1,10 +1,4 @@
 // The language: what its words are, what its names stand for, and what is wrong with a text.
-ghost use Rattle.std.specs.Prelude.{◌≡◌, IfSome};
-ghost use Rattle.std.specs.String.Boundary.{IsSplitPoint};
-ghost use Rattle.lsp_text.specs.Columns.{offset_of as place_of};
-ghost use Rattle.lsp_text.specs.declared.position.PositionEncoding.TheVariants.{Utf8};
-ghost use Rattle.example_search.specs.Found.{line_of as plain_line};
-
 use lsp_text::{Position, PositionEncoding, Text};
 use std::alloc::{AllocError, Global};
 
@@ -47,26 +41,10 @@ pub fn line_count(text: &Text) -> u32 {
     u32::try_from(text.line_count()).unwrap_or(u32::MAX)
 }
 
-/// A line without its end, which is `\n`, `\r\n` or `\r` (LSP 3.17, "Text Documents"). The last one may be empty.
-pub fn line_of(text: &Text, line: u32) -> Option<&str>
-    ensures { IfSome result (λ found. found.now ≡ plain_line text.now line) }
-{
-    let (start, end) = (offset_of(text, line, 0), offset_of(text, line, u32::MAX));
-    text.as_str().get(start..end)
-}
-
-/// Where a position is in a text, in bytes.
-fn offset_of(text: &Text, line: u32, character: u32) -> usize
-    ensures value { result ≡ place_of Utf8 text.now line character }
-    ensures boundary { IsSplitPoint text.now result }
-{
-    text.offset_at(Position { line, character }, PositionEncoding::Utf8)
-}
-
 /// The words of a line, up to its comment.
 pub fn words_of(alloc: Global, text: &Text, line: u32) -> Result<Vec<Word<'_>>, AllocError> {
-    let place = offset_of(text, line, 0);
-    let line = line_of(text, line).unwrap_or("");
+    let place = text.offset_at(Position::new(line, 0), PositionEncoding::Utf8);
+    let line = text.line(line).unwrap_or("");
     let mut words = Vec::new(alloc);
     let mut start = 0;
     let mut in_name = false;

@@ -1,10 +1,10 @@
 // A text with the places where its lines begin.
-ghost use Rattle.std.specs.Prelude.{◌≡◌, ℕ, List, length, map, drop, slice_index, IfOk, OnOk, OnErr, ◌≤◌, ◌<◌, ◌^◌, min};
+ghost use Rattle.std.specs.Prelude.{◌≡◌, ℕ, List, length, map, drop, slice_index, IfOk, MatchOption, OnOk, OnErr, ◌≤◌, ◌<◌, ◌^◌, min};
 ghost use Rattle.std.specs.String.{string_bytes};
 ghost use Rattle.std.specs.String.Boundary.{IsSplitPoint};
 ghost use Rattle.std.specs.List.{replace_range};
 ghost use Rattle.lsp_text.specs.Lines.{line_starts};
-ghost use Rattle.lsp_text.specs.Columns.{offset_of, line_of, column_of, column_left, IsPlace};
+ghost use Rattle.lsp_text.specs.Columns.{offset_of, line_text, line_of, column_of, column_left, IsPlace};
 ghost use Rattle.lsp_text.specs.Edits.{edited, is_past_end, past_in};
 ghost use Rattle.lsp_text.specs.Places.{position_of, IsCounted};
 
@@ -71,6 +71,21 @@ impl Text {
         ensures { result ≡ length (line_starts self.now) }
     {
         self.starts.len()
+    }
+
+    /// A line without its end, which is `\n`, `\r\n` or `\r` (LSP 3.17, "Text Documents"). Lines count from 0, and the last one may be
+    /// empty. `None` means that the text has no such line.
+    pub fn line(&self, line: u32) -> Option<&str>
+        ensures { MatchOption result (length (line_starts self.now) ≤ line)
+            (λ found. (line < length (line_starts self.now))
+            × (found.now ≡ line_text self.now line)) }
+    {
+        if line as usize >= self.starts.len() {
+            return None;
+        }
+        let start = self.offset_at(Position::new(line, 0), PositionEncoding::Utf8);
+        let end = columns::end_in(self.text.as_bytes(), start);
+        Some(&self.text.as_str()[start..end])
     }
 
     /// Where a position is in the text, in bytes of UTF-8. A line past the last is the text's end, a character past the

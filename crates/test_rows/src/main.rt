@@ -10,7 +10,8 @@
 //!   params that are taken out.
 //! - `queues`, `dispatch`, `link`: calls on a state, as steps. `replay`: all steps of a dispatcher at once.
 //! - `typed`: a value that is read and written by a type of `lsp_types`. `uri`, `path`: a path and its URI. `names`: whether
-//!   a URI names a path. `tokens`: the numbers of semantic tokens. `offset`: the place of a position that was read.
+//!   a URI names a path. `tokens`: the numbers of semantic tokens. `offset`: the place of a position that was read. `lines`:
+//!   the lines of a text, and whether there is one more.
 //! - `document`: a notification of an open document.
 //!
 //! If an allocation fails, in a call or in the program, the row has a line `refused: ..`, and is run once more; of a case this is so

@@ -90,6 +90,7 @@ impl Rows {
             "folders" => uris::folders(said, rest),
             "tokens" => uris::tokens(said, rest),
             "offset" => uris::offset(said, rest),
+            "lines" => uris::lines(said, rest),
             "calls" => lists::called(said, rest),
             "writes" => lists::written(said, rest),
             _ => lists::session(said, word, rest),

@@ -99,3 +99,28 @@ pub fn offset(said: &mut Said, row: &str) {
         Err(_) => said.is_short = true,
     }
 }
+
+/// The lines of a text, which is given as JSON, and whether there is one more.
+pub fn lines(said: &mut Said, text: &str) {
+    let text = read(said, text, String::new(said.alloc));
+    match Text::new(said.alloc, text.as_str()) {
+        Ok(text) => {
+            say_lines(said, &text);
+            drop(text);
+        }
+        Err(_) => said.is_short = true,
+    }
+}
+
+fn say_lines(said: &mut Said, text: &Text) {
+    let count = u32::try_from(text.line_count()).unwrap_or(u32::MAX);
+    for number in 0..=count {
+        match text.line(number) {
+            Some(line) => {
+                say_written(said, &line);
+                said.push(" ");
+            }
+            None => said.push("none"),
+        }
+    }
+}
