@@ -144,6 +144,7 @@ class Documents:
         self.encoding, self.include_text = encoding, include_text
         self.open = {}
         self.seen = []
+        self.copies = ""
 
     def answers(self, text):
         """What comes of a row."""
@@ -154,6 +155,13 @@ class Documents:
         if method == "initialize":
             self.__init__(agreed(params), not isinstance(params, dict) or params.get("includeText") is not False)
             return [self.encoding]
+        if method == "keep":
+            # Copies stay as they are, whatever becomes of the documents.
+            _, _, self.copies = self.known().partition("\t")
+            self.copies = self.copies and "\t" + self.copies
+            return [str(self.copies.count("\t"))]
+        if method == "kept":
+            return [self.copies]
         if method == "path":
             return [self.at_path(params)]
         if method == "known":
@@ -526,6 +534,29 @@ def paths(table):
     table.tell("path", "/p/b")
 
 
+def copies(table):
+    """Copies of documents that change, are lost and are closed behind them."""
+    table.begin("utf-16")
+    a, b, c = "file:///a", "file:///b", "file:///c"
+    table.tell("keep", None)
+    table.opens(a, "a\nb", 1)
+    table.opens(b, "b", 1, "other")
+    table.opens(c, "c", 1)
+    table.tell("keep", None)
+    table.changes(a, 2, [(((1, 1), (1, 1)), "+"), (((0, 0), (0, 1)), "")])
+    table.changes(a, 3, [(((1, 0), (1, 1)), "-")])
+    table.tell("kept", None)
+    table.changes(b, 2, [(None, "whole")])
+    table.tell("textDocument/didChange", {"textDocument": {"uri": a}})
+    table.closes(c)
+    table.tell("kept", None)
+    table.saves(a, text="saved")
+    table.looks(a, (0, 5))
+    table.tell("keep", None)
+    table.changes(b, 3, [(((0, 0), (0, 5)), "")])
+    table.tell("kept", None)
+
+
 def large(table):
     """Texts and notifications past any size at which a server might give up: LSP 3.17 has no such size."""
     for encoding in ["utf-16", "utf-8"]:
@@ -611,6 +642,7 @@ def rows(seed, sessions):
     unread(table)
     unasked(table)
     paths(table)
+    copies(table)
     large(table)
     for _ in range(sessions):
         session(table, source, 24)

@@ -3,6 +3,7 @@ use Rattle.serde_json.specs.Data.{Data, string, array}
 use Rattle.serde_json.specs.Find.{get}
 use Rattle.serde_json.specs.View.{view, items_of}
 use Rattle.serde_json.specs.declared.value.Value.{Value}
+use Rattle.std.specs.Arc.{arc_value}
 use Rattle.std.specs.List.{All, Any}
 use Rattle.std.specs.Prelude.{◌≡◌, ℕ, List, Some, Result, Ok, codes, string_bytes}
 use Rattle.lsp_documents.specs.declared.known.OpenText.{OpenText}
@@ -12,7 +13,7 @@ use Rattle.example_search.specs.Found.{IsFoundIn}
 -- this symbol may be found in one of these documents
 abbrev pub IsFound : List OpenText → List ℕ → Data → Type 0
 IsFound sources word symbol =
-    Any (λ source. IsFoundIn (string_bytes source.uri) source.text word symbol) sources
+    Any (λ source. IsFoundIn (string_bytes source.uri) (arc_value source.text) word symbol) sources
 
 -- each of these symbols may be found in one of these documents
 abbrev pub AreFound : List OpenText → List ℕ → List Value → Type 0

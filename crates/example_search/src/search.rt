@@ -1,6 +1,7 @@
 // A search of all texts for their headings, as a job: it runs while the texts change.
 ghost use Rattle.serde_json.specs.Data.{Data};
 ghost use Rattle.serde_json.specs.View.{view};
+ghost use Rattle.std.specs.Arc.{arc_value};
 ghost use Rattle.std.specs.List.{All};
 ghost use Rattle.std.specs.Prelude.{◌≡◌, ℕ, List, IfOk, IfSome, string_bytes};
 ghost use Rattle.example_search.specs.Found.{IsFoundIn, IsHeading, symbol_at};
@@ -113,11 +114,11 @@ fn headings_with(
     token: &CancellationToken,
 ) -> Result<Vec<Value>, AllocError>
     ensures { IfOk result (λ found. All (λ symbol.
-        IsFoundIn (string_bytes source.now.uri) source.now.text word.now (view symbol))
+        IsFoundIn (string_bytes source.now.uri) (arc_value source.now.text) word.now (view symbol))
         found.items) }
 {
     let mut found = Vec::new(alloc);
-    for line in 0..line_count(&source.text) {
+    for line in 0..line_count(&*source.text) {
         if token.is_cancelled() {
             break;
         }
@@ -136,9 +137,9 @@ fn found_in(
     word: &str,
 ) -> Result<Option<Value>, AllocError>
     ensures { IfOk result (λ found. IfSome found (λ symbol.
-        IsFoundIn (string_bytes source.now.uri) source.now.text word.now (view symbol))) }
+        IsFoundIn (string_bytes source.now.uri) (arc_value source.now.text) word.now (view symbol))) }
 {
-    let Some(name) = heading_at(&source.text, line) else {
+    let Some(name) = heading_at(&*source.text, line) else {
         return Ok(None);
     };
     if !name.contains(word) {

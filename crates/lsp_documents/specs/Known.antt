@@ -1,5 +1,6 @@
 -- The documents whose text is known, and copies of their texts.
 use Rattle.std.specs.Prelude.{◌≡◌, ℕ, List, ◌∷◌, ◌++◌, Option, option_map, map, string_bytes}
+use Rattle.std.specs.Arc.{arc_value}
 use Rattle.std.specs.List.{All, filter_map}
 use Rattle.std.specs.declared.alloc.Global.{Global}
 use Rattle.std.specs.declared.string.String.{String}
@@ -36,9 +37,11 @@ pub record IsFirstOf (path : List ℕ) (known : List (List ℕ × Document))
 
 -- the URIs and the texts of copies
 abbrev pub copied : List OpenText → List (List ℕ × List ℕ)
-copied copies = map (λ copy. (string_bytes copy.uri, copy.text)) copies
+copied copies = map (λ copy. (string_bytes copy.uri, arc_value copy.text)) copies
 
 -- the same with the languages and the versions
 abbrev pub copied_whole : List OpenText → List (List ℕ × Document)
-copied_whole copies = map (λ copy.
-    (string_bytes copy.uri, document (string_bytes copy.language_id) copy.version copy.text)) copies
+copied_whole copies = map (λ copy. (
+  string_bytes copy.uri,
+  document (string_bytes copy.language_id) copy.version (arc_value copy.text),
+)) copies

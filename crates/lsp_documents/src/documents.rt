@@ -115,7 +115,7 @@ impl TextDocuments {
     }
 
     /// A copy of each document whose text is known, with its URI, in the order of these: for a job, which goes on while the documents
-    /// change.
+    /// change. The texts are shared: a document's next change copies its text, if the copy still lives then.
     pub fn snapshot(&self) -> Result<Vec<OpenText>, AllocError>
         ensures texts { IfOk result (λ texts. copied texts.items ≡ texts_of self.now) }
         ensures whole { IfOk result (λ texts. copied_whole texts.items ≡ known_of self.now) }

@@ -6,6 +6,7 @@ use lsp_text::{Text, TextDocument};
 use std::alloc::{AllocError, Global};
 use std::collections::btree_map::Iter;
 use std::marker::Model;
+use std::sync::Arc;
 
 /// Goes over the documents whose text is known, each beside its URI, in the order of these. Contracts see the list of those that
 /// are left.
@@ -41,7 +42,7 @@ impl<'d> Iterator for KnownDocuments<'d> {
     }
 }
 
-/// A document as it was: its URI, its language, its version and its text.
+/// A document as it was: its URI, its language, its version and its text, which is shared with the document until that changes.
 #[derive(Drop)]
 pub struct OpenText {
     /// The document's URI.
@@ -51,28 +52,28 @@ pub struct OpenText {
     /// The version, if the client gave one.
     pub version: Option<i32>,
     /// The whole text.
-    pub text: Text,
+    pub text: Arc<Text>,
 }
 
 impl OpenText {
+    ghost use Rattle.std.specs.Arc.{arc_value};
     ghost use Rattle.std.specs.Prelude.{◌≡◌, IfOk, string_bytes};
 
-    /// A copy of a URI and of a document.
+    /// A copy of a URI and of a document. The text is not copied.
     pub fn new(alloc: Global, uri: &str, document: &TextDocument) -> Result<OpenText, AllocError>
         ensures uri { IfOk result (λ copy. string_bytes copy.uri ≡ uri.now) }
         ensures language { IfOk result (λ copy.
             string_bytes copy.language_id ≡ document.now.language_id) }
         ensures version { IfOk result (λ copy. copy.version ≡ document.now.version) }
-        ensures text { IfOk result (λ copy. copy.text ≡ document.now.text) }
+        ensures text { IfOk result (λ copy. arc_value copy.text ≡ document.now.text) }
     {
         let uri = String::from_str(alloc, uri)?;
         let language_id = String::from_str(alloc, document.language_id())?;
-        let text = Text::new(alloc, document.text().as_str())?;
         Ok(OpenText {
             uri,
             language_id,
             version: document.version(),
-            text,
+            text: document.share_text()?,
         })
     }
 }

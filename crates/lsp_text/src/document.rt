@@ -1,5 +1,6 @@
 // A document that a client has opened.
 ghost use Rattle.std.specs.Prelude.{◌≡◌, OnOk, OnErr, IfOk, length, is_err, false};
+ghost use Rattle.std.specs.Arc.{arc_value};
 ghost use Rattle.std.specs.String.{string_bytes};
 ghost use Rattle.lsp_text.specs.Documents.{Change, Document};
 ghost use Rattle.lsp_text.specs.Edits.{edited_by, past_by};
@@ -10,6 +11,7 @@ use crate::text::Text;
 use serde::{Described, Deserialize, Deserializer, Format, Serialize, Serializer};
 use std::alloc::{AllocError, Global};
 use std::marker::Model;
+use std::sync::Arc;
 
 /// One change of a document: other text in the place of a range, or of the whole text (LSP 3.17,
 /// `TextDocumentContentChangeEvent`).
@@ -52,12 +54,13 @@ impl<'de> Deserialize<'de> for ContentChange {
     }
 }
 
-/// A document that a client has opened (LSP 3.17, `TextDocumentItem`). Contracts see its language, its version and its text.
+/// A document that a client has opened (LSP 3.17, `TextDocumentItem`). Contracts see its language, its version and its text. Its text may
+/// be shared: then the next change makes a copy of its own first.
 #[derive(Drop)]
 pub struct TextDocument {
     language_id: String,
     version: Option<i32>,
-    text: Text,
+    text: Arc<Text>,
 }
 
 impl Model for TextDocument {
@@ -66,7 +69,7 @@ impl Model for TextDocument {
     ghost view = { λ d. record {
       language_id = string_bytes d.language_id;
       version = d.version;
-      text = d.text;
+      text = arc_value d.text;
     } };
 }
 
@@ -81,7 +84,7 @@ impl TextDocument {
         ensures { IfOk result (λ d.
             d ≡ record { language_id = language_id.now; version = version; text = text.now }) }
     {
-        let text = Text::new(alloc, text)?;
+        let text = Arc::new(alloc, Text::new(alloc, text)?)?;
         let language_id = String::from_str(alloc, language_id)?;
         Ok(TextDocument {
             language_id,
@@ -116,7 +119,14 @@ impl TextDocument {
     pub fn text(&self) -> &Text
         ensures { result.now ≡ self.now.text }
     {
-        &self.text
+        &*self.text
+    }
+
+    /// The text, for one that keeps it while the document changes. It is not copied. `Err` means that it has too many owners.
+    pub fn share_text(&self) -> Result<Arc<Text>, AllocError>
+        ensures { IfOk result (λ text. arc_value text ≡ self.now.text) }
+    {
+        Arc::try_clone(&self.text)
     }
 
     /// Makes the changes of one notification, each in the text that the one before it left. If memory runs out, the document
@@ -142,23 +152,19 @@ impl TextDocument {
         let mut past = false;
         if changes.len() == 1 {
             let change = &changes[0];
-            past = self
-                .text
-                .apply(alloc, change.range, encoding, change.text.as_str())?;
+            let text = Arc::make_mut(&mut self.text)?;
+            past = text.apply(alloc, change.range, encoding, change.text.as_str())?;
         } else if changes.len() > 1 {
-            let mut text = Text::new(alloc, self.text.as_str())?;
-            for change in changes {
-                let more = text.apply(alloc, change.range, encoding, change.text.as_str())?;
-                past = past || more;
-            }
-            self.text = text;
+            let mut text = self.text().clone()?;
+            past = apply_all(alloc, &mut text, encoding, changes)?;
+            self.text = Arc::new(alloc, text)?;
         }
         self.version = version;
         Ok(past)
     }
 
-    /// Makes the changes of one notification in the text itself. If memory runs out, some of them are made, and the language alone is as
-    /// it was. Without a change no memory is needed. It gives what `change` does.
+    /// Makes the changes of one notification in the text itself, or in a copy if it is shared. If memory runs out, some of them are made,
+    /// and the language alone is as it was. Without a change no memory is needed. It gives what `change` does.
     pub fn change_in_place(
         &mut self,
         alloc: Global,
@@ -176,13 +182,30 @@ impl TextDocument {
         ensures err { OnErr result (self.new.language_id ≡ self.old.language_id) }
         ensures none { length changes.now ≡ 0 → is_err result ≡ false }
     {
-        let TextDocument { text, .. } = self;
         let mut past = false;
-        for change in changes {
-            let more = text.apply(alloc, change.range, encoding, change.text.as_str())?;
-            past = past || more;
+        if !changes.is_empty() {
+            let text = Arc::make_mut(&mut self.text)?;
+            past = apply_all(alloc, text, encoding, changes)?;
         }
         self.version = version;
         Ok(past)
     }
+}
+
+/// Makes changes in a text, one after another. If memory runs out, some of them are made.
+fn apply_all(
+    alloc: Global,
+    text: &mut Text,
+    encoding: PositionEncoding,
+    changes: &[ContentChange],
+) -> Result<bool, AllocError>
+    ensures past { IfOk result (λ past. past ≡ past_by encoding text.old changes.now) }
+    ensures ok { OnOk result (text.new ≡ edited_by encoding text.old changes.now) }
+{
+    let mut past = false;
+    for change in changes {
+        let more = text.apply(alloc, change.range, encoding, change.text.as_str())?;
+        past = past || more;
+    }
+    Ok(past)
 }

@@ -49,6 +49,16 @@ impl Model for Text {
     ghost invariant = { λ t. t.starts.items ≡ line_starts (string_bytes t.text) };
 }
 
+impl Clone for Text {
+    ghost is_clone = { λ text copy. copy ≡ text };
+
+    fn clone(&self) -> Result<Text, AllocError> {
+        let text = self.text.clone()?;
+        let starts = self.starts.clone()?;
+        Ok(Text { text, starts })
+    }
+}
+
 impl Text {
     /// A text that is a copy of another one.
     pub fn new(alloc: Global, text: &str) -> Result<Text, AllocError>

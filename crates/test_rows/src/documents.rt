@@ -1,17 +1,20 @@
 // Open documents, as rows of notifications tell of them: a message with a method and params.
 //
-// `initialize` begins anew, in the encoding that its params agree on. The text of a save is asked for unless `includeText` of the params
-// says no. For a notification the line has `made`, its URI and what is to be
-// said of it, or what is wrong, and whether a text is lost by it, and then each document that was open once: its URI, its version, its
-// language, its text, and how many lines it has and the position of each place where a character begins. One that is closed shows
-// `-`, and one whose text is lost `?`. A body that is no message has `unread`: it may have told of any document, so each text is lost.
-// `known` has each URI whose text is known, with its version, and then with a copy of the document. `place` has where a position of a
-// document is, in bytes, and the range from there to the text's end. `path` has the URI and the version of the document of a path. `long` opens a document of a text so many times over, and `often`
-// puts a text before one so many times in one call: what comes is how long it is then, in bytes and in lines.
+// `initialize` begins anew, in the encoding that its params agree on. The text of a save is asked for unless `includeText` of the
+// params says no. For a notification the line has `made`, its URI and what is to be said of it, or what is wrong, and whether a text
+// is lost by it, and then each document that was open once: its URI, its version, its language, its text, and how many lines it has
+// and the position of each place where a character begins. One that is closed shows `-`, and one whose text is lost `?`. A body that
+// is no message has `unread`: it may have told of any document, so each text is lost. `known` has each URI whose text is known, with
+// its version, and then with a copy of the document. `place` has where a position of a document is, in bytes, and the range from
+// there to the text's end. `path` has the URI and the version of the document of a path. `keep` keeps copies of the documents, and
+// `kept` has these. `long` opens a document of a text so many times over, and `often` puts a text before one so many times in one
+// call: what comes is how long it is then, in bytes and in lines.
 use crate::messages::text_in;
 use crate::said::Said;
 use crate::types::say_written;
-use lsp_documents::{Agreed, DocumentFault, Made, NotMade, Remark, TextDocuments, position_in};
+use lsp_documents::{
+    Agreed, DocumentFault, Made, NotMade, OpenText, Remark, TextDocuments, position_in,
+};
 use lsp_message::Notification;
 use lsp_text::{ContentChange, Position, Range, Text, TextDocument};
 use serde_json::Value;
@@ -24,6 +27,7 @@ use std::mem;
 pub struct Documents {
     alloc: Global,
     documents: TextDocuments,
+    copies: Vec<OpenText>,
     seen: String,
     told: String,
 }
@@ -34,6 +38,7 @@ impl Documents {
         Documents {
             alloc,
             documents: TextDocuments::new(alloc, Agreed::unannounced()),
+            copies: Vec::new(alloc),
             seen: String::new(alloc),
             told: String::new(alloc),
         }
@@ -62,6 +67,7 @@ impl Documents {
     /// Begins anew, by what was agreed on.
     fn begin(&mut self, agreed: Agreed) {
         self.documents = TextDocuments::new(self.alloc, agreed);
+        self.copies.clear();
         self.seen.clear();
         self.told.clear();
     }
@@ -93,6 +99,8 @@ impl Documents {
             "initialize" => self.initialize(said, params),
             "path" => self.show_path(said, text_in(Some(params))),
             "known" => self.show_known(said),
+            "keep" => self.keep(said),
+            "kept" => show_copies(said, self.copies.as_slice()),
             "place" => self.show_place(said, params),
             "long" => self.open_long(said, params),
             "often" => self.change_often(said, params),
@@ -266,20 +274,18 @@ impl Documents {
             said.debug(document.version());
         }
         match self.documents.snapshot() {
-            Ok(copies) => {
-                for copy in copies {
-                    said.push("\t");
-                    said.push(copy.uri.as_str());
-                    said.push(" ");
-                    said.push(copy.language_id.as_str());
-                    said.push(" ");
-                    said.debug(copy.version);
-                    said.push(" ");
-                    say_written(said, &copy.text.as_str());
-                }
-            }
+            Ok(copies) => show_copies(said, copies.as_slice()),
             Err(_) => said.is_short = true,
         }
+    }
+
+    /// Keeps copies of the documents as they are.
+    fn keep(&mut self, said: &mut Said) {
+        match self.documents.snapshot() {
+            Ok(copies) => self.copies = copies,
+            Err(_) => said.is_short = true,
+        }
+        said.show(self.copies.len());
     }
 
     /// Where a position is in a document, in bytes, and the range from there to the text's end.
@@ -325,6 +331,20 @@ impl Documents {
             }
         }
         self.documents.positions_of(text, offsets.as_slice())
+    }
+}
+
+/// Copies of documents, each behind a tab.
+fn show_copies(said: &mut Said, copies: &[OpenText]) {
+    for copy in copies {
+        said.push("\t");
+        said.push(copy.uri.as_str());
+        said.push(" ");
+        said.push(copy.language_id.as_str());
+        said.push(" ");
+        said.debug(copy.version);
+        said.push(" ");
+        say_written(said, &copy.text.as_str());
     }
 }
 
