@@ -100,6 +100,14 @@ def if_fits(read):
     return or_none
 
 
+def text_or_empty(value):
+    """A text that only informs. One that does not fit is as if it were the empty one (docs/DECISIONS.md)."""
+    return value if isinstance(value, str) else ""
+
+
+text_or_empty.is_kept = True
+
+
 def those_that_fit(read):
     """A list, without the items that do not fit (docs/DECISIONS.md)."""
 
@@ -127,7 +135,7 @@ TYPES = {
     "Location": {"uri": TEXT, "range": "Range"},
     "TextDocumentIdentifier": {"uri": TEXT},
     "VersionedTextDocumentIdentifier": {"uri": TEXT, "version?": if_fits(INTEGER)},
-    "TextDocumentItem": {"uri": TEXT, "languageId": TEXT, "version?": if_fits(INTEGER), "text": TEXT},
+    "TextDocumentItem": {"uri": TEXT, "languageId": text_or_empty, "version?": if_fits(INTEGER), "text": TEXT},
     "DidOpenTextDocumentParams": {"textDocument": "TextDocumentItem"},
     "TextDocumentContentChangeEvent": {"range?": "Range", "text": TEXT},
     "DidChangeTextDocumentParams": {

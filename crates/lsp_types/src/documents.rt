@@ -31,7 +31,7 @@ pub struct VersionedTextDocumentIdentifier {
 pub struct TextDocumentItem {
     /// Its URI.
     pub uri: String,
-    /// The language that it is in, as `rust`.
+    /// The language that it is in, as `rust`. On reading, the empty text if it is missing, is null or no text.
     pub language_id: String,
     /// Its version, which grows with each change. On reading, none if it is missing, is null or no number of 32 bits.
     pub version: Option<i32>,

@@ -22,7 +22,7 @@ mod window;
 mod workspace;
 mod writing;
 
-pub use fitting::{if_fits, those_that_fit};
+pub use fitting::{if_fits, text_or_empty, those_that_fit};
 pub use reading::{Blank, ReadMembers, Source, read_object};
 pub use writing::{Object, Sink, WriteMembers, write_object};
 

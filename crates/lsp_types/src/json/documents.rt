@@ -6,7 +6,8 @@ use crate::documents::{
     VersionedTextDocumentIdentifier,
 };
 use crate::json::{
-    Blank, Keyed, ReadMembers, Sink, Source, WriteMembers, if_fits, read_object, write_object,
+    Blank, Keyed, ReadMembers, Sink, Source, WriteMembers, if_fits, read_object, text_or_empty,
+    write_object,
 };
 use lsp_text::ContentChange;
 use serde::{
@@ -173,7 +174,7 @@ impl ReadMembers for TextDocumentItem {
     fn read<S: Source>(members: &mut S) -> TextDocumentItem {
         TextDocumentItem {
             uri: members.required(),
-            language_id: members.required(),
+            language_id: text_or_empty(members),
             version: if_fits(members),
             text: members.required(),
         }

@@ -92,6 +92,14 @@ pub fn if_fits<T: DeserializeOwned + Drop, S: Source>(members: &mut S) -> Option
     }
 }
 
+/// A text that only informs: the empty one if it is missing, is null or is none.
+pub fn text_or_empty<S: Source>(members: &mut S) -> String {
+    match if_fits(members) {
+        Some(text) => text,
+        None => members.left_out(),
+    }
+}
+
 /// A list that has to be there, without the items that do not fit.
 pub fn those_that_fit<T: DeserializeOwned + Drop, S: Source>(members: &mut S) -> Vec<T> {
     members.required::<FittingItems<T>>().items

@@ -17,6 +17,9 @@ pub trait Source {
     /// A member that may be missing or null.
     fn optional<T: DeserializeOwned>(&mut self) -> Option<T>;
 
+    /// A value in the place of a member that is left out.
+    fn left_out<T: Blank>(&self) -> T;
+
     /// Has a member be this name.
     fn named(&mut self, name: &str);
 }
@@ -40,6 +43,10 @@ impl Source for Blanks {
 
     fn optional<T: DeserializeOwned>(&mut self) -> Option<T> {
         None
+    }
+
+    fn left_out<T: Blank>(&self) -> T {
+        T::blank(self.alloc)
     }
 
     fn named(&mut self, _name: &str) {}
@@ -190,6 +197,10 @@ impl<I: Input> Source for Members<'_, I> {
             Some(value) => value,
             None => None,
         }
+    }
+
+    fn left_out<T: Blank>(&self) -> T {
+        T::blank(self.alloc)
     }
 
     fn named(&mut self, name: &str) {
