@@ -94,9 +94,9 @@ impl ServerCapabilities {
     ghost use Rattle.std.specs.Prelude.{◌≡◌, Some, None, true, option_map, IfOk, string_bytes};
     ghost use Rattle.lsp_text.specs.Characters.{encoding_name};
 
-    /// A server that keeps its documents by `lsp_documents`: the client counts characters as `position_encoding` agreed, and tells of
-    /// opening, closing, the parts that changed, and saving, with the text. What else the server can do goes into the other fields.
-    /// `Err` means that an allocation failed.
+    /// A server that keeps its documents by `lsp_documents`, whose `Agreed::with_capabilities` calls this: the client counts characters as
+    /// was agreed on, and tells of opening, closing, the parts that changed, and saving, with the text. What else the server can do
+    /// goes into the other fields. `Err` means that an allocation failed.
     pub fn of_documents(
         alloc: Global,
         encoding: PositionEncoding,

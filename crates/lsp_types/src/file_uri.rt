@@ -220,7 +220,7 @@ fn is_path_of(names: &[u8], path: &[u8]) -> bool
 }
 
 /// Whether a file URI names a path, as `path_of_uri` reads it. Editors spell the URI of a path in several ways, of which `uri_of_path`
-/// gives one, so look for the document of a path by this: `documents.known().find(|(uri, _)| names_path(uri, path))`.
+/// gives one, so look for the document of a path by `TextDocuments::at_path` of `lsp_documents`, which asks this of each URI.
 pub fn names_path(uri: &str, path: &str) -> bool
     ensures { MatchBool result (Names uri.now path.now) (Names uri.now path.now → ⊥) }
 {
