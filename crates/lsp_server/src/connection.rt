@@ -6,7 +6,7 @@ use crate::io_fault::IoFault;
 use crate::io_threads::{CHANNEL_ROOM, IoThreads, start_threads};
 use crate::reading::{Bounds, read_all};
 use crate::transport::{ChannelInbox, ChannelOutbox};
-use crate::unread::{UNREAD_WEIGHT, Unread};
+use crate::unread_weights::{UNREAD_WEIGHT, UnreadWeights};
 use crate::writing::write_all;
 use crossbeam_channel::{Receiver, Sender, unbounded};
 use lsp_message::{Message, Request, RequestId};
@@ -101,7 +101,7 @@ impl Connection {
         let bounds = Bounds {
             limit,
             bound: unread,
-            unread: Unread::new(alloc, CHANNEL_ROOM + 1)?,
+            unread: UnreadWeights::new(alloc, CHANNEL_ROOM + 1)?,
         };
         let theirs = *rt;
         let (sender, receiver, threads) = start_threads(

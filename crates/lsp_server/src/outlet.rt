@@ -4,7 +4,7 @@ ghost use Rattle.lsp_session.specs.Boxes.{handed_back};
 
 use crate::io_threads::CHANNEL_ROOM;
 use crate::places::Place;
-use crate::unread::Unread;
+use crate::unread_weights::UnreadWeights;
 use crossbeam_channel::{SendError, Sender, TrySendError};
 use lsp_message::Message;
 use lsp_session::SendFault;
@@ -27,7 +27,7 @@ pub(crate) struct Outlet<'a, R: Wait> {
     incoming: &'a Sender<Message>,
     given_back: &'a GivenBack<Message>,
     /// The weights of what was sent. It is as long as the channel, or longer.
-    unread: Unread,
+    unread: UnreadWeights,
     /// How much may be unread.
     bound: u64,
     /// Places of the channel to which nothing was sent.
@@ -41,7 +41,7 @@ impl<'a, R: Wait> Outlet<'a, R> {
         alloc: Global,
         incoming: &'a Sender<Message>,
         given_back: &'a GivenBack<Message>,
-        unread: Unread,
+        unread: UnreadWeights,
         bound: u64,
     ) -> Outlet<'a, R> {
         Outlet {

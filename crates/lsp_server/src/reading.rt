@@ -8,7 +8,7 @@ ghost use Rattle.lsp_session.specs.ReadLoop.{refused_end};
 use crate::io_fault::IoFault;
 use crate::io_threads::reader_end;
 use crate::outlet::Outlet;
-use crate::unread::{Unread, weight_of};
+use crate::unread_weights::{UnreadWeights, weight_of};
 use crossbeam_channel::Sender;
 use lsp_message::{Message, ReadFault, read_content_within};
 use lsp_session::{ReadEnd, SendFault, is_exit};
@@ -26,7 +26,7 @@ pub(crate) struct Bounds {
     /// How much may be unread.
     pub(crate) bound: u64,
     /// The account of what is unread, in which nothing is.
-    pub(crate) unread: Unread,
+    pub(crate) unread: UnreadWeights,
 }
 
 /// A message that was read.

@@ -21,11 +21,11 @@ const OBJECT_WEIGHT: u64 = 900;
 
 /// The weights of the messages that were sent into a channel and may still be there, oldest first.
 #[derive(Drop)]
-pub(crate) struct Unread {
+pub(crate) struct UnreadWeights {
     weights: VecDeque<u64>,
 }
 
-impl Model for Unread {
+impl Model for UnreadWeights {
     ghost use Rattle.std.specs.Prelude.{ℕ, List};
 
     ghost Value = { List ℕ };
@@ -33,12 +33,12 @@ impl Model for Unread {
     ghost view = { λ unread. unread.weights.items };
 }
 
-impl Unread {
+impl UnreadWeights {
     /// Nothing was sent. Memory for so many weights is there from the start. The error means that an allocation failed.
-    pub(crate) fn new(alloc: Global, room: usize) -> Result<Unread, AllocError>
+    pub(crate) fn new(alloc: Global, room: usize) -> Result<UnreadWeights, AllocError>
         ensures { IfOk result (λ unread. unread ≡ []) }
     {
-        Ok(Unread {
+        Ok(UnreadWeights {
             weights: VecDeque::with_capacity(alloc, room)?,
         })
     }

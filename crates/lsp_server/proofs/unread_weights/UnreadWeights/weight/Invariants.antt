@@ -1,6 +1,6 @@
 use Rattle.std.proofs.Common.{◌≡◌, map, sum}
 use Rattle.lsp_server.specs.Unread.{capped}
-use Rattle.lsp_server.proofs.unread.Unread.weight.Given as goal
+use Rattle.lsp_server.proofs.unread_weights.UnreadWeights.weight.Given as goal
 
 -- what was added so far
 abbrev pub invariant-loop-weight : goal.invariant-loop-weight

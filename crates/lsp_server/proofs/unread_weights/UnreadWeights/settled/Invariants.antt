@@ -1,5 +1,5 @@
 use Rattle.std.proofs.Common.{◌≡◌, drop}
-use Rattle.lsp_server.proofs.unread.Unread.settled.Given as goal
+use Rattle.lsp_server.proofs.unread_weights.UnreadWeights.settled.Given as goal
 
 -- the oldest are gone
 abbrev pub invariant-loop : goal.invariant-loop
