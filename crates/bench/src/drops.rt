@@ -63,7 +63,7 @@ where
     match answered {
         Ok(()) => Ok(threads.join(rt)?),
         Err(error) => {
-            drop(threads);
+            drop(threads.flush(rt));
             Err(error)
         }
     }

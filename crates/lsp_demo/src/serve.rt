@@ -53,8 +53,7 @@ pub fn serve_on<R: Threads + Wait + Clock + AllocGlobal, E: Write>(
         ServeEnd::Refused(error) => report_refusal(rt, connection, threads, errors, error),
         ServeEnd::Failed(fault) => {
             let status = report_failure(errors, fault);
-            drop(threads);
-            drop(connection);
+            drop(flush(rt, connection, threads));
             status
         }
     }

@@ -1,12 +1,10 @@
 -- The numbers and texts of the faults of a connection's worker threads.
-use Rattle.std.specs.Prelude.{ℕ, List, Bool, true, false, Option, Some, None, Result, Ok, Err, codes}
+use Rattle.std.specs.Prelude.{ℕ, List, Bool, true, false, Option, Some, Result, Ok, Err, codes}
 use Rattle.lsp_message.specs.Faults.{read_fault_text, write_fault_text}
 use Rattle.lsp_session.specs.declared.loops.ReadEnd.{ReadEnd}
 use Rattle.lsp_session.specs.declared.loops.ReadEnd.TheVariants.{Exit, End, Fault, Closed as OutboxClosed, Memory as OutboxMemory}
 use Rattle.lsp_server.specs.declared.io_fault.IoFault.{IoFault}
 use Rattle.lsp_server.specs.declared.io_fault.IoFault.TheVariants.{Read, Write, Closed, Start, Socket, Memory}
-use Rattle.lsp_server.specs.declared.io_threads.Writer.{Writer}
-use Rattle.lsp_server.specs.declared.io_threads.Writer.TheVariants.{Started, Ended}
 
 abbrev pub io_fault_number : IoFault → ℕ
 io_fault_number (Read fault) = 1
@@ -50,8 +48,3 @@ reader_answer End = Ok tt
 reader_answer (Fault fault) = Err (Read fault)
 reader_answer OutboxClosed = Err Closed
 reader_answer OutboxMemory = Err Memory
-
--- what the thread that writes answered, if it has ended
-abbrev pub ended_answer : Writer → Option (Result (Unit {0}) IoFault)
-ended_answer (Started thread) = None
-ended_answer (Ended answer) = Some answer

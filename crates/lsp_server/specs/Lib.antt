@@ -82,7 +82,10 @@ pub use Rattle.lsp_threads.specs.Pump
 pub use Rattle.lsp_threads.specs.Threads
 pub mod Clients
 pub mod IoFault
+pub mod Joining
+pub mod Taken
 pub mod Unread
 pub mod Weighing
 pub mod Words
 pub mod Writing
+pub mod Wrote

@@ -7,8 +7,9 @@ use crate::io_threads::{CHANNEL_ROOM, IoThreads, start_threads};
 use crate::reading::{Bounds, read_all};
 use crate::transport::{ChannelInbox, ChannelOutbox};
 use crate::unread_weights::{UNREAD_WEIGHT, UnreadWeights};
+use crate::writer_end::WritesChannel;
 use crate::writing::write_all;
-use crossbeam_channel::{Receiver, Sender, unbounded};
+use crossbeam_channel::{Receiver, Sender, bounded, unbounded};
 use lsp_message::{Message, Request, RequestId};
 use lsp_session::{
     CallGate, ProtocolError, finish, finish_within, initialize_result, shutdown, start_within,
@@ -16,6 +17,7 @@ use lsp_session::{
 use serde_json::Value;
 use std::alloc::{AllocError, Global};
 use std::io::{BufReader, Read, Write};
+use std::snapshot::Snapshot;
 use std::sync::Wait;
 use std::thread::Threads;
 use std::time::Clock;
@@ -104,15 +106,21 @@ impl Connection {
             unread: UnreadWeights::new(alloc, CHANNEL_ROOM + 1)?,
         };
         let theirs = *rt;
-        let (sender, receiver, threads) = start_threads(
+        let (sender, outgoing) = bounded(alloc, CHANNEL_ROOM)?;
+        let promise = WritesChannel {
+            channel: Snapshot::of(&outgoing),
+        };
+        let (receiver, started) = start_threads(
             rt,
             alloc,
+            outgoing,
+            promise,
             move |incoming, given_back| read_all(
                 theirs, alloc, reader, bounds, incoming, given_back,
             ),
             move |outgoing, written| write_all(theirs, alloc, outgoing, writer, written),
         )?;
-        Ok((Connection { sender, receiver }, threads))
+        Ok((Connection { sender, receiver }, IoThreads::of(started)))
     }
 
     /// Waits for the request `initialize`, and gives its id and its params. Use it in place of `initialize` if your answer depends

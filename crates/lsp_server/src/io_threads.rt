@@ -1,8 +1,10 @@
 //! The threads of a connection: one reads, one writes, and one drops large messages that were written.
-ghost use Rattle.std.specs.Prelude.{◌≡◌, true, IfErr, IfSome, IsSome};
-ghost use Rattle.lsp_server.specs.IoFault.{is_start_fault, reader_answer, ended_answer};
+ghost use Rattle.std.specs.Prelude.{◌≡◌, true, IfErr};
+ghost use Rattle.lsp_server.specs.IoFault.{is_start_fault, reader_answer};
+ghost use Rattle.lsp_server.specs.Joining.{HasEnded, IsEndOf, Joined};
 
 use crate::io_fault::IoFault;
+use crate::writer_end::{WriterEnd, WritesChannel};
 use crate::written::{Written, channels_of_written, drop_all};
 use crossbeam_channel::{Receiver, Sender, bounded};
 use lsp_session::ReadEnd;
@@ -10,7 +12,7 @@ use lsp_threads::give_back::GivenBack;
 use std::alloc::Global;
 use std::sync::Wait;
 use std::thread;
-use std::thread::{JoinHandle, Threads};
+use std::thread::{JoinHandle, Promise, PromisedHandle, Threads};
 
 /// How many messages can wait in each of the two channels of a connection. More room wakes the threads less often. Less room
 /// keeps less in memory for a peer that reads nothing.
@@ -28,19 +30,19 @@ pub struct IoThreads {
 #[derive(Drop)]
 enum Writer {
     /// It may still run.
-    Started(JoinHandle<Result<(), IoFault>>),
-    /// It has ended, and answered this.
-    Ended(Result<(), IoFault>),
+    Started(PromisedHandle<WriterEnd, WritesChannel>),
+    /// It has ended, and told this.
+    Ended(WriterEnd),
 }
 
 impl Writer {
-    /// What the thread answers. It is waited for if it may still run.
-    fn join<R: Threads>(self, rt: &R) -> Result<(), IoFault>
-        ensures { IfSome (ended_answer self) (λ answer. result ≡ answer) }
+    /// What the thread tells. It is waited for if it may still run.
+    fn join<R: Threads>(self, rt: &R) -> WriterEnd
+        ensures { IsEndOf self result }
     {
         match self {
             Writer::Started(thread) => thread.join(rt),
-            Writer::Ended(answer) => answer,
+            Writer::Ended(end) => end,
         }
     }
 }
@@ -51,7 +53,7 @@ impl IoThreads {
     /// Drop the connection first, or it waits for ever. Call it before a program ends without `join`, as after an error of the
     /// handshake: else the last replies may be lost. It does not wait for the thread that reads, so a silent peer can't hold it up.
     pub fn flush<R: Threads>(self, rt: &R) -> IoThreads
-        ensures written { IsSome (ended_answer result.writer) }
+        ensures written { HasEnded self.writer result.writer }
         ensures same_reader { result.reader ≡ self.reader }
         ensures same_dropper { result.dropper ≡ self.dropper }
     {
@@ -72,7 +74,9 @@ impl IoThreads {
     /// - The thread that reads ends after an `exit`, at the end of the input, at a fault, or when a message comes and the
     ///   connection's receiver is gone. Its fault is answered at once, without waiting for the others.
     /// - The thread that writes ends when the connection's sender is gone and everything is written, or at a fault.
-    pub fn join<R: Threads>(self, rt: &R) -> Result<(), IoFault> {
+    pub fn join<R: Threads>(self, rt: &R) -> Result<(), IoFault>
+        ensures { Joined self.writer result }
+    {
         let IoThreads {
             reader,
             writer,
@@ -80,50 +84,81 @@ impl IoThreads {
         } = self;
         reader.join(rt)?;
         dropper.join(rt);
-        writer.join(rt)
+        writer.join(rt).answer
+    }
+
+    /// The threads that were started.
+    pub(crate) fn of(started: Started<WriterEnd, WritesChannel>) -> IoThreads {
+        let Started {
+            reader,
+            writer,
+            dropper,
+        } = started;
+        IoThreads {
+            reader,
+            writer: Writer::Started(writer),
+            dropper,
+        }
     }
 }
 
-/// Starts the threads of a connection, in the order writer, dropper, reader, and gives this side's ends of its channels. No other
-/// place starts one.
+/// Threads that were started, of which the one that writes keeps a promise.
+#[derive(Drop)]
+pub(crate) struct Started<T: Drop, P: Promise<T>> {
+    reader: JoinHandle<Result<(), IoFault>>,
+    writer: PromisedHandle<T, P>,
+    dropper: JoinHandle<()>,
+}
+
+/// Starts the threads of a connection, in the order writer, dropper, reader, and gives the end at which this side receives. No other
+/// place starts one. The thread that writes takes from `outgoing`, and keeps the promise.
 ///
 /// A thread that is not started lets go of its ends of the channels, and this call of the others. So those that were
 /// started before find their channels closed, and end.
 ///
 /// It carries any type `M`: the check finds that a thread may own the ends of a channel only if it need not look into what the
 /// channel carries.
-pub(crate) fn start_threads<M, R, F, G>(
+pub(crate) fn start_threads<M, T, P, R, F, G>(
     rt: &R,
     alloc: Global,
+    outgoing: Receiver<M>,
+    promise: P,
     read: F,
     write: G,
-) -> Result<(Sender<M>, Receiver<M>, IoThreads), IoFault>
+) -> Result<(Receiver<M>, Started<T, P>), IoFault>
 where
     M: Drop + Send + 'static,
+    T: Drop + Send + 'static,
+    P: Promise<T> + Drop,
     R: Threads + Wait + Copy + Drop + Send + 'static,
     F: FnOnce(Sender<M>, GivenBack<M>) -> Result<(), IoFault> + Drop + Send + 'static,
-    G: FnOnce(Receiver<M>, Written<M>) -> Result<(), IoFault> + Drop + Send + 'static,
-    requires { F.IsAlwaysCallable read × G.IsAlwaysCallable write }
+    G: FnOnce(Receiver<M>, Written<M>) -> T + Drop + Send + 'static,
+    requires callable { F.IsAlwaysCallable read × G.IsAlwaysCallable write }
+    requires keeps { (written : _) (end : T) → G.post write outgoing written end → P.kept_by promise end }
     ensures { IfErr result (λ fault. is_start_fault fault ≡ true) }
 {
     let (incoming, receiver) = bounded(alloc, CHANNEL_ROOM)?;
-    let (sender, outgoing) = bounded(alloc, CHANNEL_ROOM)?;
     let (written, given_back, large) = channels_of_written(alloc)?;
     let theirs = *rt;
-    let writing = move || -> Result<(), IoFault>
+    let writing = move || -> T
         requires { G.IsAlwaysCallable write }
+        ensures { G.post write outgoing written result }
     { write(outgoing, written) };
-    let writer = Writer::Started(start(rt, writing)?);
+    let writer = match thread::spawn_with(rt, promise, writing) {
+        Ok(writer) => writer,
+        Err(_) => return Err(IoFault::Start),
+    };
     let dropper = start(rt, move || drop_all(theirs, large))?;
     let reading = move || -> Result<(), IoFault>
         requires { F.IsAlwaysCallable read }
     { read(incoming, given_back) };
-    let threads = IoThreads {
-        reader: start(rt, reading)?,
+    let reader = start(rt, reading)?;
+    let started = Started {
+        reader,
         writer,
         dropper,
     };
-    Ok((sender, receiver, threads))
+    Ok((receiver, started))
 }
 
 /// Starts a thread.

@@ -5,6 +5,7 @@
 //! your own. `docs/WRITING_A_SERVER.md` goes through all three.
 #![tactic(auto)]
 
+mod channel_account;
 pub mod clients;
 mod connection;
 pub mod dispatch;
@@ -12,6 +13,7 @@ mod io_fault;
 mod io_threads;
 pub mod laws;
 mod memory;
+mod outgoing;
 mod outlet;
 mod pipe;
 mod places;
@@ -24,6 +26,7 @@ mod stdio;
 mod transport;
 mod unread_weights;
 mod words;
+mod writer_end;
 mod writing;
 mod written;
 

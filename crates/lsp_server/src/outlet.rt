@@ -1,7 +1,8 @@
 // Where the thread that reads sends its messages: the channel of the connection's receiver, and what of it is unread.
-ghost use Rattle.std.specs.Prelude.{◌≡◌, IfErr};
+ghost use Rattle.std.specs.Prelude.{◌≡◌, ◌∷◌, ◌++◌, [], IfErr, OnOk};
 ghost use Rattle.lsp_session.specs.Boxes.{handed_back};
 
+use crate::channel_account::ChannelAccount;
 use crate::io_threads::CHANNEL_ROOM;
 use crate::places::Place;
 use crate::unread_weights::UnreadWeights;
@@ -25,6 +26,8 @@ pub(crate) struct Outlet<'a, R: Wait> {
     rt: &'a R,
     alloc: Global,
     incoming: &'a Sender<Message>,
+    /// What was sent.
+    sent: ChannelAccount<Message>,
     given_back: &'a GivenBack<Message>,
     /// The weights of what was sent. It is as long as the channel, or longer.
     unread: UnreadWeights,
@@ -43,11 +46,14 @@ impl<'a, R: Wait> Outlet<'a, R> {
         given_back: &'a GivenBack<Message>,
         unread: UnreadWeights,
         bound: u64,
-    ) -> Outlet<'a, R> {
+    ) -> Outlet<'a, R>
+        ensures { result.sent.messages ≡ [] }
+    {
         Outlet {
             rt,
             alloc,
             incoming,
+            sent: ChannelAccount::new(),
             given_back,
             unread,
             bound,
@@ -57,20 +63,27 @@ impl<'a, R: Wait> Outlet<'a, R> {
 
     /// Sends a message of this weight. It waits while the channel is full.
     pub(crate) fn send(&mut self, message: Message, weight: u64) -> Result<(), SendFault>
-        ensures { IfErr result (λ fault. handed_back fault ≡ message) }
+        ensures ok { OnOk result (self.new.sent.messages ≡ self.old.sent.messages ++ message ∷ []) }
+        ensures err { IfErr result (λ fault. (handed_back fault ≡ message)
+            × (self.new.sent.messages ≡ self.old.sent.messages)) }
     {
         if self.unread.sent(weight).is_err() {
             return Err(SendFault::Memory(message));
         }
-        let sent = self.forward(message);
+        let with_this = self.sent.with_one(&message);
+        let forwarded = self.forward(message);
         self.given_back.drop_waiting(self.rt);
-        sent
+        if forwarded.is_ok() {
+            self.sent = with_this;
+        }
+        forwarded
     }
 
     /// Sends a message to a place that is free, or to one that was kept, or to the next that is free. A receiver that is gone is told
     /// of first, since a place that was kept would take the message all the same.
     fn forward(&mut self, message: Message) -> Result<(), SendFault>
-        ensures { IfErr result (λ fault. handed_back fault ≡ message) }
+        ensures refused { IfErr result (λ fault. handed_back fault ≡ message) }
+        ensures account { self.new.sent.messages ≡ self.old.sent.messages }
     {
         match self.incoming.try_send(self.rt, message) {
             Ok(()) => Ok(()),
@@ -81,7 +94,8 @@ impl<'a, R: Wait> Outlet<'a, R> {
     }
 
     fn forward_full(&mut self, message: Message) -> Result<(), SendFault>
-        ensures { IfErr result (λ fault. handed_back fault ≡ message) }
+        ensures refused { IfErr result (λ fault. handed_back fault ≡ message) }
+        ensures account { self.new.sent.messages ≡ self.old.sent.messages }
     {
         let sent = match self.places.pop() {
             Some(place) => place.send(self.incoming, message),
@@ -98,7 +112,9 @@ impl<'a, R: Wait> Outlet<'a, R> {
 impl<'a, R: Wait + Clock> Outlet<'a, R> {
     /// Waits until a message of this weight may be sent, too: until so much was taken, or all. It ends at once if the receiver is
     /// gone, which the next `send` tells. Meanwhile it drops what was written. The error means that an allocation failed.
-    pub(crate) fn make_room(&mut self, weight: u64) -> Result<(), AllocError> {
+    pub(crate) fn make_room(&mut self, weight: u64) -> Result<(), AllocError>
+        ensures { self.new.sent.messages ≡ self.old.sent.messages }
+    {
         let rt = self.rt;
         let mut rest = SHORT_REST;
         for _ in rt.forever() {
@@ -114,7 +130,9 @@ impl<'a, R: Wait + Clock> Outlet<'a, R> {
     }
 
     /// Whether the receiver is gone. It keeps each place that is free: a channel whose receiver is there has no more than its room.
-    fn is_left(&mut self) -> Result<bool, AllocError> {
+    fn is_left(&mut self) -> Result<bool, AllocError>
+        ensures { self.new.sent.messages ≡ self.old.sent.messages }
+    {
         for _ in self.places.len()..=CHANNEL_ROOM {
             match Place::take(self.rt, self.alloc, self.incoming)? {
                 Some(place) => self.places.push(place)?,

@@ -1,7 +1,8 @@
 // What the thread of a connection does that reads. It does not read on while too much is unread.
-ghost use Rattle.std.specs.Prelude.{◌≡◌, IfSome};
+ghost use Rattle.std.specs.Prelude.{◌≡◌, IfSome, map};
 ghost use Rattle.lsp_message.specs.Frame.{reading_within};
 ghost use Rattle.lsp_message.specs.Reading.{Answers};
+ghost use Rattle.lsp_message.specs.View.{message_view};
 ghost use Rattle.lsp_server.specs.Weighing.{HandsOn, weighed_view};
 ghost use Rattle.lsp_session.specs.ReadLoop.{refused_end};
 
@@ -63,7 +64,8 @@ fn read_messages<R: Wait + Clock, B: BufRead>(
     limit: u64,
 ) -> ReadEnd
     ensures { IfSome (B.remaining reader.old) (λ text.
-        HandsOn limit text (B.remaining reader.new) result) }
+        HandsOn limit text (map message_view outlet.old.sent.messages) (B.remaining reader.new) result
+        (map message_view outlet.new.sent.messages)) }
 {
     for _ in 0..u64::MAX {
         let Weighed { message, weight } = match read_weighed(alloc, reader, outlet, limit) {
@@ -91,8 +93,9 @@ fn read_weighed<R: Wait + Clock, B: BufRead>(
     outlet: &mut Outlet<'_, R>,
     limit: u64,
 ) -> Result<Option<Weighed>, ReadFault>
-    ensures { IfSome (B.remaining reader.old) (λ text.
+    ensures read { IfSome (B.remaining reader.old) (λ text.
         Answers weighed_view result (B.remaining reader.new) (reading_within limit text)) }
+    ensures unsent { outlet.new.sent.messages ≡ outlet.old.sent.messages }
 {
     if outlet.make_room(0).is_err() {
         return Err(ReadFault::Memory);

@@ -1,0 +1,32 @@
+// What the thread of a connection that writes tells when it ends.
+use crate::io_fault::IoFault;
+use crate::outgoing::TakenMessages;
+use crossbeam_channel::Receiver;
+use lsp_message::{Message, Passed};
+use std::snapshot::Snapshot;
+use std::thread::Promise;
+
+/// What the thread answers. But for `answer`, clauses alone see it.
+#[derive(Drop)]
+pub(crate) struct WriterEnd {
+    /// The channel that it took from.
+    pub(crate) channel: Snapshot<Receiver<Message>>,
+    /// What it took.
+    pub(crate) taken: TakenMessages,
+    /// The bytes that the writer took.
+    pub(crate) given: Passed,
+    /// Whether all was written.
+    pub(crate) answer: Result<(), IoFault>,
+}
+
+/// The promise of the thread: it writes what it takes from this channel.
+#[derive(Drop)]
+pub(crate) struct WritesChannel {
+    pub(crate) channel: Snapshot<Receiver<Message>>,
+}
+
+impl Promise<WriterEnd> for WritesChannel {
+    ghost use Rattle.lsp_server.specs.Wrote.{Wrote};
+
+    ghost kept_by = { Wrote };
+}
