@@ -15,7 +15,7 @@ use Rattle.lsp_message.specs.declared.frame.passed.Passed.{Passed}
 use Rattle.lsp_message.specs.declared.msg.Message as msg
 use Rattle.lsp_session.proofs.Handing.{AreFramesOf-push}
 use Rattle.lsp_threads.proofs.Frames.{breaks}
-use Rattle.lsp_threads.specs.Passing.{GivesMore, noted}
+use Rattle.lsp_threads.specs.Passing.{noted}
 use Rattle.lsp_threads.specs.Threads.{BreaksOffWithin}
 use Rattle.lsp_server.specs.Taken.{Taken, TakesMore, closed, taken_of, takes, untaken}
 use Rattle.lsp_server.specs.Writing.{FailsBehind, IsBehind, WritesBehind, WritesFrom, WritesMessages}

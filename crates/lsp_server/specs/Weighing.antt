@@ -3,7 +3,6 @@ use Rattle.std.specs.Prelude.{◌≡◌, ℕ, List, [], ◌∷◌, ◌++◌, Opt
 use Rattle.lsp_message.specs.Message.{Message}
 use Rattle.lsp_message.specs.View.{message_view}
 use Rattle.lsp_server.specs.declared.reading.Weighed.{Weighed}
-use Rattle.lsp_session.specs.Boxes.{Sends}
 use Rattle.lsp_session.specs.ReadLoop.{Hands}
 use Rattle.lsp_session.specs.declared.lifecycle.SendFault.{SendFault}
 use Rattle.lsp_session.specs.declared.loops.ReadEnd.{ReadEnd}

@@ -1,4 +1,4 @@
-use Rattle.std.proofs.Common.{◌≡◌, ◌++◌, Ok, IfSome, false, map, true, sym, ap, subst, ◌∙◌}
+use Rattle.std.proofs.Common.{◌≡◌, Ok, IfSome, false, map, true, sym, ap, subst, ◌∙◌}
 use Rattle.lsp_message.specs.Frame.{reading_within}
 use Rattle.lsp_message.specs.Messages.{is_exit}
 use Rattle.lsp_message.specs.Reading.{Answers}
