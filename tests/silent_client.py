@@ -1,6 +1,7 @@
 #!/usr/bin/env python3
-"""Clients that break the rules of a session, and then stay connected and say nothing: in threads and with jobs too the server ends at once,
-and says why. Over a socket the next client is served while they stay, and nothing is kept for them. One that says nothing at all gives way.
+"""Clients that break the rules of a session, or end it, and then stay connected and say nothing: in threads and with jobs too the server
+ends at once, and says why; at `exit` also where it is spelled oddly. Over a socket the next client is served while they stay, and nothing is
+kept for them. One that says nothing at all gives way.
 
 It ends in status 1 at the first difference.
 """
@@ -33,6 +34,22 @@ SESSIONS = [
     ("`exit` in order", INITIALIZE + INITIALIZED + SHUTDOWN + EXIT, 0, b""),
     ("`exit` without `shutdown`", INITIALIZE + INITIALIZED + EXIT, 1, b"the client left without a shutdown"),
 ]
+# Messages that are not `exit`: more is read behind each (JSON-RPC 2.0, section 4; RFC 8259). The request gets an error.
+OTHERS = [
+    rb'{"method":"$/x","params":[0.5,-1e2,1.25E-3]}',
+    rb'{"method":"$/x","params":["\u00e9\ud83d\ude00"]}',
+    rb'{"m\u0065thod":"$\/x"}',
+    rb'{"method":"exit","method":"$/x"}',
+    rb'{"id":7,"method":"exit","params":[1.5]}',
+]
+# The notification `exit`. A null and a number with a fraction are no ids.
+EXITS = [
+    rb'{"method":"ex\u0069t"}',
+    b'\r\n{ "m\\u0065thod" :\t"exit" } ',
+    rb'{"method":"$/x","method":"exit"}',
+    rb'{"params":{"a":[0.5,1e2],"method":"$/x"},"method":"exit","id":null}',
+    rb'{"params":["\u00e9\ud83d\ude00"],"id":1.5,"method":"\u0065xit"}',
+]
 
 
 def started(way):
@@ -56,6 +73,15 @@ def ends_at_once(way):
         process.stdin.write(sent)
         process.stdin.flush()
         has_ended(process, what, status, text)
+
+
+def ends_at_each_exit(way):
+    others = b"".join(map(frame, OTHERS))
+    for last in EXITS:
+        process = started(way)
+        process.stdin.write(INITIALIZE + INITIALIZED + others + SHUTDOWN + frame(last))
+        process.stdin.flush()
+        has_ended(process, repr(last), 0, b"")
 
 
 def ends_where_nobody_reads(way):
@@ -124,7 +150,7 @@ def main():
         gives_way()
         print("all ways gives way")
         for way in WAYS:
-            for check in [ends_at_once, ends_where_nobody_reads, serves_the_next]:
+            for check in [ends_at_once, ends_at_each_exit, ends_where_nobody_reads, serves_the_next]:
                 check(way)
                 print(" ".join(way), check.__name__.replace("_", " "))
     except (Difference, OSError, subprocess.TimeoutExpired) as fault:

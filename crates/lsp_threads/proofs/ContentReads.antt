@@ -1,12 +1,12 @@
 -- What a thread that reads handed on: the content parts of the text, one after another.
-use Rattle.std.proofs.Common.{◌≡◌, ℕ, true, false, List, [], ◌∷◌, ◌++◌, ap, sym, refl, subst, ◌∙◌, append-nil, append_assoc, inl, inr, Option, Some, None, IfSome, IsSomeAnd, Result, Ok, Err, map, Vec, Global}
+use Rattle.std.proofs.Common.{◌≡◌, ℕ, true, false, List, [], ◌∷◌, ◌++◌, ap, sym, refl, subst, ◌∙◌, append-nil, append_assoc, inr, Option, Some, None, IfSome, IsSomeAnd, Result, Ok, Err, map, Vec, Global}
 use Rattle.std.proofs.lemmas.Fn.{FoldsTo-push}
 use Rattle.std.proofs.lemmas.List.{map-append}
 use Rattle.std.specs.Io.KnownBytes.{Keeps}
 use Rattle.std.specs.List.{concat, FoldsTo}
-use Rattle.lsp_message.proofs.ContentParts.{content_outcome, end_outcome, fault_outcome}
+use Rattle.lsp_message.proofs.ContentParts.{end_outcome, fault_outcome}
 use Rattle.lsp_message.specs.Frame.{body_means, content_within, reading_within}
-use Rattle.lsp_message.specs.Reading.{Answers, found}
+use Rattle.lsp_message.specs.Reading.{Answers}
 use Rattle.lsp_message.specs.declared.frame.ReadFault.{ReadFault}
 use Rattle.lsp_message.specs.declared.frame.ReadFault.TheVariants.{Input, Memory as NoMemory}
 use Rattle.lsp_message.specs.Message.{Message}
@@ -17,11 +17,11 @@ use Rattle.std.specs.declared.io.ErrorKind.TheVariants.{Other}
 use Rattle.lsp_relay.specs.declared.ends.Parcel.{Parcel}
 use Rattle.lsp_relay.specs.declared.ends.Parcel.TheVariants as parcel
 use Rattle.lsp_session.specs.declared.loops.ReadEnd.{ReadEnd}
-use Rattle.lsp_session.specs.declared.loops.ReadEnd.TheVariants.{Exit, End, Fault}
+use Rattle.lsp_session.specs.declared.loops.ReadEnd.TheVariants.{End, Fault}
 use Rattle.lsp_threads.proofs.HeaderFaults.{is_of_no_body}
 use Rattle.lsp_message.specs.Told.{Parts, Told, IsOfParts}
 use Rattle.lsp_threads.proofs.Taken.{nothing_taken, told_last, told_next}
-use Rattle.lsp_threads.specs.Contents.{AreContents, BeginsAny, BeginsSource, BeginsWithContent, bytes_of, Contents, contents_of, Gathering, IsExit, LooksAt, MaySend, parts_after, ReadsContents, StopsAt, TellsContents}
+use Rattle.lsp_threads.specs.Contents.{AreContents, BeginsAny, BeginsSource, BeginsWithContent, bytes_of, Contents, contents_of, Gathering, MaySend, parts_after, ReadsContents, StopsAt, TellsContents}
 use Rattle.lsp_threads.specs.Passing.{OfTaken, TakenFrom}
 
 -- ---- content parts in parcels
@@ -83,12 +83,6 @@ module _ (limit : ℕ) where
   stops_fault fault at left answers =
       (is_of_no_body limit at fault answers.0, (reading_within limit at).rest, reading_is at (Err fault) (fault_outcome body_means limit at fault answers.0))
 
-  stops_bad : (fault : ReadFault) (at content : List ℕ) → (content_within limit at).outcome ≡ Ok (Some content) → LooksAt content (Err fault) → StopsAt limit at (Fault fault)
-  stops_bad (Input kind) at content is bad = tt
-  stops_bad NoMemory at content is bad = tt
-  stops_bad fault at content is bad =
-      (bad.0, (reading_within limit at).rest, reading_is at (Err fault) (content_outcome body_means limit at content is ∙ ap found bad.1))
-
   -- the first bytes begin with these content parts, and the second follow them
   abbrev pub Passed : Option (List ℕ) → Option (List ℕ) → List (List ℕ) → Type 0
   Passed a b contents = IfSome a (λ text. IsSomeAnd b (λ at. FoldsTo (BeginsWithContent limit) text contents at))
@@ -129,13 +123,6 @@ module _ (limit : ℕ) where
       reads_fault fault read = known a b contents passed read (λ text at run answers. reads_stop contents text at (Fault fault) run (stops_fault fault at c answers))
 
       module _ (x : Vec ℕ Global) (read : IfSome b (λ at. Answers (λ (content : Vec ℕ Global). content.items) (Ok (Some x)) c (content_within limit at))) where
-        pub reads_bad : (fault : ReadFault) → LooksAt x.items (Err fault) → IfSome a (λ text. ReadsContents limit text (Fault fault) contents)
-        reads_bad fault bad = known a b contents passed read (λ text at run answers. reads_stop contents text at (Fault fault) run (stops_bad fault at x.items answers.0 bad))
-
-        pub reads_exit : IsExit x.items → IfSome a (λ text. ReadsContents limit text Exit (contents ++ x.items ∷ []))
-        reads_exit exit = known a b contents passed read (λ text at run answers.
-            reads_then contents (x.items ∷ []) text at Exit run ((content_within limit at).rest, content_is at x.items answers.0, inl (refl, refl, exit)))
-
         pub passed_more : Passed a c (contents ++ x.items ∷ [])
         passed_more = known a b contents passed read (λ text at run answers.
             rw answers.1 (FoldsTo-push (BeginsWithContent limit) text contents at x.items (content_within limit at).rest run (content_is at x.items answers.0)))
@@ -176,17 +163,6 @@ module _ (limit : ℕ) where
       told_more rest =
           let at = told_next items (content_within limit) t u a b x told rest in
           subst (λ text. FoldsTo (BeginsWithContent limit) text (contents ++ x.items ∷ []) rest) (sym at.1) (passed_more (Some (concat t ++ at.0)) (Some at.0) contents (are at.0) (Some rest) x at.2)
-
-      pub told_exit : IsExit x.items → Now Exit (contents ++ x.items ∷ [])
-      told_exit exit rest ends =
-          let at = told_next items (content_within limit) t u a b x told rest in
-          subst (λ text. ReadsContents limit text Exit (contents ++ x.items ∷ [])) (sym at.1) (reads_exit (Some (concat t ++ at.0)) (Some at.0) contents (are at.0) (Some rest) x at.2 exit)
-
-      -- the content part was read and not handed on
-      pub told_bad : (fault : ReadFault) → LooksAt x.items (Err fault) → Now (Fault fault) contents
-      told_bad fault bad rest ends =
-          let at = told_next items (content_within limit) t u a b x told rest in
-          subst (λ text. ReadsContents limit text (Fault fault) contents) (sym at.1) (reads_bad (Some (concat t ++ at.0)) (Some at.0) contents (are at.0) (Some rest) x at.2 fault bad)
 
       -- and reading may stop there in any case
       pub told_stop : (end : ReadEnd) → ((at : List ℕ) → StopsAt limit at end) → Now end contents

@@ -3,6 +3,7 @@ pub mod ContentStream
 pub mod ContentWaits
 pub mod ContentsSend
 pub mod Frames
+pub mod GoesOn
 pub mod Handed
 pub mod HeaderFaults
 pub mod Leaving

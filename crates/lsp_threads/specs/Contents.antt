@@ -22,8 +22,6 @@ use Rattle.lsp_relay.specs.declared.ends.Parcel.TheVariants as parcel
 use Rattle.lsp_threads.specs.declared.content_outbox.Contents as outbox
 use Rattle.lsp_threads.specs.declared.content_parts.Next.{Next}
 use Rattle.lsp_threads.specs.declared.content_parts.Next.TheVariants as next
-use Rattle.lsp_threads.specs.declared.content_reader.Seen.{Seen}
-use Rattle.lsp_threads.specs.declared.content_reader.Seen.TheVariants as seen
 use Rattle.lsp_threads.specs.Passing.{OfTaken, TakenFrom}
 
 -- ---- content parts in parcels
@@ -56,14 +54,6 @@ parts_of parcels = parts_after [] parcels
 -- the content part is the message `exit`
 abbrev pub IsExit : List ℕ → Type 0
 IsExit content = (m : Message) × (body_means content ≡ Ok m) × (is_exit m ≡ true)
-
--- For private clauses: what a look at a content part tells. Reading ends after `exit`. Whether another content part is a message is for
--- the session to find. A fault of a body is none of the look: such a content part is no message, and is handed on.
-abbrev pub LooksAt : List ℕ → Result Seen ReadFault → Type 0
-LooksAt content (Ok seen.Exit) = IsExit content
-LooksAt content (Ok other) = Unit {0}
-LooksAt content (Err NoMemory) = Unit {0}
-LooksAt content (Err fault) = (is_of_body fault ≡ false) × (body_means content ≡ Err fault)
 
 -- content parts have at most so many bytes
 module _ (limit : ℕ) where

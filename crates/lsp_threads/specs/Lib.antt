@@ -1,6 +1,7 @@
 pub mod ContentBoxes
 pub mod Contents
 pub mod Framing
+pub mod GoesOn
 pub mod Passing
 pub mod Pump
 pub mod Replies

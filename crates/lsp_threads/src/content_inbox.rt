@@ -62,6 +62,8 @@ impl<'a, R: Wait + Copy + Drop, L: Listener> ContentInbox<'a, R, L> {
                 let message = Message::from_content(self.alloc, &content)?;
                 if is_exit(&message) {
                     self.end = Some(ReadEnd::Exit);
+                } else {
+                    self.parts.go_on();
                 }
                 Ok(Arrival::Message(message))
             }

@@ -11,12 +11,14 @@ use std::marker::Model;
 use std::mem;
 use std::sync::Wait;
 
-/// What a parcel of a session's relay carries: the content parts of some messages, in order (LSP 3.17, "Content Part"), and an account of all
-/// bytes that were taken from the reader up to their end.
+/// What a parcel of a session's relay carries: the content parts of some messages, in order (LSP 3.17, "Content Part"), an account of all
+/// bytes that were taken from the reader up to their end, and whether the thread that reads waits behind the last.
 #[derive(Drop)]
 pub struct Contents {
     pub(crate) parts: Vec<Vec<u8>>,
     pub(crate) taken: Passed,
+    /// Whether nothing more is read until the session goes on after the last content part.
+    pub(crate) waits: bool,
 }
 
 /// How many bytes of content parts go into one parcel. A longer one is a parcel of its own. It changes speed and memory only.
@@ -112,7 +114,7 @@ impl<R: Wait + Drop> ContentOutbox<R> {
     {
         let size = self.size.saturating_add(content.len());
         if size > FULL_PARCEL {
-            self.hand_over();
+            self.hand_over(false);
         }
         self.gather(content, taken)
     }
@@ -131,8 +133,9 @@ impl<R: Wait + Drop> ContentOutbox<R> {
         Ok(())
     }
 
-    /// Sends what waits, as one parcel. It waits while too many bytes are unread.
-    fn hand_over(&mut self)
+    /// Sends what waits, as one parcel, and tells the session whether the thread that reads then waits. It waits while too many bytes are
+    /// unread.
+    fn hand_over(&mut self, waits: bool)
         ensures { Stays self.old self.old.contents self.new }
     {
         if self.closed {
@@ -142,7 +145,12 @@ impl<R: Wait + Drop> ContentOutbox<R> {
         let parts = mem::replace(&mut self.pending, Vec::new(self.alloc));
         wait_for_room(&self.rt, &mut self.unread, &parts);
         let taken = self.taken.so_far();
-        self.closed = !deliver_contents(&self.rt, &mut self.tx, Contents { parts, taken });
+        let contents = Contents {
+            parts,
+            taken,
+            waits,
+        };
+        self.closed = !deliver_contents(&self.rt, &mut self.tx, contents);
     }
 
     /// Sends what waits, unless the next message is at hand and the parcel not full.
@@ -150,15 +158,15 @@ impl<R: Wait + Drop> ContentOutbox<R> {
         ensures { Stays self.old self.old.contents self.new }
     {
         if !has_next || self.size >= FULL_PARCEL {
-            self.hand_over();
+            self.hand_over(false);
         }
     }
 
-    /// Sends what waits, and then waits until the session goes on after the last content part, which is no message. False: it does not.
+    /// Sends what waits, and then waits until the session goes on after the last content part. False: it does not.
     pub fn waits_to_go_on(&mut self) -> bool
         ensures { Stays self.old self.old.contents self.new }
     {
-        self.hand_over();
+        self.hand_over(true);
         may_go_on(&self.rt, &self.unread)
     }
 
@@ -187,6 +195,7 @@ impl<R: Wait + Drop> ContentOutbox<R> {
         let contents = Contents {
             parts: pending,
             taken,
+            waits: false,
         };
         if !deliver_contents(&rt, &mut tx, contents) {
             return tx;
@@ -203,7 +212,7 @@ fn wait_for_room<R: Wait>(rt: &R, unread: &mut Option<Unread>, parts: &Vec<Vec<u
     }
 }
 
-/// Waits until the session goes on after a content part that is no message. False: it does not, or there is nothing that could tell.
+/// Waits until the session goes on after a content part. False: it does not, or there is nothing that could tell.
 fn may_go_on<R: Wait>(rt: &R, unread: &Option<Unread>) -> bool {
     match unread {
         Some(unread) => unread.may_go_on(rt),

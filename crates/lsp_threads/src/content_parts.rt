@@ -33,6 +33,8 @@ pub struct ContentParts<R: Wait + Drop> {
     waiting: VecDeque<Vec<u8>>,
     /// What was taken from the reader up to the end of the last parcel.
     taken: Passed,
+    /// Whether the thread that reads waits behind the last parcel.
+    is_awaited: bool,
     drained: bool,
 }
 
@@ -71,6 +73,7 @@ impl<R: Wait + Drop> ContentParts<R> {
             takes,
             waiting: VecDeque::new(alloc),
             taken: Passed::new(),
+            is_awaited: false,
             drained: false,
         }
     }
@@ -103,9 +106,10 @@ impl<R: Wait + Drop> ContentParts<R> {
             takes,
             waiting,
             taken,
+            is_awaited,
             drained,
         } = self;
-        match next_content(rt, rx, takes, waiting, taken) {
+        match next_content(rt, rx, takes, waiting, taken, is_awaited) {
             Next::Content(content) => Next::Content(content),
             Next::Wake => Next::Wake,
             Next::End => {
@@ -115,9 +119,11 @@ impl<R: Wait + Drop> ContentParts<R> {
         }
     }
 
-    /// Tells the thread that reads that the session goes on after a content part that is no message.
+    /// Tells the thread that reads that the session goes on after the content part that was given last, if that thread waits behind it.
     pub fn go_on(&self) {
-        self.takes.go_on(&self.rt);
+        if self.is_awaited && self.waiting.is_empty() {
+            self.takes.go_on(&self.rt);
+        }
     }
 
     /// Takes no more, and gives the relay's end back, with an account of what was taken from the reader up to the end of the last parcel. From
@@ -134,6 +140,7 @@ impl<R: Wait + Drop> ContentParts<R> {
             takes,
             waiting: _,
             taken,
+            is_awaited: _,
             drained: _,
         } = self;
         drop(takes);
@@ -148,6 +155,7 @@ fn next_content<R: Wait>(
     takes: &Takes,
     waiting: &mut VecDeque<Vec<u8>>,
     taken: &mut Passed,
+    is_awaited: &mut bool,
 ) -> Next
     requires unended { has_end rx.old.taken ≡ false }
     requires account { taken.old.parts ≡ parts_of rx.old.taken }
@@ -163,6 +171,7 @@ fn next_content<R: Wait>(
             None => match collect_or_wake(rt, rx) {
                 Some(Parcel::Message(contents)) => {
                     takes.took(rt, weight(&contents.parts));
+                    *is_awaited = contents.waits;
                     *waiting = VecDeque::from_vec(contents.parts);
                     *taken = contents.taken;
                 }

@@ -1,6 +1,6 @@
 //! The thread that reads: it hands on the content parts of a reader's messages as bytes.
 ghost use Rattle.std.specs.Prelude.{◌≡◌, [], false, Some};
-ghost use Rattle.lsp_threads.specs.Contents.{LooksAt, ReadsContents, ReadsFor, TellsContents};
+ghost use Rattle.lsp_threads.specs.Contents.{ReadsContents, ReadsFor, TellsContents};
 ghost use Rattle.lsp_threads.specs.Passing.{OfTaken, TakenFrom};
 
 use crate::content_outbox::{ContentOutbox, Contents, ContentsPlan, ContentsTx};
@@ -8,27 +8,17 @@ use crate::goes_on::surely_goes_on;
 use crate::peeking_reader::PeekingReader;
 use crate::unread::Unread;
 use crate::workers::ReadsInto;
-use lsp_message::{Message, Passed, ReadFault, read_content_telling};
+use json::Scratch;
+use lsp_message::{Passed, ReadFault, read_content_telling};
 use lsp_relay::RelayTx;
-use lsp_session::{ReadEnd, is_exit, is_of_body};
+use lsp_session::ReadEnd;
 use std::alloc::Global;
 use std::io::{BufRead, ErrorKind};
 use std::sync::Wait;
 
-/// What a content part is to the thread that reads.
-#[derive(Clone, Copy, PartialEq, Eq)]
-enum Seen {
-    /// A message after which more may come.
-    Message,
-    /// `exit`.
-    Exit,
-    /// No message.
-    NoMessage,
-}
-
-/// Adds a reader's content parts to an outbox that has none, up to and with the first that is `exit`. What was added is handed over before
-/// a read that may wait. After a content part that is no message it waits until the session goes on, and ends if it does not. It ends too
-/// once the session takes no more. The bytes that it takes are noted.
+/// Adds a reader's content parts to an outbox that has none. What was added is handed over before a read that may wait. After a content
+/// part that may be `exit`, or no message, it waits until the session goes on, and ends if it does not. It ends too once the session takes
+/// no more. The bytes that it takes are noted.
 fn read_contents<R: Wait + Drop, S: BufRead>(
     alloc: Global,
     reader: &mut PeekingReader<S>,
@@ -44,16 +34,14 @@ fn read_contents<R: Wait + Drop, S: BufRead>(
     ensures relay { outbox.new.relay ≡ outbox.old.relay }
     ensures wakeable { outbox.new.wakeable ≡ outbox.old.wakeable }
 {
+    let mut scratch = Scratch::new(alloc);
     for _ in 0..u64::MAX {
         let content = match read_content_telling(alloc, reader, limit, taken) {
             Ok(Some(content)) => content,
             Ok(None) => return ReadEnd::End,
             Err(fault) => return ReadEnd::Fault(fault),
         };
-        let seen = match look_at(alloc, &content) {
-            Ok(seen) => seen,
-            Err(fault) => return ReadEnd::Fault(fault),
-        };
+        let goes_on = surely_goes_on(alloc, &content, &mut scratch);
         match outbox.add(content, taken) {
             Ok(()) => {}
             Err(_) => return ReadEnd::Fault(ReadFault::Memory),
@@ -61,46 +49,16 @@ fn read_contents<R: Wait + Drop, S: BufRead>(
         if outbox.is_closed() {
             return ReadEnd::Closed;
         }
-        match seen {
-            Seen::Message => outbox.go_on(reader.shows_frame()),
-            Seen::Exit => return ReadEnd::Exit,
-            Seen::NoMessage => {
-                if !outbox.waits_to_go_on() {
-                    return ReadEnd::Fault(ReadFault::Input(ErrorKind::Other));
-                }
-            }
+        if goes_on {
+            outbox.go_on(reader.shows_frame());
+        } else if !outbox.waits_to_go_on() {
+            return ReadEnd::Fault(ReadFault::Input(ErrorKind::Other));
         }
         if outbox.is_closed() {
             return ReadEnd::Closed;
         }
     }
     ReadEnd::Fault(ReadFault::Input(ErrorKind::Other))
-}
-
-/// What the content part is. What surely is a message other than `exit` is not looked at closely. The fault is none of the content part
-/// itself: an allocation failed.
-fn look_at(alloc: Global, content: &[u8]) -> Result<Seen, ReadFault>
-    ensures { LooksAt content.now result }
-{
-    if surely_goes_on(content) {
-        return Ok(Seen::Message);
-    }
-    match Message::from_content(alloc, content) {
-        Ok(message) => {
-            let is_last = is_exit(&message);
-            drop(message);
-            if is_last {
-                return Ok(Seen::Exit);
-            }
-            Ok(Seen::Message)
-        }
-        Err(fault) => {
-            if is_of_body(fault) {
-                return Ok(Seen::NoMessage);
-            }
-            Err(fault)
-        }
-    }
 }
 
 impl ReadsInto for RelayTx<Contents, ContentsPlan> {

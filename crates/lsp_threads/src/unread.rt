@@ -1,5 +1,5 @@
 //! How many bytes a thread may have read that nobody took yet. It bounds memory, and changes no answer. And whether that thread reads on
-//! after a content part that is no message.
+//! after a content part behind which it waits.
 
 use crossbeam_channel::{Receiver, Sender, bounded};
 use std::alloc::{AllocError, Global};
@@ -36,7 +36,7 @@ pub struct Unread {
     taken: Arc<AtomicU64, Global>,
     /// Rings after bytes were taken.
     bell: Receiver<()>,
-    /// Has a message once the other end goes on after a content part that is no message.
+    /// Has a message once the other end goes on after a content part behind which this one waits.
     verdicts: Receiver<()>,
     bound: u64,
     /// How many bytes were read, in all.
@@ -60,7 +60,7 @@ impl Unread {
         unread == 0 || weight <= self.bound.saturating_sub(unread)
     }
 
-    /// Waits until the other end goes on after a content part that is no message. False: it is gone.
+    /// Waits until the other end goes on after the last content part. False: it is gone.
     pub fn may_go_on<R: Wait>(&self, rt: &R) -> bool {
         self.verdicts.recv(rt).is_ok()
     }
@@ -81,7 +81,7 @@ impl Takes {
         let _ = self.ring.try_send(rt, ());
     }
 
-    /// Goes on after a content part that is no message. It doesn't wait: the other end awaits one such word for each such content part.
+    /// Goes on after a content part behind which the other end waits. It doesn't wait: that awaits one such word for each.
     pub fn go_on<R: Wait>(&self, rt: &R) {
         let _ = self.verdict.try_send(rt, ());
     }

@@ -1,14 +1,13 @@
-use Rattle.std.proofs.Common.{◌∙◌, ap, sym, subst, Ok, Err, Option}
+use Rattle.std.proofs.Common.{◌∙◌, ap, sym, Option}
 use Rattle.lsp_relay.specs.Relay.{Source}
 use Rattle.lsp_message.specs.declared.frame.ReadFault.TheVariants.{Input, Memory as NoMemory}
 use Rattle.lsp_session.specs.declared.loops.ReadEnd.TheVariants.{Fault}
 use Rattle.std.specs.declared.io.ErrorKind.TheVariants.{Other}
-use Rattle.lsp_threads.specs.Contents.{Gathering, LooksAt}
-use Rattle.lsp_threads.proofs.ContentReads.{begins_any, reads_stopped, told_bad, told_end, told_exit, told_fault, told_more, told_stop}
+use Rattle.lsp_threads.specs.Contents.{Gathering}
+use Rattle.lsp_threads.proofs.ContentReads.{begins_any, reads_stopped, told_end, told_fault, told_more, told_stop}
 use Rattle.lsp_threads.proofs.Taken.{taken_more, takes_kept, takes_more}
-use Rattle.lsp_threads.specs.declared.content_reader.Seen.TheVariants as seen
 use Rattle.lsp_threads.proofs.content_reader.read_contents.Goals as goal
-use Rattle.lsp_threads.proofs.content_reader.read_contents.Goals.{in-Message, in-NoMessage+else-not-waits_to_go_on}
+use Rattle.lsp_threads.proofs.content_reader.read_contents.Goals.{then-goes_on, else-goes_on+else-not-waits_to_go_on}
 
 pub returns-in-Ok-None-clause-read : goal.returns-in-Ok-None-clause-read
 returns-in-Ok-None-clause-read g c =
@@ -18,51 +17,38 @@ pub returns-in-Err-clause-read : goal.returns-in-Err-clause-read
 returns-in-Err-clause-read g c =
     λ still. told_fault c.args.limit c.loop.outbox.contents c.loop.taken.parts c.read_content_telling.new.taken.parts _ _ c.loop.invariant.are c.in-Err.fault (rw c.in-Err.is at c.read_content_telling.ensures.told)
 
-pub returns-in-Err-look_at-clause-read : goal.returns-in-Err-look_at-clause-read
-returns-in-Err-look_at-clause-read g c =
-    let told = rw (c.in-Ok-Some.is, c.in-Ok-Some.field-0-is) at c.read_content_telling.ensures.told in
-    λ still. told_bad c.args.limit c.loop.outbox.contents c.loop.taken.parts c.read_content_telling.new.taken.parts _ _ c.loop.invariant.are c.in-Ok-Some.content told c.in-Err-look_at.fault
-    (subst (λ items. LooksAt items (Err c.in-Err-look_at.fault)) c.deref.ensures.value c.in-Err-look_at.ensures)
-
 pub returns-in-Err-add-clause-read : goal.returns-in-Err-add-clause-read
 returns-in-Err-add-clause-read g c =
     let told = rw (c.in-Ok-Some.is, c.in-Ok-Some.field-0-is) at c.read_content_telling.ensures.told in
     λ still. rw (c.in-Err-add.ensures.err.2 still).1 (told_stop c.args.limit c.loop.outbox.contents c.loop.taken.parts c.read_content_telling.new.taken.parts _ _ c.loop.invariant.are c.in-Ok-Some.content told (Fault NoMemory) (λ at. tt))
 
-pub returns-in-Exit-clause-read : goal.returns-in-Exit-clause-read
-returns-in-Exit-clause-read g c =
-    let told = rw (c.in-Ok-Some.is, c.in-Ok-Some.field-0-is) at c.read_content_telling.ensures.told in
-    let looks = rw c.in-Exit.is at c.in-Ok.ensures in
-    λ still. rw (c.in-Ok-add.ensures.ok.2 still).1
-    (told_exit c.args.limit c.loop.outbox.contents c.loop.taken.parts c.read_content_telling.new.taken.parts _ _ c.loop.invariant.are c.in-Ok-Some.content told (subst (λ items. LooksAt items (Ok seen.Exit)) c.deref.ensures.value looks))
-
 pub returns-then-not-waits_to_go_on-clause-read : goal.returns-then-not-waits_to_go_on-clause-read
 returns-then-not-waits_to_go_on-clause-read g c =
     let told = rw (c.in-Ok-Some.is, c.in-Ok-Some.field-0-is) at c.read_content_telling.ensures.told in
     let more = told_more c.args.limit c.loop.outbox.contents c.loop.taken.parts c.read_content_telling.new.taken.parts _ _ c.loop.invariant.are c.in-Ok-Some.content told in
-    λ still. let last = c.waits_to_go_on.ensures.2 still in rw (last.1 ∙ (c.in-Ok-add.ensures.ok.2 last.0).1) (reads_stopped c.args.limit _ c.read_content_telling.new.taken.parts more (Fault (Input Other)) (λ at. tt))
+    λ still. let last = c.waits_to_go_on.ensures.2 still in rw (last.1 ∙ (c.in-Ok.ensures.ok.2 last.0).1) (reads_stopped c.args.limit _ c.read_content_telling.new.taken.parts more (Fault (Input Other)) (λ at. tt))
 
 pub loop-preserved : goal.loop-preserved
 loop-preserved g c =
     let told = rw (c.in-Ok-Some.is, c.in-Ok-Some.field-0-is) at c.read_content_telling.ensures.told in
     let more = told_more c.args.limit c.loop.outbox.contents c.loop.taken.parts c.read_content_telling.new.taken.parts _ _ c.loop.invariant.are c.in-Ok-Some.content told in
     let taken = takes_more _ _ _ _ _ c.loop.invariant.taken c.read_content_telling.ensures.told in
-    elim c.match-seen.branch [
-      | in-Message w ↦
+    elim c.if-goes_on.branch [
+      | then-goes_on w ↦
           let last = w.go_on.ensures.2 (ap (λ (f : Gathering). f.closed) (sym w.outbox-is) ∙ sym c.if-is_closed-2.ensures) in
           rw (w.reader-is, w.outbox-is) (record {
-            are = rw (last.1 ∙ (c.in-Ok-add.ensures.ok.2 last.0).1) more;
+            are = rw (last.1 ∙ (c.in-Ok.ensures.ok.2 last.0).1) more;
             taken = takes_kept _ _ _ _ taken w.shows_frame.ensures;
-            relay = w.go_on.ensures.0 ∙ c.in-Ok-add.ensures.ok.0 ∙ c.loop.invariant.relay;
-            wakeable = w.go_on.ensures.1 ∙ c.in-Ok-add.ensures.ok.1 ∙ c.loop.invariant.wakeable;
+            relay = w.go_on.ensures.0 ∙ c.in-Ok.ensures.ok.0 ∙ c.loop.invariant.relay;
+            wakeable = w.go_on.ensures.1 ∙ c.in-Ok.ensures.ok.1 ∙ c.loop.invariant.wakeable;
           })
-      | in-NoMessage+else-not-waits_to_go_on w ↦
+      | else-goes_on+else-not-waits_to_go_on w ↦
           let last = w.waits_to_go_on.ensures.2 (ap (λ (f : Gathering). f.closed) (sym w.outbox-is) ∙ sym c.if-is_closed-2.ensures) in
           rw (w.reader-is, w.outbox-is) (record {
-            are = rw (last.1 ∙ (c.in-Ok-add.ensures.ok.2 last.0).1) more;
+            are = rw (last.1 ∙ (c.in-Ok.ensures.ok.2 last.0).1) more;
             taken = taken;
-            relay = w.waits_to_go_on.ensures.0 ∙ c.in-Ok-add.ensures.ok.0 ∙ c.loop.invariant.relay;
-            wakeable = w.waits_to_go_on.ensures.1 ∙ c.in-Ok-add.ensures.ok.1 ∙ c.loop.invariant.wakeable;
+            relay = w.waits_to_go_on.ensures.0 ∙ c.in-Ok.ensures.ok.0 ∙ c.loop.invariant.relay;
+            wakeable = w.waits_to_go_on.ensures.1 ∙ c.in-Ok.ensures.ok.1 ∙ c.loop.invariant.wakeable;
           })
     ]
 
@@ -82,14 +68,8 @@ returns-in-Ok-None-clause-taken g c = taken_more _ _ _ _ _ c.loop.invariant.take
 pub returns-in-Err-clause-taken : goal.returns-in-Err-clause-taken
 returns-in-Err-clause-taken g c = taken_more _ _ _ _ _ c.loop.invariant.taken c.read_content_telling.ensures.told
 
-pub returns-in-Err-look_at-clause-taken : goal.returns-in-Err-look_at-clause-taken
-returns-in-Err-look_at-clause-taken g c = taken_more _ _ _ _ _ c.loop.invariant.taken c.read_content_telling.ensures.told
-
 pub returns-in-Err-add-clause-taken : goal.returns-in-Err-add-clause-taken
 returns-in-Err-add-clause-taken g c = taken_more _ _ _ _ _ c.loop.invariant.taken c.read_content_telling.ensures.told
-
-pub returns-in-Exit-clause-taken : goal.returns-in-Exit-clause-taken
-returns-in-Exit-clause-taken g c = taken_more _ _ _ _ _ c.loop.invariant.taken c.read_content_telling.ensures.told
 
 pub returns-then-not-waits_to_go_on-clause-taken : goal.returns-then-not-waits_to_go_on-clause-taken
 returns-then-not-waits_to_go_on-clause-taken g c = taken_more _ _ _ _ _ c.loop.invariant.taken c.read_content_telling.ensures.told
