@@ -1,9 +1,9 @@
 #!/usr/bin/env python3
 """A client that sends and never reads: how much memory that costs each way to run a session.
 
-It sends 60 requests of 256 KB, which get their params back, and takes no reply. When nothing moves any more it notes the peak of the
-program's resident memory (Linux, `VmHWM`), and ends the program. `{"":0}` lists and lists of lists are what takes the most memory for a
-byte, and one string what takes the least.
+It sends 60 requests of 256 KB, or of `--length` bytes, which get their params back, and takes no reply. When nothing moves any more it
+notes the peak of the program's resident memory (Linux, `VmHWM`), and ends the program. `{"":0}` lists and lists of lists are what takes the
+most memory for a byte, and a string what takes the least.
 """
 import argparse
 import os
@@ -25,16 +25,16 @@ LONGEST = 120
 WAYS = ["session", "run_threads", "Connection"]
 
 
-def filled(start, item, end):
-    """About LENGTH bytes: the item as often as it fits, with commas between."""
-    return start + b",".join([item] * (LENGTH // (len(item) + 1))) + end
+def filled(item):
+    """About so many bytes: the item as often as it fits, with commas between."""
+    return lambda length: b"[" + b",".join([item] * (length // (len(item) + 1))) + b"]"
 
 
 PARAMS = {
-    '`{"":0}`': filled(b"[", b'{"":0}', b"]"),
-    "lists": filled(b"[", b"[]", b"]"),
-    "numbers": filled(b"[", b"1", b"]"),
-    "one string": b'["' + b"x" * LENGTH + b'"]',
+    '`{"":0}`': filled(b'{"":0}'),
+    "lists": filled(b"[]"),
+    "numbers": filled(b"1"),
+    "string": lambda length: b'["' + b"x" * length + b'"]',
 }
 
 
@@ -90,6 +90,8 @@ def parse_arguments():
     parser.add_argument("--ways", nargs="+", default=WAYS, choices=WAYS)
     parser.add_argument("--program", type=Path, default=SERVE, help="the program with a loop over a connection")
     parser.add_argument("--sessions", type=Path, default=BENCH, help="the program with the sessions")
+    parser.add_argument("--params", nargs="+", default=list(PARAMS), choices=PARAMS)
+    parser.add_argument("--length", type=int, default=LENGTH, help="how many bytes a request has")
     parser.add_argument("--most", type=float, help="fail where a way takes more MB than this")
     return parser.parse_args()
 
@@ -97,10 +99,10 @@ def parse_arguments():
 def main():
     arguments = parse_arguments()
     failed = False
-    print(f"{COUNT} requests of {LENGTH} bytes, and no reply is read: peak MB (MB sent)")
+    print(f"{COUNT} requests of {arguments.length} bytes, and no reply is read: peak MB (MB sent)")
     print("| params | " + " | ".join(arguments.ways) + " |\n" + "|---" * (len(arguments.ways) + 1) + "|", flush=True)
-    for name, params in PARAMS.items():
-        cells = [name]
+    for name in arguments.params:
+        cells, params = [name], PARAMS[name](arguments.length)
         for way in arguments.ways:
             try:
                 most, sent = peak(command(way, arguments), params)

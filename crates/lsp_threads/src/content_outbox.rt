@@ -3,7 +3,7 @@ ghost use Rattle.std.specs.Prelude.{◌≡◌, ◌++◌, ◌∷◌, [], false, t
 ghost use Rattle.lsp_relay.specs.Relay.{ended, has_end, IsOpen};
 ghost use Rattle.lsp_threads.specs.Contents.{Contents as Carried, BeginsAny, Stays, bytes_of, contents_of};
 
-use crate::unread::Unread;
+use crate::backlog::Backlog;
 use lsp_message::Passed;
 use lsp_relay::{Parcel, Plan, RelayRx, RelayTx};
 use std::alloc::{AllocError, Global};
@@ -46,7 +46,7 @@ pub struct ContentOutbox<R: Wait + Drop> {
     rt: R,
     alloc: Global,
     tx: ContentsTx,
-    unread: Option<Unread>,
+    backlog: Backlog,
     pending: Vec<Vec<u8>>,
     /// What was taken up to the end of the last content part.
     taken: Passed,
@@ -76,7 +76,7 @@ impl<R: Wait + Drop> Model for ContentOutbox<R> {
 }
 
 impl<R: Wait + Drop> ContentOutbox<R> {
-    pub fn new(rt: R, alloc: Global, tx: ContentsTx, unread: Option<Unread>) -> ContentOutbox<R>
+    pub fn new(rt: R, alloc: Global, tx: ContentsTx, backlog: Backlog) -> ContentOutbox<R>
         requires { tx.sent ≡ [] }
         ensures { result ≡ record {
           relay = (tx.relay, tx.source);
@@ -89,7 +89,7 @@ impl<R: Wait + Drop> ContentOutbox<R> {
             rt,
             alloc,
             tx,
-            unread,
+            backlog,
             pending: Vec::new(alloc),
             taken: Passed::new(),
             size: 0,
@@ -143,7 +143,7 @@ impl<R: Wait + Drop> ContentOutbox<R> {
         }
         self.size = 0;
         let parts = mem::replace(&mut self.pending, Vec::new(self.alloc));
-        wait_for_room(&self.rt, &mut self.unread, &parts);
+        self.backlog.add(&self.rt, weight(&parts));
         let taken = self.taken.so_far();
         let contents = Contents {
             parts,
@@ -167,7 +167,7 @@ impl<R: Wait + Drop> ContentOutbox<R> {
         ensures { Stays self.old self.old.contents self.new }
     {
         self.hand_over(true);
-        may_go_on(&self.rt, &self.unread)
+        self.backlog.may_go_on(&self.rt)
     }
 
     /// Sends what waits and then End, unless the receiver's end is gone, and gives the relay's end back.
@@ -182,7 +182,7 @@ impl<R: Wait + Drop> ContentOutbox<R> {
             rt,
             alloc: _,
             mut tx,
-            mut unread,
+            mut backlog,
             pending,
             taken,
             size: _,
@@ -191,7 +191,7 @@ impl<R: Wait + Drop> ContentOutbox<R> {
         if closed {
             return tx;
         }
-        wait_for_room(&rt, &mut unread, &pending);
+        backlog.add(&rt, weight(&pending));
         let contents = Contents {
             parts: pending,
             taken,
@@ -202,21 +202,6 @@ impl<R: Wait + Drop> ContentOutbox<R> {
         }
         let _ = tx.send(&rt, Parcel::End);
         tx
-    }
-}
-
-/// Counts content parts that will be sent as unread, and waits while there are too many.
-fn wait_for_room<R: Wait>(rt: &R, unread: &mut Option<Unread>, parts: &Vec<Vec<u8>>) {
-    if let Some(unread) = unread {
-        unread.add(rt, weight(parts));
-    }
-}
-
-/// Waits until the session goes on after a content part. False: it does not, or there is nothing that could tell.
-fn may_go_on<R: Wait>(rt: &R, unread: &Option<Unread>) -> bool {
-    match unread {
-        Some(unread) => unread.may_go_on(rt),
-        None => false,
     }
 }
 

@@ -3,9 +3,9 @@ ghost use Rattle.std.specs.Prelude.{◌≡◌, [], false};
 ghost use Rattle.lsp_relay.specs.Relay.{has_end};
 ghost use Rattle.lsp_threads.specs.Contents.{bytes_of, parts_of, NextIs};
 
+use crate::backlog::Takes;
 use crate::content_outbox::{ContentsRx, weight};
 use crate::relay_boxes::collect_or_wake;
-use crate::unread::Takes;
 use lsp_message::Passed;
 use lsp_relay::Parcel;
 use std::alloc::Global;

@@ -3,10 +3,10 @@ ghost use Rattle.std.specs.Prelude.{◌≡◌, [], false, Some};
 ghost use Rattle.lsp_threads.specs.Contents.{ReadsContents, ReadsFor, TellsContents};
 ghost use Rattle.lsp_threads.specs.Passing.{OfTaken, TakenFrom};
 
+use crate::backlog::Backlog;
 use crate::content_outbox::{ContentOutbox, Contents, ContentsPlan, ContentsTx};
 use crate::goes_on::surely_goes_on;
 use crate::peeking_reader::PeekingReader;
-use crate::unread::Unread;
 use crate::workers::ReadsInto;
 use json::Scratch;
 use lsp_message::{Passed, ReadFault, read_content_telling};
@@ -77,7 +77,7 @@ impl ReadsInto for RelayTx<Contents, ContentsPlan> {
         alloc: Global,
         reader: S,
         limit: u64,
-        unread: Option<Unread>,
+        backlog: Backlog,
     ) -> (ContentsTx, ReadEnd, Passed)
         requires { (self.sent ≡ []) × ReadsFor (S.remaining reader) limit self }
         ensures relay { result.0.relay ≡ self.relay }
@@ -85,7 +85,7 @@ impl ReadsInto for RelayTx<Contents, ContentsPlan> {
             result.0 }
     {
         let mut reader = PeekingReader::new(reader);
-        let mut outbox = ContentOutbox::new(rt, alloc, self, unread);
+        let mut outbox = ContentOutbox::new(rt, alloc, self, backlog);
         let mut taken = Passed::new();
         let end = read_contents(alloc, &mut reader, &mut outbox, limit, &mut taken);
         (outbox.finish(), end, taken)

@@ -2,6 +2,7 @@
 //! the threads, `pump` and `run_threads`. `lsp_server` gives the public items on under the same names.
 #![tactic(auto)]
 
+mod backlog;
 mod content_inbox;
 mod content_outbox;
 mod content_parts;
@@ -17,14 +18,13 @@ mod relay_texts;
 mod reply_outbox;
 mod run;
 mod serving;
-mod unread;
 mod watched_writer;
 mod workers;
 
 pub use content_outbox::{Contents, ContentsPlan, ContentsRx, ContentsTx};
 pub use pumping::{PumpFault, Pumped, pump, pump_by, pump_telling, pump_within};
 pub use run::{
-    ThreadOptions, Threaded, UNREAD_BYTES, run_threads, run_threads_of_service,
+    ThreadOptions, Threaded, UNREAD_BYTES, UNWRITTEN_BYTES, run_threads, run_threads_of_service,
     run_threads_of_service_over, run_threads_within,
 };
 pub use workers::StartFault;

@@ -3,9 +3,9 @@ ghost use Rattle.std.specs.Prelude.{◌≡◌, []};
 ghost use Rattle.lsp_threads.specs.Framing.{HandsSome, TellsFrames};
 ghost use Rattle.lsp_threads.specs.Passing.{OfTaken, TakenFrom};
 
+use crate::backlog::Backlog;
 use crate::peeking_reader::PeekingReader;
 use crate::relay_texts::FramingOutbox;
-use crate::unread::Unread;
 use crate::workers::ReadsInto;
 use lsp_message::{Message, Passed, ReadFault};
 use lsp_relay::RelayTx;
@@ -65,14 +65,14 @@ impl ReadsInto for RelayTx<String> {
         alloc: Global,
         reader: S,
         limit: u64,
-        _unread: Option<Unread>,
+        backlog: Backlog,
     ) -> (RelayTx<String>, ReadEnd, Passed)
         requires { self.sent ≡ [] }
         ensures relay { result.0.relay ≡ self.relay }
         ensures told { TellsFrames limit (S.remaining reader) self result.1 result.2.parts result.0 }
     {
         let mut reader = PeekingReader::new(reader);
-        let mut outbox = FramingOutbox::new(rt, alloc, self);
+        let mut outbox = FramingOutbox::new(rt, alloc, self, backlog);
         let mut taken = Passed::new();
         let end = read_frames(alloc, &mut reader, &mut outbox, limit, &mut taken);
         (outbox.finish(), end, taken)

@@ -4,6 +4,7 @@ ghost use Rattle.lsp_message.specs.Frame.{no_limit};
 ghost use Rattle.lsp_threads.specs.Passing.{GivenTo, OfTaken, TakenFrom, noted};
 ghost use Rattle.lsp_threads.specs.Pump.{Pumps, pump_answer};
 
+use crate::backlog::bounded_backlog;
 use crate::relay_texts::write_texts;
 use crate::workers::{StartFault, start_reader};
 use lsp_message::{Passed, ReadFault, WriteFault};
@@ -18,6 +19,9 @@ use std::thread::{Builder, Threads};
 
 /// How many texts of frames may wait between the two threads. It changes speed and memory only, and no answer.
 const PARCEL_ROOM: usize = 8;
+
+/// How many bytes of frames may wait there. A longer text waits alone.
+const UNWRITTEN: u64 = 1_048_576;
 
 /// Why not all messages were passed on. If several faults fit, it is the one with the greatest number.
 ///
@@ -146,14 +150,17 @@ where
     let Ok((tx, rx)) = relay::<String, AnyPlan>(alloc, PARCEL_ROOM) else {
         return not_started(StartFault::Memory);
     };
+    let Ok((backlog, takes)) = bounded_backlog(alloc, UNWRITTEN) else {
+        return not_started(StartFault::Memory);
+    };
     let reading = match start_reader::<RelayTx<String>, T, R>(
-        rt, builder, alloc, reader, limit, tx, None,
+        rt, builder, alloc, reader, limit, tx, backlog,
     ) {
         Ok(reading) => reading,
         Err(fault) => return not_started(fault),
     };
     let mut given = Passed::new();
-    let (rx, unwritten) = write_texts(rt, alloc, rx, writer, &mut given);
+    let (rx, unwritten) = write_texts(rt, alloc, rx, writer, &mut given, &takes);
     let (tx, read, taken) = reading.join(rt);
     settle_all(rt, rx, tx);
     Pumped {

@@ -6,6 +6,7 @@ ghost use Rattle.lsp_relay.specs.Relay.{IsOpen};
 ghost use Rattle.lsp_threads.specs.Framing.{parcel_bytes, AreEnded, FramingSends, Gathers, WritesBytes, WritesParcels};
 ghost use Rattle.lsp_threads.specs.Passing.{GivenTo, GivesMore, noted};
 
+use crate::backlog::{Backlog, Takes};
 use crate::relay_boxes::{collect, deliver};
 use lsp_message::{Message, Passed, WriteFault, write_frames_telling};
 use lsp_relay::{Parcel, RelayRx, RelayTx, Taken};
@@ -25,6 +26,7 @@ pub struct FramingOutbox<R: Wait + Drop> {
     rt: R,
     alloc: Global,
     tx: RelayTx<String>,
+    unwritten: Backlog,
     pending: String,
 }
 
@@ -42,7 +44,7 @@ impl<R: Wait + Drop> Model for FramingOutbox<R> {
 }
 
 impl<R: Wait + Drop> FramingOutbox<R> {
-    pub fn new(rt: R, alloc: Global, tx: RelayTx<String>) -> FramingOutbox<R>
+    pub fn new(rt: R, alloc: Global, tx: RelayTx<String>, unwritten: Backlog) -> FramingOutbox<R>
         requires { tx.sent ≡ [] }
         ensures { result ≡ record { relay = tx.relay; bytes = [] } }
     {
@@ -50,6 +52,7 @@ impl<R: Wait + Drop> FramingOutbox<R> {
             rt,
             alloc,
             tx,
+            unwritten,
             pending: String::new(alloc),
         }
     }
@@ -77,11 +80,12 @@ impl<R: Wait + Drop> FramingOutbox<R> {
         self.pending.push_str(frame.as_str())
     }
 
-    /// Sends what was gathered, as one parcel.
+    /// Sends what was gathered, as one parcel. It waits while too much is not written.
     fn hand_over(&mut self)
         ensures { self.new ≡ self.old }
     {
         let text = mem::replace(&mut self.pending, String::new(self.alloc));
+        self.unwritten.add(&self.rt, text.len() as u64);
         deliver_text(&self.rt, &mut self.tx, text);
     }
 
@@ -104,8 +108,10 @@ impl<R: Wait + Drop> FramingOutbox<R> {
             rt,
             alloc: _,
             mut tx,
+            mut unwritten,
             pending,
         } = self;
+        unwritten.add(&rt, pending.len() as u64);
         deliver_text(&rt, &mut tx, pending);
         deliver(&rt, &mut tx, Parcel::End);
         tx
@@ -125,13 +131,15 @@ pub fn deliver_text<R: Wait>(rt: &R, tx: &mut RelayTx<String>, text: String)
 }
 
 /// Writes each text up to End, and those that wait together as one: it waits for a text only if it has written all that it took. After
-/// a fault it writes nothing more, and drops the texts. What the writer takes is noted.
+/// a fault it writes nothing more, and drops the texts. What the writer takes is noted, and of what was written or dropped it tells that it
+/// waits no more.
 pub fn write_texts<R: Wait, W: Write>(
     rt: &R,
     alloc: Global,
     rx: RelayRx<String>,
     writer: &mut W,
     given: &mut Passed,
+    takes: &Takes,
 ) -> (RelayRx<String>, Option<WriteFault>)
     requires { rx.taken ≡ [] }
     ensures relay { result.0.relay ≡ rx.relay }
@@ -144,13 +152,16 @@ pub fn write_texts<R: Wait, W: Write>(
     for _ in rt.forever() {
         match next_parcel(rt, &mut rx, pending.is_empty()) {
             Some(Parcel::Message(text)) => {
+                let held = pending.len().wrapping_add(text.len());
                 let (left, first_fault) = gather(fault, pending, text, writer, given);
+                takes.took(rt, held.wrapping_sub(left.len()) as u64);
                 pending = left;
                 fault = first_fault;
             }
             Some(Parcel::End) => return (rx, write_after(fault, &pending, writer, given)),
             None => {
                 fault = write_after(fault, &pending, writer, given);
+                takes.took(rt, pending.len() as u64);
                 pending = String::new(alloc);
             }
         }

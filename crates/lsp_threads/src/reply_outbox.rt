@@ -5,6 +5,7 @@ ghost use Rattle.lsp_message.specs.Written.{IsFrameOf};
 ghost use Rattle.lsp_threads.specs.Framing.{parcel_bytes, AreEnded};
 ghost use Rattle.lsp_threads.specs.Replies.{reply_fault as reply_fault_spec};
 
+use crate::backlog::Backlog;
 use crate::relay_boxes::deliver;
 use crate::relay_texts::deliver_text;
 use crate::watched_writer::WriteFaults;
@@ -15,7 +16,8 @@ use std::alloc::Global;
 use std::marker::Model;
 use std::sync::Wait;
 
-/// The sender's end of a relay of texts. It makes the frame of each message and sends it at once, and waits until there is room.
+/// The sender's end of a relay of texts. It makes the frame of each message and sends it at once, and waits until there is room, and while
+/// too much is not written.
 ///
 /// If no memory is left for a frame, or a write has failed, that message is refused, and all after it.
 #[derive(Drop)]
@@ -23,6 +25,7 @@ pub struct ReplyOutbox<R: Wait + Drop> {
     rt: R,
     alloc: Global,
     tx: RelayTx<String>,
+    unwritten: Backlog,
     /// Whether a message was refused.
     failed: bool,
     faults: WriteFaults,
@@ -42,7 +45,13 @@ impl<R: Wait + Drop> Model for ReplyOutbox<R> {
 }
 
 impl<R: Wait + Drop> ReplyOutbox<R> {
-    pub fn new(rt: R, alloc: Global, tx: RelayTx<String>, faults: WriteFaults) -> ReplyOutbox<R>
+    pub fn new(
+        rt: R,
+        alloc: Global,
+        tx: RelayTx<String>,
+        unwritten: Backlog,
+        faults: WriteFaults,
+    ) -> ReplyOutbox<R>
         requires { tx.sent ≡ [] }
         ensures { result ≡ record { relay = tx.relay; bytes = []; failed = false } }
     {
@@ -50,6 +59,7 @@ impl<R: Wait + Drop> ReplyOutbox<R> {
             rt,
             alloc,
             tx,
+            unwritten,
             failed: false,
             faults,
         }
@@ -66,6 +76,7 @@ impl<R: Wait + Drop> ReplyOutbox<R> {
             rt,
             alloc: _,
             mut tx,
+            unwritten: _,
             failed,
             faults: _,
         } = self;
@@ -86,6 +97,7 @@ impl<R: Wait + Drop> Outbox for ReplyOutbox<R> {
         }
         match framed(self.alloc, message) {
             Ok(frame) => {
+                self.unwritten.add(&self.rt, frame.len() as u64);
                 deliver_text(&self.rt, &mut self.tx, frame);
                 Ok(())
             }

@@ -42,6 +42,9 @@ pub struct Threaded<W> {
 /// How many bytes of content parts a session in threads reads ahead, if its options say nothing else: 1 MiB.
 pub const UNREAD_BYTES: u64 = 1_048_576;
 
+/// How many bytes of messages of a session in threads may wait to be written, if its options say nothing else: 1 MiB.
+pub const UNWRITTEN_BYTES: u64 = 1_048_576;
+
 /// How a session in threads runs. But for `limit` it changes speed and memory only, and no answer.
 #[derive(Drop)]
 pub struct ThreadOptions {
@@ -55,19 +58,24 @@ pub struct ThreadOptions {
     /// How many bytes of content parts may be read that the session did not take yet. Above that the client waits. A longer content
     /// part is read once nothing else is unread.
     pub unread: u64,
+    /// How many bytes of messages may be sent that are not written yet. Above that the session waits with the next. A longer message is
+    /// sent once nothing else is unwritten.
+    pub unwritten: u64,
 }
 
 impl ThreadOptions {
-    /// Builders that set nothing, no limit on a content part, and `UNREAD_BYTES`.
+    /// Builders that set nothing, no limit on a content part, `UNREAD_BYTES` and `UNWRITTEN_BYTES`.
     pub fn new() -> ThreadOptions
         ensures limit { result.limit ≡ no_limit }
         ensures unread { result.unread ≡ 1048576 }
+        ensures unwritten { result.unwritten ≡ 1048576 }
     {
         ThreadOptions {
             writer: Builder::new(),
             reader: Builder::new(),
             limit: u64::MAX,
             unread: UNREAD_BYTES,
+            unwritten: UNWRITTEN_BYTES,
         }
     }
 }

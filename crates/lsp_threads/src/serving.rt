@@ -5,13 +5,13 @@ ghost use Rattle.lsp_threads.specs.Contents.{LeavesReading};
 ghost use Rattle.lsp_threads.specs.Passing.{GivenTo, OfTaken, TakenFrom, noted};
 ghost use Rattle.lsp_threads.specs.Threads.{ThreadsTellOver, session_end as session_end_spec};
 
+use crate::backlog::{Backlog, Takes, bounded_backlog};
 use crate::content_inbox::ContentInbox;
 use crate::content_outbox::{Contents, ContentsPlan, ContentsRx, ContentsTx};
 use crate::content_parts::ContentParts;
 use crate::relay_boxes::deliver;
 use crate::reply_outbox::{ReplyOutbox, reply_fault};
 use crate::run::{ThreadOptions, Threaded};
-use crate::unread::{Takes, bounded_unread};
 use crate::watched_writer::{WatchedWriter, WriteFaults, write_faults};
 use crate::workers::{ROOM, Reader, StartFault, Writer, start_reader, start_writer};
 use lsp_message::{Passed, ReadFault, WriteFault};
@@ -43,6 +43,7 @@ pub(crate) struct Workers<R: BufRead + Drop, W: Write + Drop> {
     pub(crate) rx: ContentsRx,
     pub(crate) takes: Takes,
     pub(crate) replies: RelayTx<String>,
+    pub(crate) unwritten: Backlog,
     pub(crate) reading: Reading<R>,
     pub(crate) writing: Writing<W>,
     pub(crate) faults: WriteFaults,
@@ -78,7 +79,10 @@ where
     let Ok((replies, replies_rx)) = relay::<String, AnyPlan>(alloc, ROOM) else {
         return Err(StartFault::Memory);
     };
-    let Ok((unread, takes)) = bounded_unread(alloc, options.unread) else {
+    let Ok((unread, takes)) = bounded_backlog(alloc, options.unread) else {
+        return Err(StartFault::Memory);
+    };
+    let Ok((unwritten, writes)) = bounded_backlog(alloc, options.unwritten) else {
         return Err(StartFault::Memory);
     };
     let Ok((faults, theirs)) = write_faults(alloc) else {
@@ -92,17 +96,18 @@ where
         alloc,
         replies_rx,
         theirs.watch(writer),
+        writes,
     ) {
         Ok(writing) => writing,
         Err(fault) => return Err(fault),
     };
-    let unread = Some(unread);
     let limit = options.limit;
     match start_reader::<ContentsTx, T, R>(rt, options.reader, alloc, reader, limit, tx, unread) {
         Ok(reading) => Ok(Workers {
             rx,
             takes,
             replies,
+            unwritten,
             reading,
             writing,
             faults,
@@ -193,13 +198,14 @@ where
         rx,
         takes,
         replies,
+        unwritten,
         reading,
         writing,
         faults,
     } = workers;
     let mut parts = ContentParts::new(*rt, alloc, rx, takes);
     let mut inbox = ContentInbox::new(alloc, &mut parts, listener);
-    let mut outbox = ReplyOutbox::new(*rt, alloc, replies, faults);
+    let mut outbox = ReplyOutbox::new(*rt, alloc, replies, unwritten, faults);
     let served = serve_service(alloc, &mut inbox, &mut outbox, service);
     let ended = inbox.end();
     let drained = parts.is_drained();

@@ -4,8 +4,8 @@ ghost use Rattle.std.specs.Prelude.{◌≡◌, [], IfOk, Some};
 ghost use Rattle.lsp_threads.specs.Framing.{WritesParcels};
 ghost use Rattle.lsp_threads.specs.Passing.{GivenTo};
 
+use crate::backlog::{Backlog, Takes};
 use crate::relay_texts::write_texts;
-use crate::unread::Unread;
 use lsp_message::{Passed, WriteFault};
 use lsp_relay::RelayRx;
 use lsp_session::ReadEnd;
@@ -63,15 +63,15 @@ pub trait ReadsInto: Drop {
     /// The end may be given to a thread that reads these bytes, if they are known, with content parts of at most so many.
     ghost may_read: { Option (List ℕ) → ℕ → Self → Type 0 };
 
-    /// Sends the messages of a reader, whose content parts have at most `limit` bytes, and then End, and accounts for what it took. If
-    /// `unread` is there, it waits as that says.
+    /// Sends the messages of a reader, whose content parts have at most `limit` bytes, and then End, and accounts for what it took. It
+    /// waits while too much is sent that the other end did not take or write.
     fn read_into<R: Wait + Drop, S: BufRead + Drop>(
         self,
         rt: R,
         alloc: Global,
         reader: S,
         limit: u64,
-        unread: Option<Unread>,
+        backlog: Backlog,
     ) -> (Self, ReadEnd, Passed)
         requires { may_read (S.remaining reader) limit self }
         ensures relay { same_end self result.0 }
@@ -89,12 +89,14 @@ pub trait WritesFrom: Drop {
     ghost writes: { List (parcel Self) → Option fault → Option (List ℕ) → Option (List ℕ)
         → Type 0 };
 
-    /// Writes what it takes up to End, and accounts for what it gave. After a fault, the answer, it writes nothing more.
+    /// Writes what it takes up to End, and accounts for what it gave. After a fault, the answer, it writes nothing more. It tells what
+    /// waits no more to be written.
     fn write_out<R: Wait + Drop, W: Write + Drop>(
         rt: R,
         alloc: Global,
         rx: RelayRx<Self>,
         writer: W,
+        takes: Takes,
     ) -> (RelayRx<Self>, W, Option<WriteFault>, Passed)
         requires { rx.taken ≡ [] }
         ensures relay { result.0.relay ≡ rx.relay }
@@ -142,7 +144,7 @@ pub fn start_reader<E, R, S>(
     reader: S,
     limit: u64,
     tx: E,
-    unread: Option<Unread>,
+    backlog: Backlog,
 ) -> Result<PromisedHandle<(E, ReadEnd, Passed), Reader<S, E>>, StartFault>
 where
     E: ReadsInto + Drop + Send + 'static,
@@ -161,7 +163,7 @@ where
     match builder.spawn_with(
         rt,
         promise,
-        move || tx.read_into(theirs, alloc, reader, limit, unread),
+        move || tx.read_into(theirs, alloc, reader, limit, backlog),
     ) {
         Ok(handle) => Ok(handle),
         Err(_) => Err(StartFault::Thread),
@@ -175,6 +177,7 @@ pub fn start_writer<M, R, W>(
     alloc: Global,
     rx: RelayRx<M>,
     writer: W,
+    takes: Takes,
 ) -> Result<PromisedHandle<(RelayRx<M>, W, Option<WriteFault>, Passed), Writer<W, M>>, StartFault>
 where
     M: WritesFrom + Drop + Send + 'static,
@@ -189,7 +192,11 @@ where
         rx: Snapshot::of(&rx),
     };
     let theirs = *rt;
-    match builder.spawn_with(rt, promise, move || M::write_out(theirs, alloc, rx, writer)) {
+    match builder.spawn_with(
+        rt,
+        promise,
+        move || M::write_out(theirs, alloc, rx, writer, takes),
+    ) {
         Ok(handle) => Ok(handle),
         Err(_) => Err(StartFault::Thread),
     }
@@ -205,6 +212,7 @@ impl WritesFrom for String {
         alloc: Global,
         rx: RelayRx<String>,
         writer: W,
+        takes: Takes,
     ) -> (RelayRx<String>, W, Option<WriteFault>, Passed)
         requires { rx.taken ≡ [] }
         ensures relay { result.0.relay ≡ rx.relay }
@@ -213,7 +221,7 @@ impl WritesFrom for String {
     {
         let mut writer = writer;
         let mut given = Passed::new();
-        let (rx, fault) = write_texts(&rt, alloc, rx, &mut writer, &mut given);
+        let (rx, fault) = write_texts(&rt, alloc, rx, &mut writer, &mut given, &takes);
         (rx, writer, fault, given)
     }
 }

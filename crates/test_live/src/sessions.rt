@@ -13,7 +13,8 @@ use lsp_server::{Connection, UNREAD_WEIGHT};
 use lsp_service::QueuedServer;
 use lsp_session::{FaultCounts, HandlerService, Service, SessionEnd, SessionFault};
 use lsp_threads::{
-    PumpFault, StartFault, ThreadOptions, Threaded, UNREAD_BYTES, pump_by, run_threads_of_service,
+    PumpFault, StartFault, ThreadOptions, Threaded, UNREAD_BYTES, UNWRITTEN_BYTES, pump_by,
+    run_threads_of_service,
 };
 use serde_json::{Map, Value};
 use std::alloc::{AllocError, Global};
@@ -307,6 +308,7 @@ fn options(run: Run) -> ThreadOptions {
         reader: builder(matches!(run.device, Device::NoReader)),
         limit: run.limit(),
         unread: UNREAD_BYTES,
+        unwritten: UNWRITTEN_BYTES,
     }
 }
 

@@ -26,3 +26,7 @@ returns-in_default-clause-taken g c = (g.R.Read.remaining c.args.reader, rw c.no
 
 pub returns-in-Err-clause-taken : goal.returns-in-Err-clause-taken
 returns-in-Err-clause-taken g c = (g.R.Read.remaining c.args.reader, rw c.not_started-in-Err.ensures.nothing.0 (nothing_taken (g.R.Read.remaining c.args.reader)))
+
+pub returns-in_default-bounded_backlog-clause-taken : goal.returns-in_default-bounded_backlog-clause-taken
+returns-in_default-bounded_backlog-clause-taken g c =
+    (g.R.Read.remaining c.args.reader, rw c.not_started-in_default-bounded_backlog.ensures.nothing.0 (nothing_taken (g.R.Read.remaining c.args.reader)))

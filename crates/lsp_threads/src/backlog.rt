@@ -1,37 +1,37 @@
-//! How many bytes a thread may have read that nobody took yet. It bounds memory, and changes no answer. And whether that thread reads on
-//! after a content part behind which it waits.
+//! How many bytes may wait between two threads: that were read and not taken yet, or that are not written yet. It bounds memory, and changes
+//! no answer. And whether a thread that reads goes on after a content part behind which it waits.
 
 use crossbeam_channel::{Receiver, Sender, bounded};
 use std::alloc::{AllocError, Global};
 use std::sync::atomic::{AtomicU64, Ordering};
 use std::sync::{Arc, Wait};
 
-/// Makes the two ends of an account of what is unread, which should not pass `bound`. The error means that an allocation failed.
-pub fn bounded_unread(alloc: Global, bound: u64) -> Result<(Unread, Takes), AllocError> {
+/// Makes the two ends of an account of what waits, which should not pass `bound`. The error means that an allocation failed.
+pub fn bounded_backlog(alloc: Global, bound: u64) -> Result<(Backlog, Takes), AllocError> {
     let (ring, bell) = bounded(alloc, 1)?;
     let (verdict, verdicts) = bounded(alloc, 1)?;
     let Ok(taken) = Arc::new(alloc, AtomicU64::new(0)) else {
         return Err(AllocError);
     };
     let theirs = Arc::try_clone(&taken)?;
-    let unread = Unread {
+    let backlog = Backlog {
         taken,
         bell,
         verdicts,
         bound,
-        read: 0,
+        sent: 0,
     };
     let takes = Takes {
         taken: theirs,
         ring,
         verdict,
     };
-    Ok((unread, takes))
+    Ok((backlog, takes))
 }
 
-/// The end of the thread that reads.
+/// The end of the thread that sends.
 #[derive(Drop)]
-pub struct Unread {
+pub struct Backlog {
     /// How many bytes were taken, in all.
     taken: Arc<AtomicU64, Global>,
     /// Rings after bytes were taken.
@@ -39,25 +39,25 @@ pub struct Unread {
     /// Has a message once the other end goes on after a content part behind which this one waits.
     verdicts: Receiver<()>,
     bound: u64,
-    /// How many bytes were read, in all.
-    read: u64,
+    /// How many bytes were sent, in all.
+    sent: u64,
 }
 
-impl Unread {
-    /// Counts a parcel, before it is sent. While it would pass the bound together with what is unread, it waits, so that a parcel above
-    /// the bound passes alone. If the other end is gone, it never waits.
+impl Backlog {
+    /// Counts a parcel, before it is sent. While it would pass the bound together with what waits, it waits, so that a parcel above the
+    /// bound passes alone. If the other end is gone, it never waits.
     pub fn add<R: Wait>(&mut self, rt: &R, weight: u64) {
         for _ in rt.forever() {
             if self.has_room(weight) || self.bell.recv(rt).is_err() {
                 break;
             }
         }
-        self.read = self.read.wrapping_add(weight);
+        self.sent = self.sent.wrapping_add(weight);
     }
 
     fn has_room(&self, weight: u64) -> bool {
-        let unread = self.read.wrapping_sub(self.taken.load(Ordering::SeqCst));
-        unread == 0 || weight <= self.bound.saturating_sub(unread)
+        let waiting = self.sent.wrapping_sub(self.taken.load(Ordering::SeqCst));
+        waiting == 0 || weight <= self.bound.saturating_sub(waiting)
     }
 
     /// Waits until the other end goes on after the last content part. False: it is gone.
@@ -66,7 +66,7 @@ impl Unread {
     }
 }
 
-/// The end of the thread that takes.
+/// The end of the thread that takes, or that writes.
 #[derive(Drop)]
 pub struct Takes {
     taken: Arc<AtomicU64, Global>,
@@ -75,8 +75,11 @@ pub struct Takes {
 }
 
 impl Takes {
-    /// Tells that a parcel of this weight was taken. It doesn't wait: if the bell rings already, the other end will look anew.
+    /// Tells that so many bytes wait no more. It doesn't wait: if the bell rings already, the other end will look anew.
     pub fn took<R: Wait>(&self, rt: &R, weight: u64) {
+        if weight == 0 {
+            return;
+        }
         self.taken.fetch_add(weight, Ordering::SeqCst);
         let _ = self.ring.try_send(rt, ());
     }
