@@ -10,7 +10,7 @@ use Rattle.lsp_message.specs.IdLaws.{id_decides}
 use Rattle.lsp_message.specs.Message.{Message, ErrorObject, request, notification, response}
 use Rattle.lsp_message.specs.Methods.{is_initialized}
 use Rattle.lsp_queue.specs.Queue.{count_of, pending_of}
-use Rattle.lsp_session.proofs.Ran.{Ran, reaches_ran, Idle, early_request, early_note, unasked, uninvited, shuts, leaves, exits, stays, StepCase, at_initialize, at_initialized, at_served, at_woken, idle, row, part_none}
+use Rattle.lsp_session.proofs.Ran.{Ran, reaches_ran, Idle, early_request, early_note, unasked, uninvited, shuts, leaves, exits, late, stays, StepCase, at_initialize, at_initialized, at_served, at_woken, idle, row, part_none}
 use Rattle.lsp_session.specs.Session.{Exchange, SessionAnswer, Stop, Phase, starting, replied as in_reply, serving, phase_after, Step}
 use Rattle.lsp_service.proofs.Acting.{acts_at}
 use Rattle.lsp_service.proofs.Counting.{how_many-append, Fresh}
@@ -590,6 +590,7 @@ module _ (T : Type 0) {S J K P : Type 0} (plain : Plain S P) (may : WithJobs S J
   idly earlier p q w x m full ready (shuts i method params begun is e sent next) = rw next tt
   idly earlier p q w x m full ready (leaves begun e sent next) = rw next tt
   idly earlier p q w x m full ready (exits i begun e sent next) = rw next tt
+  idly earlier p q w x m full ready (late i begun is sent next) = rw next tt
   idly earlier p q w x m full ready (stays i shown begun e sent next) = rw next tt
 
   one_step : (earlier : List Exchange) (p q : Phase) (w w' : Working) (x : Exchange) (full more : List Message) → x.sent ++ more ≡ full → Ready earlier p w

@@ -12,10 +12,10 @@ use Rattle.lsp_service.specs.SentByActs.{queues_at, acts_done_at, cancelled_answ
 use Rattle.lsp_service.specs.View.{queues_of, seen}
 use Rattle.lsp_service.specs.declared.queued_server.QueuedServer.{QueuedServer}
 use Rattle.lsp_service.specs.Stated.{Stated}
-use Rattle.lsp_session.proofs.Ran.{Ran, reaches_ran, steps_both, one_step, sends_both, stops_by, IsNoRequest, Idle, early_request, early_note, unasked, uninvited, shuts, leaves, exits, stays, StepCase, at_initialize, at_initialized, at_served, at_woken, idle, row, exit_no_request, initialized_no_request}
+use Rattle.lsp_session.proofs.Ran.{Ran, reaches_ran, steps_both, one_step, sends_both, stops_by, IsNoRequest, Idle, early_request, early_note, unasked, uninvited, shuts, leaves, exits, late, stays, StepCase, at_initialize, at_initialized, at_served, at_woken, idle, row, exit_no_request, initialized_no_request, reply_no_request}
 use Rattle.lsp_session.specs.ProtocolError.{ProtocolFault, ShowsUnallowed, expected_initialize, expected_initialized, unexpected_in_shutdown}
 use Rattle.lsp_session.specs.Replies.{null_reply}
-use Rattle.lsp_session.specs.Session.{Behavior, Exchange, messages_of, sends_of, SessionAnswer, Stop, decided, timed_out, refused, exhausted, Phase, starting, replied as in_reply, serving, asked, ended, phase_after, Step, Steps, Reaches, Stops}
+use Rattle.lsp_session.specs.Session.{Behavior, Exchange, messages_of, sends_of, SessionAnswer, Stop, decided, timed_out, refused, exhausted, Phase, starting, replied as in_reply, serving, asked, ended, phase_after, is_reply, Step, Steps, Reaches, Stops}
 use Rattle.lsp_session.specs.declared.loops.handler.SessionEnd.TheVariants.{Closed, ShutDown}
 use Rattle.serde_json.specs.Data.{Data}
 use Rattle.std.proofs.Common.{◌≡◌, refl, sym, ◌∙◌, ap, inl, inr, ◌⊎◌, ℕ, zero, suc, ◌+◌, ◌≤◌, Bool, true, false, List, [], ◌∷◌, ◌++◌, append_assoc, arith, subst, Option, Some, None, cond}
@@ -205,6 +205,8 @@ module _ {S P : Type 0} (may : Stated S P) where
         rw (sent, next) (count_even p w w (ended None (Ok Closed)) (Some m) [] (none_under m (exit_no_request m e)) refl refl tt)
     count_idle p q w m output clean (exits i begun e sent next) =
         rw (sent, next) (count_even p w w (ended (Some (null_reply i)) (Ok ShutDown)) (Some m) [] (none_under m (exit_no_request m e)) refl refl tt)
+    count_idle p q w m output clean (late i begun is sent next) =
+        rw (sent, next) (count_even p w w (asked i) (Some m) [] (none_under m (reply_no_request m is)) refl refl tt)
     count_idle p q w m output clean (stays i shown begun e sent next) =
         count_fault p w w q m output (Some (null_reply i)) (unexpected_in_shutdown shown) sent next refl (λ is. inr (shown, refl))
 
@@ -398,6 +400,11 @@ module _ {S P : Type 0} (may : Stated S P) where
     no_exit_at (notification method params) cancels named_so = no_exit method params cancels named_so
     no_exit_at (response i outcome) cancels named_so = cancels
 
+    no_reply_at : (m : Message) → Cancels id (Some m) → is_reply m ≡ true → ⊥
+    no_reply_at (notification method params) cancels is = cc (is)
+    no_reply_at (request i method params) cancels is = cancels
+    no_reply_at (response i outcome) cancels is = cancels
+
     none_cancels : (came : Option Message) → Cancels id came → one_if (came_with (is_request_under id) came) ≡ 0
     none_cancels None cancels = absurd cancels
     none_cancels (Some (request i method params)) cancels = absurd cancels
@@ -432,6 +439,7 @@ module _ {S P : Type 0} (may : Stated S P) where
         by (idle m there same any (shuts i method params begun is e sent next)) = absurd (rw (there, is) at cancels)
         by (idle m there same any (leaves begun e sent next)) = absurd (no_exit_at m (rw there at cancels) e)
         by (idle m there same any (exits i begun e sent next)) = absurd (no_exit_at m (rw there at cancels) e)
+        by (idle m there same any (late i begun is sent next)) = absurd (no_reply_at m (rw there at cancels) is)
         by (idle m there same any (stays i shown begun e sent next)) = inr (Some (null_reply i), unexpected_in_shutdown shown, next, inr (shown, refl))
 
     pub answers_cancelled : (stop : Stop) (answer : SessionAnswer) (w after w' : QueuedServer S P) (xs : List Exchange) (q : Phase)

@@ -3,7 +3,7 @@ use Rattle.lsp_message.specs.Message.{Message}
 use Rattle.lsp_service.specs.QueuedServer.{held_as}
 use Rattle.lsp_session.proofs.Ran.{StepCase, row, at_initialize, at_initialized, at_served, at_woken, idle}
 use Rattle.lsp_session.specs.Session.{Behavior, SessionAnswer, Exchange, Stop, decided, timed_out, refused, exhausted, Phase, starting, serving, asked, ended, Step, Steps, Reaches, Stops, SessionOut}
-use Rattle.std.proofs.Common.{ap, inl, inr, List, [], ◌∷◌, ◌++◌, Option}
+use Rattle.std.proofs.Common.{refl, ap, inl, inr, List, [], ◌∷◌, ◌++◌, Option}
 
 module _ {V W : Type 0} (part : W → V) (may : Behavior V) where
   abbrev whole : Behavior W
@@ -14,7 +14,7 @@ module _ {V W : Type 0} (part : W → V) (may : Behavior V) where
   step_case_as p p' s s' came sent (at_initialized m here there is given next) = rw (here, there, is) (given, next)
   step_case_as p p' s s' came sent (at_served m here there is given next) = rw (here, there, is) (given, next)
   step_case_as p p' s s' came sent (at_woken here none given next) = rw (here, none) (given, next)
-  step_case_as p p' s s' came sent (idle m there same step row) = rw (there, ap part same) (step V may (part s))
+  step_case_as p p' s s' came sent (idle m there same step row) = rw (there, ap part same) (step V may (part s) refl)
 
   steps_as : (p p' : Phase) (s s' : W) (xs : List Exchange) → Steps whole p s xs p' s' → Steps may p (part s) xs p' (part s')
   steps_as p p' s s' [] steps = (steps.0, ap part steps.1)

@@ -10,10 +10,10 @@ use Rattle.lsp_queue.specs.Queue.{count_of}
 use Rattle.lsp_message.specs.Id.{Id}
 use Rattle.lsp_message.specs.Message.{Message, ErrorObject, request, response}
 use Rattle.lsp_message.specs.Methods.{is_initialize, is_initialized, is_exit}
-use Rattle.lsp_session.proofs.Ran.{sends_both, early_request, early_note, unasked as unasked_for, uninvited, shuts, leaves as goes, exits, stays, StepCase, at_initialize, at_initialized, at_served, at_woken, idle, row}
+use Rattle.lsp_session.proofs.Ran.{sends_both, early_request, early_note, unasked as unasked_for, uninvited, shuts, leaves as goes, exits, late, stays, StepCase, at_initialize, at_initialized, at_served, at_woken, idle, row}
 use Rattle.lsp_session.specs.ProtocolError.{expected_initialize, expected_initialized, unexpected_in_shutdown}
 use Rattle.lsp_session.specs.Replies.{null_reply, IsEarlyReply}
-use Rattle.lsp_session.specs.Session.{Exchange, came_of, sends_of, SessionAnswer, Stop, Phase, starting, replied as in_reply, serving, asked, ended, phase_after, is_served, Fails, Leaves, Step, Steps, SessionOut}
+use Rattle.lsp_session.specs.Session.{Exchange, came_of, sends_of, SessionAnswer, Stop, Phase, starting, replied as in_reply, serving, asked, ended, phase_after, is_reply, is_served, Fails, Leaves, Step, Steps, SessionOut}
 use Rattle.lsp_session.specs.SessionLaws.{is_refusal}
 use Rattle.lsp_session.specs.declared.loops.handler.SessionEnd.TheVariants.{Closed, ShutDown}
 use Rattle.lsp_service.specs.Acts.{Queues, TakesBack, cleared, does_all, empty_queues, unsent}
@@ -42,21 +42,25 @@ module _ {S P : Type 0} (may : Stated S P) where
   -- after the reply to `shutdown` nothing is sent, and the server stays
   quiet : (xs : List Exchange) (i : Id) (q : Phase) (w w' : QueuedServer S P) → Runs_from (asked i) w xs q w' → (sends_of xs ≡ []) × (w' ≡ w)
   quiet [] i q w w' run = (refl, run.1)
-  quiet (x ∷ xs) i q w w' run = by x.came run.2
+  quiet (x ∷ xs) i q w w' run = by (λ rest. quiet xs i q run.1 w' rest) x.came run.2
     where
       none : (by : SessionAnswer) → run.1 ≡ w → x.sent ≡ [] → run.0 ≡ ended (Some (null_reply i)) by → (x.sent ++ sends_of xs ≡ []) × (w' ≡ w)
       none by same silent next =
           let rest = over xs (Some (null_reply i)) by q run.1 w' (rw next at run.3) in
           (rw (silent, rest.0) refl, rest.1 ∙ same)
 
-      at : (b : Bool) → MatchBool b ((x.sent ≡ []) × (run.0 ≡ ended (Some (null_reply i)) (Ok ShutDown))) (Fails unexpected_in_shutdown (asked i) x.sent run.0)
+      at : (Runs_from (asked i) run.1 xs q w' → (sends_of xs ≡ []) × (w' ≡ run.1)) → (b c : Bool)
+          → MatchBool b ((x.sent ≡ []) × (run.0 ≡ ended (Some (null_reply i)) (Ok ShutDown)))
+          (MatchBool c ((x.sent ≡ []) × (run.0 ≡ asked i)) (Fails unexpected_in_shutdown (asked i) x.sent run.0))
           → run.1 ≡ w → (x.sent ++ sends_of xs ≡ []) × (w' ≡ w)
-      at true step same = none (Ok ShutDown) same step.0 step.1
-      at false step same = none (Err (unexpected_in_shutdown step.0)) same step.1 step.2
+      at later true c step same = none (Ok ShutDown) same step.0 step.1
+      at later false true step same = let rest = later (rw step.1 at run.3) in (rw (step.0, rest.0) refl, rest.1 ∙ same)
+      at later false false step same = none (Err (unexpected_in_shutdown step.0)) same step.1 step.2
 
-      by : (came : Option Message) → Step (with_queues may) (asked i) w came x.sent run.0 run.1 → (x.sent ++ sends_of xs ≡ []) × (w' ≡ w)
-      by None step = absurd step
-      by (Some m) step = at (is_exit m) step.0 step.1
+      by : (Runs_from (asked i) run.1 xs q w' → (sends_of xs ≡ []) × (w' ≡ run.1)) → (came : Option Message) → Step (with_queues may) (asked i) w came x.sent run.0 run.1
+          → (x.sent ++ sends_of xs ≡ []) × (w' ≡ w)
+      by later None step = absurd step
+      by later (Some m) step = at later (is_exit m) (is_reply m) step.0 step.1
 
   -- the server's calls, and what came after them
   record Served (w w' : QueuedServer S P) (xs : List Exchange) : Type 0 where
@@ -277,6 +281,7 @@ module _ {S P : Type 0} (may : Stated S P) where
       by later (idle m there same any (shuts i method params first is e sent next)) = absurd (cc (first))
       by later (idle m there same any (goes first e sent next)) = absurd (cc (first))
       by later (idle m there same any (exits i first e sent next)) = absurd (cc (first))
+      by later (idle m there same any (late i first is sent next)) = absurd (cc (first))
       by later (idle m there same any (stays i shown first e sent next)) = absurd (cc (first))
 
 module _ {S P : Type 0} (may : Stated S P) where

@@ -330,6 +330,11 @@ impl<S: Server> Service for QueuedServer<S, S::Payload> {
     fn woken(&mut self) -> Result<Output, AllocError> {
         Ok(Output::Several(self.queues.take_sent()))
     }
+
+    /// A reply to a request of the server's own may cross the `shutdown` of its client.
+    fn passes_late(&self) -> bool {
+        true
+    }
 }
 
 /// A server beside its queues that is woken: each wake is told to it, and it does what it states of one.
@@ -391,5 +396,9 @@ impl<S: WokenServer> Service for WokenQueuedServer<S, S::Payload> {
     fn woken(&mut self) -> Result<Output, AllocError> {
         self.on_wake()?;
         Ok(Output::Several(self.queued.queues.take_sent()))
+    }
+
+    fn passes_late(&self) -> bool {
+        self.queued.passes_late()
     }
 }

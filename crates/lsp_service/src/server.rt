@@ -84,7 +84,7 @@ pub trait Server {
             notified self.old (string_bytes notification.method) (view notification.params)
             (map act_view acts.items) self.new) };
 
-    /// Takes the reply to a request of its own, with what it kept for it.
+    /// Takes the reply to a request of its own, with what it kept for it. One that comes after `shutdown` is passed over, and comes to nobody.
     fn response(
         &mut self,
         payload: Self::Payload,

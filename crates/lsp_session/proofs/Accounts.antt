@@ -3,7 +3,7 @@ use Rattle.lsp_message.specs.Message.{Message}
 use Rattle.lsp_session.specs.Account.{Act, gave, took, sending, KeepsAccount, Awaited, AreActsOfOne, AreActsOf, EndsInOrder, InOrder}
 use Rattle.lsp_session.specs.Boxes.{Sends, Receives, Takes, WaitsFor}
 use Rattle.lsp_session.specs.Event.{Event, message}
-use Rattle.lsp_session.specs.Prompt.{event_of, Meets, BreaksOff, OffersShutdownReplyFirst, EndsTalk, Talks}
+use Rattle.lsp_session.specs.Prompt.{event_of, behind, Meets, BreaksOff, OffersShutdownReplyFirst, EndsTalk, Talks}
 use Rattle.lsp_session.specs.Session.{Exchange, SessionAnswer, SessionPart, Stop, decided, no_more, timed_out, refused, exhausted, Phase}
 use Rattle.lsp_session.specs.SessionLaws.{Both}
 use Rattle.std.proofs.Common.{◌≡◌, refl, sym, ◌∙◌, ap, inl, inr, ℕ, List, [], ◌∷◌, ◌++◌, length, map, append_assoc, append-nil, Option, Some, None}
@@ -61,23 +61,26 @@ module _ {L : Type 0} (receives listens : Receives L) (sends : Sends L) (account
       → (acts : List Act) × EndsInOrder 0 stop (Some shutdown_reply) last acts × Grew old new acts
   shutdown_reply_turned phase shutdown_reply stop last old new ends =
       let first = waited (message ends.ask) old ends.met ends.waited.0 in
-      let outcome = ends.offered.outcome in (
-        first.0 ++ sending shutdown_reply outcome ∷ gave ends.event ∷ [],
+      let outcome = ends.offered.outcome in
+      let events = behind ends.late ends.event in (
+        first.0 ++ sending shutdown_reply outcome ∷ map gave events,
         record {
           ask = ends.ask;
           asks = ends.asks;
           waits = first.0;
           awaited = first.1;
           outcome = outcome;
+          late = ends.late;
+          responses = ends.responses;
           event = ends.event;
           are = refl;
           later = ends.later;
           stops = ends.stops;
           is = ends.is;
         },
-        grew_both old ends.met new first.0 (sending shutdown_reply outcome ∷ gave ends.event ∷ []) first.2
-            (grew_both ends.met ends.mid new (sending shutdown_reply outcome ∷ []) (gave ends.event ∷ [])
-            (keeps.offering ends.met shutdown_reply outcome ends.mid ends.offered.sent) (keeps.receiving ends.mid ends.event new ends.received)),
+        grew_both old ends.met new first.0 (sending shutdown_reply outcome ∷ map gave events) first.2
+            (grew_both ends.met ends.mid new (sending shutdown_reply outcome ∷ []) (map gave events)
+            (keeps.offering ends.met shutdown_reply outcome ends.mid ends.offered.sent) (gave_all events ends.mid new ends.received)),
       )
 
   -- a message is refused

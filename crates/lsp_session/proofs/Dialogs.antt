@@ -10,7 +10,7 @@ use Rattle.lsp_session.specs.Boxes.{is_timeout}
 use Rattle.lsp_session.specs.Dialog.{Client, NeverBothWait, WaitsForReplies, awaits, WaitsForItsDue}
 use Rattle.lsp_session.specs.Event.{Event, message, timeout, closed, woken}
 use Rattle.lsp_session.specs.HandlerSession.{of_handler}
-use Rattle.lsp_session.specs.Prompt.{event_of, StopsAfterShutdown}
+use Rattle.lsp_session.specs.Prompt.{event_of, passed_over, behind, StopsAfterShutdown}
 use Rattle.lsp_session.specs.Session.{Behavior, Exchange, messages_of, sends_of, SessionAnswer, Stop, decided, no_more, timed_out, refused, exhausted, Phase, starting, replied, serving, asked, ended, shutdown_reply_of, Step, Steps, Reaches, CutsOff, Stops, SessionFrom, request_id}
 use Rattle.lsp_session.specs.declared.lifecycle.SendFault.{SendFault}
 use Rattle.serde_json.specs.Data.{Data}
@@ -145,6 +145,21 @@ module _ {S : Type 0} (may : Behavior S) where
         subst awaits made.0 (stop_awaits q s' s'' no_more answer (λ e. cc (e)) stops)
     shutdown_reply_awaits event stop later p q s s' s'' answer after steps stops = absurd after
 
+    -- responses that are passed over are awaited, and one event behind them
+    late_awaited : (late : List Message) (event : Event) (stop : Stop) (before later : List Exchange) (p q : Phase) (s s' s'' : S) (answer : SessionAnswer) → StopsAfterShutdown event stop later
+        → Steps may starting start before p s → Steps may p s (map passed_over late ++ later) q s' → Stops may q s' stop answer s''
+        → NeverBothWait goes_on (messages_of before) (sends_of before) (map gave (behind late event))
+    late_awaited [] event stop before later p q s s' s'' answer after done steps stops =
+        last_event (sends_of before) (messages_of before) event (due before p s done (shutdown_reply_awaits event stop later p q s s' s'' answer after steps stops))
+    late_awaited (m ∷ late) event stop before later p q s s' s'' answer after done steps stops =
+        let one = passed_over m ∷ [] in
+        let sent : messages_of (before ++ one) ≡ messages_of before ++ m ∷ [] = messages_both before one in
+        let got : sends_of (before ++ one) ≡ sends_of before = sends_both before one ∙ append-nil (sends_of before) in (
+          due before p s done (step_awaits p steps.0 s steps.1 (Some m) [] steps.2),
+          rw (sent, got) at (late_awaited late event stop (before ++ one) later steps.0 q steps.1 s' s'' answer after
+              (steps_both may starting p steps.0 start s steps.1 before one done (one_step may p steps.0 s steps.1 (Some m) [] steps.2)) steps.3 stops),
+        )
+
     -- an event is awaited, and that is all
     only_awaited : (before : List Exchange) (event : Event) (acts : List Act) → Awaited event acts → goes_on (messages_of before) (sends_of before) ≡ true → Never before acts
     only_awaited before event acts awaited ready =
@@ -152,14 +167,14 @@ module _ {S : Type 0} (may : Behavior S) where
 
     module _ (acts : List Act) (xs : List Exchange) (stop : Stop) (shutdown_reply : Option Message) (answer : SessionAnswer) (t : ActsInOrder acts xs stop shutdown_reply) where
       -- the reply to `shutdown` was sent before what comes last was awaited
-      shutdown_reply_on : (n ask : Message) (event : Event) (outcome : Result (Unit {0}) SendFault) (p : Phase) (s : S)
-          → Steps may starting start (t.whole ++ record { came = Some ask; sent = n ∷ [] } ∷ []) p s → awaits p
-          → NeverBothWait goes_on (messages_of t.whole ++ ask ∷ []) (sends_of t.whole) (sending n outcome ∷ gave event ∷ [])
-      shutdown_reply_on n ask event (Err fault) p s steps awaited = tt
-      shutdown_reply_on n ask event (Ok done) p s steps awaited =
-          last_event (sends_of t.whole ++ n ∷ []) (messages_of t.whole ++ ask ∷ []) event
-          (rw (messages_both t.whole (record { came = Some ask; sent = n ∷ [] } ∷ []), sends_both t.whole (record { came = Some ask; sent = n ∷ [] } ∷ [])) at
-          (due (t.whole ++ record { came = Some ask; sent = n ∷ [] } ∷ []) p s steps awaited))
+      shutdown_reply_on : (n ask : Message) (late : List Message) (event : Event) (stop : Stop) (later : List Exchange) (outcome : Result (Unit {0}) SendFault) (p q : Phase) (s s' s'' : S)
+          → StopsAfterShutdown event stop later → Steps may starting start (t.whole ++ record { came = Some ask; sent = n ∷ [] } ∷ []) p s
+          → Steps may p s (map passed_over late ++ later) q s' → Stops may q s' stop answer s''
+          → NeverBothWait goes_on (messages_of t.whole ++ ask ∷ []) (sends_of t.whole) (sending n outcome ∷ map gave (behind late event))
+      shutdown_reply_on n ask late event stop later (Err fault) p q s s' s'' after done steps stops = tt
+      shutdown_reply_on n ask late event stop later (Ok u) p q s s' s'' after done steps stops =
+          rw (messages_both t.whole (record { came = Some ask; sent = n ∷ [] } ∷ []), sends_both t.whole (record { came = Some ask; sent = n ∷ [] } ∷ [])) at
+          (late_awaited late event stop (t.whole ++ record { came = Some ask; sent = n ∷ [] } ∷ []) later p q s s' s'' answer after done steps stops)
 
       shutdown_reply_acts : (n : Message) (stop : Stop) (last : List Exchange) (q : Phase) (s' s'' : S) → Steps may starting start (t.whole ++ last) q s' → Stops may q s' stop answer s''
           → ShutdownReplyInOrder n stop last t.end → Never [] (t.exchanged ++ t.end)
@@ -169,10 +184,9 @@ module _ {S : Type 0} (may : Behavior S) where
           let so_far = steps_both may starting cut.0 made.0 start cut.1 made.1 t.whole (record { came = Some ends.ask; sent = n ∷ [] } ∷ []) cut.2
           (one_step may cut.0 made.0 cut.1 made.1 (Some ends.ask) (n ∷ []) made.2) in
           first_acts t.whole cut.0 cut.1 t.exchanged t.end cut.2 t.in_order
-          (rw ends.are (awaited_on goes_on (messages_of t.whole) (sends_of t.whole) (message ends.ask) ends.waits (sending n ends.outcome ∷ gave ends.event ∷ []) ends.awaited
+          (rw ends.are (awaited_on goes_on (messages_of t.whole) (sends_of t.whole) (message ends.ask) ends.waits (sending n ends.outcome ∷ map gave (behind ends.late ends.event)) ends.awaited
           (due t.whole cut.0 cut.1 cut.2 (step_awaits cut.0 made.0 cut.1 made.1 (Some ends.ask) (n ∷ []) made.2))
-          (shutdown_reply_on n ends.ask ends.event ends.outcome made.0 made.1 so_far
-          (shutdown_reply_awaits ends.event stop ends.later made.0 q made.1 s' s'' answer ends.stops made.3 stops))))
+          (shutdown_reply_on n ends.ask ends.late ends.event stop ends.later ends.outcome made.0 q made.1 s' s'' ends.stops so_far made.3 stops)))
 
       -- a message was refused
       broken_acts : (fault : SendFault) (last : List Exchange) (q : Phase) (s' : S) → CutsOff may starting start (t.whole ++ last) q s' → BreaksActs last t.end → Never [] (t.exchanged ++ t.end)

@@ -1,7 +1,7 @@
 -- A session of a handler, from that of the service that lends it.
 use Rattle.lsp_message.specs.Id.{Id}
 use Rattle.lsp_message.specs.Message.{Message, ErrorObject}
-use Rattle.lsp_session.proofs.Ran.{StepCase, row, at_initialize, at_initialized, at_served, at_woken, idle, Idle, early_request, early_note, unasked, uninvited, shuts, leaves, exits, stays}
+use Rattle.lsp_session.proofs.Ran.{StepCase, row, at_initialize, at_initialized, at_served, at_woken, idle, Idle, early_request, early_note, unasked, uninvited, shuts, leaves, exits, late, stays}
 use Rattle.lsp_session.specs.Boxes.{Sends, Receives}
 use Rattle.lsp_session.specs.Event.{Event}
 use Rattle.lsp_session.specs.HandlerService.{KeepsHandler, lent_handler}
@@ -16,7 +16,7 @@ use Rattle.lsp_session.specs.declared.loops.handler_service.HandlerService.{Hand
 use Rattle.lsp_session.specs.declared.loops.stream_session.SessionFault.{SessionFault}
 use Rattle.serde_json.specs.Data.{Data}
 use Rattle.serde_json.specs.View.{view}
-use Rattle.std.proofs.Common.{◌≡◌, ◌∙◌, ap, inl, inr, ◌⊎◌, ℕ, List, [], ◌∷◌, ◌++◌, Option, Some, None, IfSome}
+use Rattle.std.proofs.Common.{◌≡◌, refl, ◌∙◌, ap, inl, inr, ◌⊎◌, ℕ, List, [], ◌∷◌, ◌++◌, Option, Some, None, IfSome}
 use Rattle.std.specs.Prelude.{Result, Ok}
 
 module _ {H : Type 0} (answers : H → Id → List ℕ → Data → Result Data ErrorObject → H → Type 0) (notes : H → List ℕ → Data → H → Type 0) (capabilities : Data) where
@@ -40,6 +40,7 @@ module _ {H : Type 0} (answers : H → Id → List ℕ → Data → Result Data 
   has_idle p p' s s' m sent has same (shuts i method params here is asks output next) = rw next tt
   has_idle p p' s s' m sent has same (leaves here is output next) = rw next tt
   has_idle p p' s s' m sent has same (exits i here is output next) = rw next tt
+  has_idle p p' s s' m sent has same (late i here is output next) = rw next tt
   has_idle p p' s s' m sent has same (stays i shown here other output next) = rw next tt
 
   step_case_as : (p p' : Phase) (s s' : HandlerService H) (came : Option Message) (sent : List Message) → Has p s → StepCase lent p s came sent p' s'
@@ -52,7 +53,7 @@ module _ {H : Type 0} (answers : H → Id → List ℕ → Data → Result Data 
   step_case_as p p' s s' came sent has (at_served m here there is given next) = (rw (here, there, is) (given.0, next), rw next tt, given.1)
   step_case_as p p' s s' came sent has (at_woken here none given next) = (rw (here, none) ((given.0, given.1.0), next), rw next tt, given.1.1)
   step_case_as p p' s s' came sent has (idle m there same step row) = (
-    rw (there, ap (λ (x : HandlerService H). x.handler.now) same) (step H plain s.handler.now),
+    rw (there, ap (λ (x : HandlerService H). x.handler.now) same) (step H plain s.handler.now refl),
     has_idle p p' s s' m sent has same row,
     ap (λ (x : HandlerService H). x.handler.ghost_name) same,
   )

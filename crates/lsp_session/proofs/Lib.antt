@@ -4,6 +4,7 @@ pub mod ClientReading
 pub mod Dialogs
 pub mod Handing
 pub mod Handshake
+pub mod Late
 pub mod Lending
 pub mod Transport
 pub mod TransportRuns

@@ -2,7 +2,7 @@
 use Rattle.lsp_message.specs.Id.{Id}
 use Rattle.lsp_message.specs.Message.{Message, ErrorObject, request, notification, response}
 use Rattle.lsp_message.specs.Methods.{is_early, is_initialize, is_initialized}
-use Rattle.lsp_session.proofs.Ran.{part_none, part_one, Ran, reaches_ran, stops_by, ended_by, Holds, after_outcome, holds, StepCase, row, at_initialize, at_initialized, at_served, at_woken, idle, Idle, early_request, early_note, unasked, uninvited, shuts, leaves, exits, stays, IsNoRequest, initialized_no_request, exit_no_request, silent, one_reply, messages_both, messages_more, sends_both, initialized_is_no_exit}
+use Rattle.lsp_session.proofs.Ran.{part_none, part_one, Ran, reaches_ran, stops_by, ended_by, Holds, after_outcome, holds, StepCase, row, at_initialize, at_initialized, at_served, at_woken, idle, Idle, early_request, early_note, unasked, uninvited, shuts, leaves, exits, late, stays, IsNoRequest, initialized_no_request, exit_no_request, reply_no_request, silent, one_reply, messages_both, messages_more, sends_both, initialized_is_no_exit}
 use Rattle.lsp_session.proofs.Handshake.{AllZip-append}
 use Rattle.lsp_session.specs.Answered.{IsReplied, RepliesTo, RepliesToEach, requests_of, AllReplied, AnswersRequests, LastUnanswered}
 use Rattle.lsp_session.specs.HandlerSession.{Handles, of_handler}
@@ -209,10 +209,13 @@ module _ {S : Type 0} (may : Behavior S) (stop : Stop) (shutdown_reply : Option 
         ))
     order_idle m there (exits i here is output next) =
         let over : Order (ended (Some (null_reply i)) (Ok ShutDown)) xs = rw next at rest in
-        rw here ((over.0, none output, over.2, rw (there, is) over.3), over.1)
+        rw here ((none output, inr (over.0, over.2, rw (there, is) over.3)), over.1)
+    order_idle m there (late i here is output next) =
+        let after : Order (asked i) xs = rw next at rest in
+        rw here ((none output, inl (rw there is, after.0)), after.1)
     order_idle m there (stays i shown here other output next) =
         let over : Order (ended (Some (null_reply i)) (Err (unexpected_in_shutdown shown))) xs = rw next at rest in
-        rw here ((over.0, none output, over.2, rw (there, other, over.3) (shown, refl)), over.1)
+        rw here ((none output, inr (over.0, over.2, rw (there, other, over.3) (shown, refl))), over.1)
 
     order_case : StepCase may p s x.came full q s' → Order p (x ∷ xs)
     order_case (at_initialize i method params outcome here is asks given output next) = rw here (first outcome (one _ output) (rw next at rest))
@@ -369,6 +372,7 @@ module _ (stop : Stop) where
       unserved m there (shuts i method params at is asks output next) = rw next (one_reply x i method params _ (rw is at there) (one _ output) (_, refl))
       unserved m there (leaves at is output next) = rw next (λ decides. inl (silent x m there (exit_no_request m is) (none output)))
       unserved m there (exits i at is output next) = rw next (λ decides. inl (silent x m there (exit_no_request m is) (none output)))
+      unserved m there (late i at is output next) = rw next (silent x m there (reply_no_request m is) (none output))
       unserved m there (stays i shown at other output next) = rw next (unanswered x m _ there (none output) (inr (shown, refl)))
 
       replied_case : StepCase plain p h x.came full q h' → Holds plain stop AllReplied Last q (x ∷ [])

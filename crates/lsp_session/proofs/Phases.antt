@@ -5,7 +5,7 @@ use Rattle.lsp_session.proofs.Ran.{IsOpen}
 use Rattle.lsp_session.specs.Prompt.{is_result, next_phase}
 use Rattle.lsp_session.specs.ProtocolError.{ProtocolFault, expected_initialize, expected_initialized, unexpected_in_shutdown}
 use Rattle.lsp_session.specs.Replies.{null_reply, IsEarlyReply}
-use Rattle.lsp_session.specs.Session.{Behavior, Phase, starting, replied, serving, asked, ended, phase_after, is_served, Fails, Leaves, Step}
+use Rattle.lsp_session.specs.Session.{Behavior, Phase, starting, replied, serving, asked, ended, phase_after, is_reply, is_served, Fails, Leaves, Step}
 use Rattle.lsp_session.specs.declared.loops.handler.SessionEnd.TheVariants.{ShutDown}
 use Rattle.serde_json.specs.Data.{Data}
 use Rattle.std.proofs.Common.{◌≡◌, refl, ℕ, Bool, true, false, ◌&&◌, List, [], ◌∷◌, Option, Some, None, codes}
@@ -59,9 +59,13 @@ module _ {S : Type 0} (may : Behavior S) where
       by_kind true step = step.1
       by_kind false step = leaves_closed m q sent is_open step.0
   phase_follows (asked i) q s s' None sent is_open step = absurd step
-  phase_follows (asked i) q s s' (Some m) sent is_open step = by_name (is_exit m) step.0
+  phase_follows (asked i) q s s' (Some m) sent is_open step = by_name (is_exit m) (may.passes_late && is_reply m) step.0
     where
-      by_name : (b : Bool) → MatchBool b ((sent ≡ []) × (q ≡ ended (Some (null_reply i)) (Ok ShutDown))) (Fails unexpected_in_shutdown (asked i) sent q) → q ≡ asked i
-      by_name true step = let never : ⊥ = rw step.1 at is_open in absurd never
-      by_name false step = fails_closed unexpected_in_shutdown (asked i) q sent is_open step
+      by_name : (b c : Bool)
+          → MatchBool b ((sent ≡ []) × (q ≡ ended (Some (null_reply i)) (Ok ShutDown)))
+          (MatchBool c ((sent ≡ []) × (q ≡ asked i)) (Fails unexpected_in_shutdown (asked i) sent q))
+          → q ≡ asked i
+      by_name true c step = let never : ⊥ = rw step.1 at is_open in absurd never
+      by_name false true step = step.1
+      by_name false false step = fails_closed unexpected_in_shutdown (asked i) q sent is_open step
   phase_follows (ended shutdown_reply answer) q s s' came sent is_open step = absurd step

@@ -1,7 +1,7 @@
 -- Exchanges of a session, one after another: by the rows of the table of steps, the last of which may be cut off, and what they say of its answer.
 use Rattle.lsp_message.specs.Message.{Message, ErrorObject, request, notification, response}
 use Rattle.lsp_session.specs.ProtocolError.{disconnected, shutdown_disconnected, fault_of_refusal, expected_initialize, expected_initialized, unexpected_in_shutdown}
-use Rattle.lsp_session.specs.Session.{Behavior, Exchange, came_of, messages_of, SessionAnswer, Stop, decided, no_more, refused, Phase, starting, replied, serving, asked, ended, Reaches, Stops, SessionFrom, sends_of, shutdown_reply_of, phase_after, Step, Steps, is_served, Fails, Leaves, is_shutdown}
+use Rattle.lsp_session.specs.Session.{Behavior, Exchange, came_of, messages_of, SessionAnswer, Stop, decided, no_more, refused, Phase, starting, replied, serving, asked, ended, Reaches, Stops, SessionFrom, sends_of, shutdown_reply_of, phase_after, Step, Steps, is_reply, is_served, Fails, Leaves, is_shutdown}
 use Rattle.lsp_session.specs.SessionRun.{all_of}
 use Rattle.lsp_session.specs.declared.lifecycle.SendFault.{SendFault}
 use Rattle.lsp_session.specs.declared.loops.handler.SessionEnd.TheVariants.{Closed, ShutDown}
@@ -132,6 +132,7 @@ pub data Idle (p : Phase) (m : Message) (sent : List Message) (q : Phase) : Type
       → sent ≡ null_reply i ∷ [] → q ≡ asked i → Idle p m sent q
   leaves : p ≡ serving → is_exit m ≡ true → sent ≡ [] → q ≡ ended None (Ok Closed) → Idle p m sent q
   exits : (i : Id) → p ≡ asked i → is_exit m ≡ true → sent ≡ [] → q ≡ ended (Some (null_reply i)) (Ok ShutDown) → Idle p m sent q
+  late : (i : Id) → p ≡ asked i → is_reply m ≡ true → sent ≡ [] → q ≡ asked i → Idle p m sent q
   stays : (i : Id) (shown : List ℕ) → p ≡ asked i → is_exit m ≡ false → sent ≡ []
       → q ≡ ended (Some (null_reply i)) (Err (unexpected_in_shutdown shown)) → Idle p m sent q
 
@@ -142,8 +143,9 @@ pub data StepCase {S : Type 0} (may : Behavior S) (p : Phase) (s : S) (came : Op
   at_initialized : (m : Message) → p ≡ replied → came ≡ Some m → is_initialized m ≡ true → may.at_initialized s sent s' → q ≡ serving → StepCase may p s came sent q s'
   at_served : (m : Message) → p ≡ serving → came ≡ Some m → is_served m ≡ true → may.outputs s m sent s' → q ≡ serving → StepCase may p s came sent q s'
   at_woken : p ≡ serving → came ≡ None → may.wakes s sent s' → q ≡ serving → StepCase may p s came sent q s'
-  -- of whatever service it is a step
-  idle : (m : Message) → came ≡ Some m → s' ≡ s → ((T : Type 0) (can : Behavior T) (t : T) → Step can p t (Some m) sent q t) → Idle p m sent q
+  -- of whatever service it is a step that passes over the same responses
+  idle : (m : Message) → came ≡ Some m → s' ≡ s
+      → ((T : Type 0) (can : Behavior T) (t : T) → can.passes_late ≡ may.passes_late → Step can p t (Some m) sent q t) → Idle p m sent q
       → StepCase may p s came sent q s'
 
 left : (m : Message) (sent : List Message) (q : Phase) → is_served m ≡ false → Leaves m sent q → Idle serving m sent q
@@ -171,34 +173,36 @@ module _ {S : Type 0} (may : Behavior S) where
           ((reply : Message) × IsEarlyReply i reply × (sent ≡ reply ∷ []) × (q ≡ starting) × (s' ≡ s))
           → StepCase may starting s (Some (request i method params)) sent q s'
       at true e step = at_initialize i method params step.0 refl refl e step.1 step.2 step.3
-      at false e step = idle (request i method params) refl step.4 (λ T can t. rw e (step.0, step.1, step.2, step.3, refl))
+      at false e step = idle (request i method params) refl step.4 (λ T can t same. rw e (step.0, step.1, step.2, step.3, refl))
           (early_request i method params step.0 refl refl step.1 step.2 step.3)
-  row starting q s s' (Some (notification method params)) sent step = idle (notification method params) refl step.1 (λ T can t. (step.0, refl)) (at (is_early (notification method params)) refl step.0)
+  row starting q s s' (Some (notification method params)) sent step = idle (notification method params) refl step.1 (λ T can t same. (step.0, refl)) (at (is_early (notification method params)) refl step.0)
     where
       at : (b : Bool) → is_early (notification method params) ≡ b → MatchBool b ((sent ≡ []) × (q ≡ starting)) (Fails expected_initialize starting sent q)
           → Idle starting (notification method params) sent q
       at true e step = early_note refl tt e step.0 step.1
       at false e step = unasked step.0 refl tt e step.1 step.2
-  row starting q s s' (Some (response i outcome)) sent step = idle (response i outcome) refl step.1 (λ T can t. (step.0, refl)) (unasked step.0.0 refl tt refl step.0.1 step.0.2)
+  row starting q s s' (Some (response i outcome)) sent step = idle (response i outcome) refl step.1 (λ T can t same. (step.0, refl)) (unasked step.0.0 refl tt refl step.0.1 step.0.2)
   row replied q s s' (Some m) sent step = at (is_initialized m) refl step
     where
       at : (b : Bool) → is_initialized m ≡ b → MatchBool b (may.at_initialized s sent s' × (q ≡ serving)) (Fails expected_initialized replied sent q × (s' ≡ s))
           → StepCase may replied s (Some m) sent q s'
       at true e step = at_initialized m refl refl e step.0 step.1
-      at false e step = idle m refl step.1 (λ T can t. rw e (step.0, refl)) (uninvited step.0.0 refl e step.0.1 step.0.2)
+      at false e step = idle m refl step.1 (λ T can t same. rw e (step.0, refl)) (uninvited step.0.0 refl e step.0.1 step.0.2)
   row serving q s s' (Some m) sent step = at (is_served m) refl step
     where
       at : (b : Bool) → is_served m ≡ b → MatchBool b (may.outputs s m sent s' × (q ≡ serving)) (Leaves m sent q × (s' ≡ s)) → StepCase may serving s (Some m) sent q s'
       at true e step = at_served m refl refl e step.0 step.1
-      at false e step = idle m refl step.1 (λ T can t. rw e (step.0, refl)) (left m sent q e step.0)
+      at false e step = idle m refl step.1 (λ T can t same. rw e (step.0, refl)) (left m sent q e step.0)
   row serving q s s' None sent step = at_woken refl refl step.0 step.1
-  row (asked i) q s s' (Some m) sent step = idle m refl step.1 (λ T can t. (step.0, refl)) (at (is_exit m) refl step.0)
+  row (asked i) q s s' (Some m) sent step = idle m refl step.1 (λ T can t same. rw same (step.0, refl)) (at (is_exit m) refl (may.passes_late && is_reply m) refl step.0)
     where
-      at : (b : Bool) → is_exit m ≡ b
-          → MatchBool b ((sent ≡ []) × (q ≡ ended (Some (null_reply i)) (Ok ShutDown))) (Fails unexpected_in_shutdown (asked i) sent q)
+      at : (b : Bool) → is_exit m ≡ b → (c : Bool) → (may.passes_late && is_reply m) ≡ c
+          → MatchBool b ((sent ≡ []) × (q ≡ ended (Some (null_reply i)) (Ok ShutDown)))
+          (MatchBool c ((sent ≡ []) × (q ≡ asked i)) (Fails unexpected_in_shutdown (asked i) sent q))
           → Idle (asked i) m sent q
-      at true e step = exits i refl e step.0 step.1
-      at false e step = stays i step.0 refl e step.1 step.2
+      at true e c passes step = exits i refl e step.0 step.1
+      at false e true passes step = late i refl (and-true may.passes_late (is_reply m) passes).1 step.0 step.1
+      at false e false passes step = stays i step.0 refl e step.1 step.2
   row p q s s' came sent step = absurd step
 
 -- no request
@@ -209,6 +213,10 @@ initialized_no_request m is = tt
 pub exit_no_request : (m : Message) → is_exit m ≡ true → IsNoRequest m
 exit_no_request (request i method params) is = absurd (cc (is))
 exit_no_request m is = tt
+
+pub reply_no_request : (m : Message) → is_reply m ≡ true → IsNoRequest m
+reply_no_request (request i method params) is = absurd (cc (is))
+reply_no_request m is = tt
 
 -- no request, and nothing is sent
 pub silent : (x : Exchange) (m : Message) → x.came ≡ Some m → IsNoRequest m → x.sent ≡ [] → AllReplied (x ∷ [])
@@ -332,6 +340,11 @@ initialized_is_no_exit (notification method params) initialized =
     rw ((bytes_eq-Decides method (codes "initialized")).0 initialized) refl
 initialized_is_no_exit m initialized = refl
 
+reply_no_exit : (m : Message) → is_reply m ≡ true → is_no_exit m ≡ true
+reply_no_exit (response i outcome) is = refl
+reply_no_exit (request i method params) is = absurd (cc (is))
+reply_no_exit (notification method params) is = absurd (cc (is))
+
 early_no_exit : (m : Message) → IsNoRequest m → is_early m ≡ true → is_no_exit m ≡ true
 early_no_exit (notification method params) mute early = early
 early_no_exit m mute early = refl
@@ -363,6 +376,7 @@ module _ {S : Type 0} (may : Behavior S) (stop : Stop) where
   known_idle p q x m full there (shuts i method params at is asks sent next) = rw next (passed x m there (rw is refl))
   known_idle p q x m full there (leaves at is sent next) = rw next tt
   known_idle p q x m full there (exits i at is sent next) = rw next tt
+  known_idle p q x m full there (late i at is sent next) = rw next (passed x m there (reply_no_exit m is))
   known_idle p q x m full there (stays i shown at other sent next) = rw next tt
 
   known_case : (p q : Phase) (s s' : S) (x : Exchange) (full : List Message) → StepCase may p s x.came full q s' → Known q (x ∷ [])

@@ -6,7 +6,7 @@ use Rattle.lsp_message.specs.Methods.{is_initialize, is_exit}
 use Rattle.lsp_message.specs.declared.msg.code.ErrorCode.TheVariants.{ServerNotInitialized}
 use Rattle.lsp_session.specs.ProtocolError.{expected_initialized}
 use Rattle.lsp_session.specs.Replies.{null_reply}
-use Rattle.lsp_session.specs.Session.{Exchange, messages_of, sends_of, SessionAnswer, Stop, decided, no_more, timed_out, refused as cut_off, exhausted, Phase, starting, replied as awaiting, serving, asked as shut, is_served}
+use Rattle.lsp_session.specs.Session.{Exchange, messages_of, sends_of, SessionAnswer, Stop, decided, no_more, timed_out, refused as cut_off, exhausted, Phase, starting, replied as awaiting, serving, asked as shut, is_reply, is_served}
 use Rattle.lsp_session.specs.SessionBytes.{ReadsMessage, Ends, Wrote, GetsAllButLast}
 use Rattle.lsp_session.specs.declared.loops.stream_session.SessionFault.TheVariants.{Write, Memory as NoMemory}
 use Rattle.lsp_message.specs.declared.frame.WriteFault.{WriteFault}
@@ -219,8 +219,20 @@ module _ (stop : Stop) (shutdown_reply : Option Message) (answer : SessionAnswer
       → ⊥
   speaks_after_shutdown i k params result given asked opening output arrived sent others more order =
       let follows = (shuts k given asked opening output _ (starts (begun i params result) _ refl order).later).1 in
-      let e : sent ∷ others ≡ [] = follows.1 in
+      let e : sent ∷ others ≡ [] = follows.0 in
       cc (e)
+
+  -- After the reply to `shutdown` a message that is no response is passed over.
+  pub passes_over_after_shutdown : (i k : Id) (params result given asked : Data) (opening output : List Message) (m : Message) (y : Exchange) (more : List Exchange)
+      → is_reply m ≡ false
+      → KeepsOrder (begun i params result ∷ invited given opening ∷ shutting k asked output ∷ record { came = Some m; sent = [] } ∷ y ∷ more) stop shutdown_reply answer
+      → ⊥
+  passes_over_after_shutdown i k params result given asked opening output m y more other order =
+      let follows = (shuts k given asked opening output _ (starts (begun i params result) _ refl order).later).1 in
+      elim follows.1 [
+        | inl passed ↦ (let e : true ≡ false = sym passed.0 ∙ other in cc (e))
+        | inr last ↦ (let e : y ∷ more ≡ [] = last.0 in cc (e))
+      ]
 
   -- a message comes after `exit`
   pub goes_on_after_exit : (i : Id) (params result given asked : Data) (opening output : List Message) (x : Exchange) (more : List Exchange)

@@ -2,13 +2,17 @@
 -- is said of its wakes.
 use Rattle.lsp_message.specs.Id.{Id}
 use Rattle.lsp_message.specs.Message.{Message, ErrorObject, request, response}
+use Rattle.lsp_message.specs.Methods.{is_exit}
 use Rattle.lsp_session.proofs.Waiting.{and-true, list_all-push}
 use Rattle.lsp_session.specs.Boxes.{Sends, Receives, Takes, WaitsFor, is_timeout}
 use Rattle.lsp_session.specs.Event.{Event, message, timeout, closed}
-use Rattle.lsp_session.specs.Prompt.{event_of, Meets, EndsTalk, Talks}
+use Rattle.lsp_session.specs.HandlerSession.{of_handler}
+use Rattle.lsp_session.specs.Prompt.{event_of, behind, Meets, EndsTalk, Talks}
+use Rattle.lsp_session.specs.ProtocolError.{unexpected_in_shutdown}
 use Rattle.lsp_session.specs.Replies.{null_reply, IsEarlyReply}
-use Rattle.lsp_session.specs.Session.{Behavior, SessionAnswer, SessionPart, Exchange, Stop, decided, no_more, timed_out, refused, exhausted, Phase, starting, serving, phase_after, is_initialize, is_served, Leaves, Step, Steps, Reaches, SessionFrom, SessionOut}
+use Rattle.lsp_session.specs.Session.{Behavior, SessionAnswer, SessionPart, Exchange, Stop, decided, no_more, timed_out, refused, exhausted, Phase, starting, serving, asked, ended, phase_after, is_initialize, is_served, Fails, Leaves, Step, Steps, Reaches, SessionFrom, SessionOut}
 use Rattle.lsp_session.specs.declared.lifecycle.SendFault.{SendFault}
+use Rattle.lsp_session.specs.declared.loops.handler.SessionEnd.TheVariants.{ShutDown}
 use Rattle.serde_json.specs.Data.{Data}
 use Rattle.std.proofs.Common.{◌≡◌, refl, sym, ◌∙◌, ap, inl, inr, ℕ, Bool, true, false, ◌&&◌, List, [], ◌∷◌, ◌++◌, map, length, append_assoc, append-nil, Option, Some, None, codes}
 use Rattle.std.proofs.lemmas.List.Folds.{list_all-append}
@@ -61,10 +65,14 @@ met_grows listens (x ∷ xs) old new run =
     grows_both old.1 run.1.met new.1 (waited_grows (event_of x.came) old.1 run.1.met run.1.waited.0)
     (grows_both run.1.met run.0.1 new.1 (sent_grows x.sent run.1.met run.0.1 run.1.taken) (met_grows listens xs run.0 new run.2))
 
+received_grows : (events : List Event) (old new : List Act) → FoldsTo Gives old events new → Grows old new
+received_grows [] old new run = grows_none old new run
+received_grows (e ∷ es) old new run = grows_by old run.0 new (gave e) run.1 (received_grows es run.0 new run.2)
+
 end_grows : (listens : Receives (List Act)) (phase : Phase) (count : ℕ) (stop : Stop) (shutdown_reply : Option Message) (last : List Exchange) (old new : List Act) → EndsTalk Gives listens Gets phase count stop shutdown_reply last old new → Grows old new
 end_grows listens phase count stop (Some shutdown_reply) last old new end =
     grows_both old end.met new (waited_grows (message end.ask) old end.met end.waited.0)
-    (grows_by end.met end.mid new (got shutdown_reply end.offered.outcome) end.offered.sent (grows_by end.mid new new (gave end.event) end.received (grows_none new new refl)))
+    (grows_by end.met end.mid new (got shutdown_reply end.offered.outcome) end.offered.sent (received_grows (behind end.late end.event) end.mid new end.received))
 end_grows listens phase count (refused fault) None last old new end =
     grows_both old end.met new (waited_grows (event_of end.came) old end.met end.waited.0)
     (grows_both end.met end.mid new (sent_grows end.part end.met end.mid end.taken) (grows_by end.mid new new (got end.not_sent (Err fault)) end.refuses (grows_none new new refl)))
@@ -157,7 +165,7 @@ module _ {S : Type 0} (may : Behavior S) (p : Phase) (ask : Message)
           where
             by_end : (stop : Stop) (shutdown_reply : Option Message) → EndsTalk Gives listens Gets talks.reached 0 stop shutdown_reply last [] twice → ⊥
             by_end stop (Some shutdown_reply) end = sends_one (message end.ask) shutdown_reply end.offered.outcome end.met end.mid end.waited.0 end.offered.sent
-                (grows_by end.mid twice twice (gave end.event) end.received (grows_none twice twice refl))
+                (received_grows (behind end.late end.event) end.mid twice end.received)
             by_end (refused fault) None end = by_part end.part end.taken
               where
                 by_part : (part : List Message) → FoldsTo (Takes Gets) end.met part end.mid → ⊥
@@ -214,6 +222,23 @@ module _ {S : Type 0} (may : Behavior S) (s s' : S) (answer : SessionAnswer) (i 
       speaks : (s s' : S) (sent : List Message) (next : Phase) → Step may serving s (Some (request i method params)) sent next s' → sent ≡ [] → ⊥
       speaks s s' sent next step none =
           gives s s' sent (given_for may s s' (request i method params) sent next served step) none
+
+-- ---- It passes over a response after `shutdown`.
+
+-- A handler's session goes on after a message that came after `shutdown`, whatever that is.
+pub handler_goes_on : {H : Type 0} (answers : H → Id → List ℕ → Data → Result Data ErrorObject → H → Type 0) (notes : H → List ℕ → Data → H → Type 0) (capabilities : Data)
+    (i : Id) (h h' : H) (m : Message) (sent : List Message) (y : Exchange) (more : List Exchange) (q : Phase)
+    → Steps (of_handler answers notes capabilities) (asked i) h (record { came = Some m; sent = sent } ∷ y ∷ more) q h' → ⊥
+handler_goes_on answers notes capabilities i h h' m sent y more q steps = at (is_exit m) steps.2.0
+  where
+    over : (shutdown_reply : Option Message) (by : SessionAnswer) → steps.0 ≡ ended shutdown_reply by → ⊥
+    over shutdown_reply by is =
+        let rest : Steps (of_handler answers notes capabilities) (ended shutdown_reply by) steps.1 (y ∷ more) q h' = rw is at steps.3 in
+        rest.2
+
+    at : (b : Bool) → MatchBool b ((sent ≡ []) × (steps.0 ≡ ended (Some (null_reply i)) (Ok ShutDown))) (Fails unexpected_in_shutdown (asked i) sent steps.0) → ⊥
+    at true step = over (Some (null_reply i)) (Ok ShutDown) step.1
+    at false step = over (Some (null_reply i)) (Err (unexpected_in_shutdown step.0)) step.2
 
 -- ---- It goes on after a refused message.
 

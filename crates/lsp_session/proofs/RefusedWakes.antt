@@ -5,7 +5,7 @@ use Rattle.lsp_session.proofs.Transport.{ends_at_exit}
 use Rattle.lsp_session.proofs.Waiting.{waits_none}
 use Rattle.lsp_session.specs.Boxes.{Sends, Receives, Takes}
 use Rattle.lsp_session.specs.Event.{Event, message, woken}
-use Rattle.lsp_session.specs.Prompt.{event_of, next_phase, WaitsIn, Meets, EndsTalk, Talks}
+use Rattle.lsp_session.specs.Prompt.{event_of, passed_over, next_phase, WaitsIn, Meets, EndsTalk, Talks}
 use Rattle.lsp_session.specs.Served.{StopsFor}
 use Rattle.lsp_session.specs.Session.{Behavior, SessionAnswer, SessionPart, Exchange, came_of, Stop, decided, no_more, timed_out, refused, exhausted, Phase, serving, SessionFrom}
 use Rattle.lsp_session.specs.SessionLaws.{Both}
@@ -58,7 +58,7 @@ module _ (sends : Sends (List Event)) (m : Message) (later new : List Event) whe
           by_end : (phase : Phase) (mid : List Event) → phase ≡ serving → mid ≡ woken ∷ later → (stop : Stop) (shutdown_reply : Option Message)
               → EndsTalk Skips TakesNext sends phase (length talks.whole) stop shutdown_reply talks.last mid new → ⊥
           by_end phase mid at is stop (Some shutdown_reply) end =
-              no_wait (Some end.ask) end.met (first_came (record { came = Some end.ask; sent = shutdown_reply ∷ [] }) begins.0 end.later begins.1 (sym end.is ∙ begins.2)) (rw (at, is) at end.waited)
+              no_wait (Some end.ask) end.met (first_came (record { came = Some end.ask; sent = shutdown_reply ∷ [] }) begins.0 (map passed_over end.late ++ end.later) begins.1 (sym end.is ∙ begins.2)) (rw (at, is) at end.waited)
           by_end phase mid at is (refused fault) None end =
               no_wait end.came end.met (first_came (record { came = end.came; sent = end.part ++ end.not_sent ∷ [] }) begins.0 [] begins.1 (sym end.is ∙ begins.2)) (rw (at, is) at end.waited)
           by_end phase mid at is decided None end = none_first talks.last begins.0 begins.1 end.0 begins.2

@@ -2,7 +2,7 @@
 use Rattle.lsp_message.specs.Message.{Message}
 use Rattle.lsp_session.specs.Boxes.{Sends, Receives, Takes, WaitsFor}
 use Rattle.lsp_session.specs.Event.{Event, message}
-use Rattle.lsp_session.specs.Prompt.{event_of, Meets, BreaksOff, OffersShutdownReplyFirst, EndsTalk, Talks}
+use Rattle.lsp_session.specs.Prompt.{event_of, behind, Meets, BreaksOff, OffersShutdownReplyFirst, EndsTalk, Talks}
 use Rattle.lsp_session.specs.Session.{Exchange, SessionAnswer, SessionPart, Stop, decided, no_more, timed_out, refused, exhausted, Phase}
 use Rattle.lsp_session.specs.declared.lifecycle.SendFault.{SendFault}
 use Rattle.std.proofs.Common.{◌≡◌, sym, ap, subst, inl, inr, ℕ, List, [], ◌∷◌, ◌++◌, length, Option, Some, None}
@@ -36,7 +36,7 @@ module _ {L : Type 0} (receives listens : Receives L) (sends : Sends L) (Rel : L
   shutdown_turned : (phase : Phase) (shutdown_reply : Message) (stop : Stop) (last : List Exchange) (old new : L) → OffersShutdownReplyFirst receives listens sends phase shutdown_reply stop last old new → Rel old new
   shutdown_turned phase shutdown_reply stop last old new ends =
       then_ old ends.met new (waited (message ends.ask) old ends.met ends.waited.0)
-      (then_ ends.met ends.mid new (sending ends.met shutdown_reply ends.offered.outcome ends.mid ends.offered.sent) (receiving ends.mid ends.event new ends.received))
+      (then_ ends.met ends.mid new (sending ends.met shutdown_reply ends.offered.outcome ends.mid ends.offered.sent) (gave_all (behind ends.late ends.event) ends.mid new ends.received))
 
   broken : (phase : Phase) (fault : SendFault) (last : List Exchange) (old new : L) → BreaksOff receives listens sends phase fault last old new → Rel old new
   broken phase fault last old new ends =

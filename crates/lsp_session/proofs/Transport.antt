@@ -2,19 +2,20 @@
 use Rattle.lsp_message.specs.Id.{Id}
 use Rattle.lsp_message.specs.Messages.{is_exit}
 use Rattle.lsp_message.specs.Message.{Message, ErrorObject, request, notification, response}
+use Rattle.lsp_session.proofs.Late.{never_both, lets_over, late_messages, only_replies, late_steps}
 use Rattle.lsp_session.proofs.Phases.{phase_follows}
 use Rattle.lsp_session.proofs.Ran.{IsWhole, IsOpen, answer_at_end, of_open, steps_both, one_step, reaches_whole, from_after, open_after}
 use Rattle.lsp_session.proofs.Waiting.{FoldsTo-append, and-true}
 use Rattle.lsp_session.specs.Boxes.{Sends, Receives, Takes, Offers}
 use Rattle.lsp_session.specs.Event.{Event, message, timeout, closed, woken}
 use Rattle.lsp_session.specs.Finish.{FinishAnswer, IsUninvited, EventFinishes, is_initialized}
-use Rattle.lsp_session.specs.TransportParts.{FinishesOn, OffersShutdownReplyOn, ShutsDownOn}
+use Rattle.lsp_session.specs.TransportParts.{FinishesOn, is_late, WaitsForExit, OffersShutdownReplyOn, ShutsDownOn}
 use Rattle.lsp_session.specs.Outputs.{RefusesOne}
-use Rattle.lsp_session.specs.Prompt.{event_of, StopsAfterShutdown, next_phase, WaitsIn, Meets, EndsTalk, Talks}
+use Rattle.lsp_session.specs.Prompt.{event_of, passed_over, behind, StopsAfterShutdown, next_phase, WaitsIn, Meets, EndsTalk, Talks}
 use Rattle.lsp_session.specs.ProtocolError.{ProtocolFault, disconnected, out_of_memory}
 use Rattle.lsp_session.specs.Replies.{null_reply}
 use Rattle.lsp_session.specs.Served.{reason_of, reason_of_fault, StopsFor}
-use Rattle.lsp_session.specs.Session.{Behavior, SessionAnswer, SessionPart, Exchange, Stop, decided, no_more, timed_out, refused, exhausted, Phase, starting, replied, serving, asked, ended, shutdown_reply_of, phase_after, is_served, request_id, is_initialize, Step, Steps, Stops, SessionFrom}
+use Rattle.lsp_session.specs.Session.{Behavior, SessionAnswer, SessionPart, Exchange, Stop, decided, no_more, timed_out, refused, exhausted, Phase, starting, replied, serving, asked, ended, shutdown_reply_of, phase_after, is_reply, is_served, request_id, is_initialize, Step, Steps, Stops, SessionFrom}
 use Rattle.lsp_session.specs.SessionLaws.{Both}
 use Rattle.lsp_session.specs.Shutdown.{ShutdownAnswer, IsNoExit, EventShutsDown}
 use Rattle.lsp_session.specs.Start.{StartAnswer, is_early, IsEarlyReply, fault_of_refusal, PassesOver, RefusesReply, Decides, MessageDecides, Ends}
@@ -25,9 +26,9 @@ use Rattle.lsp_session.specs.declared.loops.handler.SessionEnd.TheVariants.{Shut
 use Rattle.lsp_session.specs.declared.loops.served.StopReason.{StopReason}
 use Rattle.lsp_session.specs.declared.loops.served.StopReason.TheVariants.{Decided, NoMore, Exhausted, Refused}
 use Rattle.serde_json.specs.Data.{Data}
-use Rattle.std.proofs.Common.{◌≡◌, refl, sym, ap, ◌∙◌, inl, inr, ◌⊎◌, ◌≤◌, ◌+◌, ◌-◌, ◌^◌, ℕ, Bool, true, false, not, ◌&&◌, List, [], ◌∷◌, ◌++◌, length, length-append, append_assoc, append-nil, arith, Option, Some, None, codes}
+use Rattle.std.proofs.Common.{◌≡◌, refl, sym, ap, ◌∙◌, inl, inr, ◌⊎◌, ◌≤◌, ◌+◌, ◌-◌, ◌^◌, ℕ, Bool, true, false, not, ◌&&◌, List, [], ◌∷◌, ◌++◌, length, map, length-append, append_assoc, append-nil, arith, subst, Option, Some, None, codes}
 use Rattle.std.specs.Bool.{MatchBool}
-use Rattle.std.specs.List.{FoldsTo, AllZip, filter_map}
+use Rattle.std.specs.List.{FoldsTo, AllZip, filter_map, list_all}
 use Rattle.std.specs.Prelude.{Result, Ok, Err, IsErrAnd}
 use Rattle.std.specs.Str.{bytes_eq}
 
@@ -219,12 +220,12 @@ module _ {S L : Type 0} (may : Behavior S) (receives listens : Receives L) (send
 
     module _ (asks : bytes_eq method (codes "shutdown") ≡ true) (mid : L) (offers : Offers sends (null_reply id) met mid) where
       -- what comes after the reply to `shutdown`
-      exit_run : (event : Event) (answer : SessionAnswer) (later : List Exchange) (stop : Stop) (last : Phase) → receives mid event new
-          → StopsAfterShutdown event stop later → IsWhole stop → Steps may (asked id) s later last s → shutdown_reply_of last ≡ Some (null_reply id)
+      exit_run : (late : List Message) (event : Event) (answer : SessionAnswer) (later : List Exchange) (stop : Stop) (last : Phase) → list_all (lets_over may.passes_late) late ≡ true
+          → FoldsTo receives mid (behind late event) new → StopsAfterShutdown event stop later → IsWhole stop → Steps may (asked id) s later last s → shutdown_reply_of last ≡ Some (null_reply id)
           → Stops may last s stop answer s → {reason : StopReason} → reason ≡ reason_of stop → Talks receives listens sends serving (From reason serving s s) old answer new
-      exit_run event answer later stop last received after is_whole steps kept stops why = record {
+      exit_run late event answer later stop last passed received after is_whole steps kept stops why = record {
         whole = [];
-        last = record { came = Some ask; sent = null_reply id ∷ [] } ∷ later;
+        last = record { came = Some ask; sent = null_reply id ∷ [] } ∷ (map passed_over late ++ later);
         stop = stop;
         shutdown_reply = Some (null_reply id);
         reached = serving;
@@ -237,6 +238,8 @@ module _ {S L : Type 0} (may : Behavior S) (receives listens : Receives L) (send
           waited = waits;
           mid = mid;
           offered = offers;
+          late = late;
+          responses = only_replies may.passes_late late passed;
           event = event;
           received = received;
           later = later;
@@ -247,7 +250,8 @@ module _ {S L : Type 0} (may : Behavior S) (receives listens : Receives L) (send
           record {
             last = last;
             after = s;
-            reached = reaches_whole may stop serving last s s (record { came = Some ask; sent = null_reply id ∷ [] } ∷ later) is_whole (asked id, s, rw asks ((refl, refl), refl), steps);
+            reached = reaches_whole may stop serving last s s (record { came = Some ask; sent = null_reply id ∷ [] } ∷ (map passed_over late ++ later)) is_whole
+                (asked id, s, rw asks ((refl, refl), refl), late_steps may id s s late later last passed steps);
             shutdown_reply_is = sym kept;
             stopped = stops;
           },
@@ -255,44 +259,58 @@ module _ {S L : Type 0} (may : Behavior S) (receives listens : Receives L) (send
         );
       }
 
-      exit_message : (m : Message) (answer : ShutdownAnswer) (b : Bool) → receives mid (message m) new
-          → is_exit m ≡ b → MatchBool b (answer ≡ Ok true) (IsErrAnd answer IsNoExit) → Talks receives listens sends serving (From (shut_reason answer) serving s s) old (shut_answer answer) new
-      exit_message m answer true received e decides =
-          exit_run (message m) (shut_answer answer) (record { came = Some m; sent = [] } ∷ []) decided (ended (Some (null_reply id)) (Ok ShutDown)) received refl tt
+      exit_message : (late : List Message) (m : Message) (answer : ShutdownAnswer) (b : Bool) → list_all (lets_over may.passes_late) late ≡ true → FoldsTo receives mid (behind late (message m)) new
+          → is_exit m ≡ b → (may.passes_late && is_reply m) ≡ false → MatchBool b (answer ≡ Ok true) (IsErrAnd answer IsNoExit) → Talks receives listens sends serving (From (shut_reason answer) serving s s) old (shut_answer answer) new
+      exit_message late m answer true passed received e other decides =
+          exit_run late (message m) (shut_answer answer) (record { came = Some m; sent = [] } ∷ []) decided (ended (Some (null_reply id)) (Ok ShutDown)) passed received refl tt
           (one_step may (asked id) (ended (Some (null_reply id)) (Ok ShutDown)) s s (Some m) [] (rw e (refl, refl), refl)) refl (ap shut_answer decides, refl) (ap shut_reason decides)
-      exit_message m (Ok b) false received e decides = absurd decides
-      exit_message m (Err fault) false received e decides = elim decides [
-        | inl shows ↦ exit_run (message m) (Err fault) (record { came = Some m; sent = [] } ∷ []) decided (ended (Some (null_reply id)) (Err fault)) received refl tt
+      exit_message late m (Ok b) false passed received e other decides = absurd decides
+      exit_message late m (Err fault) false passed received e other decides = elim decides [
+        | inl shows ↦ exit_run late (message m) (Err fault) (record { came = Some m; sent = [] } ∷ []) decided (ended (Some (null_reply id)) (Err fault)) passed received refl tt
             (one_step may (asked id) (ended (Some (null_reply id)) (Err fault)) s s (Some m) []
-            (rw e (shows.0, refl, ap (λ (x : ProtocolFault). ended (Some (null_reply id)) (Err x)) shows.1), refl)) refl (refl, refl) (ap reason_of_fault shows.1)
-        | inr memory ↦ exit_run (message m) (Err fault) [] exhausted (asked id) received refl tt (refl, refl) refl (ap (λ (x : ProtocolFault). Err x) memory, refl) (ap reason_of_fault memory)
+            (rw (e, other) (shows.0, refl, ap (λ (x : ProtocolFault). ended (Some (null_reply id)) (Err x)) shows.1), refl)) refl (refl, refl) (ap reason_of_fault shows.1)
+        | inr memory ↦ exit_run late (message m) (Err fault) [] exhausted (asked id) passed received refl tt (refl, refl) refl (ap (λ (x : ProtocolFault). Err x) memory, refl) (ap reason_of_fault memory)
       ]
 
-      exit_event : (event : Event) (answer : ShutdownAnswer) → receives mid event new → EventShutsDown event answer
+      exit_event : (late : List Message) (event : Event) (answer : ShutdownAnswer) (b : Bool) → list_all (lets_over may.passes_late) late ≡ true → FoldsTo receives mid (behind late event) new
+          → (may.passes_late && is_late event) ≡ b → MatchBool b (answer ≡ Err out_of_memory) (EventShutsDown event answer)
           → Talks receives listens sends serving (From (shut_reason answer) serving s s) old (shut_answer answer) new
-      exit_event (message m) answer received decides = exit_message m answer (is_exit m) received refl decides
-      exit_event timeout answer received decides =
-          exit_run timeout (shut_answer answer) [] timed_out (asked id) received refl tt (refl, refl) refl (ap shut_answer decides, refl) (ap shut_reason decides)
-      exit_event closed answer received decides =
-          exit_run closed (shut_answer answer) [] no_more (asked id) received refl tt (refl, refl) refl (ap shut_answer decides, refl) (ap shut_reason decides)
-      exit_event woken answer received decides = absurd decides
+      exit_event late (message m) answer true passed received is decides =
+          exit_run late (message m) (shut_answer answer) [] exhausted (asked id) passed received refl tt (refl, refl) refl (ap shut_answer decides, refl) (ap shut_reason decides)
+      exit_event late (message m) answer false passed received is decides = exit_message late m answer (is_exit m) passed received refl is decides
+      exit_event late timeout answer true passed received is decides = absurd (never_both may.passes_late is)
+      exit_event late timeout answer false passed received is decides =
+          exit_run late timeout (shut_answer answer) [] timed_out (asked id) passed received refl tt (refl, refl) refl (ap shut_answer decides, refl) (ap shut_reason decides)
+      exit_event late closed answer true passed received is decides = absurd (never_both may.passes_late is)
+      exit_event late closed answer false passed received is decides =
+          exit_run late closed (shut_answer answer) [] no_more (asked id) passed received refl tt (refl, refl) refl (ap shut_answer decides, refl) (ap shut_reason decides)
+      exit_event late woken answer true passed received is decides = absurd (never_both may.passes_late is)
+      exit_event late woken answer false passed received is decides = absurd decides
+
+      -- the wait for `exit`
+      exit_waited : (answer : ShutdownAnswer) → WaitsForExit receives may.passes_late mid answer new
+          → Talks receives listens sends serving (From (shut_reason answer) serving s s) old (shut_answer answer) new
+      exit_waited answer waited =
+          let late = late_messages may.passes_late waited.late waited.passed in
+          exit_event late.0 waited.event answer (may.passes_late && is_late waited.event) late.2
+          (subst (λ (es : List Event). FoldsTo receives mid (es ++ waited.event ∷ []) new) late.1 waited.received) refl waited.decides
 
     ends_shut : (answer : ShutdownAnswer) (b : Bool) → bytes_eq method (codes "shutdown") ≡ b
         → (answer ≡ Ok false → ⊥)
-        → MatchBool b (OffersShutdownReplyOn receives sends id met answer new ⊎ ((answer ≡ Err out_of_memory) × (new ≡ met))) ((answer ≡ Ok false) × (new ≡ met))
+        → MatchBool b (OffersShutdownReplyOn receives sends may.passes_late id met answer new ⊎ ((answer ≡ Err out_of_memory) × (new ≡ met))) ((answer ≡ Ok false) × (new ≡ met))
         → Talks receives listens sends serving (From (shut_reason answer) serving s s) old (shut_answer answer) new
     ends_shut answer true e other shuts = elim shuts [
-      | inl shutdown_reply ↦ exit_event e shutdown_reply.mid shutdown_reply.offered shutdown_reply.event answer shutdown_reply.received shutdown_reply.decides
+      | inl shutdown_reply ↦ exit_waited e shutdown_reply.mid shutdown_reply.offered answer shutdown_reply.awaited
       | inr memory ↦ rw (memory.1, memory.0) (ends_exhausted serving s s old met (Some ask) tt waits refl)
     ]
     ends_shut answer false e other shuts = absurd (other shuts.0)
 
     -- another request is left alone
     passes_other : (b : Bool) → bytes_eq method (codes "shutdown") ≡ b
-        → MatchBool b (OffersShutdownReplyOn receives sends id met (Ok false) new ⊎ (◌≡◌ {A = ShutdownAnswer} (Ok false) (Err out_of_memory) × (new ≡ met))) (◌≡◌ {A = ShutdownAnswer} (Ok false) (Ok false) × (new ≡ met))
+        → MatchBool b (OffersShutdownReplyOn receives sends may.passes_late id met (Ok false) new ⊎ (◌≡◌ {A = ShutdownAnswer} (Ok false) (Err out_of_memory) × (new ≡ met))) (◌≡◌ {A = ShutdownAnswer} (Ok false) (Ok false) × (new ≡ met))
         → (bytes_eq method (codes "shutdown") ≡ false) × (new ≡ met)
     passes_other true e shuts = elim shuts [
-      | inl shutdown_reply ↦ absurd (never_false shutdown_reply.event shutdown_reply.decides)
+      | inl shutdown_reply ↦ absurd (never_waits shutdown_reply.awaited.event (may.passes_late && is_late shutdown_reply.awaited.event) shutdown_reply.awaited.decides)
       | inr memory ↦ absurd (cc (memory.0))
     ]
       where
@@ -305,21 +323,25 @@ module _ {S L : Type 0} (may : Behavior S) (receives listens : Receives L) (send
         never_false timeout decides = let e : ◌≡◌ {A = ShutdownAnswer} (Ok false) (Err Rattle.lsp_session.specs.ProtocolError.shutdown_timeout) = decides in cc
         never_false woken decides = decides
         never_false closed decides = let e : ◌≡◌ {A = ShutdownAnswer} (Ok false) (Err Rattle.lsp_session.specs.ProtocolError.shutdown_disconnected) = decides in cc
+
+        never_waits : (event : Event) (b : Bool) → MatchBool b (passed_on ≡ Err out_of_memory) (EventShutsDown event passed_on) → ⊥
+        never_waits event true decides = cc (decides)
+        never_waits event false decides = never_false event decides
     passes_other false e shuts = (e, shuts.1)
 
-    is_request_served : MatchBool (bytes_eq method (codes "shutdown")) (OffersShutdownReplyOn receives sends id met (Ok false) new ⊎ (◌≡◌ {A = ShutdownAnswer} (Ok false) (Err out_of_memory) × (new ≡ met))) (◌≡◌ {A = ShutdownAnswer} (Ok false) (Ok false) × (new ≡ met))
+    is_request_served : MatchBool (bytes_eq method (codes "shutdown")) (OffersShutdownReplyOn receives sends may.passes_late id met (Ok false) new ⊎ (◌≡◌ {A = ShutdownAnswer} (Ok false) (Err out_of_memory) × (new ≡ met))) (◌≡◌ {A = ShutdownAnswer} (Ok false) (Ok false) × (new ≡ met))
         → (is_served ask ≡ true) × WaitsIn receives listens serving old (message ask) new
     is_request_served shuts = let passed = passes_other (bytes_eq method (codes "shutdown")) refl shuts in (rw passed.0 refl, rw passed.1 waits)
 
   -- the same of any message
   module _ (s : S) (old met new : L) where
     pub shuts_down : (m : Message) (answer : ShutdownAnswer) → (answer ≡ Ok false → ⊥) → WaitsIn receives listens serving old (message m) met
-        → ShutsDownOn receives sends m met answer new → Talks receives listens sends serving (From (shut_reason answer) serving s s) old (shut_answer answer) new
+        → ShutsDownOn receives sends may.passes_late m met answer new → Talks receives listens sends serving (From (shut_reason answer) serving s s) old (shut_answer answer) new
     shuts_down (request id method params) answer other waits shuts = ends_shut s old met new id method params waits answer (bytes_eq method (codes "shutdown")) refl other shuts
     shuts_down m answer other waits shuts = absurd (other shuts.0)
 
     -- another message goes to the service
-    pub is_served_by : (m : Message) → is_exit m ≡ false → WaitsIn receives listens serving old (message m) met → ShutsDownOn receives sends m met (Ok false) new
+    pub is_served_by : (m : Message) → is_exit m ≡ false → WaitsIn receives listens serving old (message m) met → ShutsDownOn receives sends may.passes_late m met (Ok false) new
         → (is_served m ≡ true) × WaitsIn receives listens serving old (message m) new
     is_served_by (request id method params) other waits shuts = is_request_served s old met new id method params waits shuts
     is_served_by (notification method params) other waits shuts = (rw other refl, rw shuts.1 waits)

@@ -1,14 +1,15 @@
 -- A session over one value whose two ends are boxes: what is said of the boxes follows.
 use Rattle.lsp_message.specs.Message.{Message}
+use Rattle.lsp_session.proofs.Late.{late_silent}
 use Rattle.lsp_session.proofs.Ran.{IsWhole, sends_both, came_both, all_after}
 use Rattle.lsp_session.proofs.Waiting.{FoldsTo-append, list_all-push}
 use Rattle.lsp_session.specs.Boxes.{Sends, Receives, Takes, WaitsFor, is_timeout}
 use Rattle.lsp_session.specs.Event.{Event, message, timeout, closed}
-use Rattle.lsp_session.specs.Prompt.{event_of, StopsAfterShutdown, Meets, BreaksOff, OffersShutdownReplyFirst, EndsTalk, Talks}
+use Rattle.lsp_session.specs.Prompt.{event_of, passed_over, behind, StopsAfterShutdown, Meets, BreaksOff, OffersShutdownReplyFirst, EndsTalk, Talks}
 use Rattle.lsp_session.specs.Session.{SessionAnswer, SessionPart, Exchange, came_of, sends_of, Stop, decided, no_more, timed_out, refused, exhausted, Phase}
 use Rattle.lsp_session.specs.SessionRun.{came_in, is_open, Brings, OffersLast, Gets, AwaitsExit, Runs}
 use Rattle.lsp_session.specs.declared.lifecycle.SendFault.{SendFault}
-use Rattle.std.proofs.Common.{◌≡◌, refl, ◌∙◌, inl, inr, ◌≤◌, true, List, [], ◌∷◌, ◌++◌, length, length-append, append_assoc, append-nil, arith, Option, Some, None}
+use Rattle.std.proofs.Common.{◌≡◌, refl, ◌∙◌, inl, inr, ◌≤◌, true, List, [], ◌∷◌, ◌++◌, length, map, length-append, append_assoc, append-nil, arith, Option, Some, None}
 use Rattle.std.proofs.lemmas.List.Elements.{filter_map-append}
 use Rattle.std.proofs.lemmas.List.Folds.{list_all-append}
 use Rattle.std.specs.List.{FoldsTo, list_all, filter_map}
@@ -76,9 +77,29 @@ gets_after sends old mid new output0 output shutdown_reply (refused fault) taken
     )
 gets_after sends old mid new output0 output shutdown_reply stop taken got = (got.0, FoldsTo-append (Takes sends) output0 output old mid got.0 taken got.1, got.2)
 
-awaits_after : (events0 events : List Event) (shutdown_reply : Option Message) → AwaitsExit events shutdown_reply → AwaitsExit (events0 ++ events) shutdown_reply
-awaits_after events0 events None awaited = tt
-awaits_after events0 events (Some shutdown_reply) awaited = (events0 ++ awaited.0, awaited.1, awaited.2, rw (awaited.3, append_assoc) refl, awaited.4)
+awaits_after : (events0 events : List Event) (xs0 xs : List Exchange) (shutdown_reply : Option Message) (stop : Stop) → AwaitsExit events shutdown_reply stop xs
+    → AwaitsExit (events0 ++ events) shutdown_reply stop (xs0 ++ xs)
+awaits_after events0 events xs0 xs None stop awaited = tt
+awaits_after events0 events xs0 xs (Some shutdown_reply) stop awaited = record {
+  earlier = events0 ++ awaited.earlier;
+  ask = awaited.ask;
+  asks = awaited.asks;
+  late = awaited.late;
+  responses = awaited.responses;
+  event = awaited.event;
+  are = rw (awaited.are, append_assoc) refl;
+  before = xs0 ++ awaited.before;
+  later = awaited.later;
+  stops = awaited.stops;
+  exchanged = rw (awaited.exchanged, append_assoc) refl;
+}
+
+-- responses that are passed over come before the last event
+late_brings : (late : List Message) (event : Event) (later : List Exchange) (stop : Stop) → Brings (event ∷ []) (came_of later) stop
+    → Brings (behind late event) (came_of (map passed_over late ++ later)) stop
+late_brings [] event later stop brings = brings
+late_brings (m ∷ late) event later stop brings =
+    brings_after (message m ∷ []) (behind late event) (Some m ∷ []) (came_of (map passed_over late ++ later)) stop refl refl (late_brings late event later stop brings)
 
 -- a session that goes on after these exchanges
 abbrev Later : SessionPart → List Exchange → SessionPart
@@ -101,7 +122,7 @@ module _ {I O : Type 0} (receives : Receives I) (sends : Sends O) where
     output = sends_of xs0 ++ run.output;
     shutdown_reply = run.shutdown_reply;
     all = rw (all_after (sends_of xs0) run.output run.shutdown_reply, run.all, sends_both xs0 run.exchanges) refl;
-    awaited = awaits_after events0 run.events run.shutdown_reply run.awaited;
+    awaited = awaits_after events0 run.events xs0 run.exchanges run.shutdown_reply run.stop run.awaited;
     got = gets_after sends old.1 mid.1 new.1 (sends_of xs0) run.output run.shutdown_reply run.stop taken run.got;
     part = run.part;
   }
@@ -187,20 +208,35 @@ module _ {I O : Type 0} (receives : Receives I) (sends : Sends O) where
     after_shutdown phase P answer stop shutdown_reply last old new part end =
         let waits = waits_in (message end.ask) old end.met end.waited.0 in
         let offered = of_takes end.met shutdown_reply end.offered.outcome end.mid end.offered.sent in
-        let received = of_gives end.mid end.event new end.received in
+        let last_events = behind end.late end.event in
+        let received = events_in last_events end.mid new end.received in
         let first = waits.0.passed ++ message end.ask ∷ [] in
         let after = after_shutdown_brings end.event stop end.later end.stops in (
           record {
-            events = first ++ end.event ∷ [];
-            received = FoldsTo-append receives first (end.event ∷ []) (ends old).0 (ends end.met).0 (ends new).0 waits.0.received ((ends new).0, rw offered.1 at received.0, refl);
+            events = first ++ last_events;
+            received = FoldsTo-append receives first last_events (ends old).0 (ends end.met).0 (ends new).0 waits.0.received
+                (from_same receives (ends end.mid).0 (ends end.met).0 last_events (ends new).0 offered.1 received.0);
             exchanges = last;
             stop = stop;
-            brought = rw end.is (brings_after first (end.event ∷ []) (Some end.ask ∷ []) (came_of end.later) stop
-                (messages_waited waits.0.passed (message end.ask) waits.0.only_timeouts) (open_waited waits.0.passed (message end.ask) refl waits.0.only_timeouts) after.0);
+            brought = rw end.is (brings_after first last_events (Some end.ask ∷ []) (came_of (map passed_over end.late ++ end.later)) stop
+                (messages_waited waits.0.passed (message end.ask) waits.0.only_timeouts) (open_waited waits.0.passed (message end.ask) refl waits.0.only_timeouts)
+                (late_brings end.late end.event end.later stop after.0));
             output = [];
             shutdown_reply = Some shutdown_reply;
-            all = rw (end.is, after.2) refl;
-            awaited = (waits.0.passed, end.ask, end.event, append_assoc waits.0.passed (message end.ask ∷ []) (end.event ∷ []), end.asks);
+            all = rw (end.is, late_silent end.late end.later after.2) refl;
+            awaited = record {
+              earlier = waits.0.passed;
+              ask = end.ask;
+              asks = end.asks;
+              late = end.late;
+              responses = end.responses;
+              event = end.event;
+              are = append_assoc waits.0.passed (message end.ask ∷ []) last_events;
+              before = [];
+              later = end.later;
+              stops = end.stops;
+              exchanged = end.is;
+            };
             got = gets_last (ends old).1 (ends new).1 (Some shutdown_reply) stop after.1 (record { outcome = end.offered.outcome; sent = rw received.1 (rw waits.1 at offered.0) });
             part = part;
           },

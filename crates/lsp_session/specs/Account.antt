@@ -4,8 +4,8 @@ use Rattle.std.specs.Prelude.{◌≡◌, ◌≤◌, ◌-◌, ◌^◌, ◌⊎◌,
 use Rattle.lsp_message.specs.Message.{Message}
 use Rattle.lsp_session.specs.Boxes.{Sends, Receives, is_timeout}
 use Rattle.lsp_session.specs.Event.{Event, message, closed}
-use Rattle.lsp_session.specs.Prompt.{event_of, StopsAfterShutdown}
-use Rattle.lsp_session.specs.Session.{Exchange, SessionPart, is_shutdown, Stop, decided, no_more, timed_out, refused, exhausted}
+use Rattle.lsp_session.specs.Prompt.{event_of, passed_over, behind, StopsAfterShutdown}
+use Rattle.lsp_session.specs.Session.{Exchange, SessionPart, is_shutdown, is_reply, Stop, decided, no_more, timed_out, refused, exhausted}
 use Rattle.lsp_session.specs.declared.lifecycle.SendFault.{SendFault}
 
 -- one act of a transport
@@ -58,7 +58,8 @@ pub record BreaksActs (last : List Exchange) (acts : List Act) : Type 0 where
   pub awaited : Awaited (event_of came) waits
   pub are : acts ≡ waits ++ (map took part ++ lost not_sent ∷ [])
 
--- `shutdown` came, then its reply was sent, whatever the transport answered, and only then one event was awaited, the last one.
+-- `shutdown` came, then its reply was sent, whatever the transport answered, and only then something was awaited: responses that were
+-- passed over, and one event, the last one.
 pub record ShutdownReplyInOrder (shutdown_reply : Message) (stop : Stop) (last : List Exchange)
     (acts : List Act) : Type 0 where
   pub ask : Message
@@ -66,11 +67,13 @@ pub record ShutdownReplyInOrder (shutdown_reply : Message) (stop : Stop) (last :
   pub waits : List Act
   pub awaited : Awaited (message ask) waits
   pub outcome : Result (Unit {0}) SendFault
+  pub late : List Message
+  pub responses : list_all is_reply late ≡ true
   pub event : Event
-  pub are : acts ≡ waits ++ sending shutdown_reply outcome ∷ gave event ∷ []
+  pub are : acts ≡ waits ++ sending shutdown_reply outcome ∷ map gave (behind late event)
   pub later : List Exchange
   pub stops : StopsAfterShutdown event stop later
-  pub is : last ≡ record { came = Some ask; sent = shutdown_reply ∷ [] } ∷ later
+  pub is : last ≡ record { came = Some ask; sent = shutdown_reply ∷ [] } ∷ (map passed_over late ++ later)
 
 -- The acts at the end of a session after so many whole exchanges, and its last exchanges. If a message decided, nothing else was
 -- awaited. If no more came, that was the event, or 2^64 - 1 exchanges were all. If an allocation failed, one more message or wake came.

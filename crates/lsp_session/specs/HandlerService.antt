@@ -1,7 +1,7 @@
 -- A handler that was lent, as a service.
 use Rattle.serde_json.specs.Data.{Data}
 use Rattle.serde_json.specs.View.{view}
-use Rattle.std.specs.Prelude.{◌≡◌, ℕ, List, [], Result, Ok}
+use Rattle.std.specs.Prelude.{◌≡◌, ℕ, false, List, [], Result, Ok}
 use Rattle.lsp_message.specs.Id.{Id}
 use Rattle.lsp_message.specs.Message.{ErrorObject}
 use Rattle.lsp_session.specs.HandlerSession.{Handles, initialize_result}
@@ -25,4 +25,5 @@ module _ {H : Type 0} where
         × (new.handler.ghost_name ≡ old.handler.ghost_name);
     wakes = λ old sent new. (sent ≡ []) × KeepsHandler old new;
     after_memory_fault = KeepsHandler;
+    passes_late = false;
   }

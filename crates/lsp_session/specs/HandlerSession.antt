@@ -1,6 +1,6 @@
 -- A handler as the service of a session: it answers each request, and sends nothing else.
 use Rattle.serde_json.specs.Data.{Data, object, member, no_members}
-use Rattle.std.specs.Prelude.{◌≡◌, ℕ, List, [], ◌∷◌, Result, Ok, codes}
+use Rattle.std.specs.Prelude.{◌≡◌, ℕ, false, List, [], ◌∷◌, Result, Ok, codes}
 use Rattle.lsp_message.specs.Id.{Id}
 use Rattle.lsp_message.specs.Message.{Message, ErrorObject, request, notification, response}
 use Rattle.lsp_session.specs.Session.{Behavior}
@@ -21,6 +21,7 @@ module _ {H : Type 0} (answers : H → Id → List ℕ → Data → Result Data 
   Handles old (response i outcome) replies new = (new ≡ old) × (replies ≡ [])
 
   -- `initialize` is answered with the capabilities, and nothing is sent at `initialized` or at a wake. These leave the handler alone.
+  -- After `shutdown` nothing is passed over: it asks nothing, so no response is owed to it.
   abbrev pub of_handler : Data → Behavior H
   of_handler capabilities = record {
     initializes = λ old params outcome new. (outcome ≡ Ok (initialize_result capabilities))
@@ -29,4 +30,5 @@ module _ {H : Type 0} (answers : H → Id → List ℕ → Data → Result Data 
     outputs = Handles;
     wakes = λ old sent new. (sent ≡ []) × (new ≡ old);
     after_memory_fault = λ old new. new ≡ old;
+    passes_late = false;
   }

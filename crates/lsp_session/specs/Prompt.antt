@@ -2,12 +2,12 @@
 -- wait for it before it sends on. Of `initialize`, of each request before it and of `shutdown` it is the reply; of a request in between
 -- it is the reply if the service answers at once, as `AnswersRequests` says. From `initialized` up to `shutdown` the session waits
 -- for wakes too, as its transport says. Of two values, each with one end, this says neither.
-use Rattle.std.specs.List.{FoldsTo}
-use Rattle.std.specs.Prelude.{◌≡◌, ◌≤◌, ◌-◌, ◌^◌, ◌⊎◌, ◌&&◌, if◌then◌else◌, ℕ, Bool, true, false, List, [], ◌∷◌, ◌++◌, length, Option, Some, None, Ok, Err}
+use Rattle.std.specs.List.{FoldsTo, list_all}
+use Rattle.std.specs.Prelude.{◌≡◌, ◌≤◌, ◌-◌, ◌^◌, ◌⊎◌, ◌&&◌, if◌then◌else◌, ℕ, Bool, true, false, List, [], ◌∷◌, ◌++◌, length, map, Option, Some, None, Ok, Err}
 use Rattle.lsp_message.specs.Message.{Message, response}
 use Rattle.lsp_session.specs.Boxes.{Sends, Receives, Offers, Takes, WaitsFor}
 use Rattle.lsp_session.specs.Event.{Event, message, timeout, closed, woken}
-use Rattle.lsp_session.specs.Session.{SessionAnswer, SessionPart, Exchange, is_initialize, is_shutdown, Stop, decided, no_more, timed_out, refused, exhausted, Phase, starting, replied, serving}
+use Rattle.lsp_session.specs.Session.{SessionAnswer, SessionPart, Exchange, is_initialize, is_shutdown, is_reply, Stop, decided, no_more, timed_out, refused, exhausted, Phase, starting, replied, serving}
 use Rattle.lsp_session.specs.declared.lifecycle.SendFault.{SendFault}
 
 -- the event that brings a message, or that wakes the service
@@ -15,8 +15,16 @@ abbrev pub event_of : Option Message → Event
 event_of None = woken
 event_of (Some m) = message m
 
--- After the reply to `shutdown` one event comes. A message decides, and nothing is sent for it, or an allocation fails at it; nothing comes in time;
--- or no more comes.
+-- a response after `shutdown` that is passed over: nothing is sent for it
+abbrev pub passed_over : Message → Exchange
+passed_over m = record { came = Some m; sent = [] }
+
+-- the events that bring these responses, and one event behind them
+abbrev pub behind : List Message → Event → List Event
+behind late event = map message late ++ event ∷ []
+
+-- After the reply to `shutdown`, and behind responses that are passed over, one event comes. A message decides, and nothing is sent for it, or an
+-- allocation fails at it; nothing comes in time; or no more comes.
 abbrev pub StopsAfterShutdown : Event → Stop → List Exchange → Type 0
 StopsAfterShutdown (message m) decided later = later ≡ record { came = Some m; sent = [] } ∷ []
 StopsAfterShutdown (message m) exhausted later = later ≡ []
@@ -73,7 +81,8 @@ module _ {L : Type 0} (receives listens : Receives L) where
       pub taken : FoldsTo (Takes sends) met part mid
       pub refuses : sends mid not_sent (Err fault) new
 
-    -- `shutdown` comes, then its reply is sent, whatever the transport answers, and only then one event is received, the last one.
+    -- `shutdown` comes, then its reply is sent, whatever the transport answers, and only then something is received: responses that are
+    -- passed over, and one event, the last one.
     pub record OffersShutdownReplyFirst (phase : Phase) (shutdown_reply : Message) (stop : Stop)
         (last : List Exchange) (old new : L) : Type 0 where
       pub ask : Message
@@ -82,11 +91,13 @@ module _ {L : Type 0} (receives listens : Receives L) where
       pub waited : WaitsIn phase old (message ask) met
       pub mid : L
       pub offered : Offers sends shutdown_reply met mid
+      pub late : List Message
+      pub responses : list_all is_reply late ≡ true
       pub event : Event
-      pub received : receives mid event new
+      pub received : FoldsTo receives mid (behind late event) new
       pub later : List Exchange
       pub stops : StopsAfterShutdown event stop later
-      pub is : last ≡ record { came = Some ask; sent = shutdown_reply ∷ [] } ∷ later
+      pub is : last ≡ record { came = Some ask; sent = shutdown_reply ∷ [] } ∷ (map passed_over late ++ later)
 
     -- How a session ends in this phase, after so many whole exchanges, and the exchanges of that end. If a message decided, nothing
     -- else is awaited. If no more comes, that is the event, or 2^64 - 1 exchanges were all. If an allocation fails, one more

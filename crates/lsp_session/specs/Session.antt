@@ -2,7 +2,7 @@
 use Rattle.serde_json.specs.Data.{Data}
 use Rattle.std.specs.Bool.{MatchBool}
 use Rattle.std.specs.List.{filter_map}
-use Rattle.std.specs.Prelude.{◌≡◌, ◌⊎◌, ℕ, Bool, not, ◌&&◌, List, [], ◌∷◌, ◌++◌, map, Option, Some, None, Result, Ok, Err}
+use Rattle.std.specs.Prelude.{◌≡◌, ◌⊎◌, ℕ, Bool, true, false, not, ◌&&◌, List, [], ◌∷◌, ◌++◌, map, Option, Some, None, Result, Ok, Err}
 use Rattle.lsp_message.specs.Id.{Id}
 use Rattle.lsp_message.specs.Message.{Message, ErrorObject, request, response}
 use Rattle.lsp_message.specs.Methods.{is_early, is_initialized, is_exit}
@@ -25,6 +25,8 @@ pub record Behavior (S : Type 0) : Type 1 where
   pub wakes : S → List Message → S → Type 0
   -- what it may be if an allocation failed in `initialize` or at `initialized`
   pub after_memory_fault : S → S → Type 0
+  -- whether a response that comes after `shutdown` is passed over
+  pub passes_late : Bool
 
 -- A message that came, or none if the service was woken, and what the outbox was offered for it, in order. It took all of that,
 -- unless the session stopped there since the outbox refused the last one, or that one is the reply to `shutdown`, which may get lost.
@@ -68,6 +70,11 @@ SessionPart = List Exchange → Stop → Option Message → SessionAnswer → Ty
 abbrev pub is_served : Message → Bool
 is_served m = not (is_shutdown m) && not (is_exit m)
 
+-- a response
+abbrev pub is_reply : Message → Bool
+is_reply (response i outcome) = true
+is_reply m = false
+
 -- where a session stands
 pub data Phase : Type 0 where
   -- no `initialize` got a result yet
@@ -105,7 +112,7 @@ Leaves m sent next = (sent ≡ []) × (next ≡ ended None (Ok Closed))
 module _ {S : Type 0} (may : Behavior S) where
   -- In this phase this message comes; this is sent for it; this is the next phase, and the service then. Before `initialize`
   -- each other request is answered with an error, and a notification but `exit` is dropped. With no message the service is woken:
-  -- from `initialized` up to `shutdown`, and nowhere else.
+  -- from `initialized` up to `shutdown`, and nowhere else. After `shutdown` a response is passed over, if the service says so.
   abbrev pub Step : Phase → S → Option Message → List Message → Phase → S → Type 0
   Step starting s (Some (request i method params)) sent next s' =
       MatchBool (is_initialize (request i method params))
@@ -125,7 +132,8 @@ module _ {S : Type 0} (may : Behavior S) where
   Step serving s None sent next s' = may.wakes s sent s' × (next ≡ serving)
   Step (asked i) s (Some m) sent next s' =
       MatchBool (is_exit m) ((sent ≡ []) × (next ≡ ended (Some (null_reply i)) (Ok ShutDown)))
-      (Fails unexpected_in_shutdown (asked i) sent next) × (s' ≡ s)
+      (MatchBool (may.passes_late && is_reply m) ((sent ≡ []) × (next ≡ asked i))
+      (Fails unexpected_in_shutdown (asked i) sent next)) × (s' ≡ s)
   Step phase s came sent next s' = ⊥
 
   -- exchanges, one after another

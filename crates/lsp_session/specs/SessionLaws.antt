@@ -13,6 +13,7 @@ use Rattle.lsp_session.specs.ProtocolError.{ProtocolFault, Shows, disconnected, 
 use Rattle.lsp_session.specs.Replies.{null_reply}
 use Rattle.lsp_session.specs.Session.{Exchange, messages_of, sends_of, SessionAnswer, SessionPart, Stop, decided, no_more, timed_out, refused, exhausted, Phase, starting, replied as awaiting, serving, asked, ended, is_served}
 use Rattle.lsp_session.specs.declared.loops.handler.SessionEnd.TheVariants.{Closed, ShutDown}
+pub use Rattle.lsp_session.specs.Session.{is_reply}
 
 -- of one session, both hold, and of the same exchanges
 abbrev pub Both : SessionPart → SessionPart → SessionPart
@@ -106,15 +107,20 @@ IsInvited (x ∷ rest) = IsSomeAnd x.came (λ m. is_initialized m ≡ true)
 abbrev pub IsUnopened : List Exchange → Stop → SessionAnswer → Type 0
 IsUnopened = StopsBefore awaiting is_initialized expected_initialized
 
--- After the reply to `shutdown`, which went out under this id, no message comes, or one that decides, and nothing is sent for it. The session shut
--- down only if that one is `exit`.
-abbrev pub AfterShutdown : Id → List Exchange → Stop → SessionAnswer → Type 0
-AfterShutdown id [] stop answer = StopsAt (asked id) stop answer
-AfterShutdown id (x ∷ rest) stop answer =
-    (rest ≡ []) × (x.sent ≡ []) × (stop ≡ decided)
-    × IsSomeAnd x.came (λ m.
+-- The message that comes decides, where `exit` is awaited: the session shut down only if it is `exit`.
+abbrev pub DecidesExit : Option Message → List Exchange → Stop → SessionAnswer → Type 0
+DecidesExit came rest stop answer = (rest ≡ []) × (stop ≡ decided)
+    × IsSomeAnd came (λ m.
     MatchBool (is_exit m) (answer ≡ Ok ShutDown)
     (IsErrAnd answer (Shows unexpected_in_shutdown)))
+
+-- After the reply to `shutdown`, which went out under this id, nothing is sent. Responses come that are passed over; then no message comes, or one
+-- that decides.
+abbrev pub AfterShutdown : Id → List Exchange → Stop → SessionAnswer → Type 0
+AfterShutdown id [] stop answer = StopsAt (asked id) stop answer
+AfterShutdown id (x ∷ rest) stop answer = (x.sent ≡ [])
+    × ((IsSomeAnd x.came (λ m. is_reply m ≡ true) × AfterShutdown id rest stop answer)
+    ⊎ DecidesExit x.came rest stop answer)
 
 -- the first `shutdown` gets null, under its id, and that is the last message that is sent; no `exit` comes before it
 pub record EndsWithShutdown (exchanges : List Exchange) (stop : Stop)
@@ -183,10 +189,6 @@ pub record KeepsOrder (exchanges : List Exchange) (stop : Stop) (shutdown_reply 
   pub opened : IsOpened early rest stop shutdown_reply answer
       ⊎ (AllRefused early × AllEarly early × IsUnstarted rest stop answer × (shutdown_reply ≡ None))
   pub offered : WasOffered stop exchanges
-
-abbrev pub is_reply : Message → Bool
-is_reply (response i outcome) = true
-is_reply m = false
 
 -- `initialize` came and then `initialized`, and these messages, which were sent, hold all that was sent up to the result of `initialize`.
 abbrev pub OpenedBy : List Exchange → List Message → Type 0

@@ -1,10 +1,11 @@
 -- A session over boxes: what was received are the messages and wakes of its exchanges, and what the outbox got is all that it sent.
 use Rattle.std.specs.List.{FoldsTo, list_all, filter_map}
-use Rattle.std.specs.Prelude.{◌≡◌, ◌≤◌, ◌-◌, ◌^◌, ◌⊎◌, Bool, true, false, List, [], ◌∷◌, ◌++◌, length, Option, Some, None, Err}
+use Rattle.std.specs.Prelude.{◌≡◌, ◌≤◌, ◌-◌, ◌^◌, ◌⊎◌, Bool, true, false, List, [], ◌∷◌, ◌++◌, length, map, Option, Some, None, Err}
 use Rattle.lsp_message.specs.Message.{Message}
 use Rattle.lsp_session.specs.Boxes.{Sends, Receives, Offers, Takes}
 use Rattle.lsp_session.specs.Event.{Event, message, timeout, closed, woken}
-use Rattle.lsp_session.specs.Session.{SessionAnswer, SessionPart, Exchange, came_of, sends_of, is_shutdown, Stop, decided, no_more, timed_out, refused, exhausted}
+use Rattle.lsp_session.specs.Prompt.{passed_over, behind, StopsAfterShutdown}
+use Rattle.lsp_session.specs.Session.{SessionAnswer, SessionPart, Exchange, came_of, sends_of, is_shutdown, is_reply, Stop, decided, no_more, timed_out, refused, exhausted}
 use Rattle.lsp_session.specs.declared.lifecycle.SendFault.{SendFault}
 
 -- what an event brings to a session: a message, or none if it is a wake
@@ -36,11 +37,27 @@ Brings events came (refused fault) = (filter_map came_in events ≡ came)
 Brings events came exhausted = (next : Option Message)
     × (filter_map came_in events ≡ came ++ next ∷ []) × (list_all is_open events ≡ true)
 
--- After the message `shutdown`, which is answered with null, exactly one event was awaited.
-abbrev pub AwaitsExit : List Event → Option Message → Type 0
-AwaitsExit events None = Unit {0}
-AwaitsExit events (Some shutdown_reply) = (earlier : List Event) × (m : Message) × (last : Event)
-    × (events ≡ earlier ++ message m ∷ last ∷ []) × (is_shutdown m ≡ true)
+-- `shutdown` came. After its reply responses came that were passed over, each an exchange for which nothing was sent. Then exactly one
+-- event was awaited, the last one.
+pub record AwaitsLast (events : List Event) (shutdown_reply : Message) (stop : Stop)
+    (exchanges : List Exchange) : Type 0 where
+  pub earlier : List Event
+  pub ask : Message
+  pub asks : is_shutdown ask ≡ true
+  pub late : List Message
+  pub responses : list_all is_reply late ≡ true
+  pub event : Event
+  pub are : events ≡ earlier ++ message ask ∷ behind late event
+  pub before : List Exchange
+  pub later : List Exchange
+  pub stops : StopsAfterShutdown event stop later
+  pub exchanged : exchanges
+      ≡ before ++ record { came = Some ask; sent = shutdown_reply ∷ [] } ∷ (map passed_over late ++ later)
+
+-- what was awaited after the message `shutdown`, which is answered with null
+abbrev pub AwaitsExit : List Event → Option Message → Stop → List Exchange → Type 0
+AwaitsExit events None stop exchanges = Unit {0}
+AwaitsExit events (Some shutdown_reply) stop exchanges = AwaitsLast events shutdown_reply stop exchanges
 
 -- all that a session sends, the reply to `shutdown` last
 abbrev pub all_of : List Message → Option Message → List Message
@@ -69,7 +86,7 @@ module _ {O : Type 0} (sends : Sends O) where
 
 module _ {I O : Type 0} (receives : Receives I) (sends : Sends O) where
   -- The boxes went from old to new in a part of a session that P describes, in which events were awaited so.
-  pub record RunsAwaiting (Awaits : List Event → Option Message → Type 0) (P : SessionPart) (old : I
+  pub record RunsAwaiting (Awaits : List Event → Option Message → Stop → List Exchange → Type 0) (P : SessionPart) (old : I
       × O) (answer : SessionAnswer) (new : I × O) : Type 0 where
     pub events : List Event
     pub received : FoldsTo receives old.0 events new.0
@@ -79,7 +96,7 @@ module _ {I O : Type 0} (receives : Receives I) (sends : Sends O) where
     pub output : List Message
     pub shutdown_reply : Option Message
     pub all : all_of output shutdown_reply ≡ sends_of exchanges
-    pub awaited : Awaits events shutdown_reply
+    pub awaited : Awaits events shutdown_reply stop exchanges
     pub got : Gets sends old.1 output shutdown_reply stop new.1
     pub part : P exchanges stop shutdown_reply answer
 

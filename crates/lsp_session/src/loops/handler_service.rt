@@ -61,4 +61,8 @@ impl<'a, H: Handler> Service for HandlerService<'a, H> {
     fn woken(&mut self) -> Result<Output, AllocError> {
         Ok(Output::Nothing)
     }
+
+    fn passes_late(&self) -> bool {
+        false
+    }
 }

@@ -1,6 +1,6 @@
 // What a session runs.
 ghost use Rattle.serde_json.specs.View.{view};
-ghost use Rattle.std.specs.Prelude.{IfOk, OnErr};
+ghost use Rattle.std.specs.Prelude.{◌≡◌, IfOk, OnErr};
 ghost use Rattle.lsp_message.specs.View.{request_view, notification_view, response_view, outcome_view};
 ghost use Rattle.lsp_session.specs.OutputView.{output_view};
 
@@ -60,4 +60,10 @@ pub trait Service {
     /// `shutdown`, and nowhere else. A service that waits for nothing gives `Output::Nothing`.
     fn woken(&mut self) -> Result<Output, AllocError>
         ensures { IfOk result (λ output. behavior.wakes self.old (output_view output) self.new) };
+
+    /// Whether a response that comes after `shutdown` is passed over, and `exit` is awaited on. A service that sends requests says yes,
+    /// since an answer may cross the `shutdown` of its client; LSP 3.17 ("Shutdown Request") forbids only requests and notifications there.
+    /// If not, a response ends the session, as any other message but `exit`.
+    fn passes_late(&self) -> bool
+        ensures { result ≡ behavior.passes_late };
 }

@@ -1,10 +1,10 @@
 // A session of a server (LSP 3.17, "Server lifecycle"), over one value that gives messages and takes them.
 ghost use Rattle.serde_json.specs.View.{view};
-ghost use Rattle.std.specs.Prelude.{◌≡◌, map, Err, IfOk};
+ghost use Rattle.std.specs.Prelude.{◌≡◌, ◌&&◌, map, Err, IfOk};
 ghost use Rattle.lsp_message.specs.Message.{response};
 ghost use Rattle.lsp_message.specs.View.{message_view, error_view};
-ghost use Rattle.lsp_session.specs.Event.{arrival_view};
-ghost use Rattle.lsp_session.specs.TransportParts.{FinishesOn, ShutsDownOn};
+ghost use Rattle.lsp_session.specs.Event.{arrival_view, event_view};
+ghost use Rattle.lsp_session.specs.TransportParts.{FinishesOn, ShutsDownOn, WaitsForExit, is_late};
 ghost use Rattle.lsp_session.specs.OutputView.{output_view};
 ghost use Rattle.lsp_session.specs.Outputs.{SendsAll};
 ghost use Rattle.lsp_session.specs.Prompt.{Talks, WaitsIn};
@@ -33,7 +33,8 @@ use std::alloc::{AllocError, Global};
 /// came, what the service gives for it is sent. From then on each message goes to the service, a reply too, and each wake of the inbox,
 /// up to `shutdown`. What it gives is sent in order.
 /// `shutdown` is answered with null, and nothing follows it; `exit` then gives `ShutDown`. `Closed` comes if, from `initialized` on,
-/// `exit` comes without a `shutdown` or no more messages come. What comes at the wrong time is in the table of `lifecycle`.
+/// `exit` comes without a `shutdown` or no more messages come. What comes at the wrong time is in the table of `lifecycle`, but that after
+/// `shutdown` responses are passed over where the service says so (`Service::passes_late`).
 ///
 /// A transport that is closed to a message ends the session with `disconnected channel`, and a failed allocation with
 /// `out of memory`; what was to follow for that message is not sent. That this reply could not be sent is ignored. After
@@ -45,8 +46,8 @@ use std::alloc::{AllocError, Global};
 /// All that is to be sent for a message or a wake is sent before anything else is awaited: the result of `initialize` before `initialized`, and
 /// the reply to `shutdown` before `exit`. So a client may wait for it before it sends on. That this is the reply to a request is so of all that comes up
 /// to `initialized`, and of `shutdown`; in between a service may reply to it later, unless it answers at once, as a handler does
-/// (`laws::sessions::session_answers_requests`). After a message that the transport refuses nothing is awaited, but that an event is
-/// received after the reply to `shutdown` in any case.
+/// (`laws::sessions::session_answers_requests`). After a message that the transport refuses nothing is awaited, but that events are
+/// received after the reply to `shutdown` in any case: responses that are passed over, and one more.
 pub fn serve_transport<L: WakingInbox + Outbox, S: Service>(
     alloc: Global,
     transport: &mut L,
@@ -116,7 +117,7 @@ fn serve_messages<L: WakingInbox + Outbox, S: Service>(
             drop(message);
             return Ok(Served::closed(StopReason::Decided));
         }
-        match shut_transport(alloc, transport, &message) {
+        match shut_transport(alloc, transport, service, &message) {
             Ok(false) => {}
             Ok(true) => {
                 drop(message);
@@ -165,12 +166,13 @@ fn finish_transport<L: Inbox + Outbox>(
 }
 
 /// Answers `shutdown` with null, and then waits for `exit`. Any other message is left alone.
-fn shut_transport<L: Inbox + Outbox>(
+fn shut_transport<L: Inbox + Outbox, S: Service>(
     alloc: Global,
     transport: &mut L,
+    service: &S,
     message: &Message,
 ) -> Result<bool, ProtocolError>
-    ensures { ShutsDownOn L.receives L.sends (message_view message.now) transport.old result transport.new }
+    ensures { ShutsDownOn L.receives L.sends S.behavior.passes_late (message_view message.now) transport.old result transport.new }
 {
     let Message::Request(request) = message else {
         return Ok(false);
@@ -182,7 +184,36 @@ fn shut_transport<L: Inbox + Outbox>(
         return Err(ProtocolError::out_of_memory());
     };
     offer(transport, ok_reply(id, Value::Null));
-    shutdown_on(alloc, transport.receive_for(EXIT_SECONDS))
+    await_exit(alloc, transport, service.passes_late())
+}
+
+/// Waits up to 30 seconds for `exit`. If responses are passed over, each one begins the wait anew; 2^64 - 1 of them end it as if memory
+/// ran out.
+fn await_exit<I: Inbox>(
+    alloc: Global,
+    inbox: &mut I,
+    passes_late: bool,
+) -> Result<bool, ProtocolError>
+    ensures { WaitsForExit I.receives passes_late inbox.old result inbox.new }
+{
+    for _late in 0..u64::MAX {
+        let event = inbox.receive_for(EXIT_SECONDS);
+        if !is_passed_over(passes_late, &event) {
+            return shutdown_on(alloc, event);
+        }
+        drop(event);
+    }
+    Err(ProtocolError::out_of_memory())
+}
+
+/// Whether the event brings a response, and those are passed over.
+fn is_passed_over(passes_late: bool, event: &Event) -> bool
+    ensures { result ≡ (passes_late && is_late (event_view event.now)) }
+{
+    match event {
+        Event::Message(Message::Response(_)) => passes_late,
+        Event::Message(_) | Event::Timeout | Event::Closed => false,
+    }
 }
 
 /// What the service gives for a message.
