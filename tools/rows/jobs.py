@@ -323,6 +323,9 @@ class JobSession:
             self.state = "ending"
         elif self.state == "ending" and is_note(came, "exit"):
             self.end = "shut down"
+        elif self.state == "ending" and "method" not in came:
+            # An answer to a request of the server's own that crossed `shutdown` is passed over.
+            pass
         elif self.state == "open":
             self.work(came)
         else:

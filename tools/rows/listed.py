@@ -141,7 +141,12 @@ def session_answer(word, row):
     room, events = row.split(" | ")
     server = Counting() if word == "serve" else Talker()
     session, end = Session(server, int(room)), None
-    for came in [*(it for it in events_of(events) if it != "timeout"), "closed"]:
+    for came in [*events_of(events), "closed"]:
+        if came == "timeout" and session.state == "ending":
+            end = LATE
+            break
+        if came == "timeout":
+            continue
         if word == "woken" and session.state == "open":
             end = session.sends(server.woken())
         end = end or (AT_END[session.state] if came == "closed" else session.hears(came))

@@ -329,6 +329,8 @@ AT_WRONG_TIME = {
 class Echo:
     """Answers `demo/echo` with its params, and knows no other method. It gives the messages that it sends."""
 
+    asks = False
+
     def opened(self):
         return []
 
@@ -374,6 +376,8 @@ def typed(came):
 
 class Talker:
     """The server that pushes, asks and answers late."""
+
+    asks = True
 
     def __init__(self):
         self.asked, self.questions, self.held = [], 0, []
@@ -454,6 +458,9 @@ class Session:
             return self.serves(came)
         if self.state == "ending" and is_note(came, "exit"):
             return "shut down"
+        if self.state == "ending" and self.server.asks and "method" not in came:
+            # LSP 3.17, "Shutdown Request", forbids requests and notifications alone: an answer to a server that asks may come so late.
+            return None
         return AT_WRONG_TIME[self.state] + debug_message(came)
 
     def begins(self, came):
