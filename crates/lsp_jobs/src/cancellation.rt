@@ -1,5 +1,5 @@
 // How a job is told that nobody waits for its outcome any more.
-use crate::unread::Unread;
+use crate::untaken_messages::UntakenMessages;
 use std::alloc::{AllocError, Global};
 use std::sync::Arc;
 use std::sync::atomic::{AtomicBool, Ordering};
@@ -7,7 +7,7 @@ use std::sync::atomic::{AtomicBool, Ordering};
 /// Tells a job that nobody waits for its outcome any more (LSP 3.17, "Cancellation Support").
 #[derive(Drop)]
 pub struct CancellationToken {
-    request: Unread,
+    request: UntakenMessages,
     pool: Arc<AtomicBool, Global>,
 }
 
@@ -15,7 +15,7 @@ impl CancellationToken {
     /// A token that is not cancelled. The error means that an allocation failed.
     pub fn new(alloc: Global) -> Result<CancellationToken, AllocError> {
         Ok(CancellationToken {
-            request: Unread::new(alloc)?,
+            request: UntakenMessages::new(alloc)?,
             pool: flag(alloc)?,
         })
     }
@@ -23,7 +23,7 @@ impl CancellationToken {
     /// The token of another request of the same pool.
     pub(crate) fn of_pool(&self, alloc: Global) -> Result<CancellationToken, AllocError> {
         Ok(CancellationToken {
-            request: Unread::new(alloc)?,
+            request: UntakenMessages::new(alloc)?,
             pool: Arc::try_clone(&self.pool)?,
         })
     }
@@ -48,7 +48,7 @@ impl CancellationToken {
     }
 
     /// The count of the messages of this request's job, for another thread.
-    pub(crate) fn unread(&self) -> Result<Unread, AllocError> {
+    pub(crate) fn untaken(&self) -> Result<UntakenMessages, AllocError> {
         self.request.share()
     }
 

@@ -12,7 +12,7 @@ use crate::asking::{Asker, Reply};
 use crate::cancellation::CancellationToken;
 use crate::job::Progress;
 use crate::notifier::Notifier;
-use crate::unread::Unread;
+use crate::untaken_messages::UntakenMessages;
 use crossbeam_channel::protocol::{Lesson, Outcome, Protocol, Split};
 use crossbeam_channel::{Pass, RuledReceiver, RuledSender, bounded_with};
 use lsp_message::{Notification, RequestId};
@@ -198,7 +198,7 @@ pub(crate) struct JobSender<J: AnyJob<R>, R: Drop> {
     pass: ItemPass<J, R>,
     report_sender: ItemSender<J, R>,
     report_pass: ItemPass<J, R>,
-    unread: Unread,
+    untaken: UntakenMessages,
     ghost known: { IsSeatAt (sends_on sender) pass × (knows pass ≡ One ticket job)
         × IsSeatAt (sends_on report_sender) report_pass × (knows report_pass ≡ One ticket job) },
 }
@@ -210,7 +210,7 @@ pub(crate) fn sender_for<J: AnyJob<R>, R: Drop>(
     ticket: u64,
     id: RequestId,
     job: J,
-    unread: Unread,
+    untaken: UntakenMessages,
 ) -> Result<JobSender<J, R>, AllocError>
     requires seat { IsSeatAt (sends_on sender.now) pass.old }
     requires all { KnowsAll (knows pass.old) × (length (all_jobs (knows pass.old)) ≡ ticket) }
@@ -230,7 +230,7 @@ pub(crate) fn sender_for<J: AnyJob<R>, R: Drop>(
         pass: job_pass,
         report_sender,
         report_pass,
-        unread,
+        untaken,
     })
 }
 
@@ -252,13 +252,13 @@ impl<J: AnyJob<R>, R: Drop> JobSender<J, R> {
             mut pass,
             report_sender,
             report_pass,
-            unread,
+            untaken,
         } = self;
         let ends = (report_sender, report_pass);
-        let (outcome, id, unread, mut notifier) = perform_telling::<Brand, T, J, R, N>(
-            job, token, ends, unread, rt, ticket, id, asker, notifier,
+        let (outcome, id, untaken, mut notifier) = perform_telling::<Brand, T, J, R, N>(
+            job, token, ends, untaken, rt, ticket, id, asker, notifier,
         );
-        if unread.add(&rt) {
+        if untaken.add(&rt) {
             let item = Item {
                 ticket,
                 id,
@@ -298,13 +298,13 @@ fn perform_telling<W: Reportable, T: Wait + Drop, J: AnyJob<R>, R: Drop, N: Noti
     job: J,
     token: &CancellationToken,
     ends: (ItemSender<J, R>, ItemPass<J, R>),
-    unread: Unread,
+    untaken: UntakenMessages,
     rt: T,
     ticket: u64,
     id: RequestId,
     asker: Asker,
     notifier: N,
-) -> (R, RequestId, Unread, N)
+) -> (R, RequestId, UntakenMessages, N)
     requires seat { IsSeatAt (sends_on ends.0) ends.1 }
     requires job { knows ends.1 ≡ One ticket «job» }
     requires reports { (method : List ℕ) (params : Data) → J.reports «job» method params
@@ -328,7 +328,7 @@ fn perform_telling<W: Reportable, T: Wait + Drop, J: AnyJob<R>, R: Drop, N: Noti
     let mut reporter = Reporter {
         rt,
         id,
-        unread,
+        untaken,
         asker,
         notifier,
         reports,
@@ -336,11 +336,11 @@ fn perform_telling<W: Reportable, T: Wait + Drop, J: AnyJob<R>, R: Drop, N: Noti
     let outcome = job.perform(token, &mut reporter);
     let Reporter {
         id,
-        unread,
+        untaken,
         notifier,
         ..
     } = reporter;
-    (outcome, id, unread, notifier)
+    (outcome, id, untaken, notifier)
 }
 
 /// The end of the channel that takes a job's reports. Contracts see the job.
@@ -427,7 +427,7 @@ impl<W: Reportable, J: AnyJob<R>, R: Drop> Reports<W, J, R> {
 struct Reporter<W: Reportable, T: Wait + Drop, J: AnyJob<R>, R: Drop, N: Notifier> {
     rt: T,
     id: RequestId,
-    unread: Unread,
+    untaken: UntakenMessages,
     asker: Asker,
     notifier: N,
     reports: Reports<W, J, R>,
@@ -439,7 +439,7 @@ impl<W: Reportable, T: Wait + Drop, J: AnyJob<R>, R: Drop, N: Notifier> Reporter
         if is_sent {
             self.notifier.notify(&self.rt);
         } else {
-            self.unread.remove();
+            self.untaken.remove();
         }
         is_sent
     }
@@ -455,7 +455,7 @@ impl<W: Reportable, T: Wait + Drop, J: AnyJob<R>, R: Drop, N: Notifier> Progress
         let Ok(id) = self.id.clone() else {
             return false;
         };
-        if !self.unread.try_add() {
+        if !self.untaken.try_add() {
             return false;
         }
         let is_sent = self.reports.try_send(&self.rt, id, notification);
@@ -463,10 +463,10 @@ impl<W: Reportable, T: Wait + Drop, J: AnyJob<R>, R: Drop, N: Notifier> Progress
     }
 
     fn send(&mut self, notification: Notification) -> bool {
-        let Some(id) = self.unread.copy_of(&self.rt, &self.id) else {
+        let Some(id) = self.untaken.copy_of(&self.rt, &self.id) else {
             return false;
         };
-        if !self.unread.add(&self.rt) {
+        if !self.untaken.add(&self.rt) {
             return false;
         }
         let is_sent = self.reports.send(&self.rt, id, notification);
@@ -478,7 +478,7 @@ impl<W: Reportable, T: Wait + Drop, J: AnyJob<R>, R: Drop, N: Notifier> Progress
         let Some((number, replies)) = self.asker.begin(&self.rt)? else {
             return Ok(None);
         };
-        if !self.unread.add(&self.rt) {
+        if !self.untaken.add(&self.rt) {
             self.asker.end(&self.rt, number);
             return Ok(None);
         }

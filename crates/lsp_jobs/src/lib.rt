@@ -14,7 +14,7 @@ mod pooled_server;
 mod progress;
 mod run;
 mod table;
-mod unread;
+mod untaken_messages;
 mod waiting_jobs;
 mod workers;
 

@@ -88,14 +88,14 @@ impl<J: Job, K: Drop> JobTable<J, K> {
             return Err(AllocError);
         };
         let same = id.clone()?;
-        let unread = token.unread()?;
+        let untaken = token.untaken()?;
         let entry = Entry {
             job: Snapshot::of(&job),
             ticket,
             wanted: Wanted { token },
             kept,
         };
-        let job_sender = sender_for(&self.sender, &mut self.pass, ticket, same, job, unread)?;
+        let job_sender = sender_for(&self.sender, &mut self.pass, ticket, same, job, untaken)?;
         self.next = next;
         match self.jobs.register(id, entry) {
             Ok(()) => Ok((ticket, job_sender)),

@@ -18,22 +18,22 @@ const CANCELLED: u64 = 0x8000_0000;
 /// are never more of them than it says. The one word also says whether nobody waits for the job any more: so the thread of the job
 /// sleeps at this word alone.
 #[derive(Drop)]
-pub(crate) struct Unread {
+pub(crate) struct UntakenMessages {
     word: Arc<AtomicU64, Global>,
 }
 
-impl Unread {
+impl UntakenMessages {
     /// None was sent. The error means that an allocation failed.
-    pub fn new(alloc: Global) -> Result<Unread, AllocError> {
+    pub fn new(alloc: Global) -> Result<UntakenMessages, AllocError> {
         match Arc::new(alloc, AtomicU64::new(0)) {
-            Ok(word) => Ok(Unread { word }),
+            Ok(word) => Ok(UntakenMessages { word }),
             Err(_) => Err(AllocError),
         }
     }
 
     /// The same count, for another thread.
-    pub fn share(&self) -> Result<Unread, AllocError> {
-        Ok(Unread {
+    pub fn share(&self) -> Result<UntakenMessages, AllocError> {
+        Ok(UntakenMessages {
             word: Arc::try_clone(&self.word)?,
         })
     }
