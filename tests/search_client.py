@@ -238,6 +238,25 @@ def is_refused(client, name, params, back):
     look(client, f"an edit behind {way}", [told[-1]], "𝒙ß" + text)
 
 
+def loses_all(client):
+    """A body that is no message may have told of any text, so none is shown until its client sends it whole."""
+    lost = (ERROR, "a body was no message: no text is known")
+    open_now = [f"file:///{number}.sums" for number in range(DOCUMENTS)] + [NOTE]
+    opens(client, 1, "# alpha\na = z\n")
+    look(client, "an open", [marks("`z`: has no value")], "# alpha\na = z\n")
+    client.server.send_bytes(b"Content-Length: 1\r\n\r\n{")
+    request = client.asks("workspace/symbol", {"query": "a"})
+    *notices, reply = client.read_to_all([request])
+    told = [shown(notice) for notice in notices]
+    expect("what is told of a body that is no message", told[:1], [lost])
+    expect("whose marks go", sorted(told[1:]), sorted((uri, []) for uri in open_now))
+    expect("what a search behind it finds", reply["result"], [])
+    changes(client, 2, edit(1, 4, 5, "1"))
+    look(client, "an edit behind it", [log(ERROR, "the document is out of step")], None)
+    changes(client, 3, {"text": "b = 1\n"})
+    look(client, "a whole text behind it", [marks()], "b = 1\n")
+
+
 def comes_true(what, tries):
     for number in range(1, ROUNDS + 1):
         if tries():
@@ -260,6 +279,10 @@ def check_all(program):
             for back in WAYS_BACK:
                 is_refused(client, name, params, back)
                 print(f"{name} is refused, and {back[0]} brings the text back")
+        client.sends(method="textDocument/didClose", params={"textDocument": {"uri": NOTE}})
+        expect("the marks of a text that is closed", shown(json.loads(server.receive())), marks())
+        loses_all(client)
+        print("a body that is no message is passed over, and no text is shown until it is sent whole")
         server.send_bytes(frame(SHUTDOWN))
         expect("a reply", server.receive(), SHUTDOWN_REPLY)
         server.send_bytes(frame(EXIT))

@@ -26,7 +26,7 @@ mod sums;
 
 use anyhow::{Result, bail};
 use lsp_server::clients::{ClientOptions, serve_clients};
-use lsp_server::{EndSession, SessionEnd, StartFault, Threaded};
+use lsp_server::{PassedOver, SessionEnd, StartFault, Threaded};
 use server::Sums;
 use sessions::{serve, serve_in_threads, serve_with_jobs};
 use std::alloc::Global;
@@ -38,20 +38,25 @@ fn main(rt: HostRuntime) -> Result<()> {
     let served = match words.as_slice() {
         [word, rest @ ..] if word.as_str() == "threads" => {
             serve_clients(&rt, rest, ClientOptions::new(), |client| {
-                let sums = Sums::new(alloc);
-                end_of(serve_in_threads(&rt, alloc, client.reader, client.writer, sums))
+                let mut passed_over = PassedOver::new(alloc)?;
+                let sums = Sums::new(alloc, passed_over.share()?);
+                let (reader, writer) = (client.reader, client.writer);
+                end_of(serve_in_threads(&rt, alloc, reader, writer, sums, &mut passed_over))
             })
         }
         [word, rest @ ..] if word.as_str() == "jobs" => {
             serve_clients(&rt, rest, ClientOptions::new(), |client| {
-                let sums = Sums::new(alloc);
-                end_of(serve_with_jobs(&rt, alloc, client.reader, client.writer, sums))
+                let mut passed_over = PassedOver::new(alloc)?;
+                let sums = Sums::new(alloc, passed_over.share()?);
+                let (reader, writer) = (client.reader, client.writer);
+                end_of(serve_with_jobs(&rt, alloc, reader, writer, sums, &mut passed_over))
             })
         }
         words => serve_clients(&rt, words, ClientOptions::new(), |mut client| {
-            let mut bad_bodies = EndSession;
-            let mut transport = client.transport(alloc, &mut bad_bodies, u64::MAX);
-            let (sums, answer) = serve(alloc, &mut transport, Sums::new(alloc));
+            let mut passed_over = PassedOver::new(alloc)?;
+            let sums = Sums::new(alloc, passed_over.share()?);
+            let mut transport = client.transport(alloc, &mut passed_over, u64::MAX);
+            let (sums, answer) = serve(alloc, &mut transport, sums);
             drop(sums);
             Ok(answer?)
         }),

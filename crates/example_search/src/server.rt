@@ -10,7 +10,9 @@ use crate::search::{Search, Silence};
 use crate::sums::{Problem, Word, sheet_of, value_of, word_at};
 use lsp_documents::{Agreed, Made, NotMade, TextDocuments, position_in, uri_in};
 use lsp_jobs::{AnsweredBy, CancellationToken, Job, JobEnd, JobServer, NewJob, WorkDone};
-use lsp_server::{Act, ErrorCode, Notification, Request, RequestId, ResponseError, Server};
+use lsp_server::{
+    Act, ErrorCode, Notification, PassedOver, Request, RequestId, ResponseError, Server,
+};
 use lsp_text::{Text, TextDocument};
 use serde_json::{Value, json, to_value};
 use std::alloc::{AllocError, Global};
@@ -35,6 +37,8 @@ pub struct Sums {
     /// Whether the client can be asked for its configuration.
     configures: bool,
     documents: TextDocuments,
+    /// Whether a body was passed over, which may have told of any text.
+    passed_over: PassedOver,
     /// The requests that are answered when nothing is wrong with a text.
     waiting: Vec<Request>,
 }
@@ -62,20 +66,14 @@ impl Server for Sums {
     }
 
     fn request(&mut self, request: Request) -> Result<Acts, AllocError> {
-        match request.method.as_str() {
-            "textDocument/hover" => self.reply(self.hover(&request.params), request),
-            "sums/text" => self.reply(self.text(&request.params), request),
-            "sums/solved" => self.wait(request),
-            "workspace/symbol" => self.search(request),
-            _ => {
-                let id = id_of(request);
-                Act::one(self.alloc, Act::method_not_found(self.alloc, id)?)
-            }
-        }
+        let mut acts = self.lose_texts()?;
+        let mut replies = self.reply_to(request)?;
+        acts.append(&mut replies)?;
+        Ok(acts)
     }
 
     fn notification(&mut self, notification: Notification) -> Result<Acts, AllocError> {
-        let mut acts = Vec::new(self.alloc);
+        let mut acts = self.lose_texts()?;
         let noted = self.note(&notification, &mut acts);
         drop(notification);
         noted.and(Ok(acts))
@@ -108,7 +106,8 @@ impl JobServer<Search> for Sums {
     type Key = ();
 
     fn job(&mut self, request: Request) -> Result<AnsweredBy<Search, ()>, AllocError> {
-        if request.method.as_str() != "workspace/symbol" {
+        // If texts are to be lost first, the server does both.
+        if request.method.as_str() != "workspace/symbol" || self.passed_over.has_happened() {
             return Ok(AnsweredBy::Server(request));
         }
         match self.search_in(&request.params) {
@@ -141,12 +140,13 @@ impl JobServer<Search> for Sums {
 
 impl Sums {
     /// A server before its session.
-    pub fn new(alloc: Global) -> Sums {
+    pub fn new(alloc: Global, passed_over: PassedOver) -> Sums {
         Sums {
             alloc,
             largest: i64::MAX,
             configures: false,
             documents: TextDocuments::new(alloc, Agreed::unannounced()),
+            passed_over,
             waiting: Vec::new(alloc),
         }
     }
@@ -157,6 +157,31 @@ impl Sums {
         let agreed = Agreed::announced(self.alloc, params, true, &mut can)?;
         self.documents = TextDocuments::new(self.alloc, agreed);
         json!(in self.alloc; { "capabilities": can, "serverInfo": { "name": "sums" } })
+    }
+
+    /// What is done at a request.
+    fn reply_to(&mut self, request: Request) -> Result<Acts, AllocError> {
+        match request.method.as_str() {
+            "textDocument/hover" => self.reply(self.hover(&request.params), request),
+            "sums/text" => self.reply(self.text(&request.params), request),
+            "sums/solved" => self.wait(request),
+            "workspace/symbol" => self.search(request),
+            _ => {
+                let id = id_of(request);
+                Act::one(self.alloc, Act::method_not_found(self.alloc, id)?)
+            }
+        }
+    }
+
+    /// If a body was passed over since the last message, no text is sure: each is lost, and its marks go, until its client sends it whole.
+    fn lose_texts(&mut self) -> Result<Acts, AllocError> {
+        let mut acts = Vec::new(self.alloc);
+        if self.passed_over.take() {
+            self.documents.lose_all();
+            self.log(1, &"a body was no message: no text is known", &mut acts)?;
+            self.mark_all(&mut acts)?;
+        }
+        Ok(acts)
     }
 
     /// The reply to a request, unless an allocation failed.

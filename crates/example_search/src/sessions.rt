@@ -3,7 +3,7 @@ ghost use Rattle.std.specs.Prelude.{true, [], Some, IfOk, IfSome};
 ghost use Rattle.lsp_message.specs.Frame.{no_limit};
 ghost use Rattle.lsp_session.specs.StreamTransports.{IsUnused, Serves};
 ghost use Rattle.lsp_threads.specs.Passing.{GivenTo, OfTaken, TakenFrom, noted};
-ghost use Rattle.lsp_threads.specs.Threads.{ThreadsGive, ThreadsGiveOver};
+ghost use Rattle.lsp_threads.specs.Threads.{ThreadsTell, ThreadsTellOver};
 ghost use Rattle.lsp_jobs.specs.JobLaw.{LawfulJobSession};
 ghost use Rattle.lsp_service.specs.Stated.{unwoken};
 ghost use Rattle.example_search.specs.Promise.{AnswersOnce};
@@ -14,8 +14,8 @@ use lsp_jobs::laws::session_with_jobs_keeps_laws;
 use lsp_jobs::{Job, JobServer, PoolSize, run_jobs};
 use lsp_server::laws::server_keeps_laws;
 use lsp_server::{
-    EndSession, Server, SessionEnd, SessionFault, StartFault, StreamTransport, ThreadOptions,
-    Threaded, run_threads_with, session_with_over,
+    Listener, PassedOver, Server, SessionEnd, SessionFault, StartFault, StreamTransport,
+    ThreadOptions, Threaded, run_threads_with, session_with_over,
 };
 use std::alloc::Global;
 use std::io::{BufRead, Write};
@@ -30,10 +30,10 @@ use std::thread::Threads;
 /// allocation failed, replies may be missing.
 ///
 /// This is of whatever reader and writer, also of standard input and output or a socket: the transcript of the transport tells the bytes that
-/// were taken and given.
+/// were taken and given. A body that is no message is passed over, and `sums` loses all texts for it.
 pub fn serve<R: BufRead, W: Write>(
     alloc: Global,
-    transport: &mut StreamTransport<'_, R, W, EndSession>,
+    transport: &mut StreamTransport<'_, R, W, PassedOver>,
     sums: Sums,
 ) -> (Sums, Result<SessionEnd, SessionFault>)
     requires { IsUnused transport.old }
@@ -50,20 +50,21 @@ pub fn serve_in_threads<T, R, W>(
     reader: R,
     writer: W,
     sums: Sums,
+    passed_over: &mut PassedOver,
 ) -> (Sums, Result<Threaded<W>, StartFault>)
 where
     T: Threads + Wait + Copy + Drop + Send + 'static,
     R: BufRead + Drop + Send + 'static,
     W: Write + Drop + Send + 'static,
     ensures told { IfOk result.1 (λ done. OfTaken done.taken.parts (λ text.
-        ThreadsGive no_limit (AnswersOnce (unwoken ⟦<Sums as Server>⟧) sums result.0)
-        text (Some []) (noted done.given) done.answer)) }
+        ThreadsTell ⟦<PassedOver as Listener>⟧.hears no_limit (AnswersOnce (unwoken ⟦<Sums as Server>⟧) sums result.0)
+        text passed_over.old passed_over.new (Some []) (noted done.given) done.answer)) }
     ensures passed { IfOk result.1 (λ done. TakenFrom (R.remaining reader) done.taken.parts
         × GivenTo (W.contents writer) done.given.parts (W.contents done.writer)) }
 {
     server_keeps_laws::<Sums>();
     let options = ThreadOptions::new();
-    run_threads_with(rt, alloc, reader, writer, sums, &mut EndSession, options)
+    run_threads_with(rt, alloc, reader, writer, sums, passed_over, options)
 }
 
 /// Two searches run at a time, and 16 more may wait. The next gets an error.
@@ -80,32 +81,24 @@ pub fn serve_with_jobs<T, R, W>(
     reader: R,
     writer: W,
     sums: Sums,
+    passed_over: &mut PassedOver,
 ) -> (Sums, Result<Threaded<W>, StartFault>)
 where
     T: Threads + Wait + Copy + Drop + Send + 'static,
     R: BufRead + Drop + Send + 'static,
     W: Write + Drop + Send + 'static,
     ensures told { IfOk result.1 (λ done. OfTaken done.taken.parts (λ text.
-        ThreadsGiveOver true no_limit (LawfulJobSession T ⟦<Sums as Server>⟧
+        ThreadsTellOver true ⟦<PassedOver as Listener>⟧.hears no_limit (LawfulJobSession T ⟦<Sums as Server>⟧
         (record {
           gives = ⟦<Sums as JobServer<Search>>⟧.gives;
           starts = ⟦<Sums as JobServer<Search>>⟧.starts;
           finishes = ⟦<Sums as JobServer<Search>>⟧.finishes;
         }) ⟦<Search as Job>⟧ sums result.0)
-        text (Some []) (noted done.given) done.answer)) }
+        text passed_over.old passed_over.new (Some []) (noted done.given) done.answer)) }
     ensures passed { IfOk result.1 (λ done. TakenFrom (R.remaining reader) done.taken.parts
         × GivenTo (W.contents writer) done.given.parts (W.contents done.writer)) }
 {
     session_with_jobs_keeps_laws::<T, Sums, Search>();
     let options = ThreadOptions::new();
-    run_jobs(
-        rt,
-        alloc,
-        reader,
-        writer,
-        SIZE,
-        sums,
-        &mut EndSession,
-        options,
-    )
+    run_jobs(rt, alloc, reader, writer, SIZE, sums, passed_over, options)
 }

@@ -88,6 +88,7 @@ pub use lsp_session::ListOutbox;
 pub use lsp_session::Listener;
 pub use lsp_session::OpenGate;
 pub use lsp_session::Outbox;
+pub use lsp_session::PassedOver;
 pub use lsp_session::ProtocolError;
 pub use lsp_session::ReadEnd;
 pub use lsp_session::SendFault;

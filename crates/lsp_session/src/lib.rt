@@ -14,8 +14,8 @@ pub use lifecycle::{
 };
 pub use loops::{
     ClientStreams, EndSession, FaultCounts, FrameOutbox, Handler, HandlerService, Ignore, Listener,
-    Output, ReadEnd, Served, Service, SessionEnd, SessionFault, StopReason, StreamInbox,
-    StreamTransport, TolerantInbox, Transcript, WriteEnd, initialize_result, is_of_body, read_loop,
-    read_loop_within, serve, serve_service, serve_transport, session, session_answer,
-    session_of_service, session_transcribed, session_within, write_loop,
+    Output, PassedOver, ReadEnd, Served, Service, SessionEnd, SessionFault, StopReason,
+    StreamInbox, StreamTransport, TolerantInbox, Transcript, WriteEnd, initialize_result,
+    is_of_body, read_loop, read_loop_within, serve, serve_service, serve_transport, session,
+    session_answer, session_of_service, session_transcribed, session_within, write_loop,
 };

@@ -1,6 +1,6 @@
 use Rattle.std.proofs.Common.{false}
 use Rattle.lsp_message.specs.Frame.{no_limit}
-use Rattle.lsp_threads.proofs.Sessions.{started_told}
+use Rattle.lsp_threads.proofs.Sessions.{taken_told_as}
 use Rattle.lsp_threads.specs.Passing.{noted}
 use Rattle.lsp_threads.specs.declared.run.Threaded.{Threaded}
 use Rattle.example_search.proofs.Known.{answers_once}
@@ -8,6 +8,6 @@ use Rattle.example_search.proofs.sessions.serve_in_threads.Goals as goal
 
 pub returns-clause-told : goal.returns-clause-told
 returns-clause-told g c =
-    started_told false _ no_limit _ _ (λ old fault new heard. heard) _ _ (answers_once _ _ _ c.server_keeps_laws.ensures.exchanges)
+    taken_told_as false _ no_limit _ _ _ _ (answers_once _ _ _ c.server_keeps_laws.ensures.exchanges)
     (λ (done : Threaded _). done.taken.parts) (λ (done : Threaded _). noted done.given) (λ (done : Threaded _). done.answer) _
     (rw c.new-options.ensures.limit at c.run_threads_with.ensures.told)
