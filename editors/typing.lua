@@ -1,6 +1,9 @@
 -- Types, pastes, undoes and replaces in Neovim, in a text with emoji and combining marks, and looks after each edit whether
--- `example_search` holds the text of the buffer. The lines end with `\n`, then with `\r\n`, then with `\r`.
+-- `example_search` holds the text of the buffer. The lines end with `\n`, then with `\r\n`, then with `\r`. Last they are mixed: there
+-- Neovim takes the `\r` of a `\r\n` for a character of its line, so the texts may part, but not before the server says that a position is
+-- past the end.
 --   LSP_SERVER="program argument .." nvim --headless -u NONE -i NONE -S editors/typing.lua
+-- ENCODING is `utf-8`, `utf-16` or `utf-32` (from Neovim 0.10 on): what the client offers to count in.
 -- Without LSP_SERVER it is `crates/example_search/out/example_search`; SEED and EDITS are 1 and 300. Ends in status 1 where
 -- a text differs.
 
@@ -116,15 +119,25 @@ local function text_of_server()
   return answer.result
 end
 
-for _, format in ipairs({ 'unix', 'dos', 'mac' }) do
+for _, format in ipairs({ 'unix', 'dos', 'mac', 'mixed' }) do
+  local mixed, told = format == 'mixed', false
   vim.cmd('enew!')
-  vim.bo.fileformat = format
+  vim.bo.fileformat = mixed and 'unix' or format
   vim.api.nvim_buf_set_name(0, vim.fn.tempname() .. '.sums')
-  vim.api.nvim_buf_set_lines(0, 0, -1, false, { 'apple = 3', 'größe = apple + 30', '𝒙 = größe', '# 👨‍👩‍👧 e\u{301}', '' })
+  local ending = mixed and '\r' or ''
+  vim.api.nvim_buf_set_lines(0, 0, -1, false, { 'apple = 3' .. ending, 'größe = apple + 30', '𝒙 = größe' .. ending, '# 👨‍👩‍👧 e\u{301}', '' })
   client, ended = nil, nil
+  local capabilities = vim.lsp.protocol.make_client_capabilities()
+  if vim.env.ENCODING then capabilities.general.positionEncodings = { vim.env.ENCODING } end
   vim.lsp.start_client({
     name = 'sums',
     cmd = command,
+    capabilities = capabilities,
+    handlers = {
+      ['window/logMessage'] = function(_, params)
+        told = told or params.message:find('past the end', 1, true) ~= nil
+      end,
+    },
     flags = { allow_incremental_sync = true, debounce_text_changes = 0 },
     on_init = function(begun) client = begun end,
     on_exit = function(status) ended = { status = status } end,
@@ -133,19 +146,28 @@ for _, format in ipairs({ 'unix', 'dos', 'mac' }) do
     fail('the server did not begin a session')
   end
   vim.lsp.buf_attach_client(0, client.id)
+  if vim.env.ENCODING and client.offset_encoding ~= vim.env.ENCODING then
+    fail('the client counts in %s', client.offset_encoding)
+  end
   local right = 0
   for edit = 1, edits do
     local name = any(names)
     pcall(ways[name])
     vim.wait(5)
     local wanted, found = text_of_buffer(), text_of_server()
-    if wanted ~= found then
+    if wanted ~= found and mixed and told then
+      say('mixed: the texts part at edit %d, and the server said so', edit)
+      right = edits
+      break
+    elseif wanted ~= found then
       say('after edit %d (%s) of %s, the buffer has\n  %s\nand the server\n  %s', edit, name, format, vim.inspect(wanted), vim.inspect(found))
       break
     end
     right = right + 1
   end
-  say('%s: the server held the text of the buffer after %d of %d edits, %d bytes at the end', format, right, edits, #text_of_buffer())
+  if not mixed then
+    say('%s: the server held the text of the buffer after %d of %d edits, %d bytes at the end', format, right, edits, #text_of_buffer())
+  end
   client.stop()
   vim.wait(patience, function() return ended ~= nil end, 5)
   if right < edits or not ended or ended.status ~= 0 then
